@@ -1,5 +1,5 @@
 -- A play comes to reachable states alone.
-use Rattle.std.proofs.Common.{◌≡◌, ℕ, List, [], ◌∷◌, refl, sym, subst}
+use Rattle.std.proofs.Common.{◌≡◌, ℕ, List, [], ◌∷◌, refl, sym, ◌∙◌}
 use Rattle.std.specs.Prelude.{take}
 use Rattle.cave_play.specs.Machine.{cave_rules}
 use Rattle.cave_play.specs.cave_data.CaveView.{CaveView}
@@ -7,8 +7,8 @@ use Rattle.cave_play.specs.cave_replay.Play.{state_after}
 use Rattle.cave_play.specs.cave_world.declared.state.State.{State}
 use Rattle.cave_play.specs.replay_edits.Edit.{Game}
 use Rattle.turn_laws.proofs.Reaching.{reachable_is_lawful}
-use Rattle.turn_laws.specs.Reachable.{IsLawful, after_lines}
-use Rattle.play_laws.specs.Held.{EachIsLawful}
+use Rattle.turn_laws.specs.Reachable.{HasPlaces, IsReachable, after_lines}
+use Rattle.play_laws.specs.Held.{EachIsOfAGame}
 
 -- the machine of a cave leads where lines of a log lead
 leads : (cave : CaveView) (s : State) (lines : List (List ℕ))
@@ -16,22 +16,16 @@ leads : (cave : CaveView) (s : State) (lines : List (List ℕ))
 leads cave s [] = refl
 leads cave s (line ∷ lines) = leads cave ((cave_rules cave).after s line) lines
 
-pub lawful_after : (cave : CaveView) (seed : ℕ) (lines : List (List ℕ))
-    → IsLawful cave (state_after (cave_rules cave) ((cave_rules cave).begun seed) lines)
-lawful_after cave seed lines =
-    reachable_is_lawful cave (state_after (cave_rules cave) ((cave_rules cave).begun seed) lines)
-    (record {
-      seed = seed;
-      lines = lines;
-      leads = leads cave ((cave_rules cave).begun seed) lines;
-    })
+-- a state to which lines of a game lead is one that a game comes to
+pub reached : (cave : CaveView) (seed : ℕ) (lines : List (List ℕ)) (s : State)
+    → s ≡ state_after (cave_rules cave) ((cave_rules cave).begun seed) lines → IsReachable cave s
+reached cave seed lines s is = record {
+  seed = seed;
+  lines = lines;
+  leads = leads cave ((cave_rules cave).begun seed) lines ∙ sym is;
+}
 
-pub each_lawful : (cave : CaveView) (game : Game) → EachIsLawful cave game
-each_lawful cave game place = lawful_after cave game.seed (take place game.log)
-
--- a state to which a whole game leads is lawful
-pub last_lawful : (cave : CaveView) (game : Game) (s : State)
-    → s ≡ state_after (cave_rules cave) ((cave_rules cave).begun game.seed) game.log
-    → IsLawful cave s
-last_lawful cave game s is =
-    subst (λ (t : State). IsLawful cave t) (sym is) (lawful_after cave game.seed game.log)
+pub each_reached : (cave : CaveView) (game : Game) → HasPlaces cave → EachIsOfAGame cave game
+each_reached cave game places place =
+    let is = reached cave game.seed (take place game.log) _ refl in
+    record { reachable = is; lawful = reachable_is_lawful cave _ places is }

@@ -3,9 +3,15 @@ use Rattle.std.specs.Prelude.{ℕ}
 use Rattle.cave_play.specs.Machine.{cave_rules}
 use Rattle.cave_play.specs.cave_data.CaveView.{CaveView}
 use Rattle.cave_play.specs.cave_replay.Agreement.{state_at}
+use Rattle.cave_play.specs.cave_world.declared.state.State.{State}
 use Rattle.cave_play.specs.replay_edits.Edit.{Game}
-use Rattle.turn_laws.specs.Reachable.{IsLawful}
+use Rattle.turn_laws.specs.Reachable.{IsLawful, IsReachable}
 
--- the state at the start of a game is lawful, and that after each of its lines
-abbrev pub EachIsLawful : CaveView → Game → Type 0
-EachIsLawful cave game = (place : ℕ) → IsLawful cave (state_at (cave_rules cave) game place)
+-- a game comes to the state, and it is lawful
+pub record IsOfAGame (cave : CaveView) (s : State) : Type 0 where
+  pub reachable : IsReachable cave s
+  pub lawful : IsLawful cave s
+
+-- a game comes to the state at its start and to that after each of its lines, and they are lawful
+abbrev pub EachIsOfAGame : CaveView → Game → Type 0
+EachIsOfAGame cave game = (place : ℕ) → IsOfAGame cave (state_at (cave_rules cave) game place)

@@ -2,22 +2,26 @@
 #![tactic(auto)]
 
 ghost use Rattle.std.specs.Prelude.{◌<◌};
-ghost use Rattle.play_laws.specs.Held.{EachIsLawful};
+ghost use Rattle.play_laws.specs.Held.{EachIsOfAGame};
 ghost use Rattle.turn_laws.specs.ObjectLaws.{IsInOnePlace};
-ghost use Rattle.turn_laws.specs.Reachable.{IsLawful};
+ghost use Rattle.turn_laws.specs.Reachable.{IsLawful, IsReachable};
 
 use cave_play::machine::CaveMachine;
 use cave_play::{Object, Session};
 use turn_laws::object_laws::object_is_in_one_place;
+use turn_laws::reachable::caves_have_places;
 
-/// Once a session was opened, and after each edit, accepted or refused, the state that it holds is
-/// lawful, and so is the state after each line of the log that it holds.
+/// Once a session was opened, and after each edit, accepted or refused, a game comes to the state
+/// that it holds, which is lawful, and so it is with the state after each line of the log that it
+/// holds.
 pub fn held_states_are_lawful(session: &Session<CaveMachine<'_>>)
-    ensures last { IsLawful session.now.machine.rules.cave.now session.now.state }
-    ensures each { EachIsLawful session.now.machine.rules.cave.now session.now.game }
+    ensures reachable { IsReachable session.now.machine.rules.cave.now session.now.state }
+    ensures lawful { IsLawful session.now.machine.rules.cave.now session.now.state }
+    ensures each { EachIsOfAGame session.now.machine.rules.cave.now session.now.game }
 {
-    // What this promises of the play that is held is where the law begins.
+    // What these promise, of the play that is held and of its cave, is where the law begins.
     let _state = session.state();
+    caves_have_places(session.machine().cave());
 }
 
 /// Once a session was opened, and after each edit, accepted or refused, an object of the state that

@@ -1,106 +1,55 @@
--- What the clocks make of a claim.
+-- What the clocks, and the lamp with them, make of a claim.
 use Rattle.std.proofs.Common.{◌++◌}
-use Rattle.cave_turn.specs.turn_clocks.Clocks.{both_clocks, clock_rows, stays_open}
-use Rattle.cave_turn.specs.turn_clocks.FirstClock.{all_seen, begin_closing, first_clock_goes}
-use Rattle.cave_turn.specs.turn_clocks.FirstClock.{without_dwarves}
-use Rattle.cave_turn.specs.turn_clocks.Repository.{all_of, close_cave, hang_mirror}
+use Rattle.cave_turn.specs.cave_world.Sight.{LAMP_ON}
+use Rattle.cave_turn.specs.turn_clocks.Clocks.{clock_rows, run_clocks, tick_clocks}
+use Rattle.cave_turn.specs.turn_clocks.FirstClock.{begin_closing, first_clock_goes, without_dwarves}
+use Rattle.cave_turn.specs.turn_clocks.FirstClock.{with_first_clock_down}
+use Rattle.cave_turn.specs.turn_clocks.Lamp.{burn, can_change_batteries, care_for_lamp}
+use Rattle.cave_turn.specs.turn_clocks.Lamp.{change_batteries, go_out, lamp, lamp_rows, turns_left}
+use Rattle.cave_turn.specs.turn_clocks.Lamp.{warn, warning_rows, with_new_charge, with_turn_burnt}
+use Rattle.cave_turn.specs.turn_clocks.Lamp.{with_warning}
+use Rattle.cave_turn.specs.turn_clocks.Repository.{all_of, close_cave}
 use Rattle.cave_turn.specs.turn_clocks.Repository.{northeast_things, second_clock_goes}
-use Rattle.cave_turn.specs.turn_clocks.Repository.{second_clock_runs_out, southwest_things}
-use Rattle.cave_turn.specs.turn_clocks.Repository.{store, with_empty_hands}
+use Rattle.cave_turn.specs.turn_clocks.Repository.{southwest_things, with_empty_hands}
 use Rattle.cave_turn.specs.turn_clocks.Repository.{with_second_clock_down, without_all}
-use Rattle.cave_turn.specs.turn_rules.Effects.{destroy, troll_goes}
-use Rattle.cave_turn.specs.turn_rules.Tests.{bound, cave_closed, player_at, prop}
-use Rattle.cave_turn.specs.turn_things.Effects.{without_troll}
+use Rattle.cave_turn.specs.turn_rules.Effects.{destroy, put_player, set_charge, troll_goes}
+use Rattle.cave_turn.specs.turn_rules.Rows.{act_of}
+use Rattle.cave_turn.specs.turn_rules.Tests.{near, place_of, prop}
+use Rattle.cave_turn.specs.turn_things.Effects.{let_go, put_here, without_troll}
 use Rattle.cave_turn.specs.turn_things.Homes.{hold_of}
-use Rattle.cave_turn.specs.turn_things.Props.{AXE_FREE, BIRD_CAGED, BOTTLE_EMPTY, CHAIN_UNLOCKED}
-use Rattle.cave_turn.specs.turn_things.Props.{FISSURE_OPEN, GRATE_LOCKED, PLANT_SMALL, SEEN}
-use Rattle.cave_turn.specs.turn_things.Props.{SNAKE_GONE}
+use Rattle.cave_turn.specs.turn_things.Props.{AXE_FREE, BATTERIES_USED, BIRD_CAGED, BOTTLE_EMPTY}
+use Rattle.cave_turn.specs.turn_things.Props.{CHAIN_UNLOCKED, FISSURE_OPEN, GRATE_LOCKED}
+use Rattle.cave_turn.specs.turn_things.Props.{PLANT_SMALL, SEEN, SNAKE_GONE}
 use Rattle.cave_turn.specs.world_objects.Objects.{anchor_at}
 use Rattle.cave_turn.specs.world_objects.declared.spot.Anchor.TheVariants as anchor
 use Rattle.cave_turn.specs.data_rows.declared.place_role.PlaceRole.TheVariants as landmark
 use Rattle.cave_turn.specs.cave_words.declared.named.Named.TheVariants as name
-use Rattle.turn_laws.proofs.Effects.{moved_all}
-use Rattle.turn_laws.proofs.Rows.{first_holds, guarded, second_holds}
-use Rattle.turn_laws.proofs.View.{Change, Claim, Hold, IsTimed, Juggle, On, Place, Prop, There}
-use Rattle.turn_laws.proofs.View.{View, choose, view}
-use Rattle.turn_laws.proofs.Words.{Act, BEAR_DEAD, Bool, CaveView, Deed, LAMP_OFF, List, None}
-use Rattle.turn_laws.proofs.Words.{Option, Scene, Some, State, UNSEEN, [], after_all}
-use Rattle.turn_laws.proofs.Words.{carried_objects, change, deed, false, home, if◌then◌else◌}
-use Rattle.turn_laws.proofs.Words.{in_the_depths, is_some, negsuc, no, nothing_but, place_named}
-use Rattle.turn_laws.proofs.Words.{refl, set_prop, sym, the, thing, true, true≢false, unwrap_or, ℕ}
-use Rattle.turn_laws.proofs.Words.{ℤ, ◌-ℤ◌, ◌∷◌, ◌≡◌}
+use Rattle.cave_turn.specs.turn_clocks.declared.clocks.Clocks.TheVariants as clocks
+use Rattle.cave_turn.specs.data_rows.declared.role.Role.TheVariants as role
+use Rattle.turn_laws.specs.Courses.{is_lit}
+use Rattle.turn_laws.specs.Laws.{before_lamp, is_changed, unless_closed}
+use Rattle.turn_laws.proofs.Effects.{deed_chosen, effects, fails_alone, guarded, holds_alone}
+use Rattle.turn_laws.proofs.Effects.{more_charge, moved, moved_all, quiet, tests}
+use Rattle.turn_laws.proofs.View.{Begins, Burns, Change, Claim, Counts, Hold, IsKept}
+use Rattle.turn_laws.proofs.View.{IsMoved, Juggle, Leaves, Line, On, Place, Prop, Ready, Shifts}
+use Rattle.turn_laws.proofs.View.{Shuts, Somewhere, There, Ticks, View, after, burnt, choose, led}
+use Rattle.turn_laws.proofs.View.{left_of, view}
+use Rattle.turn_laws.proofs.Words.{Act, BEAR_DEAD, Bool, CaveView, Clocks, Deed, LAMP_OFF, List}
+use Rattle.turn_laws.proofs.Words.{MAX_LAMP_TURNS, None, Option, Scene, Some, State, UNSEEN, []}
+use Rattle.turn_laws.proofs.Words.{after_all, all_hold, always, carried_objects, change, deed}
+use Rattle.turn_laws.proofs.Words.{false, has_prop, home, if◌then◌else◌, inl, inr, int_eq, int_min}
+use Rattle.turn_laws.proofs.Words.{is_in_hand, is_some, negsuc, nothing_but, place_named, pos, refl}
+use Rattle.turn_laws.proofs.Words.{say, set_prop, subst, sym, the, thing, true, true≢false}
+use Rattle.turn_laws.proofs.Words.{unwrap_or, with_charge, ℕ, ℤ, ◌&&◌, ◌+ℤ◌, ◌-ℤ◌, ◌∙◌, ◌∷◌, ◌≡◌}
 
 -- an object is put at a place, with a prop for when it was carried
 abbrev stored : ℕ → ℕ → ℤ → List Change
 stored place x v = Place x place ∷ Prop x (UNSEEN -ℤ v) ∷ []
 
-module _ {P : Claim} (timed : IsTimed P) where
-  -- the cave begins to close
-  start_kept : (d : Deed (Unit {0})) → On P d.scene.state
-      → On P (after_all begin_closing d).scene.state
-  unfolding begin_closing without_troll
-  start_kept d h =
-      let cave = d.cave in
-      let troll = thing cave name.Troll in let second = thing cave name.SecondTroll in
-      let e = troll_goes (change without_dwarves
-      (set_prop (the name.Fissure) FISSURE_OPEN (set_prop (the name.Grate) GRATE_LOCKED d))) in
-      let bear = prop (the name.Bear) BEAR_DEAD e in
-      let begun = timed.begins (view d.scene.state) h in
-      let gone = moved_all P timed.objects (
-      Prop (thing cave name.Grate) GRATE_LOCKED ∷ Prop (thing cave name.Fissure) FISSURE_OPEN
-      ∷ Place troll 0 ∷ Hold troll anchor.Loose ∷ Place second (home cave troll)
-      ∷ Hold second (hold_of cave troll) ∷ Juggle (thing cave name.Chasm) ∷ []
-      ) _ begun in
-      let after = λ (f : Deed (Unit {0})).
-      P (record (view f.scene.state) {
-        closing = record f.scene.state.closing { first_clock = negsuc 0; is_closing = true };
-      }) in
-      let left = if bear then e else destroy (the name.Bear) e in
-      let chain = thing left.cave name.Chain in let axe = thing left.cave name.Axe in
-      moved_all P timed.objects (
-      Prop chain CHAIN_UNLOCKED ∷ Hold chain anchor.Loose ∷ Prop axe AXE_FREE
-      ∷ Hold axe anchor.Loose ∷ []
-      ) (record (view left.scene.state) {
-        closing = record left.scene.state.closing { first_clock = negsuc 0; is_closing = true };
-      })
-      (choose after bear e (destroy (the name.Bear) e) (λ _. gone)
-      (λ _. moved_all P timed.objects (Place (thing cave name.Bear) 0 ∷ []) _ gone))
-
-  emptied_kept : (xs : List ℕ) (v : View) → P v
-      → P (record v { objects = without_all xs v.objects })
-  emptied_kept [] v h = h
-  emptied_kept (x ∷ xs) v h = emptied_kept xs _ (timed.objects v (Place x 0) h)
-
-  -- the cave is closed where both ends of a repository are known: the player is elsewhere
-  closed_kept : (d : Deed (Unit {0})) → second_clock_goes d ≡ true → On P d.scene.state
-      → On (There P d.scene.state.trail.here)
-      (after_all (change with_second_clock_down ∷ close_cave) d).scene.state
-  unfolding close_cave with_empty_hands northeast_things southwest_things
-  closed_kept d goes h =
-      let cave = d.cave in let v = view d.scene.state in
-      let ne = bound landmark.Ne d in let sw = bound landmark.Sw d in
-      let ticked = timed.ticks v (second_holds _ _ goes) h in
-      let shut = timed.shuts _ (first_holds _ _ goes) ticked in
-      let hung = moved_all P timed.objects (
-      stored ne (thing cave name.Bottle) BOTTLE_EMPTY
-      ++ stored ne (thing cave name.Plant) PLANT_SMALL
-      ++ stored ne (thing cave name.Oyster) SEEN ++ stored ne (thing cave name.Lamp) LAMP_OFF
-      ++ stored ne (thing cave name.Rod) SEEN ++ stored ne (thing cave name.Dwarf) SEEN
-      ++ stored sw (thing cave name.Grate) GRATE_LOCKED
-      ++ stored sw (thing cave name.Snake) SNAKE_GONE
-      ++ stored sw (thing cave name.Bird) BIRD_CAGED ++ stored sw (thing cave name.Cage) SEEN
-      ++ stored sw (thing cave name.SecondRod) SEEN ++ stored sw (thing cave name.Pillow) SEEN
-      ++ stored ne (thing cave name.Mirror) SEEN
-      ++ Hold (thing cave name.Mirror) (anchor_at sw) ∷ []
-      ) _ shut in
-      let e = hang_mirror (store landmark.Ne name.Mirror SEEN (all_of southwest_things
-      (all_of northeast_things (change with_second_clock_down d)))) in
-      emptied_kept (carried_objects e.scene.state.objects) _ hung
-
 -- what holds where the clocks closed the cave: the player is elsewhere, at the repository's end
-abbrev pub AfterClosure : Claim → CaveView → ℕ → State → Type 0
-AfterClosure P cave before s =
-    On (There P before) s × (place_named cave landmark.Ne ≡ Some s.trail.here)
+pub record AfterClosure (P : Claim) (cave : CaveView) (before : ℕ) (s : State) : Type 0 where
+  pub holds : On (There P before) s
+  pub place : place_named cave landmark.Ne ≡ Some s.trail.here
 
 -- what holds after the clocks, which closed the cave or didn't
 abbrev pub AfterClocks : Claim → CaveView → ℕ → Bool → State → Type 0
@@ -112,36 +61,231 @@ there : (o : Option ℕ) → is_some o ≡ true → o ≡ Some (unwrap_or o 0)
 there None is = absurd (true≢false (sym is))
 there (Some n) is = refl
 
--- the first clock goes only while it is above 0
-pub both_kept : {P : Claim} (timed : IsTimed P) (cave : CaveView) (p : Scene)
-    → On P p.state
-    → AfterClocks P cave p.state.trail.here (both_clocks (deed cave tt p)).step
-    (both_clocks (deed cave tt p)).scene.state
-unfolding both_clocks clock_rows first_clock_goes close_cave with_empty_hands
-both_kept {P} timed cave p h =
-    let d = deed cave tt p in
-    guarded (λ (a : Act Bool). AfterClocks P cave p.state.trail.here a.step a.scene.state)
-    (nothing_but stays_open) d clock_rows (
-      (λ fit. start_kept timed d h),
-      λ _. (
-        (λ fit. timed.counts (view p.state)
-            (first_holds _ true
-            (second_holds (no (player_at landmark.Y2) d) _
-            (second_holds (in_the_depths d) _
-            (second_holds (all_seen d) _ (first_holds (first_clock_goes d) true fit))))) h),
-        λ _. (
-          (λ fit. (
-            closed_kept timed d (first_holds (second_clock_goes d) _ fit) h,
-            there (place_named cave landmark.Ne) (first_holds _ _
-                (second_holds (no cave_closed d) _
-                (second_holds (second_clock_runs_out d) _
-                (second_holds (second_clock_goes d) _ fit)))),
-          )),
-          λ _. (
-            (λ fit. timed.ticks (view p.state)
-                (second_holds _ _ (first_holds (second_clock_goes d) true fit)) h),
-            λ _. h,
-          ),
-        ),
-      ),
-    )
+module _ {game : CaveView} {l : Line} {Q P : Claim} (k : IsKept game l Q P) where
+  abbrev Early : Claim
+  Early = Ready (Somewhere l) Q
+
+  moves : IsMoved Early
+  moves v c r = record { holds = k.keeps (Shifts c) v tt r.holds; calm = r.calm; at = r.at }
+
+  counted : (d : Deed (Unit {0})) → (first_clock_goes d && true) ≡ true → On Early d.scene.state
+      → On Early (with_first_clock_down d.scene.state)
+  unfolding first_clock_goes
+  counted d fit r =
+      let v = view d.scene.state in
+      record { holds = k.keeps Counts v (search tests) r.holds; calm = r.calm; at = r.at }
+
+  ticked : (d : Deed (Unit {0})) (rest : Bool) → (second_clock_goes d && rest) ≡ true
+      → On Early d.scene.state → On Early (with_second_clock_down d.scene.state)
+  ticked d rest fit r =
+      let v = view d.scene.state in
+      record { holds = k.keeps Ticks v (search tests) r.holds; calm = r.calm; at = r.at }
+
+  -- the cave begins to close
+  start_kept : (d : Deed (Unit {0})) → On Early d.scene.state
+      → On Early (after_all begin_closing d).scene.state
+  unfolding begin_closing without_troll
+  start_kept d h =
+      let cave = d.cave in
+      let troll = thing cave name.Troll in let second = thing cave name.SecondTroll in
+      let e = troll_goes (change without_dwarves
+      (set_prop (the name.Fissure) FISSURE_OPEN (set_prop (the name.Grate) GRATE_LOCKED d))) in
+      let bear = prop (the name.Bear) BEAR_DEAD e in
+      let begun : Early (after game Begins (view d.scene.state)) =
+      record { holds = k.keeps Begins _ h.calm h.holds; calm = h.calm; at = h.at } in
+      let gone = moved_all Early moves (
+      Prop (thing cave name.Grate) GRATE_LOCKED ∷ Prop (thing cave name.Fissure) FISSURE_OPEN
+      ∷ Place troll 0 ∷ Hold troll anchor.Loose ∷ Place second (home cave troll)
+      ∷ Hold second (hold_of cave troll) ∷ Juggle (thing cave name.Chasm) ∷ []
+      ) _ begun in
+      let after = λ (f : Deed (Unit {0})).
+      Early (record (view f.scene.state) {
+        closing = record f.scene.state.closing { first_clock = negsuc 0; is_closing = true };
+      }) in
+      let left = if bear then e else destroy (the name.Bear) e in
+      let chain = thing left.cave name.Chain in let axe = thing left.cave name.Axe in
+      moved_all Early moves (
+      Prop chain CHAIN_UNLOCKED ∷ Hold chain anchor.Loose ∷ Prop axe AXE_FREE
+      ∷ Hold axe anchor.Loose ∷ []
+      ) (record (view left.scene.state) {
+        closing = record left.scene.state.closing { first_clock = negsuc 0; is_closing = true };
+      })
+      (choose after bear e (destroy (the name.Bear) e) (λ _. gone)
+      (λ _. moved_all Early moves (Place (thing cave name.Bear) 0 ∷ []) _ gone))
+
+  emptied_kept : (xs : List ℕ) (v : View) → Early v
+      → Early (record v { objects = without_all xs v.objects })
+  emptied_kept [] v h = h
+  emptied_kept (x ∷ xs) v h = emptied_kept xs _ (moves v (Place x 0) h)
+
+  -- the cave is closed where both ends of a repository are known: the player is elsewhere
+  closed_kept : (d : Deed (Unit {0})) (a b c : Bool)
+      → (second_clock_goes d
+      && (a && (b && (is_some (place_named d.cave landmark.Ne) && c)))) ≡ true
+      → On Early d.scene.state
+      → AfterClosure Early d.cave d.scene.state.trail.here
+      (after_all (change with_second_clock_down ∷ close_cave) d).scene.state
+  unfolding close_cave with_empty_hands northeast_things southwest_things
+  closed_kept d a b c fit h =
+      let cave = d.cave in let v = view d.scene.state in
+      let ne = place_of landmark.Ne d in let sw = place_of landmark.Sw d in
+      let gone = ticked d _ fit h in
+      let shut : Early (after game Shuts (after game Ticks v)) =
+      record { holds = k.keeps Shuts _ (search tests) gone.holds; calm = h.calm; at = h.at } in
+      let hung = moved_all Early moves (
+      stored ne (thing cave name.Bottle) BOTTLE_EMPTY
+      ++ stored ne (thing cave name.Plant) PLANT_SMALL
+      ++ stored ne (thing cave name.Oyster) SEEN ++ stored ne (thing cave name.Lamp) LAMP_OFF
+      ++ stored ne (thing cave name.Rod) SEEN ++ stored ne (thing cave name.Dwarf) SEEN
+      ++ stored sw (thing cave name.Grate) GRATE_LOCKED
+      ++ stored sw (thing cave name.Snake) SNAKE_GONE
+      ++ stored sw (thing cave name.Bird) BIRD_CAGED ++ stored sw (thing cave name.Cage) SEEN
+      ++ stored sw (thing cave name.SecondRod) SEEN ++ stored sw (thing cave name.Pillow) SEEN
+      ++ stored ne (thing cave name.Mirror) SEEN
+      ++ Hold (thing cave name.Mirror) (anchor_at sw) ∷ []
+      ) _ shut in
+      let e = all_of southwest_things (put_player (place_of landmark.Ne)
+      (all_of northeast_things (change with_second_clock_down d))) in
+      let held = emptied_kept (carried_objects e.scene.state.objects) _ hung in
+      record { holds = held; place = there _ (search tests) }
+
+  -- the first clock goes only while it is above 0
+  pub both_kept : (cave : CaveView) (p : Scene) → On Early p.state
+      → AfterClocks Early cave p.state.trail.here (tick_clocks (deed cave tt p)).step
+      (tick_clocks (deed cave tt p)).scene.state
+  unfolding tick_clocks clock_rows
+  both_kept cave p h =
+      let d : Deed (Unit {0}) = deed cave tt p in
+      guarded (λ (a : Act Bool). AfterClocks Early cave p.state.trail.here a.step a.scene.state)
+      (nothing_but (always false)) d clock_rows
+      (search (effects, start_kept, counted d, ticked d, closed_kept d) parts 20)
+
+-- what the lamp leaves of a charge
+gone_out : (c : ℤ) → int_eq c (pos 0) ≡ true → negsuc 0 ≡ left_of c
+gone_out c none = rw none
+
+still_lit : (c : ℤ) → int_eq c (pos 0) ≡ false → c ≡ left_of c
+still_lit c some = rw some
+
+-- what holds after the clocks
+abbrev pub After : Claim → CaveView → ℕ → Clocks → State → Type 0
+After P cave before clocks.GoOn s = On P s
+After P cave before clocks.GaveUp s = On P s
+After P cave before (clocks.Closed place) s = AfterClosure P cave before s
+
+-- the lamp goes on, or is passed over
+abbrev passed : CaveView → Bool → Scene → Act Clocks
+passed cave closed p =
+    if closed then act_of p (clocks.Closed p.state.trail.here) else lamp (deed cave tt p)
+
+-- the lamp is in a scene, if it is reached, as laws say of a line
+pub record IsLampOf (cave : CaveView) (l : Line) (o : Option Scene) : Type 0 where
+  pub lit : is_lit cave o ≡ l.is_lit
+  pub changed : is_changed cave o ≡ l.is_changed
+
+module _ {cave : CaveView} {l : Line} {Q P : Claim} (k : IsKept cave l Q P) where
+  abbrev R : Claim
+  R = Ready (Somewhere l) P
+
+  -- a claim will hold, whatever the lamp leaves of a charge that has burnt
+  abbrev Dims : Claim
+  Dims v = (c : ℤ) → Leaves l v.charge c → R (record v { charge = c })
+
+  abbrev lit : Scene → Deed (Unit {0})
+  lit p = burn (deed cave tt p)
+
+  burnt_kept : (p : Scene) → has_prop p.state (thing cave name.Lamp) LAMP_ON ≡ l.is_lit
+      → On (Ready (Somewhere l) Q) p.state → On Dims (burn (deed cave tt p)).scene.state
+  burnt_kept p lit h =
+      let d = deed cave tt p in
+      choose (λ (e : Deed (Unit {0})). On Dims e.scene.state) (prop (the name.Lamp) LAMP_ON d)
+      (change with_turn_burnt d) d
+      (λ fit c is. burnt_as true (sym fit ∙ lit) c is)
+      (λ other c is. burnt_as false (sym other ∙ lit) c is)
+    where
+      burnt_as : (b : Bool) → b ≡ l.is_lit → (c : ℤ) → Leaves l (burnt b p.state.lamp.charge) c
+          → R (record (view p.state) { charge = c })
+      burnt_as b same c is = record {
+        holds = k.keeps (Burns c) (view p.state)
+            (subst (λ (b : Bool). Leaves l (burnt b p.state.lamp.charge) c) same is) h.holds;
+        calm = h.calm;
+        at = h.at;
+      }
+
+  dims_moved : IsMoved Dims
+  dims_moved v change h c is = moved k (record v { charge = c }) change (h c is)
+
+  replaced_kept : (p : Scene) → IsLampOf cave l (Some p)
+      → all_hold can_change_batteries (lit p) ≡ true → On Dims (lit p).scene.state
+      → On R (after_all change_batteries (lit p)).scene.state
+  unfolding change_batteries let_go
+  replaced_kept p of can h =
+      let d = lit p in let x = thing d.cave name.Batteries in
+      let used = (set_prop (the name.Batteries) BATTERIES_USED d).scene.state in
+      let got : On Dims used = dims_moved (view d.scene.state) (Prop x BATTERIES_USED) h in
+      choose (λ (s : State). On R (with_new_charge s)) (is_in_hand d.cave used x)
+      (put_here x used) used
+      (λ _. renewed _ (dims_moved (view used) (Place x used.trail.here) got))
+      (λ _. renewed (view used) got)
+    where
+      renewed : (v : View) → Dims v
+          → R (record v { charge = int_min (v.charge +ℤ pos 2500) (pos MAX_LAMP_TURNS) })
+      renewed v h = h _ (inl (sym of.changed ∙ can, more_charge v.charge 2500))
+
+  -- the lamp goes out, which may be said
+  going_out_kept : (d : Deed (Unit {0})) → (turns_left (pos 0) d && true) ≡ true
+      → On Dims d.scene.state → On R (after_all go_out d).scene.state
+  unfolding go_out
+  going_out_kept d none dims =
+      let c = d.scene.state.lamp.charge in
+      let h : On R (with_charge (negsuc 0) d.scene.state) =
+      dims (negsuc 0) (inr (gone_out c (holds_alone _ none))) in
+      let x = thing d.cave name.Lamp in
+      let out = set_prop (the name.Lamp) LAMP_OFF (set_charge (negsuc 0) d) in
+      let off : On R out.scene.state =
+      moved k (view (with_charge (negsuc 0) d.scene.state)) (Prop x LAMP_OFF) h in
+      deed_chosen k (near (the name.Lamp) out) (say role.LampDead out) out off off
+
+  lasts : (d : Deed (Unit {0})) → (turns_left (pos 0) d && true) ≡ false → On Dims d.scene.state
+      → On R d.scene.state
+  lasts d some h = h d.scene.state.lamp.charge (inr (still_lit _ (fails_alone _ some)))
+
+  warned_kept : (d : Deed (Unit {0})) → On R d.scene.state → On R (after_all warn d).scene.state
+  unfolding warn warning_rows
+  warned_kept d h = quiet R warning_rows (search parts 20) (change with_warning d) h
+
+  -- the lamp goes on, or the player gives up
+  lamp_kept : (before : ℕ) (p : Scene) → IsLampOf cave l (Some p)
+      → On (Ready (Somewhere l) Q) p.state
+      → (let a = lamp (deed cave tt p) in After R cave before a.step a.scene.state)
+  unfolding care_for_lamp lamp_rows
+  lamp_kept before p of h =
+      guarded (λ (a : Act Clocks). After R cave before a.step a.scene.state)
+      (nothing_but (always clocks.GoOn)) (lit p) lamp_rows
+      (search (
+        effects,
+        replaced_kept p of,
+        going_out_kept,
+        lasts (lit p),
+        burnt_kept p of.lit h,
+        warned_kept,
+      ) parts 20 depth 9)
+
+  -- the lamp is reached, or is passed over
+  passed_kept : (before : ℕ) (closed : Bool) (p : Scene) → IsLampOf cave l (unless_closed closed p)
+      → AfterClocks (Ready (Somewhere l) Q) cave before closed p.state
+      → After R cave before (passed cave closed p).step (passed cave closed p).scene.state
+  passed_kept before true p of h = record { holds = led k _ (sym of.lit) h.holds; place = h.place }
+  passed_kept before false p of h = lamp_kept before p of h
+
+  -- the clocks go on: the player is where they say, and was somewhere before
+  pub clocks_kept : (p : Scene) → IsLampOf cave l (before_lamp cave p)
+      → On (Ready (Somewhere l) Q) p.state
+      → (before : ℕ)
+      × After R cave before (run_clocks cave p).step (run_clocks cave p).scene.state
+  unfolding run_clocks
+  clocks_kept p of h =
+      let a = tick_clocks (deed cave tt p) in (
+        p.state.trail.here,
+        passed_kept p.state.trail.here a.step a.scene of (both_kept k cave p h),
+      )

@@ -4,9 +4,9 @@ use Rattle.cave_turn.specs.cave_world.Limits.{PIRATE}
 use Rattle.cave_turn.specs.turn_dwarves.Band.{dwarf_of, with_anger, with_dwarf}
 use Rattle.cave_turn.specs.turn_dwarves.Booty.{after_thefts, hide_chest, rob, steal, steal_rows}
 use Rattle.cave_turn.specs.turn_dwarves.Booty.{with_pirate_home}
-use Rattle.cave_turn.specs.turn_dwarves.Dwarves.{anger_rows, awake, encounter_dwarves, is_missed}
+use Rattle.cave_turn.specs.turn_dwarves.Dwarves.{anger_rows, awake, encounter_dwarves}
 use Rattle.cave_turn.specs.turn_dwarves.Knives.{dwarf_turn, gone_rows, move_and_threaten, no_attack}
-use Rattle.cave_turn.specs.turn_dwarves.Knives.{raid, raid_of, threat_as, threat_rows, threaten}
+use Rattle.cave_turn.specs.turn_dwarves.Knives.{raid, raid_of, threat_rows, threaten}
 use Rattle.cave_turn.specs.turn_dwarves.Knives.{with_knife_here}
 use Rattle.cave_turn.specs.turn_dwarves.Lines.{dwarf_rows, knife_rows, knives, tell_attack}
 use Rattle.cave_turn.specs.turn_dwarves.Moving.{dwarf_moved}
@@ -23,17 +23,16 @@ use Rattle.cave_turn.specs.data_rows.declared.place_role.PlaceRole.TheVariants a
 use Rattle.cave_turn.specs.cave_words.declared.named.Named.TheVariants as name
 use Rattle.cave_turn.specs.data_rows.declared.role.Role.TheVariants as role
 use Rattle.cave_turn.specs.turn_dwarves.declared.knives.Threat.TheVariants as threat
-use Rattle.turn_laws.proofs.Band.{angrier, apart, changed}
-use Rattle.turn_laws.proofs.Effects.{banded, deed_chosen, effects, placed, sent}
-use Rattle.turn_laws.proofs.Rows.{Any, by_guarded, fails_alone, first_leads, guarded, holds_alone}
-use Rattle.turn_laws.proofs.Rows.{quiet, second_holds}
+use Rattle.turn_laws.proofs.Counted.{angrier, apart, changed}
+use Rattle.turn_laws.proofs.Effects.{banded, by_guarded, deed_chosen, effects, fails_alone, guarded}
+use Rattle.turn_laws.proofs.Effects.{holds_alone, kept_by, placed, quiet, second_holds, sent}
 use Rattle.turn_laws.proofs.View.{Claim, IsKept, Line, On, Ready, Somewhere, choose, some_place}
 use Rattle.turn_laws.proofs.View.{view}
 use Rattle.turn_laws.proofs.Words.{Act, Bool, CaveView, Deed, Dwarf, List, Scene, State, []}
-use Rattle.turn_laws.proofs.Words.{after_all, after_draw, after_drawing, anger, arith, by_table}
-use Rattle.turn_laws.proofs.Words.{change, deed, in_the_depths, min, no, nothing_but, nowhere}
+use Rattle.turn_laws.proofs.Words.{after_all, after_draw, after_drawing, always, anger, arith}
+use Rattle.turn_laws.proofs.Words.{by_table, change, deed, false, min, no, nothing_but, nowhere}
 use Rattle.turn_laws.proofs.Words.{place_named, refl, say, suc, the, thing, true, when, zero, ℕ}
-use Rattle.turn_laws.proofs.Words.{◌<◌, ◌==◌, ◌∷◌, ◌≡◌, ◌≤◌}
+use Rattle.turn_laws.proofs.Words.{◌&&◌, ◌<◌, ◌==◌, ◌∷◌, ◌≡◌, ◌≤◌}
 
 -- the pirate is none of the five dwarves
 not_low : 5 < 5 → ⊥
@@ -42,9 +41,6 @@ not_low low = omega (arith, low)
 module _ {game : CaveView} {l : Line} {Q P : Claim} (k : IsKept game l Q P) where
   abbrev R : Claim
   R = Ready (Somewhere l) P
-
-  still : {C : Type 0} (d : Deed C) → On R d.scene.state → On R d.scene.state × Unit {0}
-  still d h = (h, tt)
 
   dwarf_kept : (n : ℕ) (d : Dwarf) (s : State)
       → (n < 5 → (dwarf_of s n).place ≡ 0 → d.place ≡ 0) → On R s → On R (with_dwarf n d s)
@@ -59,14 +55,10 @@ module _ {game : CaveView} {l : Line} {Q P : Claim} (k : IsKept game l Q P) wher
       let least : min s.dwarves.anger 13 ≤ n = grind (arith, so, more) in
       banded k (view s) _ (angrier s.trail.here (view s).band n least) h
 
-  gone_kept : (n : ℕ) (s : State) → On R s → On R (without_dwarf n s)
-  unfolding without_dwarf
-  gone_kept n s h = dwarf_kept n _ s (λ _ _. refl) h
-
   leaving_kept : (d : Deed Attack) → On R d.scene.state → On R (let_one_leave d).scene.state
-  unfolding leaving_rows
+  unfolding leaving_rows without_dwarf
   leaving_kept d h =
-      quiet R leaving_rows ((λ e g. (gone_kept e.about e.scene.state g, tt)), tt)
+      quiet R leaving_rows ((λ e g. (dwarf_kept e.about _ e.scene.state (λ _ _. refl) g, tt)), tt)
       (deed d.cave (number_drawn 5 d.scene.state.stream) (after_drawing d).scene) h
 
   apart_kept : (cave : CaveView) (n : ℕ) (s : State) → On R s → On R (with_dwarves_apart cave n s)
@@ -76,22 +68,18 @@ module _ {game : CaveView} {l : Line} {Q P : Claim} (k : IsKept game l Q P) wher
       let t = with_dwarves_apart cave n s in
       banded k (view t) _ (apart cave t.trail.here (view t).band n) (apart_kept cave n s h)
 
-  woken_kept : (d : Deed Attack) → (d.scene.state.dwarves.anger == 1) ≡ true
+  woken_kept : (d : Deed Attack) → (d.scene.state.dwarves.anger == 1 && true) ≡ true
       → On R d.scene.state → On R (after_all wake d).scene.state
   unfolding wake
   woken_kept d stirs h =
       let e = change (with_anger 2) d in let f = let_one_leave (let_one_leave e) in
       placed k _ _ (apart_kept d.cave 5 f.scene.state (leaving_kept (let_one_leave e)
-      (leaving_kept e (angry_kept 1 2 d.scene.state stirs (omega arith) h))))
+      (leaving_kept e (angry_kept 1 2 d.scene.state (holds_alone _ stirs) (omega arith) h))))
 
-  waking_kept : (d : Deed Attack) → (d.scene.state.dwarves.anger == 1) ≡ true
+  waking_kept : (d : Deed Attack) → (d.scene.state.dwarves.anger == 1 && true) ≡ true
       → On R d.scene.state → On R (by_table waking_rows d).scene.state
   unfolding waking_rows
-  waking_kept d stirs h =
-      by_guarded R d waking_rows (
-        (λ _. h),
-        λ _. ((λ _. h), λ _. ((λ _. woken_kept (after_drawing d) stirs h), λ _. h)),
-      )
+  waking_kept d stirs h = by_guarded R d waking_rows (search (effects, woken_kept) parts 20)
 
   moved_kept : (cave : CaveView) (n : ℕ) (p : Scene)
       → (n < 5 → (dwarf_of p.state n).place ≡ 0 → ⊥) → On R p.state
@@ -102,27 +90,26 @@ module _ {game : CaveView} {l : Line} {Q P : Claim} (k : IsKept game l Q P) wher
 
   threatened_kept : (d : Deed Dwarf) → On R d.scene.state → On R (threaten d).scene.state
   unfolding threaten threat_rows with_knife_here
-  threatened_kept d h =
-      (first_leads R R Any threat_rows (nothing_but (threat_as threat.Nothing)) (search parts 20)
-      still d h).0
+  threatened_kept d h = kept_by R threat_rows (always threat.Nothing) (search parts 20) d h
 
   turn_kept : (cave : CaveView) (n : ℕ) (p : Scene) → On R p.state
       → On R (dwarf_turn (deed cave n p)).scene.state
   unfolding dwarf_turn gone_rows
   turn_kept cave n p h =
-      guarded (λ (a : Act Threat). On R a.scene.state) move_and_threaten (deed cave n p) gone_rows (
-        (λ _. h),
-        λ some. threatened_kept (dwarf_moved cave n p)
-            (moved_kept cave n p
-            (λ _ gone. some_place _ (fails_alone ((dwarf_of p.state n).place == 0) some) gone) h),
-      )
+      guarded (λ (a : Act Threat). On R a.scene.state) move_and_threaten (deed cave n p) gone_rows
+      (search (effects, moving) parts 20)
+    where
+      moving : ((dwarf_of p.state n).place == 0 && true) ≡ false
+          → On R (threaten (dwarf_moved cave n p)).scene.state
+      moving some =
+          threatened_kept (dwarf_moved cave n p)
+          (moved_kept cave n p (λ _ gone. some_place _ (fails_alone _ some) gone) h)
 
   raided_kept : (cave : CaveView) (n : ℕ) (p : Scene) → On R p.state
       → On R (raid_of cave n p).scene.state
   unfolding raid_of
   raided_kept cave zero p h = h
-  raided_kept cave (suc n) p h =
-      turn_kept cave n (raid_of cave n p).scene (raided_kept cave n p h)
+  raided_kept cave (suc n) p h = turn_kept cave n (raid_of cave n p).scene (raided_kept cave n p h)
 
   -- what is printed, and the anger of dwarves who throw knives for the first time
   told_kept : (d : Deed Attack) → On R d.scene.state → On R (after_all tell_attack d).scene.state
@@ -139,8 +126,7 @@ module _ {game : CaveView} {l : Line} {Q P : Claim} (k : IsKept game l Q P) wher
 
   stolen_kept : (cave : CaveView) (x : ℕ) (p : Scene) → On R p.state → On R (steal cave x p).state
   unfolding steal steal_rows
-  stolen_kept cave x p h =
-      quiet R steal_rows (search effects parts 20) (deed cave x p) h
+  stolen_kept cave x p h = quiet R steal_rows (search effects parts 20) (deed cave x p) h
 
   all_stolen_kept : (cave : CaveView) (xs : List ℕ) (p : Scene) → On R p.state
       → On R (after_thefts cave xs p).state
@@ -182,23 +168,22 @@ module _ {game : CaveView} {l : Line} {Q P : Claim} (k : IsKept game l Q P) wher
           quiet R chase_rows (search met parts 20) (move_pirate d)
           (moved_kept d.cave PIRATE d.scene (λ low _. not_low low) h)
 
+  stirred_kept : (s : State) → (s.dwarves.anger == 0 && true) ≡ true → On R s
+      → On R (with_anger 1 s)
+  stirred_kept s asleep h = angry_kept 0 1 s (holds_alone _ asleep) (omega arith) h
+
+  acted_kept : (d : Deed Attack) → On R d.scene.state → On R (after_all awake d).scene.state
+  unfolding awake
+  acted_kept d h =
+      let r = raid d in
+      told_kept (record r { scene = after_pirate r.cave r.scene })
+      (pirate_kept r.cave r.scene (raided_kept d.cave 5 d.scene h))
+
   -- the dwarves sleep, stir, or act
   pub dwarves_kept : (cave : CaveView) (p : Scene) → On R p.state
       → On R (encounter_dwarves cave p).scene.state
-  unfolding encounter_dwarves anger_rows awake tell_attack
+  unfolding encounter_dwarves anger_rows
   dwarves_kept cave p h =
-      let d = deed cave no_attack p in
-      guarded (λ (a : Act Bool). On R a.scene.state) (nothing_but is_missed) d anger_rows (
-        (λ asleep. choose (λ (e : Deed Attack). On R e.scene.state) (in_the_depths d)
-            (change (with_anger 1) d) d
-            (λ _. angry_kept 0 1 p.state (holds_alone _ asleep) (omega arith) h) (λ _. h)),
-        λ _. (
-          (λ stirs. waking_kept d (holds_alone _ stirs) h),
-          λ _. (
-            (λ _. let r = raid d in
-                told_kept (record r { scene = after_pirate cave r.scene })
-                (pirate_kept cave r.scene (raided_kept cave 5 p h))),
-            λ _. h,
-          ),
-        ),
-      )
+      guarded (λ (a : Act Bool). On R a.scene.state) (nothing_but (always false))
+      (deed cave no_attack p) anger_rows
+      (search (effects, stirred_kept, waking_kept, acted_kept) parts 20)

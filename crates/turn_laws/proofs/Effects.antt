@@ -1,18 +1,117 @@
--- What the effects of rows make of a claim that is kept by what happens while the player stays.
+-- What rows make of a claim, by what their effects make of it: of one that is kept by what happens
+-- while the player stays.
 use Rattle.cave_turn.specs.turn_rules.Effects.{after_sending}
+use Rattle.cave_turn.specs.turn_rules.Rows.{Row, Test, act_of_row, after_trying, after_trying_by}
+use Rattle.cave_turn.specs.turn_rules.Rows.{fits}
 use Rattle.cave_turn.specs.turn_things.Effects.{after_loss_to_snake, after_panic, let_go, put_down}
 use Rattle.cave_turn.specs.turn_things.Effects.{without_troll}
 use Rattle.cave_turn.specs.verb_commands.Effects.{after_default}
 use Rattle.cave_turn.specs.world_objects.Objects.{after_juggle, after_move_to, with_anchor}
 use Rattle.cave_turn.specs.world_objects.Objects.{with_prop}
-use Rattle.turn_laws.proofs.Band.{angrier}
+use Rattle.turn_laws.proofs.Counted.{angrier}
 use Rattle.turn_laws.proofs.View.{Band, Bands, Change, Claim, Hold, IsBandAfter, IsKept, IsMoved}
 use Rattle.turn_laws.proofs.View.{Juggle, Line, Loses, Moves, On, Panics, Place, Prop, Ready}
 use Rattle.turn_laws.proofs.View.{Somewhere, View, after_change, choose, view}
+use Rattle.turn_laws.proofs.View.{Hints, IsChargeAfter, Pays}
 use Rattle.turn_laws.proofs.Words.{Act, Anchor, Bool, CaveView, Closing, Deed, Dwarf, Ending}
-use Rattle.turn_laws.proofs.Words.{Layout, List, None, Option, Question, Scene, Some, State}
-use Rattle.turn_laws.proofs.Words.{Tallies, [], after_look_at, anger, arith, if◌then◌else◌, inl}
-use Rattle.turn_laws.proofs.Words.{inr, min, pos, refl, true, ℕ, ℤ, ◌+◌, ◌||◌, ◌∷◌, ◌≡◌, ◌≤◌, ◌⊎◌}
+use Rattle.turn_laws.proofs.Words.{Layout, List, MAX_LAMP_TURNS, None, Option, Question, Scene}
+use Rattle.turn_laws.proofs.Words.{Some, State, Tallies, [], after_all, after_look_at, all_hold}
+use Rattle.turn_laws.proofs.Words.{arith, by_table, false, first_fitting_or, if◌then◌else◌, inl}
+use Rattle.turn_laws.proofs.Words.{inr, int_min, ints, min, nothing_but, pos, refl, slice_set, true}
+use Rattle.turn_laws.proofs.Words.{ℕ, ℤ, ◌&&◌, ◌+ℤ◌, ◌+◌, ◌||◌, ◌∷◌, ◌≡◌, ◌≤◌, ◌⊎◌}
+
+-- a claim holds after an act, and what follows is of some kind
+abbrev pub Left : {F : Type 0} → Claim → (F → Type 0) → Act F → Type 0
+Left P Next a = On P a.scene.state × Next a.step
+
+-- from one claim the effects of rows lead to another, and to what follows of some kind
+abbrev pub LeadRows : {C F : Type 0} → Claim → Claim → (F → Type 0) → List (Row C F) → Type 0
+LeadRows Q P Next [] = Unit {0}
+LeadRows {C} Q P Next (r ∷ rows) =
+    ((d : Deed C) → On Q d.scene.state
+    → (let e = after_all r.effects d in On P e.scene.state × Next (r.end e)))
+    × LeadRows Q P Next rows
+
+-- from one claim an act leads to another
+abbrev pub Leads : {C F : Type 0} → Claim → Claim → (F → Type 0) → (Deed C → Act F) → Type 0
+Leads {C} Q P Next f = (d : Deed C) → On Q d.scene.state → Left P Next (f d)
+
+-- anything may follow
+abbrev pub Any : {F : Type 0} → F → Type 0
+Any step = Unit {0}
+
+-- a row that is tried keeps a claim, whether a draw is made or not
+pub tried_kept : {C F : Type 0} (P : Claim) (r : Row C F) (d : Deed C) → On P d.scene.state
+    → On P (after_trying r d).scene.state
+tried_kept {C} P r d h = by_draw r.tests r.draw
+  where
+    by_draw : (tests : List (Test C)) (draw : Option (Test C))
+        → On P (after_trying_by tests draw d).scene.state
+    by_draw tests None = h
+    by_draw tests (Some draw) =
+        choose (λ (e : Deed C). On P e.scene.state) (all_hold tests d) _ d (λ _. h) (λ _. h)
+
+-- the first row that fits, or what is done if none does
+pub first_leads : {C F : Type 0} (Q P : Claim) (Next : F → Type 0) (rows : List (Row C F))
+    (f : Deed C → Act F) → LeadRows Q P Next rows → Leads Q P Next f
+    → Leads Q P Next (first_fitting_or rows f)
+first_leads Q P Next [] f k other d h = other d h
+first_leads {C} {F} Q P Next (r ∷ rows) f k other d h =
+    let g = tried_kept Q r d h in
+    choose (Left P Next) (fits r d) (act_of_row r (after_trying r d))
+    (first_fitting_or rows f (after_trying r d))
+    (λ _. k.0 (after_trying r d) g)
+    (λ _. first_leads Q P Next rows f k.1 other (after_trying r d) g)
+
+-- a table after which a claim still holds, whatever follows
+pub kept_by : {C F : Type 0} (P : Claim) (rows : List (Row C F)) (end : Deed C → F)
+    → LeadRows P P Any rows → (d : Deed C) → On P d.scene.state
+    → On P (first_fitting_or rows (nothing_but end) d).scene.state
+kept_by P rows end k d h = (first_leads P P Any rows (nothing_but end) k (λ e g. (g, tt)) d h).0
+
+-- the same of a table of effects
+pub quiet : {C : Type 0} (P : Claim) (rows : List (Row C (Unit {0}))) → LeadRows P P Any rows
+    → (d : Deed C) → On P d.scene.state → On P (by_table rows d).scene.state
+quiet P rows k d h = kept_by P rows (λ e. tt) k d h
+
+-- it holds of each row where it fits and none before it does, and of what is done where none fits
+abbrev pub Guarded : {C F : Type 0} → (Act F → Type 0) → (Deed C → Act F) → Deed C
+    → List (Row C F) → Type 0
+Guarded Q otherwise d [] = Q (otherwise d)
+Guarded Q otherwise d (r ∷ rows) =
+    (fits r d ≡ true → Q (act_of_row r (after_trying r d)))
+    × (fits r d ≡ false → Guarded Q otherwise (after_trying r d) rows)
+
+pub guarded : {C F : Type 0} (Q : Act F → Type 0) (otherwise : Deed C → Act F) (d : Deed C)
+    (rows : List (Row C F)) → Guarded Q otherwise d rows → Q (first_fitting_or rows otherwise d)
+guarded Q otherwise d [] each = each
+guarded Q otherwise d (r ∷ rows) each =
+    choose Q (fits r d) (act_of_row r (after_trying r d))
+    (first_fitting_or rows otherwise (after_trying r d))
+    each.0 (λ other. guarded Q otherwise (after_trying r d) rows (each.1 other))
+
+-- the same of a table of effects, and a claim
+pub by_guarded : {C : Type 0} (P : Claim) (d : Deed C) (rows : List (Row C (Unit {0})))
+    → Guarded (λ a. On P a.scene.state) (nothing_but (λ e. tt)) d rows
+    → On P (by_table rows d).scene.state
+by_guarded P d rows each = guarded (λ a. On P a.scene.state) (nothing_but (λ e. tt)) d rows each
+
+-- a test that is the only one of a row holds, or fails, as the row does
+pub holds_alone : (a : Bool) → (a && true) ≡ true → a ≡ true
+holds_alone a h = grind (arith, h)
+
+pub fails_alone : (a : Bool) → (a && true) ≡ false → a ≡ false
+fails_alone a h = grind (arith, h)
+
+-- the first of two tests that hold holds, and so does the second
+pub first_holds : (a b : Bool) → (a && b) ≡ true → a ≡ true
+first_holds a b h = grind (arith, h)
+
+pub second_holds : (a b : Bool) → (a && b) ≡ true → b ≡ true
+second_holds a b h = grind (arith, h)
+
+-- by these a search finds one of several tests that hold together
+pub ruleset tests = (first_holds, second_holds)
 
 -- objects change one after another
 abbrev pub after_changes : List Change → Layout → Layout
@@ -25,11 +124,21 @@ moved_all P moves [] v h = h
 moved_all P moves (c ∷ cs) v h =
     moved_all P moves cs (record v { objects = after_change c v.objects }) (moves v c h)
 
+-- an object changes, or none does
+pub moved_if : (P : Claim) → IsMoved P → (b : Bool) (c : Change) (v : View) → P v
+    → P (record v { objects = if b then after_change c v.objects else v.objects })
+moved_if P moves b c v h =
+    choose (λ (o : Layout). P (record v { objects = o })) b _ _ (λ _. moves v c h) (λ _. h)
+
+-- more turns of the lamp, up to the most
+pub more_charge : (b : ℤ) (n : ℕ) → IsChargeAfter b (int_min (b +ℤ pos n) (pos MAX_LAMP_TURNS))
+more_charge b n = record { least = grind (arith, ints); most = grind (arith, ints) }
+
 -- what laws speak of, as a search finds it: by each part
 abbrev tallied : ℕ → ℕ → ℕ → Tallies
 tallied u l d = record { unseen = u; lost = l; deaths = d }
 
-abbrev banded_as : ℕ → ℕ → List Dwarf → Band
+abbrev pub banded_as : ℕ → ℕ → List Dwarf → Band
 banded_as g m w = record { anger = g; kills = m; each = w }
 
 abbrev pub shown : ℕ → Layout → ℤ → Closing → Tallies → Band → List Bool → Option Question
@@ -46,6 +155,15 @@ shown n o q c t b h a e =
       question = a;
       ending = e;
     }
+
+-- what holds with each clock that panic may leave holds after it
+pub panicked : (R : State → Type 0) (s : State)
+    → ((n : ℤ) → (n ≡ s.closing.second_clock) ⊎ (n ≡ pos 15)
+    → R (record s { closing = record s.closing { second_clock = n; is_panicking = true } }))
+    → R (after_panic s)
+panicked R s each =
+    choose R (s.closing.is_panicking || s.closing.is_closed) _ _
+    (λ _. each s.closing.second_clock (inl refl)) (λ _. each (pos 15) (inr refl))
 
 module _ {game : CaveView} {l : Line} {Q P : Claim} {Other : ℕ → Type 0} (k : IsKept game l Q P)
   where
@@ -70,6 +188,16 @@ module _ {game : CaveView} {l : Line} {Q P : Claim} {Other : ℕ → Type 0} (k 
       pub juggled : (x : ℕ) → Ready Other P (shown n o q c t b h a e)
           → Ready Other P (shown n (after_juggle o x) q c t b h a e)
       juggled x r = moved (shown n o q c t b h a e) (Juggle x) r
+
+      pub hinted : (i : ℕ) → Ready Other P (shown n o q c t b h a e)
+          → Ready Other P (shown n o q c t b (slice_set h i true) a e)
+      hinted i r = record { holds = k.keeps (Hints i) _ tt r.holds; calm = r.calm; at = r.at }
+
+      pub paid_by : (m : ℕ) → l.is_paid ≡ true → Ready Other P (shown n o q c t b h a e)
+          → Ready Other P (shown n o (int_min (q +ℤ pos m) (pos MAX_LAMP_TURNS)) c t b h a e)
+      paid_by m paid r =
+          let more = k.keeps (Pays _) _ (paid, more_charge q m) r.holds in
+          record { holds = more; calm = r.calm; at = r.at }
 
     pub lost : {n : ℕ} {o : Layout} {q : ℤ} {c : Closing} {u s d : ℕ} {b : Band} {h : List Bool}
         {a : Option Question} {e : Option Ending}
@@ -121,18 +249,8 @@ module _ {game : CaveView} {l : Line} {Q P : Claim} {Other : ℕ → Type 0} (k 
 
     pub panic : (s : State) → On (Ready Other P) s → On (Ready Other P) (after_panic s)
     panic s h =
-        let closing = s.closing in
-        choose (On (Ready Other P)) (closing.is_panicking || closing.is_closed)
-        (record s { closing = record closing { is_panicking = true } })
-        (record s { closing = record closing { second_clock = pos 15; is_panicking = true } })
-        (λ _. panicked closing.second_clock (inl refl)) (λ _. panicked (pos 15) (inr refl))
-      where
-        panicked : (n : ℤ) → (n ≡ s.closing.second_clock) ⊎ (n ≡ pos 15)
-            → Ready Other P (record (view s) {
-              closing = record s.closing { second_clock = n; is_panicking = true };
-            })
-        panicked n how =
-            record { holds = k.keeps (Panics n) (view s) how h.holds; calm = h.calm; at = h.at }
+        panicked (On (Ready Other P)) s (λ n how.
+        record { holds = k.keeps (Panics n) (view s) how h.holds; calm = h.calm; at = h.at })
 
     pub sent : (x : ℕ) (o : Option ℕ) (s : State) → On (Ready Other P) s
         → On (Ready Other P) (after_sending x o s)
@@ -162,7 +280,7 @@ module _ {game : CaveView} {l : Line} {Q P : Claim} (k : IsKept game l Q P) wher
       banded _ _ (angrier n (banded_as g m w) (min (g + 1) 13) more) r
 
 -- what a search goes by: changes, what is chosen or only said, and what is made of both
-pub ruleset changes_made = (placed, held, propped, juggled, lost, angered)
+pub ruleset changes_made = (placed, held, propped, juggled, hinted, lost, angered)
 
 pub ruleset choices = (state_chosen, deed_chosen, scene_chosen, act_chosen, say_default, look)
 

@@ -1,48 +1,45 @@
--- What a line makes of a claim.
+-- What a line makes of a claim, which lines change nothing, and which are turns.
+use Rattle.std.specs.FinMap as map
 use Rattle.std.specs.Prelude.{take as first_of}
+use Rattle.base_lines.proofs.LogLines.{IsLogLine-log_line, log_line-only}
 use Rattle.cave_turn.specs.Answers.{after_answer, after_no, after_yes, give_instructions}
-use Rattle.cave_turn.specs.Answers.{is_of_hint, no_rows, quit, reply_scene, yes_rows}
+use Rattle.cave_turn.specs.Answers.{is_of_hint, quit, reply_scene}
 use Rattle.cave_turn.specs.Commands.{command_scene}
 use Rattle.cave_turn.specs.Dragon.{after_gathering, fight, is_by_dragon, lair_from}
 use Rattle.cave_turn.specs.Finish.{end_of_turn}
 use Rattle.cave_turn.specs.Revival.{bury}
-use Rattle.cave_turn.specs.Turns.{turn_of, turn_on_line}
-use Rattle.cave_turn.specs.cave_world.State.{INSTRUCTIONS_HINT, state_with_player_at}
-use Rattle.cave_turn.specs.cave_world.State.{with_hint_taken}
+use Rattle.cave_turn.specs.Turns.{silent_turn, start_of_game, turn_of, turn_on_line, with_seed}
+use Rattle.cave_turn.specs.base_lines.LogLine.{IsLogLine, IsSeedLine}
+use Rattle.cave_turn.specs.cave_world.State.{state_with_player_at}
 use Rattle.cave_turn.specs.declared.answers.Answer.{Answer}
 use Rattle.cave_turn.specs.declared.answers.Answer.TheVariants.{Neither, No, Yes}
-use Rattle.cave_turn.specs.turn_hints.Hints.{bright, give_rows, hint_text, price_rows, prolong}
-use Rattle.cave_turn.specs.turn_hints.Hints.{take, tell_price}
-use Rattle.cave_turn.specs.turn_rules.Effects.{tell_message}
+use Rattle.cave_turn.specs.turn_hints.Hints.{give_rows, price_rows, tell_price}
 use Rattle.cave_turn.specs.turn_scene.Scene.{scene_at_start}
 use Rattle.cave_turn.specs.turn_things.Props.{DRAGON_DEAD, RUG_FREE}
-use Rattle.cave_turn.specs.world_objects.Objects.{after_move_to}
 use Rattle.cave_turn.specs.world_objects.declared.spot.Anchor.TheVariants as anchor
 use Rattle.cave_turn.specs.cave_world.declared.ending.Ending.TheVariants as ending_is
 use Rattle.cave_turn.specs.base_lines.declared.log_line.LogLine.TheVariants as kind
 use Rattle.cave_turn.specs.cave_words.declared.named.Named.TheVariants as name
 use Rattle.cave_turn.specs.cave_world.declared.ending.Question.TheVariants as question
-use Rattle.cave_turn.specs.data_rows.declared.role.Role.TheVariants as role
+use Rattle.cave_turn.specs.turn_ends.Questions.{after_ask}
 use Rattle.turn_laws.specs.Courses.{is_lit}
-use Rattle.turn_laws.specs.Laws.{before_clocks, before_lamp, is_changed, is_input_kind}
-use Rattle.turn_laws.specs.Laws.{is_no_answer, is_priced, pays}
-use Rattle.turn_laws.proofs.Effects.{look, moved_all}
-use Rattle.turn_laws.proofs.Endings.{asking_kept, ended_kept, ending_kept, question_kept}
+use Rattle.turn_laws.specs.Laws.{HasEnded, IsQuiet, Lasts, before_clocks, before_lamp, is_changed}
+use Rattle.turn_laws.specs.Laws.{is_command, is_input_kind, is_no_answer, is_priced, pays}
+use Rattle.turn_laws.proofs.Effects.{by_guarded, effects, holds_alone, look, moved_all, moved_if}
+use Rattle.turn_laws.proofs.Effects.{paid_by, quiet}
 use Rattle.turn_laws.proofs.Moves.{arriving_kept, arriving_open}
-use Rattle.turn_laws.proofs.Rows.{by_guarded, holds_alone}
+use Rattle.turn_laws.proofs.Places.{asking_kept, ended_kept, ending_kept, question_kept}
 use Rattle.turn_laws.proofs.Turns.{commanded_kept, finished_kept, reborn_kept}
 use Rattle.turn_laws.proofs.View.{Anywhere, Asks, Buries, Claim, Closes, Hints, Hold, IsChargeAfter}
 use Rattle.turn_laws.proofs.View.{IsKept, IsMoved, Keeps, Line, Moves, On, Passes, Pays, Place}
-use Rattle.turn_laws.proofs.View.{Prop, Puts, Ready, View, choose, led, line_of, view}
-use Rattle.turn_laws.proofs.Words.{Bool, CaveView, Deed, Ending, Layout, List, LogLine}
-use Rattle.turn_laws.proofs.Words.{MAX_LAMP_TURNS, None, Option, Question, Scene, Some, State, Turn}
-use Rattle.turn_laws.proofs.Words.{[], after_all, after_look_at, after_saying, answer_in, answers}
-use Rattle.turn_laws.proofs.Words.{ap, arith, by_table, deed, false, inr, int_min, ints, is_die}
-use Rattle.turn_laws.proofs.Words.{is_dragon, is_some, is_yes, log_line, not, pos, refl}
-use Rattle.turn_laws.proofs.Words.{start_place, subst, suc, sym, thing, true, true≢false}
-use Rattle.turn_laws.proofs.Words.{turn_of_input, turn_on_log_line, with_charge, with_one_death}
-use Rattle.turn_laws.proofs.Words.{with_state, without_question, zero, ℕ, ℤ, ◌&&◌, ◌+ℤ◌, ◌-◌, ◌||◌}
-use Rattle.turn_laws.proofs.Words.{◌∙◌, ◌∷◌, ◌≡◌}
+use Rattle.turn_laws.proofs.View.{Prop, Puts, Ready, View, choose, is_die, led, line_of, view}
+use Rattle.turn_laws.proofs.Words.{Bool, CaveView, Deed, Ending, List, LogLine, None, Option}
+use Rattle.turn_laws.proofs.Words.{Question, Scene, Some, State, Turn, [], after_all, after_look_at}
+use Rattle.turn_laws.proofs.Words.{answer_in, answers, ap, arith, by_table, deed, false, false≢true}
+use Rattle.turn_laws.proofs.Words.{if◌then◌else◌, inr, ints, is_dragon, is_some, is_yes}
+use Rattle.turn_laws.proofs.Words.{log_line, not, pos, refl, start_place, subst, suc, sym, thing}
+use Rattle.turn_laws.proofs.Words.{true, true≢false, turn_of_input, turn_on_log_line, with_state}
+use Rattle.turn_laws.proofs.Words.{without_question, zero, ℕ, ℤ, ◌&&◌, ◌||◌, ◌∙◌, ◌∷◌, ◌≡◌}
 
 -- all that is by the dragon is moved to a place
 gathered_kept : (P : Claim) → IsMoved P → (cave : CaveView) (place m : ℕ) (v : View) → P v
@@ -51,23 +48,16 @@ unfolding after_gathering
 gathered_kept P moves cave place zero v h = h
 gathered_kept P moves cave place (suc m) v h =
     let o = after_gathering cave place m v.objects in
-    let w : View = record v { objects = o } in
-    choose (λ (l : Layout). P (record v { objects = l })) (is_by_dragon cave o (suc m))
-    (after_move_to o (suc m) place) o
-    (λ _. moves w (Place (suc m) place) (gathered_kept P moves cave place m v h))
-    (λ _. gathered_kept P moves cave place m v h)
+    moved_if P moves (is_by_dragon cave o (suc m)) (Place (suc m) place)
+    (record v { objects = o }) (gathered_kept P moves cave place m v h)
 
 -- the charge that the instructions and a hint give
 full_charge : (b : ℤ) → IsChargeAfter b (pos 1000)
 full_charge b = record { least = grind (arith, ints); most = grind (arith, ints) }
 
-more_charge : (b : ℤ) (n : ℕ) → IsChargeAfter b (int_min (b +ℤ pos n) (pos MAX_LAMP_TURNS))
-more_charge b n = record { least = grind (arith, ints); most = grind (arith, ints) }
-
 -- what answers a question is what doesn't leave it
 pub leaves_is : (a b : Bool) → not (not a || b) ≡ a && not b
-leaves_is true b = refl
-leaves_is false b = refl
+leaves_is a b = grind arith
 
 -- a question that a line leaves is not whether to come back
 unanswered : (cave : CaveView) (line : List ℕ) (q : Question) → answers cave line q ≡ false
@@ -85,29 +75,19 @@ module _ {cave : CaveView} {l : Line} {Q P : Claim} (k : IsKept cave l Q P) wher
       → On P (by_table price_rows (deed cave i p)).scene.state
   unfolding price_rows
   priced_kept i p h =
-      let d = deed cave i p in
-      by_guarded P d price_rows (
-        (λ fit. asking_kept P cave (question.Take i) (tell_price d).scene
-            (k.keeps (Asks (question.Take i)) (view p.state) (refl, h.calm, holds_alone _ fit)
-            h.holds)),
-        λ _. h.holds,
-      )
+      by_guarded P (deed cave i p) price_rows (search (asked, h.holds) parts 20)
+    where
+      asked : (is_some (map.get cave.hints i) && true) ≡ true
+          → On P (after_ask cave (question.Take i) (tell_price (deed cave i p)).scene).state
+      asked fit =
+          asking_kept P cave (question.Take i) (tell_price (deed cave i p)).scene
+          (k.keeps (Asks (question.Take i)) (view p.state) (refl, h.calm, holds_alone _ fit)
+          h.holds)
 
-  given_kept : l.is_paid ≡ true → (i : ℕ) (p : Scene) → On P p.state
-      → On P (by_table give_rows (deed cave i p)).scene.state
+  given_kept : l.is_paid ≡ true → (d : Deed ℕ) → On (Ready Anywhere P) d.scene.state
+      → On (Ready Anywhere P) (by_table give_rows d).scene.state
   unfolding give_rows
-  given_kept paid i p h =
-      let d = deed cave i p in
-      let e = take (tell_message hint_text d) in
-      let s = e.scene.state in
-      let got : On P s = k.keeps (Hints (i - 1)) (view p.state) tt h in
-      by_guarded P d give_rows (
-        (λ _. choose (λ (e : Deed ℕ). On P e.scene.state) (bright e) (prolong e) e
-            (λ _. k.keeps (Pays (prolong e).scene.state.lamp.charge) (view s)
-            (paid, more_charge s.lamp.charge _) got)
-            (λ _. got)),
-        λ _. h,
-      )
+  given_kept paid d h = quiet (Ready Anywhere P) give_rows (search (effects, paid_by) parts 20) d h
 
   fought_kept : (p : Scene) → On (Ready Anywhere P) p.state
       → On P (after_all fight (deed cave question.Dragon p)).scene.state
@@ -144,62 +124,48 @@ module _ {cave : CaveView} {l : Line} {Q P : Claim} (k : IsKept cave l Q P) wher
     -- yes is said to a question, which is closed
     agreed_kept : (q : Question) (p : Scene) → (is_priced q ≡ true → l.is_paid ≡ true)
         → p.state.question ≡ Some q → p.state.ending ≡ None → On Q p.state
+        → (is_die q ≡ false → On (Ready Anywhere P) (without_question p.state))
         → On P (after_yes cave q (with_state (without_question p.state) p)).state
-    unfolding yes_rows give_instructions quit
-    agreed_kept question.Welcome p paid asked goes h =
-        let s = without_question p.state in
-        let t = with_charge (pos 1000) (with_hint_taken INSTRUCTIONS_HINT s) in
-        let free = closed_kept question.Welcome p.state refl asked goes h in
-        let taken = k.keeps (Hints 2) (view s) tt free.holds in
-        arriving_kept k (start_place cave)
-        (with_state t (after_saying role.Instructions (with_state s p)))
-        (k.keeps (Pays (pos 1000)) _ (paid refl, full_charge s.lamp.charge) taken)
-    agreed_kept question.Quit p paid asked goes h =
-        ending_kept k ending_is.Quit
-        (after_saying role.Ok (with_state (without_question p.state) p))
-        (closed_kept question.Quit p.state refl asked goes h)
-    agreed_kept question.ScoreQuit p paid asked goes h =
-        ending_kept k ending_is.Quit
-        (after_saying role.Ok (with_state (without_question p.state) p))
-        (closed_kept question.ScoreQuit p.state refl asked goes h)
-    agreed_kept question.Die p paid asked goes h = reborn_kept k unlit p asked goes h
-    agreed_kept (question.Hint i) p paid asked goes h =
-        priced_kept i (with_state (without_question p.state) p)
-        (closed_kept (question.Hint i) p.state refl asked goes h)
-    agreed_kept (question.Take i) p paid asked goes h =
-        given_kept (paid refl) i (with_state (without_question p.state) p)
-        (closed_kept (question.Take i) p.state refl asked goes h).holds
-    agreed_kept question.Oyster p paid asked goes h =
-        k.keeps (Hints 1) (view (without_question p.state)) tt
-        (closed_kept question.Oyster p.state refl asked goes h).holds
-    agreed_kept question.Dragon p paid asked goes h =
-        fought_kept (with_state (without_question p.state) p)
-        (closed_kept question.Dragon p.state refl asked goes h)
+    unfolding give_instructions quit
+    agreed_kept question.Welcome p paid asked goes h free =
+        let taken = k.keeps (Hints 2) _ tt (free refl).holds in
+        arriving_kept k (start_place cave) _
+        (k.keeps (Pays (pos 1000)) _ (paid refl, full_charge p.state.lamp.charge) taken)
+    agreed_kept question.Quit p paid asked goes h free =
+        ending_kept k cave ending_is.Quit _ (free refl)
+    agreed_kept question.ScoreQuit p paid asked goes h free =
+        ending_kept k cave ending_is.Quit _ (free refl)
+    agreed_kept question.Die p paid asked goes h free = reborn_kept k unlit p asked goes h
+    agreed_kept (question.Hint i) p paid asked goes h free = priced_kept i _ (free refl)
+    agreed_kept (question.Take i) p paid asked goes h free =
+        (given_kept (paid refl) (deed cave i _) (free refl)).holds
+    agreed_kept question.Oyster p paid asked goes h free = k.keeps (Hints 1) _ tt (free refl).holds
+    agreed_kept question.Dragon p paid asked goes h free = fought_kept _ (free refl)
 
     -- no is said to a question, which is closed
     declined_kept : (q : Question) (p : Scene) → p.state.question ≡ Some q
         → p.state.ending ≡ None → On Q p.state
+        → (is_die q ≡ false → On (Ready Anywhere P) (without_question p.state))
         → On P (after_no cave q (with_state (without_question p.state) p)).state
-    unfolding no_rows bury
-    declined_kept question.Welcome p asked goes h =
-        arriving_kept k (start_place cave) (with_state (without_question p.state) p)
-        (closed_kept question.Welcome p.state refl asked goes h).holds
-    declined_kept question.Die p asked goes h =
-        let q = after_saying role.Ok (with_state (without_question p.state) p) in
-        ended_kept P cave ending_is.Killed (with_state (with_one_death q.state) q)
+    unfolding bury
+    declined_kept question.Welcome p asked goes h free =
+        arriving_kept k (start_place cave) _ (free refl).holds
+    declined_kept question.Die p asked goes h free =
+        ended_kept P cave ending_is.Killed _
         (k.keeps (Buries ending_is.Killed) (view p.state) (asked, goes, unlit) h)
-    declined_kept _ p asked goes h = (closed_kept _ p.state refl asked goes h).holds
+    declined_kept _ p asked goes h free = (free refl).holds
 
     -- an open question is answered, or not
     asked_kept : (q : Question) (a : Answer) (p : Scene)
         → (is_yes a && is_priced q ≡ true → l.is_paid ≡ true)
         → p.state.question ≡ Some q → p.state.ending ≡ None → On Q p.state
         → On P (reply_scene cave q a p).state
-    asked_kept q Yes p paid asked goes h = agreed_kept q p paid asked goes h
-    asked_kept q No p paid asked goes h = declined_kept q p asked goes h
+    asked_kept q Yes p paid asked goes h =
+        agreed_kept q p paid asked goes h (λ other. closed_kept q p.state other asked goes h)
+    asked_kept q No p paid asked goes h =
+        declined_kept q p asked goes h (λ other. closed_kept q p.state other asked goes h)
     asked_kept q Neither p paid asked goes h =
-        question_kept P cave q (after_saying role.Answer p)
-        (k.keeps Passes (view p.state) unlit h)
+        question_kept P cave q _ (k.keeps Passes (view p.state) unlit h)
 
     answered_kept : (q : Question) (line : List ℕ) (s : State)
         → (pays cave line (Some q) ≡ true → l.is_paid ≡ true)
@@ -267,8 +233,86 @@ turned cave Q P s line keeps h =
     (record { holds = r.holds; calm = r.calm; at = λ found. found command }))
     (λ rests. ap (λ (b : Bool). b && is_lit cave o) rests) (log_line line) refl (λ paid. paid) h
 
+-- a claim that a game begins with lasts, if all that happens in lines keeps it
+pub lasts : (P : CaveView → Claim)
+    → ((cave : CaveView) (seed : ℕ) → On (P cave) (start_of_game cave seed).state)
+    → ((cave : CaveView) (l : Line) → Keeps cave l (P cave) (P cave))
+    → Lasts (λ cave s. On (P cave) s)
+lasts P start keeps = record {
+  start = start;
+  kept = λ cave s line h. turned cave (P cave) (P cave) s line (keeps cave (line_of cave s line)) h;
+}
+
 -- a line keeps a claim, if all that happens in lines does
 pub lasting : (P : Claim) → ((cave : CaveView) (l : Line) → Keeps cave l P P)
     → (cave : CaveView) (s : State) (line : List ℕ) → On P s
     → On P (turn_on_line cave s line).state
 lasting P keeps cave s line h = turned cave P P s line (keeps cave (line_of cave s line)) h
+
+-- a line at which nothing happens is quiet
+silent : (s : State) (line : List ℕ) → IsQuiet s line (silent_turn s)
+silent s line = record { says_nothing = refl; no_turn = refl; same = refl; same_stream = λ _. refl }
+
+-- after the end input is quiet
+quiet_played : (cave : CaveView) (line : List ℕ) (e : Option Ending) (s : State)
+    → is_some e ≡ true → IsQuiet s line (turn_of_input cave line e s.question s)
+quiet_played cave line (Some how) s h = silent s line
+quiet_played cave line None s h = absurd (false≢true h)
+
+-- after the end a line of any kind is quiet
+quiet_as : (cave : CaveView) (line : List ℕ) (k : LogLine) (s : State) → HasEnded s
+    → IsLogLine line k → IsQuiet s line (turn_on_log_line cave line k s)
+quiet_as cave line kind.Comment s h is = silent s line
+quiet_as cave line kind.Blank s h is = silent s line
+quiet_as cave line (kind.Seed seed) s h is =
+    record {
+      says_nothing = refl;
+      no_turn = refl;
+      same = refl;
+      same_stream = λ no. absurd (no seed is);
+    }
+quiet_as cave line kind.Input s h is = quiet_played cave line s.ending s h
+
+-- after the end every line is quiet
+pub end_is_quiet : (cave : CaveView) (s : State) (line : List ℕ) → HasEnded s
+    → IsQuiet s line (turn_on_line cave s line)
+unfolding turn_on_line
+end_is_quiet cave s line h = quiet_as cave line (log_line line) s h (IsLogLine-log_line line)
+
+-- a seed line changes the random stream alone
+pub seeds_alone : (cave : CaveView) (s : State) (line : List ℕ) (seed : ℕ) → IsSeedLine line seed
+    → turn_on_line cave s line ≡ silent_turn (with_seed s seed)
+unfolding turn_on_line
+seeds_alone cave s line seed is =
+    ap (λ k. turn_on_log_line cave line k s) (sym (log_line-only line (kind.Seed seed) is))
+
+-- one of two turns is no turn, and the other is
+ticks_if : (b : Bool) (x y : Turn) → x.ticked ≡ false → y.ticked ≡ true
+    → (if b then x else y).ticked ≡ not b
+ticks_if true x y silence turn = silence
+ticks_if false x y silence turn = turn
+
+-- input is a turn where it is a command
+ticks_played : (cave : CaveView) (line : List ℕ) (e : Option Ending) (q : Option Question)
+    (s : State)
+    → (turn_of_input cave line e q s).ticked ≡ not (is_some e) && is_no_answer cave line q
+ticks_played cave line (Some how) q s = refl
+ticks_played cave line None None s = refl
+ticks_played cave line None (Some q) s =
+    ticks_if (answers cave line q) _ _ refl refl
+    ∙ leaves_is (is_dragon q) (is_yes (answer_in cave line))
+
+-- a line of any kind is a turn where it is a command
+ticks_as : (cave : CaveView) (line : List ℕ) (k : LogLine) (s : State)
+    → (turn_on_log_line cave line k s).ticked
+    ≡ is_input_kind k && not (is_some s.ending) && is_no_answer cave line s.question
+ticks_as cave line kind.Comment s = refl
+ticks_as cave line kind.Blank s = refl
+ticks_as cave line (kind.Seed seed) s = refl
+ticks_as cave line kind.Input s = ticks_played cave line s.ending s.question s
+
+-- turns are counted for commands, and for nothing else
+pub commands_tick : (cave : CaveView) (s : State) (line : List ℕ)
+    → (turn_on_line cave s line).ticked ≡ is_command cave s line
+unfolding turn_on_line
+commands_tick cave s line = ticks_as cave line (log_line line) s

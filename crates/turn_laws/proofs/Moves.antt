@@ -15,41 +15,38 @@ use Rattle.cave_turn.specs.data_rows.declared.targets.Special.TheVariants.{Bridg
 use Rattle.cave_turn.specs.turn_moves.Arrival.{after_arrival, after_forced_motions}
 use Rattle.cave_turn.specs.turn_moves.Arrival.{description_anew, stop_at}
 use Rattle.cave_turn.specs.turn_moves.Bridge.{break_bridge, bridge, bridge_rows, cross}
-use Rattle.cave_turn.specs.turn_moves.Bridge.{cross_bridge, cross_rows, demand_toll, far_end}
-use Rattle.cave_turn.specs.turn_moves.Description.{stop_here}
-use Rattle.cave_turn.specs.turn_moves.Journeys.{after_refusal, back_rows, enough_rows, go_back}
-use Rattle.cave_turn.specs.turn_moves.Journeys.{journey_by, journey_by_request, journey_by_rows}
+use Rattle.cave_turn.specs.turn_moves.Bridge.{cross_bridge, cross_rows, demand_toll}
+use Rattle.cave_turn.specs.turn_moves.Journeys.{back_rows, enough_rows, go_back, journey_by}
+use Rattle.cave_turn.specs.turn_moves.Journeys.{journey_by_request, journey_by_rows}
 use Rattle.cave_turn.specs.turn_moves.Journeys.{journey_of_outcome, look_round, own_motion}
 use Rattle.cave_turn.specs.turn_moves.Journeys.{own_motion_rows, refusal_rows, set_forth}
 use Rattle.cave_turn.specs.turn_moves.Journeys.{that_motion}
 use Rattle.cave_turn.specs.turn_moves.Squeeze.{squeeze_rows, squeeze_through}
 use Rattle.cave_turn.specs.turn_moves.Ways.{end_of}
-use Rattle.cave_turn.specs.turn_rules.Effects.{fix, lose_one, move}
 use Rattle.cave_turn.specs.turn_scene.Scene.{after_setting_out, with_left}
-use Rattle.cave_turn.specs.turn_things.Props.{CHASM_UNBRIDGED, TROLL_CALM, TROLL_FLED}
+use Rattle.cave_turn.specs.turn_things.Props.{TROLL_CALM}
 use Rattle.cave_turn.specs.turn_things.Props.{TROLL_RETURNING}
-use Rattle.cave_turn.specs.turn_things.Reach.{has_prop_up_to}
 use Rattle.cave_turn.specs.cave_words.declared.named.Named.TheVariants as name
 use Rattle.cave_turn.specs.cave_world.declared.travel_rows.Outcome.TheVariants as outcome
-use Rattle.cave_turn.specs.data_rows.declared.role.Role.TheVariants as role
-use Rattle.turn_laws.proofs.Effects.{effects, placed, propped, state_chosen}
-use Rattle.turn_laws.proofs.Endings.{falling_kept}
-use Rattle.turn_laws.proofs.Places.{OnStop, Reaches, seen_kept, shown_kept, shown_open}
-use Rattle.turn_laws.proofs.Rows.{Any, first_leads, guarded, quiet}
-use Rattle.turn_laws.proofs.View.{Anywhere, Claim, IsCalm, IsKept, Line, On, Ready, There, choose}
-use Rattle.turn_laws.proofs.View.{view}
-use Rattle.turn_laws.proofs.Words.{Act, BEAR_DEAD, Bool, CaveView, Deed, List, None, Option, Scene}
-use Rattle.turn_laws.proofs.Words.{Some, State, UNSEEN, [], after_all, after_saying, by_table, deed}
-use Rattle.turn_laws.proofs.Words.{fall, first_fitting_or, has_prop, here, length, nothing_but, say}
-use Rattle.turn_laws.proofs.Words.{set_prop, slice_set, suc, the, thing, true≢false, with_state}
-use Rattle.turn_laws.proofs.Words.{zero, ℕ, ◌-◌, ◌==◌, ◌∷◌}
+use Rattle.cave_turn.specs.turn_rules.Rows.{act_of}
+use Rattle.turn_laws.proofs.Effects.{Any, effects, first_leads, guarded, kept_by, placed, propped}
+use Rattle.turn_laws.proofs.Effects.{quiet, state_chosen}
+use Rattle.turn_laws.proofs.Places.{Reaches, Stopped, falling_kept, seen_kept, shown_kept}
+use Rattle.turn_laws.proofs.Places.{shown_open}
+use Rattle.turn_laws.proofs.View.{Anywhere, Claim, IsCalm, IsKept, Line, On, Ready, There, View}
+use Rattle.turn_laws.proofs.View.{choose, view}
+use Rattle.turn_laws.proofs.Words.{Act, Bool, CaveView, Deed, List, None, Option, Scene}
+use Rattle.turn_laws.proofs.Words.{Some, State, [], after_all, by_table, deed, false}
+use Rattle.turn_laws.proofs.Words.{first_fitting_or, has_prop, here, length, nothing_but}
+use Rattle.turn_laws.proofs.Words.{set_prop, slice_set, suc, the, thing, true, with_state, zero, ℕ}
+use Rattle.turn_laws.proofs.Words.{◌-◌, ◌==◌, ◌∷◌}
 
 module _ {cave : CaveView} {l : Line} {Q P : Claim} (k : IsKept cave l Q P) where
   abbrev R : Claim
   R = Ready Anywhere P
 
-  still : {C : Type 0} (d : Deed C) → On R d.scene.state → On R d.scene.state × Unit {0}
-  still d h = (h, tt)
+  held_still : {v : View} → R v → P v
+  held_still h = h.holds
 
   -- a condition, and the way to a destination
   drawn_kept : (m : Condition) (s : State) → On R s → On R (after_condition m s)
@@ -93,39 +90,21 @@ module _ {cave : CaveView} {l : Line} {Q P : Claim} (k : IsKept cave l Q P) wher
 
   squeezed_kept : (d : Deed (Unit {0})) → On R d.scene.state → On R (squeeze_through d).scene.state
   unfolding squeeze_through squeeze_rows
-  squeezed_kept d h =
-      (first_leads R R Any squeeze_rows (nothing_but here) (search parts 20) still d h).0
-
-  -- the troll asks for a treasure
-  toll_kept : (d : Deed (Unit {0})) → On R d.scene.state
-      → On R (after_all demand_toll d).scene.state
-  unfolding demand_toll
-  toll_kept d h = search effects depth 12
+  squeezed_kept d h = kept_by R squeeze_rows here (search parts 20) d h
 
   -- the bridge breaks
   broken_kept : (end : ℕ) (p : Scene) → On R p.state
       → On P (after_all break_bridge (deed cave end p)).scene.state
   unfolding break_bridge
-  broken_kept end p h =
-      let bear = the name.Bear in
-      let e = set_prop bear BEAR_DEAD (fix bear (move bear far_end
-      (set_prop (the name.Troll) TROLL_FLED
-      (set_prop (the name.Chasm) CHASM_UNBRIDGED (say role.BridgeFalls (deed cave end p)))))) in
-      let g : On R e.scene.state = search effects depth 9 in
-      let l : On R (lose_one e).scene.state = search effects in
-      choose (λ (f : Deed ℕ). On P (fall far_end f).scene.state)
-      (has_prop_up_to e.scene.state (thing cave name.Spices) UNSEEN) (lose_one e) e
-      (λ _. falling_kept k end (lose_one e).scene l) (λ _. falling_kept k end e.scene g)
+  broken_kept end p h = search (effects, falling_kept k) depth 16
 
   -- a player whom the troll lets pass crosses
   over_kept : (end : ℕ) (p : Scene) → On R p.state
       → On P (first_fitting_or cross_rows (nothing_but here) (deed cave end p)).scene.state
   unfolding cross_rows
   over_kept end p h =
-      guarded (λ (a : Act ℕ). On P a.scene.state) (nothing_but here) (deed cave end p) cross_rows (
-        (λ _. h.holds),
-        λ _. ((λ _. broken_kept end p h), λ never. absurd (true≢false never)),
-      )
+      guarded (λ (a : Act ℕ). On P a.scene.state) (nothing_but here) (deed cave end p) cross_rows
+      (search (effects, held_still, broken_kept) parts 20)
 
   crossed_kept : (end : ℕ) (p : Scene) → On R p.state → On P (cross (deed cave end p)).scene.state
   unfolding cross
@@ -136,28 +115,23 @@ module _ {cave : CaveView} {l : Line} {Q P : Claim} (k : IsKept cave l Q P) wher
       (has_prop p.state (thing cave name.Troll) TROLL_CALM) e d
       (λ _. over_kept end e.scene (propped k _ _ h)) (λ _. over_kept end p h)
 
+  -- or the troll asks for a treasure
   bridged_kept : (p : Scene) → On R p.state → On P (cross_bridge (deed cave tt p)).scene.state
-  unfolding cross_bridge bridge_rows
+  unfolding cross_bridge bridge_rows demand_toll
   bridged_kept p h =
-      let d = deed cave tt p in
       guarded (λ (a : Act ℕ). On P a.scene.state)
-      (λ e. cross (deed e.cave (end_of bridge e) e.scene)) d bridge_rows (
-        (λ _. h.holds),
-        λ _. ((λ _. (toll_kept d h).holds), λ _. crossed_kept (end_of bridge d) p h),
-      )
-
-  refused_kept : (motion : ℕ) (p : Scene) → On R p.state
-      → On R (after_refusal cave motion p).state
-  unfolding refusal_rows
-  refused_kept motion p h = quiet R refusal_rows (search parts 20) (deed cave motion p) h
+      (λ e. cross (deed e.cave (end_of bridge e) e.scene)) (deed cave tt p) bridge_rows
+      (search (effects, held_still, crossed_kept) parts 20 depth 12)
 
   led_kept : (motion : ℕ) (o : Outcome) (p : Scene) → On R p.state
       → On P (journey_of_outcome cave motion o p).scene.state
+  unfolding refusal_rows
   led_kept motion (outcome.Go place) p h = h.holds
   led_kept motion (outcome.Special Squeeze) p h = (squeezed_kept (deed cave tt p) h).holds
   led_kept motion (outcome.Special Bridge) p h = bridged_kept p h
   led_kept motion (outcome.Say message) p h = h.holds
-  led_kept motion outcome.NoMotion p h = (refused_kept motion p h).holds
+  led_kept motion outcome.NoMotion p h =
+      quiet P refusal_rows (search parts 20) (deed cave motion p) h.holds
   led_kept motion outcome.NoWay p h = h.holds
 
   forth_kept : (motion : ℕ) (p : Scene) → On R p.state
@@ -170,32 +144,29 @@ module _ {cave : CaveView} {l : Line} {Q P : Claim} (k : IsKept cave l Q P) wher
       (travelled_kept (thing cave name.Emerald) motion q.state h)
 
   -- the player is moved on by a forced motion
-  carried_kept : (left : ℕ) (s : Act Bool) → OnStop P s
-      → On P (after_forced_motions left cave s).state
+  carried_kept : (left : ℕ) (moved : Bool) (p : Scene) → Stopped P moved p.state
+      → On P (after_forced_motions left cave (act_of p moved)).state
   unfolding after_forced_motions
-  carried_kept zero s h =
-      choose (λ (p : Scene). On P p.state) s.step (after_saying role.ForcedLimit s.scene) s.scene
-      (λ _. h.0) (λ _. h.0)
-  carried_kept (suc left) s h =
-      let j = set_forth cave 1 (with_left left s.scene) in
-      choose (λ (r : Scene). On P r.state) s.step
-      (after_forced_motions left cave (stop_at cave j.step j.scene)) s.scene
-      (λ moved. carried_kept left (stop_at cave j.step j.scene)
-      (shown_kept k j.step j.scene (forth_kept 1 (with_left left s.scene) (h.1 moved))))
-      (λ _. h.0)
+  carried_kept zero true p h = h.holds
+  carried_kept (suc left) true p h =
+      let j = set_forth cave 1 (with_left left p) in let s = stop_at cave j.step j.scene in
+      carried_kept left s.step s.scene
+      (shown_kept k j.step j.scene (forth_kept 1 (with_left left p) h))
+  carried_kept zero false p h = h
+  carried_kept (suc left) false p h = h
 
   pub arriving_kept : (new : ℕ) (p : Scene) → On P p.state → On P (after_arrival cave new p).state
-  arriving_kept new p h = carried_kept p.left (stop_at cave new p) (shown_kept k new p h)
+  arriving_kept new p h = carried_kept p.left _ _ (shown_kept k new p h)
 
   -- the player arrives, and was elsewhere before
   pub arriving_open : (before new : ℕ) (p : Scene) → On (There P before) p.state
       → IsCalm (view p.state) → Reaches P p.state.trail.here p.state
       → On P (after_arrival cave new p).state
   arriving_open before new p h calm stays =
-      carried_kept p.left (stop_at cave new p) (shown_open k before new p h calm stays)
+      carried_kept p.left _ _ (shown_open k before new p h calm stays)
 
   pub describing_kept : (p : Scene) → On R p.state → On P (description_anew cave p).state
-  describing_kept p h = carried_kept p.left (stop_here (deed cave tt p)) (seen_kept k p h)
+  describing_kept p h = carried_kept p.left _ _ (seen_kept k p h)
 
   -- the player looks round
   looking_round_kept : (d : Deed ℕ) → On R d.scene.state
@@ -211,8 +182,7 @@ module _ {cave : CaveView} {l : Line} {Q P : Claim} (k : IsKept cave l Q P) wher
   unfolding own_motion own_motion_rows go_back back_rows state_after_set_out
   own_kept d h =
       (first_leads R R Any own_motion_rows go_back (search looking_round_kept parts 20)
-      (λ e g. first_leads R R Any back_rows (nothing_but that_motion) (search parts 20) still e g)
-      d h).0
+      (λ e g. (kept_by R back_rows that_motion (search parts 20) e g, tt)) d h).0
 
   -- the player travels by a motion, or arrives again
   gone_by_kept : (o : Option ℕ) (p : Scene) → On R p.state

@@ -1,36 +1,121 @@
--- What is shown and met where a player arrives keeps each claim.
-use Rattle.std.specs.Prelude.{◌%◌}
-use Rattle.cave_turn.specs.cave_world.State.{END_OF_VISITS, state_with_player_at, takes_no_command}
-use Rattle.cave_turn.specs.cave_world.State.{visits_of, with_visit}
+-- What the score, the questions and a death make of a claim, and what is shown and met where a
+-- player arrives.
+use Rattle.std.specs.FinMap as map
+use Rattle.cave_turn.specs.cave_world.State.{state_with_player_at, takes_no_command, with_visit}
+use Rattle.cave_turn.specs.data_rows.declared.rows.Hint.{Hint}
 use Rattle.cave_turn.specs.turn_dwarves.Dwarves.{encounter_dwarves}
+use Rattle.cave_turn.specs.turn_ends.Endings.{after_die, after_end, class_rows, death_rows}
+use Rattle.cave_turn.specs.turn_ends.Endings.{tell_score, tell_turns}
+use Rattle.cave_turn.specs.turn_ends.Questions.{after_ask, after_offer, after_question}
+use Rattle.cave_turn.specs.turn_ends.Questions.{ask_question, die_rows, is_score_quit}
+use Rattle.cave_turn.specs.turn_ends.Questions.{tell_question, tell_score_now, with_question}
 use Rattle.cave_turn.specs.turn_moves.Arrival.{block, blocking_rows, come_on, come_to, hit_rows}
 use Rattle.cave_turn.specs.turn_moves.Arrival.{meet, new, over_rows, place_rows, stop_at}
 use Rattle.cave_turn.specs.turn_moves.Description.{after_describe, bear_rows, description_rows}
-use Rattle.cave_turn.specs.turn_moves.Description.{feel_place, hollow_rows, left_there, see_place}
+use Rattle.cave_turn.specs.turn_moves.Description.{feel_place, hollow_rows, see_place}
 use Rattle.cave_turn.specs.turn_moves.Description.{stop_here, stop_rows, tell_place, text_rows}
 use Rattle.cave_turn.specs.turn_moves.Description.{with_visit_here}
+use Rattle.cave_turn.specs.turn_moves.Falling.{fall_at, with_all_left_at}
 use Rattle.cave_turn.specs.turn_moves.Objects.{after_object, after_objects, find_treasure}
-use Rattle.cave_turn.specs.turn_moves.Objects.{object_rows, object_text_rows, rest_lost}
+use Rattle.cave_turn.specs.turn_moves.Objects.{is_rest_lost, object_rows, object_text_rows}
 use Rattle.cave_turn.specs.turn_moves.Objects.{with_one_less_unseen, with_short_lamp}
 use Rattle.cave_turn.specs.turn_rules.Tests.{it}
 use Rattle.cave_turn.specs.turn_scene.Scene.{scene_at_place}
 use Rattle.cave_turn.specs.world_objects.Lists.{halves_at}
 use Rattle.cave_turn.specs.world_objects.declared.object.Half.{Half}
+use Rattle.cave_turn.specs.cave_world.declared.ending.Ending.TheVariants as ending_is
+use Rattle.cave_turn.specs.cave_world.declared.ending.Question.TheVariants as question
 use Rattle.cave_turn.specs.data_rows.declared.role.Role.TheVariants as role
+use Rattle.cave_turn.specs.turn_things.Effects.{after_panic}
 use Rattle.turn_laws.proofs.Dwarves.{dwarves_kept}
-use Rattle.turn_laws.proofs.Effects.{propped}
-use Rattle.turn_laws.proofs.Endings.{dying_kept, falling_kept}
-use Rattle.turn_laws.proofs.Rows.{by_guarded, fails_alone, guarded, holds_alone, quiet}
-use Rattle.turn_laws.proofs.View.{Anywhere, Claim, Comes, Finds, IsCalm, IsKept, Line, On, Panics}
-use Rattle.turn_laws.proofs.View.{Ready, Shortens, Somewhere, There, anywhere, choose, from_one}
-use Rattle.turn_laws.proofs.View.{view}
+use Rattle.turn_laws.proofs.Effects.{by_guarded, effects, fails_alone, guarded, holds_alone}
+use Rattle.turn_laws.proofs.Effects.{panicked, propped, quiet}
+use Rattle.turn_laws.proofs.View.{Anywhere, Claim, Comes, Dies, Ends, Finds, IsCalm, IsKept, Kills}
+use Rattle.turn_laws.proofs.View.{Line, On, Panics, Ready, Shortens, Somewhere, There, View}
+use Rattle.turn_laws.proofs.View.{anywhere, choose, from_one, view}
 use Rattle.turn_laws.proofs.Words.{Act, Bool, CaveView, Deed, Ending, List, None, Option, Question}
-use Rattle.turn_laws.proofs.Words.{Scene, Some, State, [], after_all, after_drawing, after_saying}
-use Rattle.turn_laws.proofs.Words.{arith, by_table, change, deed, fall, false, here, if◌then◌else◌}
-use Rattle.turn_laws.proofs.Words.{inl, inr, is_some, nat_le, not, nothing_but, outside_place, pos}
-use Rattle.turn_laws.proofs.Words.{refl, say, set_prop, slice_set, sym, true, true≢false, when}
-use Rattle.turn_laws.proofs.Words.{with_state, ℕ, ℤ, ◌&&◌, ◌+◌, ◌-◌, ◌==◌, ◌||◌, ◌∙◌, ◌∷◌, ◌≡◌, ◌≤◌}
-use Rattle.turn_laws.proofs.Words.{◌⊎◌}
+use Rattle.turn_laws.proofs.Words.{Scene, Some, State, [], after_all, after_saying, always, arith}
+use Rattle.turn_laws.proofs.Words.{by_table, change, deed, false, inl, inr, is_some, nat_le, not}
+use Rattle.turn_laws.proofs.Words.{nothing_but, outside_place, refl, say, set_prop, sym, true}
+use Rattle.turn_laws.proofs.Words.{true≢false, when, with_ending, with_one_death, with_state, ℕ, ℤ}
+use Rattle.turn_laws.proofs.Words.{◌&&◌, ◌-◌, ◌==◌, ◌||◌, ◌∙◌, ◌∷◌, ◌≡◌, ◌≤◌, ◌⊎◌}
+
+pub ended_kept : (P : Claim) (cave : CaveView) (how : Ending) (p : Scene)
+    → On P (with_ending how p.state) → On P (after_end cave how p).state
+unfolding after_end tell_score class_rows
+ended_kept P cave how p h =
+    quiet P class_rows (search parts 20)
+    (tell_turns (deed cave tt (with_state (with_ending how p.state) p))) h
+
+offer_kept : (P : Claim) (o : Option Hint) (p : Scene) → On P p.state
+    → On P (after_offer o p).state
+offer_kept P None p h = h
+offer_kept P (Some hint) p h = h
+
+die_kept : (P : Claim) (d : Deed Question) → On P d.scene.state
+    → On P (by_table die_rows d).scene.state
+unfolding die_rows
+die_kept P d h = quiet P die_rows (search parts 20) d h
+
+pub question_kept : (P : Claim) (cave : CaveView) (q : Question) (p : Scene) → On P p.state
+    → On P (after_question cave q p).state
+question_kept P cave question.Die p h = die_kept P (deed cave question.Die p) h
+question_kept P cave (question.Hint i) p h = offer_kept P (map.get cave.hints i) p h
+question_kept P cave _ p h = h
+
+-- a claim would hold if a question were asked
+abbrev Asked : Claim → Question → Claim
+Asked P q v = P (record v { question = Some q })
+
+-- the score may be told before the question
+pub asking_kept : (P : Claim) (cave : CaveView) (q : Question) (p : Scene)
+    → On P (with_question q p.state) → On P (after_ask cave q p).state
+unfolding after_ask ask_question
+asking_kept P cave q p h =
+    let d = deed cave q p in
+    choose (λ (e : Deed Question). On P (change (with_question q) (tell_question q e)).scene.state)
+    (is_score_quit q) (tell_score_now d) d
+    (λ _. question_kept (Asked P q) cave q (tell_score_now d).scene h)
+    (λ _. question_kept (Asked P q) cave q p h)
+
+module _ {game : CaveView} {l : Line} {Q P : Claim} (k : IsKept game l Q P)
+    (cave : CaveView) where
+  -- the player dies where the player now is, and was there before, or is nowhere now
+  pub dying_kept : (before : ℕ) (p : Scene)
+      → (p.state.trail.here ≡ before) ⊎ (p.state.trail.here ≡ 0)
+      → On (There P before) p.state → IsCalm (view p.state) → On P (after_die cave p).state
+  unfolding after_die death_rows
+  dying_kept before p same h calm =
+      by_guarded P (deed cave tt p) death_rows (search (killed, asked, never) parts 20)
+    where
+      killed : (p.state.closing.is_closing && true) ≡ true
+          → On P (after_end cave ending_is.Killed
+          (with_state (with_one_death p.state) (after_saying role.KilledClosing p))).state
+      killed closing =
+          ended_kept P cave ending_is.Killed _ (k.keeps (Kills ending_is.Killed p.state.trail.here)
+          (record (view p.state) { here = before }) (calm, holds_alone _ closing, same) h)
+
+      asked : (p.state.closing.is_closing && true) ≡ false
+          → On P (after_ask cave question.Die p).state
+      asked free =
+          asking_kept P cave question.Die p (k.keeps (Dies p.state.trail.here)
+          (record (view p.state) { here = before }) (calm, fails_alone _ free) h)
+
+      never : true ≡ false → On P p.state
+      never e = absurd (true≢false e)
+
+  -- the player dies, and what is carried is put somewhere
+  pub falling_kept : (place : ℕ) (p : Scene) → On (Ready Anywhere P) p.state
+      → On P (fall_at cave place p).state
+  unfolding fall_at
+  falling_kept place p h =
+      dying_kept p.state.trail.here (with_state (with_all_left_at place p.state) p) (inl refl)
+      h.holds h.calm
+
+  -- the game ends, or a question is asked
+  pub ending_kept : {Other : ℕ → Type 0} (how : Ending) (p : Scene) → On (Ready Other P) p.state
+      → On P (after_end cave how p).state
+  ending_kept how p h = ended_kept P cave how p (k.keeps (Ends how) (view p.state) h.calm h.holds)
 
 -- tables that only print
 module _ (P : Claim) where
@@ -41,16 +126,11 @@ module _ (P : Claim) where
       quiet P text_rows (search parts 20) (by_table bear_rows d)
       (quiet P bear_rows (search parts 20) d h)
 
-  hollow_kept : (d : Deed (Unit {0})) → On P d.scene.state
-      → On P (by_table hollow_rows d).scene.state
-  unfolding hollow_rows
-  hollow_kept d h = quiet P hollow_rows (search parts 20) d h
-
   darkness_kept : (d : Deed (Unit {0})) → On P d.scene.state
       → On P (after_all feel_place d).scene.state
-  unfolding feel_place bear_rows
+  unfolding feel_place bear_rows hollow_rows
   darkness_kept d h =
-      hollow_kept (say role.Dark (by_table bear_rows d))
+      quiet P hollow_rows (search parts 20) (say role.Dark (by_table bear_rows d))
       (quiet P bear_rows (search parts 20) d h)
 
   text_kept : (d : Deed ℕ) → On P d.scene.state → On P (by_table object_text_rows d).scene.state
@@ -59,30 +139,20 @@ module _ (P : Claim) where
 
   visit_kept : (s : State) (place : ℕ) → On P s → On P (with_visit s place)
   unfolding with_visit
-  visit_kept s place h =
-      choose (On P) (place == 0) s
-      (record s {
-        visits = slice_set s.visits (place - 1) ((visits_of s place + 1) % END_OF_VISITS);
-      })
-      (λ _. h) (λ _. h)
+  visit_kept s place h = choose (On P) (place == 0) s _ (λ _. h) (λ _. h)
 
 -- where one more than one is left two were
 two_unseen : (n : ℕ) (b : Bool) → (b && not (n - 1 == 0)) ≡ true → 2 ≤ n
 two_unseen n b left = grind (arith, left)
-
--- a player who stays isn't moved on
-staying : {A : Type 0} → false ≡ true → A
-staying e = absurd (true≢false (sym e))
 
 -- place 0 is none
 pub none_of : (place : ℕ) → (place == 0) ≡ true → place ≡ 0
 none_of place none = grind (arith, none)
 
 -- a place that isn't shut off
-not_shut : (a b c : Bool) → (a && (b && (c && true))) ≡ false → (a && b && c) ≡ false
-not_shut false b c h = refl
-not_shut true false c h = refl
-not_shut true true c h = fails_alone c h
+not_shut : (a none b c : Bool) → none ≡ false → (a && (not none && (c && true))) ≡ false
+    → (a && b && c) ≡ false
+not_shut a none b c some h = grind (arith, some, h)
 
 -- where nothing is over no question is open, and the game goes on
 pub none_over : (q : Option Question) (e : Option Ending) → (is_some q || is_some e) ≡ false
@@ -101,8 +171,12 @@ abbrev pub Reaches : Claim → ℕ → State → Type 0
 Reaches P place s = (place == 0) ≡ false → On (There P place) s
 
 -- what holds where the player stops: a player who is moved on can go on
+abbrev pub Stopped : Claim → Bool → State → Type 0
+Stopped P true s = On (Ready Anywhere P) s
+Stopped P false s = On P s
+
 abbrev pub OnStop : Claim → Act Bool → Type 0
-OnStop P s = On P s.scene.state × (s.step ≡ true → On (Ready Anywhere P) s.scene.state)
+OnStop P s = Stopped P s.step s.scene.state
 
 module _ {cave : CaveView} {l : Line} {Q P : Claim} (k : IsKept cave l Q P) where
   abbrev R : Claim
@@ -117,8 +191,8 @@ module _ {cave : CaveView} {l : Line} {Q P : Claim} (k : IsKept cave l Q P) wher
       let s = seen.scene.state in
       let e = change with_one_less_unseen seen in
       let got : On R s = propped k (it d) v h in
-      text_kept R (when rest_lost (change with_short_lamp) e)
-      (choose (λ (f : Deed ℕ). On R f.scene.state) (rest_lost e) (change with_short_lamp e) e
+      text_kept R (when is_rest_lost (change with_short_lamp) e)
+      (choose (λ (f : Deed ℕ). On R f.scene.state) (is_rest_lost e) (change with_short_lamp e) e
       (λ lost. record {
         holds = k.keeps Shortens (view s)
             (two_unseen s.tallies.unseen (s.tallies.unseen - 1 == s.tallies.lost) lost) got.holds;
@@ -135,11 +209,10 @@ module _ {cave : CaveView} {l : Line} {Q P : Claim} (k : IsKept cave l Q P) wher
   objects_kept : (halves : List Half) (p : Scene) → On R p.state
       → On R (after_objects cave halves p).state
   objects_kept [] p h = h
-  objects_kept (half ∷ halves) p h =
-      objects_kept halves (after_object cave _ p) (object_kept _ p h)
+  objects_kept (half ∷ halves) p h = objects_kept halves (after_object cave _ p) (object_kept _ p h)
 
   sight_kept : (p : Scene) → On R p.state → On R (after_all see_place (deed cave tt p)).scene.state
-  unfolding see_place tell_place
+  unfolding see_place tell_place hollow_rows
   sight_kept p h =
       let d = by_table text_rows (by_table bear_rows (deed cave tt p)) in
       let q = by_table hollow_rows d in
@@ -147,42 +220,23 @@ module _ {cave : CaveView} {l : Line} {Q P : Claim} (k : IsKept cave l Q P) wher
       let s = r.scene.state in
       objects_kept (halves_at s.trail.here s.objects.lists) r.scene
       (visit_kept R q.scene.state q.scene.state.trail.here
-      (hollow_kept R d (told_kept R (deed cave tt p) h)))
+      (quiet R hollow_rows (search parts 20) d (told_kept R (deed cave tt p) h)))
+
+  held_still : {v : View} → R v → P v
+  held_still h = h.holds
 
   -- a player who goes on in the dark may fall into a pit
-  in_dark_kept : (b : Bool) (p : Scene) → On R p.state
-      → (let d = deed cave tt p in let e = if b then after_drawing d else d in
-      On P (fall here (say role.Pit e)).scene.state × On P (after_all feel_place e).scene.state)
-  in_dark_kept b p h =
-      let d = deed cave tt p in
-      choose (λ (e : Deed (Unit {0})). On P (fall here (say role.Pit e)).scene.state
-      × On P (after_all feel_place e).scene.state) b (after_drawing d) d
-      (λ _. (
-        falling_kept k p.state.trail.here (say role.Pit (after_drawing d)).scene h,
-        darkness_kept P (after_drawing d) h.holds,
-      ))
-      (λ _. (
-        falling_kept k p.state.trail.here (say role.Pit d).scene h,
-        darkness_kept P d h.holds,
-      ))
-
   described_kept : (p : Scene) → On R p.state → On P (after_describe cave p).state
   unfolding after_describe description_rows
   described_kept p h =
-      let unlit = in_dark_kept (p.was_dark && true) p h in
-      by_guarded P (deed cave tt p) description_rows (
-        (λ _. (sight_kept p h).holds),
-        λ _. ((λ _. unlit.0), λ _. ((λ _. unlit.1), λ never. absurd (true≢false never))),
-      )
+      by_guarded P (deed cave tt p) description_rows
+      (search (effects, held_still, sight_kept, falling_kept k, darkness_kept P) parts 20 depth 9)
 
   pub seen_kept : (p : Scene) → On R p.state → OnStop P (stop_here (deed cave tt p))
   unfolding stop_here stop_rows
   seen_kept p h =
-      let d = deed cave tt p in
-      guarded (OnStop P) (nothing_but left_there) d stop_rows (
-        (λ _. (told_kept P d h.holds, λ _. told_kept R d h)),
-        λ _. ((λ _. (described_kept p h, staying)), λ never. absurd (true≢false never)),
-      )
+      guarded (OnStop P) (nothing_but (always false)) (deed cave tt p) stop_rows
+      (search (effects, held_still, told_kept R, described_kept) parts 20)
 
   -- the dwarves move and the place is described
   met_kept : (p : Scene) → On (Ready (Somewhere l) P) p.state → OnStop P (meet (deed cave tt p))
@@ -190,33 +244,31 @@ module _ {cave : CaveView} {l : Line} {Q P : Claim} (k : IsKept cave l Q P) wher
   met_kept p h =
       let r = encounter_dwarves cave p in
       let met : On R r.scene.state = anywhere (dwarves_kept k cave p h) in
-      guarded (OnStop P) (nothing_but left_there) (deed cave r.step r.scene) hit_rows (
-        (λ _. (falling_kept k r.scene.state.trail.here r.scene met, staying)),
-        λ _. ((λ _. (described_kept r.scene met, staying)), λ never. absurd (true≢false never)),
-      )
+      guarded (OnStop P) (nothing_but (always false)) (deed cave r.step r.scene) hit_rows
+      (search (met, effects, falling_kept k, described_kept) parts 20)
 
   -- the player comes to a place, and was elsewhere before
   come_kept : (before place : ℕ) (p : Scene) → On (There P before) p.state
       → IsCalm (view p.state) → Reaches P place p.state → OnStop P (come_to cave place p)
   unfolding come_to place_rows state_with_player_at
   come_kept before place p h calm reaches =
-      let q = scene_at_place place p in
-      let d = deed cave tt q in
-      guarded (OnStop P) meet d place_rows (
-        (λ none. (
-          dying_kept k before q (inr (none_of place (holds_alone (place == 0) none))) h calm,
-          staying,
-        )),
-        λ some.
-            let is = fails_alone (place == 0) some in
-            let there : On R q.state =
-            record { holds = reaches is; calm = calm; at = tt } in
-            let met : On (Ready (Somewhere l) P) q.state =
-            record { holds = reaches is; calm = calm; at = λ _. from_one place is } in (
-              (λ _. (told_kept P d there.holds, λ _. told_kept R d there)),
-              λ _. ((λ _. (described_kept q there, staying)), λ _. met_kept q met),
-            ),
-      )
+      guarded (OnStop P) meet (deed cave tt (scene_at_place place p)) place_rows
+      (search (nowhere, there, found, effects, held_still, told_kept R, described_kept, met_kept)
+      parts 20)
+    where
+      nowhere : (place == 0 && true) ≡ true → On P (after_die cave (scene_at_place place p)).state
+      nowhere none =
+          dying_kept k cave before (scene_at_place place p)
+          (inr (none_of place (holds_alone _ none))) h calm
+
+      there : (place == 0 && true) ≡ false → On R (scene_at_place place p).state
+      there some = record { holds = reaches (fails_alone _ some); calm = calm; at = tt }
+
+      found : (place == 0 && true) ≡ false
+          → On (Ready (Somewhere l) P) (scene_at_place place p).state
+      found some =
+          let is = fails_alone _ some in
+          record { holds = reaches is; calm = calm; at = λ _. from_one place is }
 
   -- a closing cave or a dwarf keeps the player here, and else the player comes to a place
   come_on_kept : (before place : ℕ) (p : Scene) → On (There P before) p.state
@@ -224,59 +276,54 @@ module _ {cave : CaveView} {l : Line} {Q P : Claim} (k : IsKept cave l Q P) wher
       → (let held = block (deed cave place p) in OnStop P (come_to cave held.step held.scene))
   unfolding block blocking_rows
   come_on_kept before place p h calm stays =
-      let s = p.state in
       guarded (λ (held : Act ℕ). OnStop P (come_to cave held.step held.scene))
-      (nothing_but new) (deed cave place p) blocking_rows (
-        (λ _. choose
-            (λ (t : State). OnStop P
-            (come_to cave t.trail.here (with_state t (after_saying role.ClosingExit p))))
-            (s.closing.is_panicking || s.closing.is_closed)
-            (record s { closing = record s.closing { is_panicking = true } })
-            (record s { closing = record s.closing { second_clock = pos 15; is_panicking = true } })
-            (λ _. panicked s.closing.second_clock (inl refl)) (λ _. panicked (pos 15) (inr refl))),
-        λ free. (
-          (λ _. come_kept before s.trail.here (after_saying role.Blocked p) h calm stays),
-          λ _. come_kept before place p h calm
-              (λ some. k.keeps (Comes place) (record (view s) { here = before }) (
-                some,
-                not_shut s.closing.is_closing (nat_le 1 place)
-                    (nat_le place (outside_place cave)) free,
-              ) h),
-        ),
-      )
+      (nothing_but new) (deed cave place p) blocking_rows
+      (search (panics, come_kept before, comes) parts 20)
     where
-      panicked : (n : ℤ) → (n ≡ p.state.closing.second_clock) ⊎ (n ≡ pos 15)
-          → (let s = p.state in
-          OnStop P (come_to cave s.trail.here (with_state
-          (record s { closing = record s.closing { second_clock = n; is_panicking = true } })
-          (after_saying role.ClosingExit p))))
-      panicked n how =
-          come_kept before p.state.trail.here _
-          (k.keeps (Panics n) (record (view p.state) { here = before }) how h) calm
-          (λ some. k.keeps (Panics n) (view p.state) how (stays some))
+      panics : OnStop P (come_to cave (after_panic p.state).trail.here
+          (with_state (after_panic p.state) (after_saying role.ClosingExit p)))
+      panics =
+          let s = p.state in
+          panicked
+          (λ (t : State). OnStop P
+          (come_to cave t.trail.here (with_state t (after_saying role.ClosingExit p)))) s
+          (λ n how. come_kept before s.trail.here _
+          (k.keeps (Panics n) (record (view s) { here = before }) how h) calm
+          (λ some. k.keeps (Panics n) (view s) how (stays some)))
 
-  -- the player is shown a place
-  pub shown_kept : (place : ℕ) (p : Scene) → On P p.state → OnStop P (stop_at cave place p)
+      comes : (p.state.closing.is_closing
+          && (not (place == 0) && (nat_le place (outside_place cave) && true))) ≡ false
+          → Reaches P place p.state
+      comes free some =
+          k.keeps (Comes place) (record (view p.state) { here = before })
+          (some, not_shut p.state.closing.is_closing (place == 0) (nat_le 1 place) _ some free) h
+
+  -- the player is shown a place, unless what was before is the end, or leaves a question open
+  stopping_kept : (before place : ℕ) (p : Scene) → On (There P before) p.state
+      → ((is_some p.state.question || is_some p.state.ending) && true ≡ true → On P p.state)
+      → ((is_some p.state.question || is_some p.state.ending) && true ≡ false
+      → IsCalm (view p.state))
+      → Reaches P p.state.trail.here p.state → OnStop P (stop_at cave place p)
   unfolding stop_at over_rows takes_no_command
+  stopping_kept before place p h over calm stays =
+      guarded (OnStop P) come_on (deed cave place p) over_rows
+      (search (over, goes_on) parts 20)
+    where
+      goes_on : (is_some p.state.question || is_some p.state.ending) && true ≡ false
+          → OnStop P (come_on (deed cave place p))
+      goes_on free = come_on_kept before place p h (calm free) stays
+
+  pub shown_kept : (place : ℕ) (p : Scene) → On P p.state → OnStop P (stop_at cave place p)
   shown_kept place p h =
-      let s = p.state in
-      guarded (OnStop P) come_on (deed cave place p) over_rows (
-        (λ _. (h, staying)),
-        λ free. come_on_kept s.trail.here place p h
-            (none_over s.question s.ending
-            (fails_alone (is_some s.question || is_some s.ending) free)) (λ _. h),
-      )
+      stopping_kept p.state.trail.here place p h (λ _. h)
+      (λ free. none_over p.state.question p.state.ending (fails_alone _ free)) (λ _. h)
 
   -- the player is shown a place, and was elsewhere before
   pub shown_open : (before place : ℕ) (p : Scene) → On (There P before) p.state
       → IsCalm (view p.state) → Reaches P p.state.trail.here p.state
       → OnStop P (stop_at cave place p)
-  unfolding stop_at over_rows takes_no_command
   shown_open before place p h calm stays =
-      let s = p.state in
-      guarded (OnStop P) come_on (deed cave place p) over_rows (
-        (λ over. absurd (true≢false
-            (sym (holds_alone (is_some s.question || is_some s.ending) over)
-            ∙ calm_open s.question s.ending calm.0 calm.1))),
-        λ _. come_on_kept before place p h calm stays,
-      )
+      stopping_kept before place p h
+      (λ over. absurd (true≢false
+      (sym (holds_alone _ over) ∙ calm_open p.state.question p.state.ending calm.0 calm.1)))
+      (λ _. calm) stays

@@ -1,9 +1,8 @@
 -- What a command makes of a claim.
-use Rattle.cave_turn.specs.Commands.{WordsDone, after_clocks, after_puzzle, after_remembering}
-use Rattle.cave_turn.specs.Commands.{after_travel, begin_command, clocks_scene, command_scene}
-use Rattle.cave_turn.specs.Commands.{kept_scene, next_scene, puzzle_rows, scene_of_understood}
-use Rattle.cave_turn.specs.Commands.{scene_of_words, words_done_by_action, words_done_by_request}
-use Rattle.cave_turn.specs.Commands.{words_done_by_verb}
+use Rattle.cave_turn.specs.Commands.{after_clocks, after_puzzle, after_travel, begin_command}
+use Rattle.cave_turn.specs.Commands.{clocks_scene, command_scene, done_by_action, done_by_request}
+use Rattle.cave_turn.specs.Commands.{done_by_verb, half_command_kept, kept_scene, next_scene}
+use Rattle.cave_turn.specs.Commands.{puzzle_rows, scene_of_understood, scene_of_words}
 use Rattle.cave_turn.specs.Finish.{end_of_turn, end_rows, hands_rows, is_hidden_in_hand}
 use Rattle.cave_turn.specs.Finish.{layout_with_object_shown, layout_with_shown_up_to}
 use Rattle.cave_turn.specs.Request.{read_words}
@@ -18,16 +17,14 @@ use Rattle.cave_turn.specs.declared.request.HalfCommand.{HalfCommand}
 use Rattle.cave_turn.specs.declared.request.Request.{Request}
 use Rattle.cave_turn.specs.declared.request.Understood.{Understood}
 use Rattle.cave_turn.specs.turn_clocks.Clocks.{run_clocks}
-use Rattle.cave_turn.specs.turn_ends.Endings.{count_death}
-use Rattle.cave_turn.specs.turn_hints.Hints.{after_consider, after_hints_up_to, count_turn}
-use Rattle.cave_turn.specs.turn_hints.Hints.{has_stayed, helpful, hint_rows, offer_rows, restart}
+use Rattle.cave_turn.specs.turn_hints.Hints.{after_consider, after_hints_up_to}
+use Rattle.cave_turn.specs.turn_hints.Hints.{hint_rows, offer_rows, restart}
 use Rattle.cave_turn.specs.turn_moves.Journeys.{journey_by_request}
-use Rattle.cave_turn.specs.turn_rules.Tests.{over}
 use Rattle.cave_turn.specs.turn_scene.Scene.{after_telling, happens}
 use Rattle.cave_turn.specs.turn_things.Effects.{with_objects}
 use Rattle.cave_turn.specs.verb_commands.Rows.{command_of}
 use Rattle.cave_turn.specs.verb_commands.Verbs.{verb_of}
-use Rattle.cave_turn.specs.world_objects.Objects.{after_move_to, is_carried, prop_of, with_prop}
+use Rattle.cave_turn.specs.world_objects.Objects.{is_carried, prop_of}
 use Rattle.cave_turn.specs.turn_clocks.declared.clocks.Clocks.TheVariants as clocks
 use Rattle.cave_turn.specs.cave_world.declared.ending.Ending.TheVariants as ending_is
 use Rattle.std.specs.FinMap as map
@@ -36,31 +33,28 @@ use Rattle.cave_turn.specs.verb_commands.declared.next.Next.TheVariants as next_
 use Rattle.cave_turn.specs.cave_world.declared.part.Part.TheVariants as part
 use Rattle.cave_turn.specs.cave_world.declared.ending.Question.TheVariants as question
 use Rattle.cave_turn.specs.declared.request.Request.TheVariants as request
+use Rattle.cave_turn.specs.turn_ends.Questions.{after_ask}
 use Rattle.turn_laws.specs.Laws.{before_clocks, before_lamp}
-use Rattle.turn_laws.proofs.Effects.{propped}
-use Rattle.turn_laws.proofs.Endings.{asking_kept, ended_kept, ending_kept}
-use Rattle.turn_laws.proofs.Lamp.{After, IsLampOf, clocks_kept}
+use Rattle.turn_laws.proofs.Clocks.{After, IsLampOf, clocks_kept}
+use Rattle.turn_laws.proofs.Effects.{by_guarded, fails_alone, first_holds, guarded, moved_if}
+use Rattle.turn_laws.proofs.Effects.{propped, quiet, second_holds, tests}
 use Rattle.turn_laws.proofs.Moves.{arriving_kept, arriving_open, describing_kept, motion_kept}
-use Rattle.turn_laws.proofs.Places.{none_over}
-use Rattle.turn_laws.proofs.Rows.{by_guarded, fails_alone, first_holds, guarded, quiet}
-use Rattle.turn_laws.proofs.Rows.{second_holds}
+use Rattle.turn_laws.proofs.Places.{asking_kept, ended_kept, ending_kept, none_over}
 use Rattle.turn_laws.proofs.Verbs.{acted_kept, is_asking_apart, known}
 use Rattle.turn_laws.proofs.View.{Anywhere, Asks, Buries, Claim, IsKept, IsMoved, Line, Moves, On}
 use Rattle.turn_laws.proofs.View.{Place, Prop, Puts, Ready, Revives, Somewhere, View, anywhere}
 use Rattle.turn_laws.proofs.View.{choose, view}
-use Rattle.turn_laws.proofs.Words.{Act, Bool, CaveView, Clocks, Deed, LAMP_OFF, Layout, List, Next}
-use Rattle.turn_laws.proofs.Words.{None, Option, Question, Scene, Some, State, UNSEEN, Verb, []}
-use Rattle.turn_laws.proofs.Words.{after_all, after_draw, all_hold, ap, building_place, by_table}
-use Rattle.turn_laws.proofs.Words.{deed, drop, false, if◌then◌else◌, inl, is_in_hand, is_some}
-use Rattle.turn_laws.proofs.Words.{nat_le, next_of_step, no, not, nothing_but, pos, refl, set_prop}
-use Rattle.turn_laws.proofs.Words.{subst, suc, sym, the, thing, true, true≢false, with_ending}
-use Rattle.turn_laws.proofs.Words.{with_one_death, with_state, without_question, zero, ℕ, ◌+◌, ◌-ℤ◌}
-use Rattle.turn_laws.proofs.Words.{◌==◌, ◌∙◌, ◌∷◌, ◌≡◌}
+use Rattle.turn_laws.proofs.Words.{Act, Bool, CaveView, Clocks, Deed, LAMP_OFF, List, Next, None}
+use Rattle.turn_laws.proofs.Words.{Option, Question, Scene, Some, State, UNSEEN, Verb, after_all}
+use Rattle.turn_laws.proofs.Words.{after_draw, after_look_at, arith, building_place, by_table, deed}
+use Rattle.turn_laws.proofs.Words.{drop, false, inl, is_in_hand, is_some, next_of_step, not}
+use Rattle.turn_laws.proofs.Words.{nothing_but, refl, set_prop, subst, suc, sym, the, thing, true}
+use Rattle.turn_laws.proofs.Words.{true≢false, with_one_death, with_state, without_question, zero}
+use Rattle.turn_laws.proofs.Words.{ℕ, ℤ, ◌&&◌, ◌+◌, ◌-ℤ◌, ◌==◌, ◌||◌, ◌≡◌}
 
 -- what doesn't hold not doesn't hold
 not_so : (b : Bool) → not b ≡ true → b ≡ false
-not_so true h = absurd (true≢false (sym h))
-not_so false h = refl
+not_so b h = grind (arith, h)
 
 -- objects that are shown, or that fall, one after another
 module _ (P : Claim) (moves : IsMoved P) where
@@ -69,25 +63,18 @@ module _ (P : Claim) (moves : IsMoved P) where
   unfolding layout_with_shown_up_to layout_with_object_shown
   shown_up_to_kept zero v h = h
   shown_up_to_kept (suc m) v h =
-      let o = layout_with_shown_up_to m v.objects in
-      let w : View = record v { objects = o } in
-      let x = suc m in
-      choose (λ (l : Layout). P (record v { objects = l })) (is_hidden_in_hand o x)
-      (with_prop o x (UNSEEN -ℤ prop_of o x)) o
-      (λ _. moves w (Prop x (UNSEEN -ℤ prop_of o x)) (shown_up_to_kept m v h))
-      (λ _. shown_up_to_kept m v h)
+      let o = layout_with_shown_up_to m v.objects in let x = suc m in
+      moved_if P moves (is_hidden_in_hand o x) (Prop x (UNSEEN -ℤ prop_of o x))
+      (record v { objects = o }) (shown_up_to_kept m v h)
 
   fallen_kept : (cave : CaveView) (place m : ℕ) (v : View) → P v
       → P (record v { objects = layout_after_falls cave place m v.objects })
   unfolding layout_after_falls layout_after_fall
   fallen_kept cave place zero v h = h
   fallen_kept cave place (suc m) v h =
-      let x = suc m in let o = v.objects in
-      let to = fallen_place cave place x in
-      let l = if is_carried o x then after_move_to o x to else o in
-      fallen_kept cave place m (record v { objects = l })
-      (choose (λ (l : Layout). P (record v { objects = l })) (is_carried o x)
-      (after_move_to o x to) o (λ _. moves v (Place x to) h) (λ _. h))
+      let x = suc m in
+      fallen_kept cave place m _
+      (moved_if P moves (is_carried v.objects x) (Place x (fallen_place cave place x)) v h)
 
   pub left_kept : (cave : CaveView) (s : State) (v : View) → v.objects ≡ s.objects → P v
       → P (record v { objects = (without_belongings cave s).objects })
@@ -95,22 +82,12 @@ module _ (P : Claim) (moves : IsMoved P) where
   left_kept cave s v same h =
       fallen_kept cave s.trail.older 100 (record v { objects = s.objects }) (rw (sym same) h)
 
--- what is said of a word that the cave doesn't have
-puzzled_kept : (P : Claim) (cave : CaveView) (p : Scene) → On P p.state
-    → On P (after_puzzle cave p).state
-unfolding after_puzzle puzzle_rows
-puzzled_kept P cave p h =
-    quiet P puzzle_rows (search parts 20) (deed cave (happens 20 p) (after_draw p)) h
-
-remembering_kept : (P : Claim) (o : Option HalfCommand) (x : ℕ) (s : State) → On P s
-    → On P (after_remembering o x s)
-remembering_kept P None x s h = h
-remembering_kept P (Some half) x s h = h
-
-settled_kept : (P : Claim) (x : ℕ) (d : WordsDone) → On P d.scene.state
-    → On P (kept_scene x d).state
+-- what is kept of a command for the next one
+settled_kept : (P : Claim) (o : Option HalfCommand) (x : ℕ) (p : Scene) → On P p.state
+    → On P (kept_scene o x p).state
 unfolding kept_scene
-settled_kept P x d h = remembering_kept P d.step x d.scene.state h
+settled_kept P None x p h = h
+settled_kept P (Some half) x p h = h
 
 module _ {cave : CaveView} {l : Line} {Q P : Claim} (k : IsKept cave l Q P) where
   abbrev Here : ℕ → Type 0
@@ -123,51 +100,40 @@ module _ {cave : CaveView} {l : Line} {Q P : Claim} (k : IsKept cave l Q P) wher
   offered_kept : (i : ℕ) (p : Scene) → is_some (map.get cave.hints i) ≡ true → On P p.state
       → On P (by_table offer_rows (deed cave i p)).scene.state
   unfolding offer_rows takes_no_command
-  offered_kept i p known h =
-      let d = deed cave i p in
-      by_guarded P d offer_rows (
-        (λ due. asking_kept P cave (question.Hint i) (restart d).scene
-            (k.keeps (Asks (question.Hint i)) (view p.state) (refl, calm d due, known) h)),
-        λ _. ((λ _. h), λ _. h),
-      )
+  offered_kept i p known h = by_guarded P (deed cave i p) offer_rows (search due parts 20)
     where
-      calm : (d : Deed ℕ) → all_hold (has_stayed ∷ no over ∷ helpful ∷ []) d ≡ true
-          → (d.scene.state.question ≡ None) × (d.scene.state.ending ≡ None)
-      calm d due =
-          none_over d.scene.state.question d.scene.state.ending
-          (not_so _ (first_holds (no over d) _ (second_holds (has_stayed d) _ due)))
+      due : (stays more : Bool)
+          → (stays && (not (is_some p.state.question || is_some p.state.ending) && more)) ≡ true
+          → On P (after_ask cave (question.Hint i) (restart (deed cave i p)).scene).state
+      due stays more fit =
+          let none = not_so _ (first_holds _ more (second_holds stays _ fit)) in
+          let calm = none_over p.state.question p.state.ending none in
+          asking_kept P cave (question.Hint i) (restart (deed cave i p)).scene
+          (k.keeps (Asks (question.Hint i)) (view p.state) (refl, calm, known) h)
 
   hints_kept : (n : ℕ) (p : Scene) → On P p.state → On P (after_hints_up_to cave n p).state
   unfolding after_hints_up_to after_consider hint_rows
   hints_kept zero p h = h
   hints_kept (suc n) p h =
-      let d = deed cave (n + 4) (after_hints_up_to cave n p) in
-      let before = hints_kept n p h in
-      by_guarded P d hint_rows (
-        (λ fit. offered_kept (n + 4) (count_turn d).scene (first_holds _ _ fit) before),
-        λ _. ((λ _. before), λ _. before),
-      )
+      by_guarded P (deed cave (n + 4) (after_hints_up_to cave n p)) hint_rows
+      (search (hints_kept n p h, offered_kept, tests) parts 20)
 
   -- what is in the hands is shown
-  hands_kept : (p : Scene) → On P p.state → On P (by_table hands_rows (deed cave tt p)).scene.state
+  hands_kept : (d : Deed (Unit {0})) → On P d.scene.state → On P (by_table hands_rows d).scene.state
   unfolding hands_rows
-  hands_kept p h =
-      let o = thing cave name.Oyster in
-      by_guarded P (deed cave tt p) hands_rows (
-        (λ _. choose (λ (q : Scene). On P (with_objects
-            (layout_with_shown_up_to 100 q.state.objects)
-            q.state)) (o == 0) p (after_telling (part.Object o (pos 1)) p)
-            (λ _. shown_up_to_kept P moves 100 (view p.state) h)
-            (λ _. shown_up_to_kept P moves 100 (view p.state) h)),
-        λ _. ((λ _. shown_up_to_kept P moves 100 (view p.state) h), λ _. h),
-      )
+  hands_kept d h = quiet P hands_rows (search (looked, all_shown) parts 20) d h
+    where
+      looked : (x : ℕ) (w : ℤ) (p : Scene) → On P p.state → On P (after_look_at x w p).state
+      looked x w p h = choose (λ (q : Scene). On P q.state) (x == 0) p _ (λ _. h) (λ _. h)
+
+      all_shown : (s : State) → On P s
+          → On P (with_objects (layout_with_shown_up_to 100 s.objects) s)
+      all_shown s h = shown_up_to_kept P moves 100 (view s) h
 
   pub finished_kept : (p : Scene) → On P p.state → On P (end_of_turn cave p).state
   unfolding end_of_turn end_rows
   finished_kept p h =
-      let d = deed cave tt p in
-      by_guarded P d end_rows
-      ((λ _. hints_kept 17 (by_table hands_rows d).scene (hands_kept p h)), λ _. h)
+      by_guarded P (deed cave tt p) end_rows (search (hints_kept, hands_kept) parts 20)
 
   -- what follows what a verb did
   following_kept : (next : Next) (p : Scene) → is_asking_apart next ≡ false
@@ -179,12 +145,12 @@ module _ {cave : CaveView} {l : Line} {Q P : Claim} (k : IsKept cave l Q P) wher
   following_kept (next_is.Ask q) p other h =
       asking_kept P cave q p (k.keeps (Asks q) (view p.state)
       ((known cave q other).0, h.calm, (known cave q other).1) h.holds)
-  following_kept (next_is.End how) p other h = ending_kept k how p h
+  following_kept (next_is.End how) p other h = ending_kept k cave how p h
 
   -- an action is done, or what the cave says of it is said
   acting_kept : (o : Option Verb) (number x : ℕ) (word : List ℕ) (p : Scene)
-      → On (Ready Here P) p.state → On P (words_done_by_action cave o number x word p).scene.state
-  unfolding words_done_by_verb
+      → On (Ready Here P) p.state → On P (done_by_action cave o number x word p).scene.state
+  unfolding done_by_verb
   acting_kept (Some v) number x word p h =
       let a = act cave (command_of v x word) p in
       let acted = acted_kept k cave (command_of v x word) p h in
@@ -193,36 +159,35 @@ module _ {cave : CaveView} {l : Line} {Q P : Claim} (k : IsKept cave l Q P) wher
       choose (λ (q : Scene). On P q.state) (default_message cave number == 0) p
       (after_telling (part.Message (default_message cave number)) p) (λ _. h.holds) (λ _. h.holds)
 
-  done_kept : (half : HalfCommand) (r : Request) (p : Scene) → On (Ready Here P) p.state
-      → On P (words_done_by_request cave half r p).scene.state
-  unfolding after_travel
-  done_kept half request.Unknown p h = puzzled_kept P cave p h.holds
-  done_kept half (request.Motion motion) p h =
+  done_kept : (r : Request) (p : Scene) → On (Ready Here P) p.state
+      → On P (done_by_request cave r p).scene.state
+  unfolding after_travel after_puzzle puzzle_rows
+  done_kept request.Unknown p h =
+      quiet P puzzle_rows (search parts 20) (deed cave (happens 20 p) (after_draw p)) h.holds
+  done_kept (request.Motion motion) p h =
       let j = journey_by_request cave motion p in
       arriving_kept k j.step j.scene (motion_kept k motion p (anywhere h))
-  done_kept half (request.Tell told) p h = h.holds
-  done_kept half request.Knives p h = h.holds
-  done_kept half (request.Act number x word) p h = acting_kept (verb_of number) number x word p h
-  done_kept half (request.WhatToDo word) p h = h.holds
+  done_kept (request.Tell told) p h = h.holds
+  done_kept request.Knives p h = h.holds
+  done_kept (request.Act number x word) p h = acting_kept (verb_of number) number x word p h
+  done_kept (request.WhatToDo word) p h = h.holds
 
   -- what was understood is carried out
   carried_out_kept : (u : Understood) (p : Scene) → On (Ready Here P) p.state
       → On P (scene_of_understood cave u p).state
   unfolding scene_of_understood
   carried_out_kept u p h =
-      settled_kept P u.half.object (words_done_by_request cave u.half u.request p)
-      (done_kept u.half u.request p h)
+      let done = done_by_request cave u.request p in
+      let kept = half_command_kept u.request done.step u.half in
+      settled_kept P kept u.half.object done.scene (done_kept u.request p h)
 
   -- the words of a line are done
   done_for_kept : (words : Words) (p : Scene) → On (Ready Here P) p.state
-      → On P (scene_of_words cave words p).state
+      → On P (scene_of_words cave words.first words.second p).state
   done_for_kept words p h = by_first words.first
     where
       by_first : (o : Option (List ℕ))
-          → On P (elim o as (λ _. Scene) [
-            | None ↦ p
-            | Some word ↦ scene_of_understood cave (read_words cave word words.second p) p
-          ]).state
+          → On P (scene_of_words cave o words.second p).state
       by_first None = h.holds
       by_first (Some word) = carried_out_kept (read_words cave word words.second p) p h
 
@@ -231,11 +196,11 @@ module _ {cave : CaveView} {l : Line} {Q P : Claim} (k : IsKept cave l Q P) wher
       → After (Ready Here P) cave before o p.state → On P (after_clocks cave words o p).state
   unfolding kept_scene
   after_clocks_kept words before clocks.GoOn p h = done_for_kept words p h
-  after_clocks_kept words before clocks.GaveUp p h = ending_kept k ending_is.Quit p h
+  after_clocks_kept words before clocks.GaveUp p h = ending_kept k cave ending_is.Quit p h
   after_clocks_kept words before (clocks.Closed place) p h =
       let v : View = record (view p.state) { here = before } in
-      arriving_open k before place p h.0.holds h.0.calm
-      (λ some. k.keeps (Puts p.state.trail.here) v (some, inl h.1) h.0.holds)
+      arriving_open k before place p h.holds.holds h.holds.calm
+      (λ some. k.keeps (Puts p.state.trail.here) v (some, inl h.place) h.holds.holds)
 
   -- the clocks run, and what they leave is done
   pub commanded_kept : (line : List ℕ) (s : State)
@@ -266,32 +231,27 @@ module _ {cave : CaveView} {l : Line} {Q P : Claim} (k : IsKept cave l Q P) wher
 
   -- a player who died comes back, or not
   revived_kept : l.is_lit ≡ false → (p r : Scene) → p.state.question ≡ Some question.Die
-      → p.state.ending ≡ None → On Q p.state → r.state ≡ with_one_death (without_question p.state)
-      → On P (by_table revival_rows (deed cave question.Die r)).scene.state
+      → p.state.ending ≡ None → On Q p.state
+      → (let e = with_state (with_one_death (without_question p.state)) r in
+      On P (by_table revival_rows (deed cave question.Die e)).scene.state)
   unfolding revival_rows revive
-  revived_kept unlit p r asked goes h same =
-      by_guarded P (deed cave question.Die r) revival_rows (
-        (λ _. ended_kept P cave ending_is.Killed r
-            (subst (λ (s : State). On P (with_ending ending_is.Killed s)) (sym same)
-            (k.keeps (Buries ending_is.Killed) (view p.state) (asked, goes, unlit) h))),
-        λ others.
-            let few = sym (ap (λ (s : State). nat_le 3 s.tallies.deaths) same)
-            ∙ fails_alone (nat_le 3 r.state.tallies.deaths) others in
-            let d = deed cave question.Die r in let lamp = thing cave name.Lamp in
-            let back : On (Ready Anywhere P) (with_player_from (building_place cave) r.state) =
-            subst
-            (λ (s : State). On (Ready Anywhere P) (with_player_from (building_place cave) s))
-            (sym same)
-            (record {
-              holds = k.keeps Revives (view p.state) (few, asked, goes, unlit) h;
+  revived_kept unlit p r asked goes h =
+      let e = with_state (with_one_death (without_question p.state)) r in
+      let d = deed cave question.Die e in let lamp = thing cave name.Lamp in
+      by_guarded P d revival_rows (
+        (λ _. ended_kept P cave ending_is.Killed e
+            (k.keeps (Buries ending_is.Killed) (view p.state) (asked, goes, unlit) h)),
+        λ few.
+            let back : On (Ready Anywhere P) (with_player_from (building_place cave) e.state) =
+            record {
+              holds = k.keeps Revives (view p.state) (fails_alone _ few, asked, goes, unlit) h;
               calm = (refl, goes);
               at = tt;
-            }) in (
-              (λ _. choose (λ (e : Deed Question). On P (after_all (drop 1 revive) e).scene.state)
-                  (is_in_hand cave r.state lamp) (set_prop (the name.Lamp) LAMP_OFF d) d
-                  (λ _. returned_kept (set_prop (the name.Lamp) LAMP_OFF d).scene
-                  (propped k lamp LAMP_OFF back))
-                  (λ _. returned_kept r back)),
+            } in (
+              (λ _. choose (λ (f : Deed Question). On P (after_all (drop 1 revive) f).scene.state)
+                  (is_in_hand cave e.state lamp) (set_prop (the name.Lamp) LAMP_OFF d) d
+                  (λ _. returned_kept _ (propped k lamp LAMP_OFF back))
+                  (λ _. returned_kept e back)),
               λ never. absurd (true≢false never),
             ),
       )
@@ -303,8 +263,11 @@ module _ {cave : CaveView} {l : Line} {Q P : Claim} (k : IsKept cave l Q P) wher
   unfolding come_back reborn_rows
   reborn_kept unlit p asked goes h =
       let d = deed cave question.Die (with_state (without_question p.state) p) in
-      let e = count_death (by_table reborn_rows d) in
-      let same : (by_table reborn_rows d).scene.state ≡ d.scene.state =
+      let e = by_table reborn_rows d in
+      let same : e.scene.state ≡ d.scene.state =
       guarded (λ (a : Act (Unit {0})). a.scene.state ≡ d.scene.state) (nothing_but (λ e. tt)) d
-      reborn_rows ((λ _. refl), λ _. ((λ _. refl), λ _. ((λ _. refl), λ _. refl))) in
-      revived_kept unlit p e.scene asked goes h (ap (λ (s : State). with_one_death s) same)
+      reborn_rows (search parts 20) in
+      subst
+      (λ (s : State). On P (by_table revival_rows
+      (deed cave question.Die (with_state (with_one_death s) e.scene))).scene.state)
+      (sym same) (revived_kept unlit p e.scene asked goes h)

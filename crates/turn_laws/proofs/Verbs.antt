@@ -1,8 +1,7 @@
 -- What verbs do keeps each claim that what happens in a game keeps, and no verb asks whether to
 -- come back from death, or about a hint.
 use Rattle.std.specs.Prelude.{take as first_of}
-use Rattle.cave_turn.specs.cave_verbs.Acting.{act, act_bare, act_on, act_once, act_within}
-use Rattle.cave_turn.specs.cave_verbs.Acting.{bare_rows_of, object_act}
+use Rattle.cave_turn.specs.cave_verbs.Acting.{act, act_bare, act_on, act_once, act_within, rows_of}
 use Rattle.cave_turn.specs.cave_verbs.Blasting.{blast_rows}
 use Rattle.cave_turn.specs.cave_verbs.Breaking.{break_rows, wake_rows}
 use Rattle.cave_turn.specs.cave_verbs.Dropping.{drop_rows}
@@ -10,7 +9,7 @@ use Rattle.cave_turn.specs.cave_verbs.Feeding.{bare_eat_rows, eat_rows, feed_row
 use Rattle.cave_turn.specs.cave_verbs.Finding.{bare_inventory_rows, find_rows}
 use Rattle.cave_turn.specs.cave_verbs.Killing.{bare_kill_rows, kill_rows}
 use Rattle.cave_turn.specs.cave_verbs.Light.{off_rows, on_rows}
-use Rattle.cave_turn.specs.cave_verbs.Magic.{bare_foo_rows}
+use Rattle.cave_turn.specs.cave_verbs.Magic.{bare_foo_rows, send_eggs_home}
 use Rattle.cave_turn.specs.cave_verbs.Opening.{bare_open_rows, chain_rows, lock_rows, open_rows}
 use Rattle.cave_turn.specs.cave_verbs.Pouring.{bare_fill_rows, drink_rows, fill_rows, pour_rows}
 use Rattle.cave_turn.specs.cave_verbs.Reading.{bare_read_rows, read_rows}
@@ -30,19 +29,16 @@ use Rattle.cave_turn.specs.world_objects.Objects.{after_carry, with_prop}
 use Rattle.cave_turn.specs.cave_world.declared.ending.Question.TheVariants as question
 use Rattle.cave_turn.specs.verb_commands.declared.verb.Verb.TheVariants as verb
 use Rattle.turn_laws.specs.Reachable.{IsKnown}
-use Rattle.turn_laws.proofs.Band.{struck}
-use Rattle.turn_laws.proofs.Effects.{banded, effects, held, juggled, placed, propped, say_default}
-use Rattle.turn_laws.proofs.Effects.{shown, troll_goes}
-use Rattle.turn_laws.proofs.Hands.{room, room_still}
-use Rattle.turn_laws.proofs.Rows.{Guarded, LeadRows, Leads, Left, first_holds, first_leads, guarded}
-use Rattle.turn_laws.proofs.Rows.{second_holds}
+use Rattle.turn_laws.proofs.Counted.{room, room_still, struck}
+use Rattle.turn_laws.proofs.Effects.{LeadRows, Leads, Left, banded, effects, first_holds}
+use Rattle.turn_laws.proofs.Effects.{first_leads, guarded, placed, propped, second_holds, shown}
 use Rattle.turn_laws.proofs.View.{Band, Claim, HasRoom, IsKept, Line, On, Ready, Somewhere, Takes}
-use Rattle.turn_laws.proofs.View.{View, after_taking, choose, view}
+use Rattle.turn_laws.proofs.View.{View, after_taking, choose, is_die, view}
 use Rattle.turn_laws.proofs.Words.{Act, Bool, CaveView, Closing, Deed, Ending, Layout, List, Next}
-use Rattle.turn_laws.proofs.Words.{Option, Question, Scene, Tallies, Verb, [], after_drawing, arith}
-use Rattle.turn_laws.proofs.Words.{carried_objects, deed, drop, false, if◌then◌else◌, is_die}
-use Rattle.turn_laws.proofs.Words.{length, nat_le, next_of_step, nothing_but, refl, suc, true}
-use Rattle.turn_laws.proofs.Words.{true≢false, zero, ℕ, ℤ, ◌&&◌, ◌==◌, ◌∷◌, ◌≡◌, ◌≤◌}
+use Rattle.turn_laws.proofs.Words.{Option, Question, Scene, Tallies, Verb, [], arith}
+use Rattle.turn_laws.proofs.Words.{carried_objects, deed, drop, false, length, nat_le}
+use Rattle.turn_laws.proofs.Words.{next_of_step, nothing_but, refl, suc, true, true≢false, zero, ℕ}
+use Rattle.turn_laws.proofs.Words.{ℤ, ◌&&◌, ◌==◌, ◌∷◌, ◌≡◌, ◌≤◌}
 
 -- a question is whether to come back, or about a hint
 abbrev pub is_apart : Question → Bool
@@ -128,94 +124,49 @@ module _ {game : CaveView} {l : Line} {Q P : Claim} (k : IsKept game l Q P) wher
       (struck s.trail.here (view s).band
       (second_holds (nat_le 2 s.dwarves.anger) _ (first_holds (dwarf d) rest fit))) h
 
-  -- where the axe doesn't miss
-  unmissed_kept : (d : Deed Command) → On (Ready Here P) d.scene.state
-      → Guarded (Left (Ready Here P) Spared) (nothing_but stays) d (drop 1 axe_rows)
+  axe_kept : Keep (first_fitting axe_rows)
   unfolding axe_rows
-  unmissed_kept d h = (
-    (λ fit. (placed k _ _ (struck_kept d _ fit h), refl)),
-    λ _. (
-      (λ fit. (placed k _ _ (struck_kept d _ fit h), refl)),
-      λ _. (
-        (λ _. (placed k _ _ h, refl)),
+  axe_kept d h =
+      first_leads (Ready Here P) (Ready Here P) Spared (first_of 1 axe_rows)
+      (first_fitting (drop 1 axe_rows)) (search tables parts 20)
+      (λ e g. guarded (Left (Ready Here P) Spared) (first_fitting (drop 3 axe_rows)) e
+      (first_of 2 (drop 1 axe_rows)) (
+        (λ fit. (placed k _ _ (struck_kept e _ fit g), refl)),
         λ _. (
-          (λ _. (placed k _ _ h, refl)),
-          λ _. (
-            (λ _. (juggled k _ (propped k _ _ (held k _ _ (placed k _ _ h))), refl)),
-            λ _. ((λ _. (h, refl)), λ _. (h, refl)),
-          ),
+          (λ fit. (placed k _ _ (struck_kept e _ fit g), refl)),
+          λ _. by_rows (drop 3 axe_rows) (search tables parts 60) e g,
         ),
-      ),
-    ),
-  )
+      )) d h
 
   thrown_kept : Keep (first_fitting throw_rows)
-  unfolding throw_rows axe_rows
+  unfolding throw_rows
   thrown_kept d h =
-      let e = if dwarf d && true then after_drawing d else d in
-      let held =
-      choose (λ (one : Deed Command). On (Ready Here P) one.scene.state) (dwarf d && true)
-      (after_drawing d) d (λ _. h) (λ _. h) in
-      guarded (Left (Ready Here P) Spared) (nothing_but stays) d throw_rows (
-        (λ _. (h, refl)),
-        λ _. (
-          (λ _. (say_default k d.cave _ d.scene h, refl)),
-          λ _. (
-            (λ _. (troll_goes k d.cave _ (placed k _ _ h), refl)),
-            λ _. (
-              (λ _. (h, refl)),
-              λ _. (
-                (λ _. (h, refl)),
-                λ _. ((λ _. (placed k _ _ held, refl)), λ _. unmissed_kept e held),
-              ),
-            ),
-          ),
-        ),
-      )
+      first_leads (Ready Here P) (Ready Here P) Spared (first_of 5 throw_rows)
+      (first_fitting axe_rows) (search tables parts 60) axe_kept d h
 
   -- the rows of verbs without an object
-  bare_kept : (v : Verb) → KeepRows Here P (bare_rows_of v)
+  bare_kept : (v : Verb) → KeepRows Here P (rows_of v).0
   unfolding bare_brief_rows bare_eat_rows bare_fill_rows bare_foo_rows bare_inventory_rows
       bare_kill_rows bare_open_rows bare_quit_rows bare_read_rows bare_rows bare_score_rows
-      bare_take_rows blast_rows drink_rows nothing_rows off_rows on_rows pour_rows
+      bare_take_rows blast_rows drink_rows nothing_rows off_rows on_rows pour_rows send_eggs_home
   bare_kept verb.Take = search tables parts 60
   bare_kept _ = search tables parts 60
 
   -- what verbs do to an object
-  object_kept : (v : Verb) → Keep (object_act v)
+  object_kept : (v : Verb) → Keep (first_fitting (rows_of v).1)
   unfolding blast_rows break_rows drink_rows drop_rows eat_rows feed_rows fill_rows find_rows
       kill_rows nothing_rows off_rows on_rows open_rows other_rows pour_rows read_rows rub_rows
       wake_rows wave_rows lock_rows chain_rows
   object_kept verb.Take d h = taken_kept d h
   object_kept verb.Throw d h = thrown_kept d h
-  object_kept verb.Drop d h = by_rows drop_rows (search tables parts 60) d h
-  object_kept verb.Open d h = by_rows open_rows (search tables parts 60) d h
-  object_kept verb.Nothing d h = by_rows nothing_rows (search tables parts 60) d h
-  object_kept verb.Lock d h = by_rows open_rows (search tables parts 60) d h
-  object_kept verb.On d h = by_rows on_rows (search tables parts 60) d h
-  object_kept verb.Off d h = by_rows off_rows (search tables parts 60) d h
-  object_kept verb.Wave d h = by_rows wave_rows (search tables parts 60) d h
-  object_kept verb.Kill d h = by_rows kill_rows (search tables parts 60) d h
-  object_kept verb.Pour d h = by_rows pour_rows (search tables parts 60) d h
-  object_kept verb.Eat d h = by_rows eat_rows (search tables parts 60) d h
-  object_kept verb.Drink d h = by_rows drink_rows (search tables parts 60) d h
-  object_kept verb.Rub d h = by_rows rub_rows (search tables parts 60) d h
-  object_kept verb.Find d h = by_rows find_rows (search tables parts 60) d h
-  object_kept verb.Inventory d h = by_rows find_rows (search tables parts 60) d h
-  object_kept verb.Feed d h = by_rows feed_rows (search tables parts 60) d h
-  object_kept verb.Fill d h = by_rows fill_rows (search tables parts 60) d h
-  object_kept verb.Blast d h = by_rows blast_rows (search tables parts 60) d h
-  object_kept verb.Read d h = by_rows read_rows (search tables parts 60) d h
-  object_kept verb.Break d h = by_rows break_rows (search tables parts 60) d h
-  object_kept verb.Wake d h = by_rows wake_rows (search tables parts 60) d h
-  object_kept _ d h = by_rows other_rows (search tables parts 60) d h
+  object_kept v d h = by_rows (rows_of v).1 (search tables parts 60) d h
 
   -- a verb by its own rules
   once_kept : Keep act_once
   unfolding act_bare act_on
   once_kept d h =
       choose (Left (Ready Here P) Spared) (d.about.object == 0) (act_bare d) (act_on d)
-      (λ _. by_rows (bare_rows_of d.about.verb) (bare_kept d.about.verb) d h)
+      (λ _. by_rows (rows_of d.about.verb).0 (bare_kept d.about.verb) d h)
       (λ _. object_kept d.about.verb d h)
 
   -- a verb with those that it goes on with

@@ -14,11 +14,16 @@ use Rattle.turn_laws.specs.Reachable.{IsKnown}
 use Rattle.turn_laws.proofs.Words.{Anchor, Bool, CaveView, Closing, Dwarf, Ending, Layout, List}
 use Rattle.turn_laws.proofs.Words.{MAX_LAMP_TURNS, None, Option, Question, Some, State, Tallies, []}
 use Rattle.turn_laws.proofs.Words.{ap, arith, building_place, carried_objects, dismissed_dwarf}
-use Rattle.turn_laws.proofs.Words.{false, filter, if◌then◌else◌, int_eq, int_lt, int_min, is_die}
+use Rattle.turn_laws.proofs.Words.{false, filter, get_or, if◌then◌else◌, int_eq, int_lt, int_min}
 use Rattle.turn_laws.proofs.Words.{is_some, length, map, min, nat_le, nat_tests, negsuc, no_dwarf}
-use Rattle.turn_laws.proofs.Words.{outside_place, place_named, pos, refl, slice_index_or, slice_set}
-use Rattle.turn_laws.proofs.Words.{sym, take, true, true≢false, ℕ, ℤ, ◌&&◌, ◌+◌, ◌-ℤ◌, ◌-◌, ◌<◌}
-use Rattle.turn_laws.proofs.Words.{◌==◌, ◌∙◌, ◌∷◌, ◌≡◌, ◌≤ℤ◌, ◌≤◌, ◌⊎◌}
+use Rattle.turn_laws.proofs.Words.{outside_place, place_named, pos, refl, set, slice_index_or}
+use Rattle.turn_laws.proofs.Words.{slice_set, suc, sym, take, true, true≢false, zero, ℕ, ℤ, ◌&&◌}
+use Rattle.turn_laws.proofs.Words.{◌+◌, ◌-ℤ◌, ◌-◌, ◌<◌, ◌==◌, ◌∙◌, ◌∷◌, ◌≡◌, ◌≤ℤ◌, ◌≤◌, ◌⊎◌}
+
+-- the question whether to come back
+abbrev pub is_die : Question → Bool
+is_die question.Die = true
+is_die _ = false
 
 -- the dwarves without their knife
 pub record Band : Type 0 where
@@ -137,8 +142,7 @@ is_shut_off cave place v =
 
 -- the player is put at a place: at the end of the repository, or where the dragon dies
 abbrev pub IsPut : CaveView → ℕ → View → Type 0
-IsPut cave place v =
-    (place_named cave landmark.Ne ≡ Some place) ⊎ (place ≡ lair_from cave v.here)
+IsPut cave place v = (place_named cave landmark.Ne ≡ Some place) ⊎ (place ≡ lair_from cave v.here)
 
 -- a line, as laws see it: where it finds the player, whether it is a command, and whether it pays a
 -- price, burns the lamp and brings batteries
@@ -201,6 +205,12 @@ pub data Event : Type 0 where
   Asks : Question → Event
   Comes Puts : ℕ → Event
 
+abbrev pub with_death : Tallies → Tallies
+with_death t = record t { deaths = min (t.deaths + 1) 3 }
+
+abbrev pub with_one_found : Tallies → Tallies
+with_one_found t = record t { unseen = t.unseen - 1 }
+
 abbrev pub after : CaveView → Event → View → View
 after cave (Closes a) v = record v { question = None }
 after cave (Shifts c) v = record v { objects = after_change c v.objects }
@@ -217,17 +227,9 @@ after cave Shuts v = record v { closing = record v.closing { is_closed = true } 
 after cave Passes v = v
 after cave (Burns c) v = record v { charge = c }
 after cave Revives v =
-    record v {
-      here = building_place cave;
-      tallies = record v.tallies { deaths = min (v.tallies.deaths + 1) 3 };
-      question = None;
-    }
+    record v { here = building_place cave; tallies = with_death v.tallies; question = None }
 after cave (Buries how) v =
-    record v {
-      tallies = record v.tallies { deaths = min (v.tallies.deaths + 1) 3 };
-      question = None;
-      ending = Some how;
-    }
+    record v { tallies = with_death v.tallies; question = None; ending = Some how }
 after cave (Moves c) v = record v { objects = after_change c v.objects }
 after cave (Takes xs) v = record v { objects = after_taking xs v.objects }
 after cave (Bands w) v = record v { band = w }
@@ -236,20 +238,13 @@ after cave (Panics second) v =
     record v { closing = record v.closing { second_clock = second; is_panicking = true } }
 after cave Loses v =
     record v { tallies = record v.tallies { lost = min (v.tallies.lost + 1) 60000 } }
-after cave Finds v = record v { tallies = record v.tallies { unseen = v.tallies.unseen - 1 } }
+after cave Finds v = record v { tallies = with_one_found v.tallies }
 after cave Shortens v =
-    record v {
-      charge = int_min v.charge (pos 35);
-      tallies = record v.tallies { unseen = v.tallies.unseen - 1 };
-    }
+    record v { charge = int_min v.charge (pos 35); tallies = with_one_found v.tallies }
 after cave (Hints i) v = record v { hints = slice_set v.hints i true }
 after cave (Ends how) v = record v { ending = Some how }
 after cave (Kills how place) v =
-    record v {
-      here = place;
-      tallies = record v.tallies { deaths = min (v.tallies.deaths + 1) 3 };
-      ending = Some how;
-    }
+    record v { here = place; tallies = with_death v.tallies; ending = Some how }
 after cave (Dies place) v = record v { here = place; question = Some question.Die }
 after cave (Asks a) v = record v { question = Some a }
 after cave (Comes place) v = record v { here = place }
@@ -283,21 +278,8 @@ Can cave l (Comes place) v = ((place == 0) ≡ false) × (is_shut_off cave place
 Can cave l (Puts place) v = ((place == 0) ≡ false) × IsPut cave place v
 Can cave l _ v = Unit {0}
 
--- of two claims the one that holds before something happens, and the one that holds then: the first
--- as a line begins, and the second once the lamp was passed
-abbrev pub claim_before : Claim → Claim → Event → Claim
-claim_before Q P (Closes a) = Q
-claim_before Q P (Shifts c) = Q
-claim_before Q P Counts = Q
-claim_before Q P Begins = Q
-claim_before Q P Ticks = Q
-claim_before Q P Shuts = Q
-claim_before Q P Passes = Q
-claim_before Q P (Burns c) = Q
-claim_before Q P Revives = Q
-claim_before Q P (Buries how) = Q
-claim_before Q P _ = P
-
+-- of two claims the one that holds once something has happened, and the one that holds before: the
+-- first as a line begins, and the second from where the lamp was passed
 abbrev pub claim_after : Claim → Claim → Event → Claim
 claim_after Q P (Closes a) = Q
 claim_after Q P (Shifts c) = Q
@@ -306,6 +288,13 @@ claim_after Q P Begins = Q
 claim_after Q P Ticks = Q
 claim_after Q P Shuts = Q
 claim_after Q P _ = P
+
+abbrev pub claim_before : Claim → Claim → Event → Claim
+claim_before Q P Passes = Q
+claim_before Q P (Burns c) = Q
+claim_before Q P Revives = Q
+claim_before Q P (Buries how) = Q
+claim_before Q P e = claim_after Q P e
 
 -- whatever happens in a line leads from one claim to the other
 abbrev pub Keeps : CaveView → Line → Claim → Claim → Type 0
@@ -320,33 +309,7 @@ pub record IsKept (cave : CaveView) (l : Line) (Q P : Claim) : Type 0 where
 abbrev pub IsMoved : Claim → Type 0
 IsMoved P = (v : View) (c : Change) → P v → P (record v { objects = after_change c v.objects })
 
--- it is kept by the clocks
-pub record IsTimed (P : Claim) : Type 0 where
-  pub objects : IsMoved P
-  pub counts : (v : View) → int_lt (pos 0) v.closing.first_clock ≡ true → P v
-      → P (record v { closing = record v.closing { first_clock = v.closing.first_clock -ℤ pos 1 } })
-  pub begins : (v : View) → P v
-      → P (record v {
-        closing = record v.closing { first_clock = negsuc 0; is_closing = true };
-        band = record v.band { each = map dismissed_dwarf v.band.each };
-      })
-  pub ticks : (v : View) → int_le (pos 0) v.closing.second_clock ≡ true → P v
-      → P (record v {
-        closing = record v.closing { second_clock = v.closing.second_clock -ℤ pos 1 };
-      })
-  pub shuts : (v : View) → int_eq v.closing.first_clock (negsuc 0) ≡ true → P v
-      → P (record v { closing = record v.closing { is_closed = true } })
-
 module _ {cave : CaveView} {l : Line} {Q P : Claim} (k : IsKept cave l Q P) where
-  pub timed : {Here : ℕ → Type 0} → IsTimed (Ready Here Q)
-  timed = record {
-    objects = λ v c r. record { holds = k.keeps (Shifts c) v tt r.holds; calm = r.calm; at = r.at };
-    counts = λ v is r. record { holds = k.keeps Counts v is r.holds; calm = r.calm; at = r.at };
-    begins = λ v r. record { holds = k.keeps Begins v r.calm r.holds; calm = r.calm; at = r.at };
-    ticks = λ v is r. record { holds = k.keeps Ticks v is r.holds; calm = r.calm; at = r.at };
-    shuts = λ v is r. record { holds = k.keeps Shuts v is r.holds; calm = r.calm; at = r.at };
-  }
-
   -- the lamp is passed over
   pub led : {Here : ℕ → Type 0} (v : View) → l.is_lit ≡ false → Ready Here Q v → Ready Here P v
   led v unlit r = record { holds = k.keeps Passes v unlit r.holds; calm = r.calm; at = r.at }
@@ -357,6 +320,16 @@ pub choose : {A : Type 0} (Q : A → Type 0) (b : Bool) (x y : A) → (b ≡ tru
     → Q (if b then x else y)
 choose Q true x y f g = f refl
 choose Q false x y f g = g refl
+
+-- what holds of an element of a list holds of it once one of them is another, if of that one too
+pub kept_by_set : {X : Type 0} (P : X → Type 0) (xs : List X) (i y : ℕ) (s d : X)
+    → P (get_or xs y d) → (y ≡ i → P s) → P (get_or (set xs i s) y d)
+kept_by_set P [] i y s d old new = old
+kept_by_set P (x ∷ xs) zero zero s d old new = new refl
+kept_by_set P (x ∷ xs) zero (suc y) s d old new = old
+kept_by_set P (x ∷ xs) (suc i) zero s d old new = old
+kept_by_set P (x ∷ xs) (suc i) (suc y) s d old new =
+    kept_by_set P xs i y s d old (λ same. new (ap suc same))
 
 -- a place that isn't 0
 pub from_one : (n : ℕ) → (n == 0) ≡ false → 1 ≤ n

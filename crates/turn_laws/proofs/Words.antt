@@ -28,10 +28,11 @@ pub use Rattle.cave_turn.specs.cave_world.declared.state.Tallies.{Tallies}
 pub use Rattle.cave_turn.specs.turn_clocks.FirstClock.{dismissed_dwarf}
 pub use Rattle.cave_turn.specs.turn_clocks.declared.clocks.Clocks.{Clocks}
 pub use Rattle.cave_turn.specs.turn_ends.Endings.{with_ending, with_one_death}
-pub use Rattle.cave_turn.specs.turn_ends.Questions.{is_die, is_dragon}
+pub use Rattle.cave_turn.specs.turn_ends.Questions.{is_dragon}
 pub use Rattle.cave_turn.specs.turn_moves.Ways.{fall}
 pub use Rattle.cave_turn.specs.turn_rules.Effects.{change, say, set_prop, when, with_charge}
 pub use Rattle.cave_turn.specs.turn_rules.Rows.{Act, Deed, after_all, after_drawing, all_hold}
+pub use Rattle.cave_turn.specs.turn_rules.Rows.{always}
 pub use Rattle.cave_turn.specs.turn_rules.Rows.{by_table, deed, first_fitting_or, nothing_but}
 pub use Rattle.cave_turn.specs.turn_rules.Tests.{anger, here, in_the_depths, no, nowhere, the}
 pub use Rattle.cave_turn.specs.turn_scene.Scene.{Scene, after_draw, after_look_at, after_saying}

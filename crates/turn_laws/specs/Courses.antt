@@ -17,8 +17,9 @@ use Rattle.cave_turn.specs.cave_world.Sight.{LAMP_ON}
 use Rattle.cave_turn.specs.cave_world.State.{is_hint_taken, MAX_LOST}
 use Rattle.cave_turn.specs.turn_score.Score.{score_of, max_score_of}
 use Rattle.cave_turn.specs.Answers.{without_question}
-use Rattle.cave_turn.specs.Turns.{turn_on_line, start_of_game}
-use Rattle.turn_laws.specs.Laws.{before_clocks, before_lamp, brings_batteries, is_command, pays}
+use Rattle.cave_turn.specs.Turns.{turn_on_line}
+use Rattle.turn_laws.specs.Laws.{Lasts, before_clocks, before_lamp, brings_batteries, is_command}
+use Rattle.turn_laws.specs.Laws.{pays}
 
 -- dwarves are awake once their anger is 2
 abbrev pub AreAwake : State → Type 0
@@ -53,11 +54,8 @@ pub record ClosesInOrder (s : State) : Type 0 where
   pub stopped : s.closing.first_clock ≡ negsuc 0 → s.closing.is_closing ≡ true
 
 -- a game begins so, and each line keeps it so
-pub record ClosedIsClosing : Type 0 where
-  pub start : (cave : CaveView) (seed : ℕ) → ClosesInOrder (start_of_game cave seed).state
-  pub kept :
-      (cave : CaveView) (s : State) (line : List ℕ) → ClosesInOrder s
-      → ClosesInOrder (turn_on_line cave s line).state
+abbrev pub ClosedIsClosing : Type 0
+ClosedIsClosing = Lasts (λ cave s. ClosesInOrder s)
 
 -- no more treasures count as unseen than did, and no fewer as lost, up to the most that are counted
 pub record TreasuresAfter (s t : State) : Type 0 where
@@ -79,11 +77,8 @@ abbrev pub IsAskedInTime : State → Type 0
 IsAskedInTime s = s.question ≡ Some question.Die → s.closing.is_closing ≡ false
 
 -- a game begins so, and each line keeps it so
-pub record AskedInTime : Type 0 where
-  pub start : (cave : CaveView) (seed : ℕ) → IsAskedInTime (start_of_game cave seed).state
-  pub kept :
-      (cave : CaveView) (s : State) (line : List ℕ) → IsAskedInTime s
-      → IsAskedInTime (turn_on_line cave s line).state
+abbrev pub AskedInTime : Type 0
+AskedInTime = Lasts (λ cave s. IsAskedInTime s)
 
 -- deaths don't get fewer, of the three that are counted at most, and rise by one at most
 pub record DeathsAfter (s t : State) : Type 0 where

@@ -12,7 +12,7 @@ use Rattle.cave_turn.specs.cave_world.declared.ending.Question.TheVariants as qu
 use Rattle.cave_turn.specs.cave_world.declared.state.State.{State}
 use Rattle.cave_turn.specs.turn_things.Places.{building_place, start_place}
 use Rattle.cave_turn.specs.turn_scene.Scene.{Scene, scene_at_start, thing}
-use Rattle.cave_turn.specs.turn_clocks.Clocks.{both_clocks}
+use Rattle.cave_turn.specs.turn_clocks.Clocks.{tick_clocks}
 use Rattle.cave_turn.specs.turn_clocks.Lamp.{burn, can_change_batteries}
 use Rattle.cave_turn.specs.turn_rules.Rows.{deed, all_hold}
 use Rattle.cave_turn.specs.turn_ends.Questions.{is_dragon}
@@ -82,17 +82,21 @@ CommandsTick =
     (cave : CaveView) (s : State) (line : List ℕ)
     → (turn_on_line cave s line).ticked ≡ is_command cave s line
 
+-- a game begins so, and each line keeps it so, in any cave
+pub record Lasts (Holds : CaveView → State → Type 0) : Type 0 where
+  pub start : (cave : CaveView) (seed : ℕ) → Holds cave (start_of_game cave seed).state
+  pub kept :
+      (cave : CaveView) (s : State) (line : List ℕ) → Holds cave s
+      → Holds cave (turn_on_line cave s line).state
+
 -- there are at most three deaths, and after the third the game has ended
 pub record HasFewDeaths (s : State) : Type 0 where
   pub at_most : s.tallies.deaths ≤ 3
   pub last : s.tallies.deaths ≡ 3 → HasEnded s
 
 -- a game begins so, and each line keeps it so
-pub record FewDeaths : Type 0 where
-  pub start : (cave : CaveView) (seed : ℕ) → HasFewDeaths (start_of_game cave seed).state
-  pub kept :
-      (cave : CaveView) (s : State) (line : List ℕ) → HasFewDeaths s
-      → HasFewDeaths (turn_on_line cave s line).state
+abbrev pub FewDeaths : Type 0
+FewDeaths = Lasts (λ cave s. HasFewDeaths s)
 
 -- the player is at place 0, which is none, only where the game has ended, or where the player died
 -- and is asked whether to come back
@@ -131,7 +135,7 @@ unless_closed closed p = if closed then None else Some p
 
 -- the scene that the clocks leave to the lamp
 abbrev pub before_lamp : CaveView → Scene → Option Scene
-before_lamp cave p = let a = both_clocks (deed cave tt p) in unless_closed a.step a.scene
+before_lamp cave p = let a = tick_clocks (deed cave tt p) in unless_closed a.step a.scene
 
 -- the lamp is reached, and its batteries are changed: they can be, once a turn is burnt
 abbrev pub is_changed : CaveView → Option Scene → Bool

@@ -9,9 +9,10 @@ use Rattle.cave_turn.specs.cave_world.declared.state.State.{State}
 use Rattle.cave_turn.specs.turn_things.Places.{building_place, start_place}
 use Rattle.cave_turn.specs.turn_score.Score.{score_of, max_score_of}
 use Rattle.cave_turn.specs.Turns.{turn_on_line, start_of_game}
+use Rattle.turn_lists.specs.OneList.{AreInOneList}
 use Rattle.turn_laws.specs.Courses.{ClosesInOrder, IsAskedInTime}
 use Rattle.turn_laws.specs.DwarfLaws.{HasFewDwarves}
-use Rattle.turn_laws.specs.Laws.{HasFewDeaths, IsSomewhere}
+use Rattle.turn_laws.specs.Laws.{HasFewDeaths, IsSomewhere, Lasts}
 use Rattle.turn_laws.specs.ObjectLaws.{CarriesFew}
 
 -- the state that lines of a log lead to, one after another
@@ -39,22 +40,16 @@ IsBounded s =
     s.tallies.lost
 
 -- a game begins so, and each line keeps it so
-pub record StaysBounded : Type 0 where
-  pub start : (cave : CaveView) (seed : ℕ) → IsBounded (start_of_game cave seed).state
-  pub kept :
-      (cave : CaveView) (s : State) (line : List ℕ) → IsBounded s
-      → IsBounded (turn_on_line cave s line).state
+abbrev pub StaysBounded : Type 0
+StaysBounded = Lasts (λ cave s. IsBounded s)
 
 -- a question is open or the game has ended, or neither: never both
 abbrev pub AsksOrEnds : State → Type 0
 AsksOrEnds s = (s.question ≡ None) ⊎ (s.ending ≡ None)
 
 -- a game begins so, and each line keeps it so
-pub record NeverBoth : Type 0 where
-  pub start : (cave : CaveView) (seed : ℕ) → AsksOrEnds (start_of_game cave seed).state
-  pub kept :
-      (cave : CaveView) (s : State) (line : List ℕ) → AsksOrEnds s
-      → AsksOrEnds (turn_on_line cave s line).state
+abbrev pub NeverBoth : Type 0
+NeverBoth = Lasts (λ cave s. AsksOrEnds s)
 
 -- a hint that a question is about is one that the cave has
 abbrev pub IsKnown : CaveView → Question → Type 0
@@ -67,12 +62,8 @@ IsOpenKnown cave None = Unit {0}
 IsOpenKnown cave (Some asked) = IsKnown cave asked
 
 -- a game begins so, and each line keeps it so
-pub record HintsAreKnown : Type 0 where
-  pub start :
-      (cave : CaveView) (seed : ℕ) → IsOpenKnown cave (start_of_game cave seed).state.question
-  pub kept :
-      (cave : CaveView) (s : State) (line : List ℕ) → IsOpenKnown cave s.question
-      → IsOpenKnown cave (turn_on_line cave s line).state.question
+abbrev pub HintsAreKnown : Type 0
+HintsAreKnown = Lasts (λ cave s. IsOpenKnown cave s.question)
 
 -- neither the place where a game begins nor that where the dead come back is place 0
 abbrev pub HasPlaces : CaveView → Type 0
@@ -82,15 +73,17 @@ HasPlaces cave = (1 ≤ start_place cave) × (1 ≤ building_place cave)
 pub record IsLawful (cave : CaveView) (s : State) : Type 0 where
   pub deaths : HasFewDeaths s
   pub hands : CarriesFew s
+  pub one_place : AreInOneList s.objects
   pub closing : ClosesInOrder s
   pub asked : IsAskedInTime s
   pub either : AsksOrEnds s
   pub hint : IsOpenKnown cave s.question
   pub bounds : IsBounded s
   pub score : score_of cave s ≤ max_score_of cave
-  pub place : HasPlaces cave → IsSomewhere s
-  pub dwarves : HasPlaces cave → HasFewDwarves s
+  pub place : IsSomewhere s
+  pub dwarves : HasFewDwarves s
 
--- it holds of each state that a game comes to
+-- it holds of each state that a game comes to in a cave with those places
 abbrev pub ReachableIsLawful : Type 0
-ReachableIsLawful = (cave : CaveView) (s : State) → IsReachable cave s → IsLawful cave s
+ReachableIsLawful =
+    (cave : CaveView) (s : State) → HasPlaces cave → IsReachable cave s → IsLawful cave s

@@ -31,19 +31,19 @@ pub fn no_score_is_greater()
 
 /// Nobody is asked in a closing cave whether to come back from death: a game begins so, and each
 /// line keeps it so.
-#[tactic(auto, using(crate::proofs::Deaths::asked_in_time))]
+#[tactic(auto, using(crate::proofs::Bounds::asked_in_time))]
 pub fn asked_in_time()
     ensures { AskedInTime }
 {}
 
 /// Deaths rise by one a line at most, where nobody is asked in a closing cave whether to come back.
-#[tactic(auto, using(crate::proofs::Deaths::deaths_come_one_by_one))]
+#[tactic(auto, using(crate::proofs::Bounds::deaths_come_one_by_one))]
 pub fn deaths_come_one_by_one()
     ensures { DeathsComeOneByOne }
 {}
 
 /// While the cave is closing nobody comes to a place outside it, in a cave that puts nobody there.
-#[tactic(auto, using(crate::proofs::Deaths::nobody_gets_out))]
+#[tactic(auto, using(crate::proofs::Bounds::nobody_gets_out))]
 pub fn nobody_gets_out()
     ensures { NobodyGetsOut }
 {}

@@ -12,19 +12,19 @@ ghost use Rattle.turn_laws.specs.Laws.{LampBurnsDown, PlayerIsSomewhere, SeedsAl
 
 /// After the end nothing is said, no turn passes, and nothing changes but the random stream at a
 /// seed line.
-#[tactic(auto, using(crate::proofs::Quiet::end_is_quiet))]
+#[tactic(auto, using(crate::proofs::Lines::end_is_quiet))]
 pub fn end_is_quiet()
     ensures { EndIsQuiet }
 {}
 
 /// A seed line changes the random stream alone, says nothing and is no turn.
-#[tactic(auto, using(crate::proofs::Quiet::seeds_alone))]
+#[tactic(auto, using(crate::proofs::Lines::seeds_alone))]
 pub fn seeds_alone()
     ensures { SeedsAlone }
 {}
 
 /// A line is a turn exactly where it is a command.
-#[tactic(auto, using(crate::proofs::Quiet::commands_tick))]
+#[tactic(auto, using(crate::proofs::Lines::commands_tick))]
 pub fn commands_tick()
     ensures { CommandsTick }
 {}
@@ -35,14 +35,14 @@ pub fn dragon_is_fought_or_left()
 {}
 
 /// There are at most three deaths, and after the third the game has ended.
-#[tactic(auto, using(crate::proofs::Deaths::few_deaths))]
+#[tactic(auto, using(crate::proofs::Bounds::few_deaths))]
 pub fn few_deaths()
     ensures { FewDeaths }
 {}
 
 /// The player is at place 0 only where the game has ended, or where the player died and is asked
 /// whether to come back.
-#[tactic(auto, using(crate::proofs::Deaths::player_is_somewhere))]
+#[tactic(auto, using(crate::proofs::Bounds::player_is_somewhere))]
 pub fn player_is_somewhere()
     ensures { PlayerIsSomewhere }
 {}

@@ -1,7 +1,7 @@
 //! Laws of where objects are.
 
 ghost use Rattle.std.specs.Prelude.{◌<◌};
-ghost use Rattle.turn_laws.specs.ObjectLaws.{IsInOnePlace};
+ghost use Rattle.turn_laws.specs.ObjectLaws.{IsInOnePlace, StayInOnePlace};
 
 use cave_turn::{Object, State};
 
@@ -15,3 +15,10 @@ pub fn object_is_in_one_place(state: &State, object: Object)
     let _spot = state.objects.spot(object);
     let _anchor = state.objects.anchor(object);
 }
+
+/// Each half of an object is in the list of one place and of no other, or in none, and a first half
+/// where its object says: a game begins so, and each line keeps it so.
+#[tactic(auto, using(crate::proofs::OnePlace::stay_in_one_place))]
+pub fn objects_stay_in_one_place()
+    ensures { StayInOnePlace }
+{}

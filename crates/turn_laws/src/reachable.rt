@@ -1,7 +1,10 @@
 //! Laws of each state that a game comes to.
 
-ghost use Rattle.turn_laws.specs.Reachable.{HintsAreKnown, NeverBoth, ReachableIsLawful};
-ghost use Rattle.turn_laws.specs.Reachable.{StaysBounded};
+ghost use Rattle.turn_laws.specs.Reachable.{HasPlaces, HintsAreKnown, NeverBoth};
+ghost use Rattle.turn_laws.specs.Reachable.{ReachableIsLawful, StaysBounded};
+
+use cave_turn::Cave;
+use turn_things::PlaceRole;
 
 /// The clocks, the lamp and the counts of treasures are within their bounds: a game begins so, and
 /// each line keeps it so.
@@ -12,19 +15,29 @@ pub fn bounds_are_kept()
 
 /// A question is open or the game has ended, or neither: a game begins so, and each line keeps it
 /// so.
-#[tactic(auto, using(crate::proofs::Deaths::never_both))]
+#[tactic(auto, using(crate::proofs::Bounds::never_both))]
 pub fn asks_or_ends()
     ensures { NeverBoth }
 {}
 
 /// A hint that a question is about is one that the cave has: a game begins so, and each line keeps
 /// it so.
-#[tactic(auto, using(crate::proofs::Deaths::hints_are_known))]
+#[tactic(auto, using(crate::proofs::Bounds::hints_are_known))]
 pub fn hints_are_known()
     ensures { HintsAreKnown }
 {}
 
-/// Each state that a game comes to, from any seed by any lines, is lawful.
+/// In each cave the place where a game begins, and that where the dead come back, are places.
+pub fn caves_have_places(cave: &Cave)
+    ensures { HasPlaces cave.now }
+{
+    // What these two promise is the law.
+    let _start = cave.place(PlaceRole::Start);
+    let _building = cave.place(PlaceRole::Building);
+}
+
+/// Each state that a game comes to, from any seed by any lines, is lawful, in a cave with those
+/// places.
 pub fn reachable_states_are_lawful()
     ensures { ReachableIsLawful }
 {}
