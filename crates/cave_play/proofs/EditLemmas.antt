@@ -24,10 +24,12 @@ use Rattle.cave_replay.specs.Session.{SessionView}
 use Rattle.world_packed.specs.cave_world.declared.state.State.{State}
 use Rattle.cave_play.specs.Edits.{Applies, IsApplied, text_of_item}
 use Rattle.cave_play.specs.Outcome.{AreLeft, AreOutcomes, IsOutcome, lines_in, played_in}
-use Rattle.cave_play.specs.Output.{game_after_item, game_after_items, game_by, group_refusal}
+use Rattle.cave_play.specs.Output.{game_after_item, game_after_items, game_by}
+use Rattle.cave_play.specs.Refusal.{group_refusal, item_refusal}
 use Rattle.cave_play.specs.Views.{text_of_items}
 use Rattle.cave_play.specs.declared.machine.CaveMachine.{CaveMachine}
 use Rattle.cave_play.specs.declared.outcome.ItemOutcome.{ItemOutcome}
+use Rattle.cave_play.specs.declared.refusal.RefusedItem.{RefusedItem}
 
 -- the items from a place on: the one there, and those after it
 pub applied_item-drop : (items : List Item) (place : ℕ) (item : Item) → place < length items
@@ -62,8 +64,8 @@ pub record Completes (view : EditView) (cave : CaveView) (every : ℕ) (all left
   pub came : (rest : List ItemOutcome) → AreOutcomes cave every left now here rest
       → AreOutcomes cave every all first opened (complete rest)
   pub told : (rest : List ItemOutcome)
-      → before ++ text_of_items (text_of_item view) all (complete rest) ≡ text
-      ++ text_of_items (text_of_item view) left rest
+      → before ++ text_of_items (text_of_item view cave) all first (complete rest) ≡ text
+      ++ text_of_items (text_of_item view cave) left now rest
   pub played_is : (rest : List ItemOutcome)
       → sum_by played_in (complete rest) ≡ played + sum_by played_in rest
   pub lines_are : (rest : List ItemOutcome)
@@ -89,13 +91,16 @@ module _ (view : EditView) (cave : CaveView) (every : ℕ) (all left : List Appl
     (opened here after before text longer : List ℕ) (played lines more_played more_lines : ℕ) where
   one-more : IsOutcome cave every item now here outcome → AreLeft every outcome here next after
       → next ≡ game_after_item item now
-      → longer ≡ text ++ text_of_item view item outcome → more_played ≡ played + played_in outcome
+      → longer ≡ text ++ text_of_item view cave item now outcome
+      → more_played ≡ played + played_in outcome
       → more_lines ≡ lines + lines_in outcome
       → Completes view cave every all (item ∷ left) first now opened here before text played lines
       → Completes view cave every all left first next opened after before longer more_played
       more_lines
   one-more is remains made grown plays counts so_far =
-      let told = text_of_items (text_of_item view) left in
+      let told = text_of_items (text_of_item view cave) left in
+      let here_told = text_of_item view cave item now outcome in
+      let then = game_after_item item now in
       record {
         complete = λ rest. so_far.complete (outcome ∷ rest);
         came = λ rest others. so_far.came (outcome ∷ rest) (
@@ -107,8 +112,9 @@ module _ (view : EditView) (cave : CaveView) (every : ℕ) (all left : List Appl
           ),
         );
         told = λ rest. so_far.told (outcome ∷ rest)
-            ∙ sym (append_assoc text (text_of_item view item outcome) (told rest))
-            ∙ ap (λ t. t ++ told rest) (sym grown);
+            ∙ sym (append_assoc text here_told (told then rest))
+            ∙ ap (λ t. t ++ told then rest) (sym grown)
+            ∙ ap (λ g. longer ++ told g rest) (sym made);
         played_is =
             λ rest. omega (
               arith,
@@ -132,7 +138,8 @@ pub Completes-more : (view : EditView) (cave : CaveView) (every : ℕ) (items : 
     (old new : SessionView CaveMachine Piece State)
     → place < length items → item ≡ get_or items place item → old.machine.rules.cave.now ≡ cave
     → old.every ≡ every → Applies (applied_item item) old new outcome
-    → longer ≡ text ++ text_of_item view (applied_item item) outcome
+    → longer ≡ text ++ text_of_item view old.machine.rules.cave.now (applied_item item) old.game
+    outcome
     → more_played ≡ played + played_in outcome → more_lines ≡ lines + lines_in outcome
     → Completes view cave every (map applied_item items) (map applied_item (drop place items)) first
     old.game opened old.checkpoints before text played lines
@@ -148,6 +155,9 @@ Completes-more view cave every items place item outcome first opened before text
     let remains =
     subst (λ e. AreLeft e outcome old.checkpoints new.game new.checkpoints) every_is
     applies.left in
+    let told =
+    subst (λ k. longer ≡ text ++ text_of_item view k (applied_item item) old.game outcome) cave_is
+    grown in
     let here =
     subst (λ items_left. Completes view cave every (map applied_item items) items_left first
     old.game opened old.checkpoints before text played lines)
@@ -155,7 +165,7 @@ Completes-more view cave every items place item outcome first opened before text
     one-more view cave every (map applied_item items) left (applied_item item) outcome first
     old.game new.game opened old.checkpoints new.checkpoints before text longer played lines
     more_played more_lines
-    came remains applies.holds.game_is grown plays counts here
+    came remains applies.holds.game_is told plays counts here
 
 -- no item is left
 pub IsApplied-whole : (view : EditView) (items : List Item) (place : ℕ)
@@ -209,15 +219,15 @@ refused_by None fault r is other h =
 refused_by (Some first) fault r is other h = cc
 
 pub game_after_item-accepted : (item : Applied) (game : Game)
-    → group_refusal item.changes game.log ≡ None
+    → item_refusal item game.log ≡ None
     → game_after_item item game ≡ apply_all item.changes game
 unfolding game_after_item
 game_after_item-accepted item game none = ap (λ refusal. game_by item refusal game) none
 
-pub game_after_item-refused : (item : Applied) (game : Game) (fault : GroupFault)
-    → group_refusal item.changes game.log ≡ Some fault → game_after_item item game ≡ game
+pub game_after_item-refused : (item : Applied) (game : Game) (refused : RefusedItem)
+    → item_refusal item game.log ≡ Some refused → game_after_item item game ≡ game
 unfolding game_after_item
-game_after_item-refused item game fault some = ap (λ refusal. game_by item refusal game) some
+game_after_item-refused item game refused some = ap (λ refusal. game_by item refusal game) some
 
 -- what a report says of a replay, in other words
 pub IsReport-same : {S T : Type 0} (rules : MachineRules S T) (changes same : List Change)

@@ -10,9 +10,11 @@ use Rattle.std.proofs.lemmas.Result.{IfErr-at_err}
 use Rattle.cave_data.proofs.ReadLemmas.{right_exactly}
 use Rattle.data_bindings.specs.cave_data.BindingFault.{first_binding_fault}
 use Rattle.data_bindings.specs.cave_data.CaveView.{CaveView}
+use Rattle.data_bindings.specs.cave_data.Faults.{FaultIs}
 use Rattle.data_bindings.specs.cave_data.FirstFault.{first_fault}
 use Rattle.data_bindings.specs.cave_data.Reads.{Reads, fault as cave_fault}
 use Rattle.data_bindings.specs.cave_data.Reads.{too_large_input as cave_too_large}
+use Rattle.data_bindings.specs.data_rows.declared.error.Cause.TheVariants as cause
 use Rattle.data_bindings.specs.data_rows.declared.error.CaveError.{CaveError}
 use Rattle.data_bindings.specs.data_rows.declared.error.FaultSite.TheVariants as site
 use Rattle.play_command.specs.base_lines.declared.line_flaw.LineFlaw.{LineFlaw}
@@ -21,13 +23,14 @@ use Rattle.cave_replay.specs.declared.fault.OpenFault.{OpenFault}
 use Rattle.cave_replay.specs.declared.fault.OpenFault.TheVariants as session
 use Rattle.play_command.specs.base_limits.Limits.{MAX_SEED, MAX_EVERY, MAX_LOG_LINES}
 use Rattle.play_command.specs.base_limits.Limits.{MAX_INPUT_BYTES}
-use Rattle.replay_scripts.specs.Script.{Applied, script_of}
+use Rattle.replay_scripts.specs.Guards.{script_by}
+use Rattle.replay_scripts.specs.Script.{Applied}
 use Rattle.replay_scripts.specs.Views.{IsFaultOf}
 use Rattle.replay_scripts.specs.declared.fault.ScriptRefusal.{ScriptRefusal}
 use Rattle.replay_scripts.specs.declared.fault.ScriptRefusal.TheVariants.{Malformed, Memory}
 use Rattle.cave_play.proofs.StageLemmas.{Judges-read}
 use Rattle.cave_play.specs.Judge.{large_seed, every_fault, too_large, input_size_fault}
-use Rattle.cave_play.specs.Judge.{inputs_fault, lines_fault, log_fault, script_fault}
+use Rattle.cave_play.specs.Judge.{cave_refusal, inputs_fault, lines_fault, log_fault, script_fault}
 use Rattle.cave_play.specs.Judge.{first_malformed, script_refusal, or_too_many, opening_fault}
 use Rattle.cave_play.specs.Run.{Judges, IsOutsideOf}
 use Rattle.cave_play.specs.Stages.{reading_stage, judging_stage, first_decided}
@@ -74,25 +77,25 @@ IsFoundIn-bindings database bindings found fits (inr (large, is)) =
     let here = input_size_fault-large input.Bindings bindings found large is in
     inr (input_size_fault-fits input.Cave database fits, inl (inr here))
 
-judged_whole : (large larger : Bool) (lines_fault : Option CaveError)
+judged_whole : (database bindings : List ℕ) (large larger : Bool) (lines_fault : Option CaveError)
     → option_or (if large then Some (too_large input.Cave) else None)
     (option_or (if larger then Some (too_large input.Bindings) else None)
-    (option_or (option_map (λ error. fault.Cave error)
+    (option_or (option_map (cave_refusal database bindings)
     (option_or (if large then Some (cave_too_large site.Database)
     else (if larger then Some (cave_too_large site.Bindings) else None)) lines_fault)) None))
-    ≡ option_map (λ error. fault.Cave error)
+    ≡ option_map (cave_refusal database bindings)
     (option_or (if large then Some (cave_too_large site.Database)
     else (if larger then Some (cave_too_large site.Bindings) else None)) lines_fault)
-judged_whole true larger lines_fault = refl
-judged_whole false true lines_fault = refl
-judged_whole false false None = refl
-judged_whole false false (Some error) = refl
+judged_whole database bindings true larger lines_fault = refl
+judged_whole database bindings false true lines_fault = refl
+judged_whole database bindings false false None = refl
+judged_whole database bindings false false (Some error) = refl
 
 pub caves_are_judged_whole : (database bindings : List ℕ)
     → first_decided (cave_stages database bindings) ≡ inputs_fault database bindings
 unfolding cave_fault
 caves_are_judged_whole database bindings =
-    judged_whole (nat_lt MAX_INPUT_BYTES (length database))
+    judged_whole database bindings (nat_lt MAX_INPUT_BYTES (length database))
     (nat_lt MAX_INPUT_BYTES (length bindings))
     (option_or (first_fault [] (lines database)) (first_binding_fault [] (lines bindings)))
 
@@ -100,12 +103,43 @@ caves_are_judged_whole database bindings =
 inputs_fault-read : (database bindings : List ℕ) (cave : CaveView) → Reads database bindings cave
     → inputs_fault database bindings ≡ None
 inputs_fault-read database bindings cave reads =
-    ap (option_map (λ error. fault.Cave error)) ((right_exactly database bindings).0 reads.right)
+    ap (option_map (cave_refusal database bindings)) ((right_exactly database bindings).0 reads.right)
 
 pub cave_stages-read : (database bindings : List ℕ) (cave : CaveView) → Reads database bindings cave
     → first_decided (cave_stages database bindings) ≡ None
 cave_stages-read database bindings cave reads =
     caves_are_judged_whole database bindings ∙ inputs_fault-read database bindings cave reads
+
+-- which fault a cave was refused for
+pub inputs_fault-some : (database bindings : List ℕ) (error : CaveError) (found : PlayFault)
+    → FaultIs error (cave_fault database bindings)
+    → (error.cause ≡ cause.Memory → found ≡ fault.Memory)
+    → (found ≡ fault.Memory) ⊎ (found ≡ cave_refusal database bindings error)
+    → (found ≡ fault.Memory) ⊎ (inputs_fault database bindings ≡ Some found)
+inputs_fault-some database bindings error found (inl none) memory told =
+    inl (memory (ap (λ (e : CaveError). e.cause) none))
+inputs_fault-some database bindings error found (inr is) memory (inl refused) = inl refused
+inputs_fault-some database bindings error found (inr is) memory (inr refusal) =
+    inr (ap (option_map (cave_refusal database bindings)) is ∙ ap Some (sym refusal))
+
+found_of_inputs : (database bindings : List ℕ) (found : PlayFault)
+    → (found ≡ fault.Memory) ⊎ (inputs_fault database bindings ≡ Some found)
+    → IsFoundAt (judging_stage (inputs_fault database bindings)) found
+found_of_inputs database bindings found (inl memory) = rw memory (inl tt)
+found_of_inputs database bindings found (inr is) = inr is
+
+pub IsFoundIn-inputs : (database bindings : List ℕ) (found : PlayFault)
+    → length database ≤ MAX_INPUT_BYTES → length bindings ≤ MAX_INPUT_BYTES
+    → (found ≡ fault.Memory) ⊎ (inputs_fault database bindings ≡ Some found)
+    → IsFoundIn (cave_stages database bindings) found
+IsFoundIn-inputs database bindings found fits small refused =
+    inr (
+      input_size_fault-fits input.Cave database fits,
+      inr (
+        input_size_fault-fits input.Bindings bindings small,
+        inl (found_of_inputs database bindings found refused),
+      ),
+    )
 
 -- ---- a log
 
@@ -226,22 +260,24 @@ IsFoundIn-opened every game seed found r fits near is h =
 
 -- ---- a script
 
-pub IsFoundIn-script : (bytes : List ℕ) (found : PlayFault)
-    → IsRefused input.Script bytes found → IsFoundIn (script_stage bytes ∷ []) found
+pub IsFoundIn-script : (guarded : Bool) (bytes : List ℕ) (found : PlayFault)
+    → IsRefused input.Script bytes found → IsFoundIn (script_stage guarded bytes ∷ []) found
 unfolding script_fault
-IsFoundIn-script bytes found (inl outside) = inl (inl outside)
-IsFoundIn-script bytes found (inr (large, is)) =
+IsFoundIn-script guarded bytes found (inl outside) = inl (inl outside)
+IsFoundIn-script guarded bytes found (inr (large, is)) =
     inl (inr (rw (lt-ltb MAX_INPUT_BYTES (length bytes) large, is) refl))
 
 -- a script that isn't too large is judged by its first malformed line
-pub script_fault-lines : (bytes : List ℕ) → length bytes ≤ MAX_INPUT_BYTES
-    → script_fault bytes ≡ first_malformed (script_of bytes)
+pub script_fault-lines : (guarded : Bool) (bytes : List ℕ) → length bytes ≤ MAX_INPUT_BYTES
+    → script_fault guarded bytes ≡ first_malformed (script_by guarded bytes)
 unfolding script_fault
-script_fault-lines bytes fits = rw (le-ltb MAX_INPUT_BYTES (length bytes) fits) refl
+script_fault-lines guarded bytes fits = rw (le-ltb MAX_INPUT_BYTES (length bytes) fits) refl
 
-pub script_fault-none : (bytes : List ℕ) (items : List Applied) → length bytes ≤ MAX_INPUT_BYTES
-    → script_of bytes ≡ Ok items → script_fault bytes ≡ None
-script_fault-none bytes items fits is = script_fault-lines bytes fits ∙ ap first_malformed is
+pub script_fault-none : (guarded : Bool) (bytes : List ℕ) (items : List Applied)
+    → length bytes ≤ MAX_INPUT_BYTES
+    → script_by guarded bytes ≡ Ok items → script_fault guarded bytes ≡ None
+script_fault-none guarded bytes items fits is =
+    script_fault-lines guarded bytes fits ∙ ap first_malformed is
 
 -- a script that was refused
 refused_by : (answer : Result (List Applied) ScriptRefusal) (found : ScriptRefusal)
@@ -250,14 +286,14 @@ refused_by : (answer : Result (List Applied) ScriptRefusal) (found : ScriptRefus
 refused_by answer Memory is = inl tt
 refused_by answer (Malformed line flaw) is = inr (ap first_malformed is)
 
-pub IsFoundIn-refused : (bytes text : List ℕ) (found : ScriptRefusal)
+pub IsFoundIn-refused : (guarded : Bool) (bytes text : List ℕ) (found : ScriptRefusal)
     → length bytes ≤ MAX_INPUT_BYTES
-    → text ≡ bytes → IsFaultOf found (script_of text)
-    → IsFoundIn (script_stage bytes ∷ []) (script_refusal found)
-IsFoundIn-refused bytes text found fits is refused =
+    → text ≡ bytes → IsFaultOf found (script_by guarded text)
+    → IsFoundIn (script_stage guarded bytes ∷ []) (script_refusal found)
+IsFoundIn-refused guarded bytes text found fits is refused =
     let told = script_refusal found in
     let here =
-    subst (λ t. IsFoundAt (reading_stage input.Script (first_malformed (script_of t))) told)
-    is (refused_by (script_of text) found refused) in
+    subst (λ t. IsFoundAt (reading_stage input.Script (first_malformed (script_by guarded t))) told)
+    is (refused_by (script_by guarded text) found refused) in
     inl (subst (λ d. IsFoundAt (reading_stage input.Script d) told)
-    (sym (script_fault-lines bytes fits)) here)
+    (sym (script_fault-lines guarded bytes fits)) here)

@@ -1,5 +1,8 @@
+mod DoubtLemmas
 mod EditLemmas
 mod FinalStateLemmas
+mod GuardLemmas
+mod KeptLemmas
 pub mod InputLemmas
 mod JudgeLemmas
 mod OneOutputLemmas
@@ -10,6 +13,8 @@ mod Shown
 pub mod StageLemmas
 mod StandingLemmas
 mod StrictLemmas
+mod TableLemmas
 mod TextsLemmas
 mod TranscriptLemmas
+mod UndoLemmas
 mod ViewLemmas

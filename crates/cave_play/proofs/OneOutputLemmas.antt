@@ -1,5 +1,5 @@
 -- Two outputs of the same inputs are the same.
-use Rattle.std.proofs.Common.{◌≡◌, ℕ, List, subst, sym, ap, ◌∙◌}
+use Rattle.std.proofs.Common.{◌≡◌, ℕ, Bool, true, false, List, subst, sym, ap, ◌∙◌}
 use Rattle.std.specs.Str.Lines.{lines}
 use Rattle.data_bindings.specs.cave_data.CaveView.{CaveView}
 use Rattle.cave_data.proofs.ReadLemmas.{same_cave}
@@ -7,10 +7,12 @@ use Rattle.play_command.specs.play_options.declared.editing.EditView.{EditView}
 use Rattle.play_command.specs.play_options.declared.editing.EditView.TheVariants.{Transcript, Play}
 use Rattle.play_command.specs.play_options.declared.editing.EditView.TheVariants.{Log, Reports}
 use Rattle.play_command.specs.play_options.declared.editing.EditView.TheVariants.{Steps, Score}
-use Rattle.play_command.specs.play_options.declared.editing.EditView.TheVariants.{FinalState}
+use Rattle.play_command.specs.play_options.declared.editing.EditView.TheVariants.{FinalState, Table}
+use Rattle.play_command.specs.play_options.declared.editing.EditView.TheVariants.{Undo}
 use Rattle.cave_replay.specs.replay_edits.Edit.{Game, game_of}
 use Rattle.replay_scripts.proofs.Grammar.{script_of-only}
-use Rattle.replay_scripts.specs.Script.{Applied, IsScript}
+use Rattle.replay_scripts.specs.Guards.{IsScriptBy}
+use Rattle.replay_scripts.specs.Script.{Applied}
 use Rattle.cave_play.specs.Laws.{OneCheckedOutput, OnePlayedOutput, OneEditedOutput}
 use Rattle.cave_play.specs.Laws.{KnowsNoCheckpoints}
 use Rattle.cave_play.specs.Output.{check_text, play_view_text}
@@ -34,33 +36,37 @@ one_played_output database bindings log seed view =
     ∙ sym same
 
 -- a script spells the same items, whoever reads it
-same_items : (script : List ℕ) (items others : List Applied)
-    → IsScript 1 (lines script) items → IsScript 1 (lines script) others → items ≡ others
-same_items script items others spelled respelled =
+same_items : (guarded : Bool) (script : List ℕ) (items others : List Applied)
+    → IsScriptBy guarded script items → IsScriptBy guarded script others → items ≡ others
+same_items false script items others spelled respelled =
     let first = script_of-only script items spelled in
     let second = script_of-only script others respelled in
     cc
+same_items true script items others (first, spelled) (second, respelled) = cc
 
 -- so for the same items in the same cave it is the same text, whatever the distance of checkpoints
-one_view : (view : EditView) (cave : CaveView) (game : Game) (items : List Applied) (near far : ℕ)
-    (one other : List ℕ) → KnowsNoCheckpoints view → IsViewOf view cave near game items one
-    → IsViewOf view cave far game items other → one ≡ other
-one_view Transcript cave game items near far one other free is same = is ∙ sym same
-one_view Play cave game items near far one other free is same = is ∙ sym same
-one_view Log cave game items near far one other free is same = is.written ∙ sym same.written
-one_view Reports cave game items near far one other free is same = absurd free
-one_view Steps cave game items near far one other free is same = is ∙ sym same
-one_view Score cave game items near far one other free is same = is ∙ sym same
-one_view FinalState cave game items near far one other free is same = is ∙ sym same
+one_view : (view : EditView) (cave : CaveView) (game : Game) (guarded : Bool) (items : List Applied)
+    (near far : ℕ) (one other : List ℕ) → KnowsNoCheckpoints view
+    → IsViewOf view cave near game guarded items one
+    → IsViewOf view cave far game guarded items other → one ≡ other
+one_view Transcript cave game guarded items near far one other free is same = is ∙ sym same
+one_view Play cave game guarded items near far one other free is same = is ∙ sym same
+one_view Log cave game guarded items near far one other free is same = is.written ∙ sym same.written
+one_view Undo cave game guarded items near far one other free is same = is.written ∙ sym same.written
+one_view Reports cave game guarded items near far one other free is same = absurd free
+one_view Table cave game guarded items near far one other free is same = absurd free
+one_view Steps cave game guarded items near far one other free is same = is ∙ sym same
+one_view Score cave game guarded items near far one other free is same = is ∙ sym same
+one_view FinalState cave game guarded items near far one other free is same = is ∙ sym same
 
 pub one_edited_output : OneEditedOutput
-one_edited_output database bindings log script seed near far view strict lenient free =
+one_edited_output database bindings log script seed near far view guarded strict lenient free =
     λ one other first second.
     let (cave, reads, (items, spelled, is)) = first in
     let (kept, rereads, (others, respelled, same)) = second in
     let game = game_of seed (lines log) in
     let caves = same_cave database bindings kept cave rereads reads in
-    let here = subst (λ k. IsViewOf view k near game items one) caves is in
-    let spells = same_items script items others spelled respelled in
-    let there = subst (λ l. IsViewOf view kept near game l one) spells here in
-    one_view view kept game others near far one other free there same
+    let here = subst (λ k. IsViewOf view k near game guarded items one) caves is in
+    let spells = same_items guarded script items others spelled respelled in
+    let there = subst (λ l. IsViewOf view kept near game guarded l one) spells here in
+    one_view view kept game guarded others near far one other free there same

@@ -23,7 +23,10 @@ use Rattle.replay_edits.proofs.Inverses.{log-apply_all}
 use Rattle.cave_replay.proofs.Openings.{IsGame-from_no_fault}
 use Rattle.cave_play.specs.Judge.{large_seed, lines_fault, log_fault, or_too_many}
 use Rattle.cave_play.specs.Laws.{IsOfChange, RefusalsAreOfChanges}
-use Rattle.cave_play.specs.Output.{game_after_item, game_after_items, game_by, group_refusal}
+use Rattle.cave_play.specs.Output.{game_after_item, game_after_items, game_by}
+use Rattle.cave_play.specs.Refusal.{group_refusal, item_refusal}
+use Rattle.cave_play.specs.declared.refusal.RefusedItem.{RefusedItem}
+use Rattle.cave_play.proofs.GuardLemmas.{unrefused_item}
 use Rattle.cave_play.specs.declared.fault.LogFault.TheVariants as log
 use Rattle.cave_play.specs.declared.fault.PlayFault.{PlayFault}
 use Rattle.cave_play.specs.declared.fault.PlayFault.TheVariants as fault
@@ -49,7 +52,7 @@ opened_after None game seed few fits =
     opened (nat_lt MAX_LOG_LINES (length game)) (nat_lt MAX_SEED seed) few fits
 opened_after (Some (number, flaw)) game seed few fits = cc
 
-IsGame-accepted : (bytes : List ℕ) (seed : ℕ) → log_fault bytes ≡ None → large_seed seed ≡ None
+pub IsGame-accepted : (bytes : List ℕ) (seed : ℕ) → log_fault bytes ≡ None → large_seed seed ≡ None
     → IsGame (game_of seed (lines bytes))
 unfolding log_fault lines_fault
 IsGame-accepted bytes seed free fits =
@@ -59,16 +62,17 @@ IsGame-accepted bytes seed free fits =
 
 -- ---- and so can what items leave
 
-IsGame-by : (item : Applied) (game : Game) (refusal : Option GroupFault)
-    → group_refusal item.changes game.log ≡ refusal → IsGame game
+IsGame-by : (item : Applied) (game : Game) (refusal : Option RefusedItem)
+    → item_refusal item game.log ≡ refusal → IsGame game
     → IsGame (game_by item refusal game)
 unfolding group_refusal
-IsGame-by item game (Some found) is good = good
+IsGame-by item game (Some refused) is good = good
 IsGame-by item game None is good =
-    let free = (group_free item.changes game.log (2 ^ 64 - 1) is).0 in
+    let accepted = (unrefused_item item game.log is).1 in
+    let free = (group_free item.changes game.log (2 ^ 64 - 1) accepted).0 in
     IsGame-apply_all item.changes game good (IsFree-from_none item.changes game.log 0 free)
 
-IsGame-after : (item : Applied) (game : Game) → IsGame game → IsGame (game_after_item item game)
+pub IsGame-after : (item : Applied) (game : Game) → IsGame game → IsGame (game_after_item item game)
 unfolding game_after_item
 IsGame-after item game good = IsGame-by item game _ refl good
 

@@ -18,11 +18,12 @@ use Rattle.play_command.specs.base_limits.Limits.{MAX_INPUT_BYTES}
 use Rattle.world_packed.specs.cave_world.declared.part.Part.{Part}
 use Rattle.world_packed.specs.cave_world.declared.state.State.{State}
 use Rattle.cave_turn.specs.turn_score.Score.{score_of, max_score_of}
-use Rattle.replay_scripts.specs.Script.{Applied, script_of}
+use Rattle.replay_scripts.specs.Guards.{script_by}
+use Rattle.replay_scripts.specs.Script.{Applied}
 use Rattle.replay_scripts.specs.declared.fault.ScriptRefusal.{ScriptRefusal}
 use Rattle.replay_scripts.specs.declared.fault.ScriptRefusal.TheVariants.{Malformed, Memory}
 use Rattle.cave_play.specs.Machine.{cave_rules, rendering_of}
-use Rattle.cave_play.specs.Judge.{lines_fault, or_too_many, large_seed, every_fault, too_large}
+use Rattle.cave_play.specs.Judge.{cave_refusal, lines_fault, or_too_many, large_seed, every_fault, too_large}
 use Rattle.cave_play.specs.Judge.{input_size_fault, log_fault, script_fault, first_malformed}
 use Rattle.cave_play.proofs.StageLemmas.{first_is_found}
 use Rattle.cave_play.specs.Laws.{IsDecided}
@@ -56,10 +57,10 @@ transcript-played cave kept game opening pieces ticks state same played =
 unwritten_by_none : None ≡ Some fault.Write → ⊥
 unwritten_by_none found = cc
 
-unwritten_by_inputs : (refused : Option CaveError)
-    → option_map (λ error. fault.Cave error) refused ≡ Some fault.Write → ⊥
-unwritten_by_inputs None found = cc
-unwritten_by_inputs (Some error) found = cc
+unwritten_by_inputs : (database bindings : List ℕ) (refused : Option CaveError)
+    → option_map (cave_refusal database bindings) refused ≡ Some fault.Write → ⊥
+unwritten_by_inputs database bindings None found = cc
+unwritten_by_inputs database bindings (Some error) found = cc
 
 unwritten_by_both : (first later : Option PlayFault) → (first ≡ Some fault.Write → ⊥)
     → (later ≡ Some fault.Write → ⊥) → option_or first later ≡ Some fault.Write → ⊥
@@ -114,11 +115,12 @@ unwritten_by_malformed (Ok items) found = cc
 unwritten_by_malformed (Err (Malformed line flaw)) found = cc
 unwritten_by_malformed (Err Memory) found = cc
 
-unwritten_by_script : (bytes : List ℕ) → script_fault bytes ≡ Some fault.Write → ⊥
+unwritten_by_script : (guarded : Bool) (bytes : List ℕ)
+    → script_fault guarded bytes ≡ Some fault.Write → ⊥
 unfolding script_fault
-unwritten_by_script bytes =
+unwritten_by_script guarded bytes =
     unwritten_by_either (nat_lt MAX_INPUT_BYTES (length bytes)) (fault.Script script.TooLarge)
-    _ (λ found. cc) (unwritten_by_malformed (script_of bytes))
+    _ (λ found. cc) (unwritten_by_malformed (script_by guarded bytes))
 
 unwritten_by_cave : (database bindings : List ℕ) (later : List Stage)
     → (first_decided later ≡ Some fault.Write → ⊥)
@@ -126,7 +128,7 @@ unwritten_by_cave : (database bindings : List ℕ) (later : List Stage)
 unwritten_by_cave database bindings later not_later =
     unwritten_by_both _ _ (unwritten_by_size input.Cave database)
     (unwritten_by_both _ _ (unwritten_by_size input.Bindings bindings)
-    (unwritten_by_both _ _ (unwritten_by_inputs (cave_fault database bindings)) not_later))
+    (unwritten_by_both _ _ (unwritten_by_inputs database bindings (cave_fault database bindings)) not_later))
 
 pub unwritten_by_check : (database bindings : List ℕ)
     → first_decided (cave_stages database bindings) ≡ Some fault.Write → ⊥
@@ -143,13 +145,15 @@ pub unwritten_by_edit : (database bindings moves edits : List ℕ) (editing : Ed
     → first_decided (edit_stages database bindings moves edits editing) ≡ Some fault.Write → ⊥
 unwritten_by_edit database bindings moves edits editing =
     let game = game_of editing.seed (lines moves) in
-    let strict = strict_stage editing.strict game edits in
+    let guarded = editing.guarded in
+    let strict = strict_stage editing.strict game guarded edits in
     unwritten_by_both _ _ (unwritten_by_seed editing.seed)
     (unwritten_by_both _ _ (unwritten_by_every editing.every)
-    (unwritten_by_cave database bindings (log_stage moves ∷ script_stage edits ∷ strict ∷ [])
+    (unwritten_by_cave database bindings (log_stage moves ∷ script_stage guarded edits
+    ∷ strict ∷ [])
     (unwritten_by_both _ _ (unwritten_by_log moves)
-    (unwritten_by_both _ _ (unwritten_by_script edits)
-    (unwritten_by_both _ _ (unwritten_by_strict editing.strict game (script_of edits))
+    (unwritten_by_both _ _ (unwritten_by_script guarded edits)
+    (unwritten_by_both _ _ (unwritten_by_strict editing.strict game (script_by guarded edits))
     unwritten_by_none)))))
 
 unwritten : (stages : List Stage) → (first_decided stages ≡ Some fault.Write → ⊥)
@@ -164,7 +168,8 @@ pub EndsBy-unwritten : (found : PlayFault) (stages : List Stage) (IsOutput : Lis
     → EndsBy found stages IsOutput old new
 EndsBy-unwritten fault.Write stages IsOutput old new never there kept =
     absurd (unwritten stages never (first_is_found stages fault.Write there))
-EndsBy-unwritten (fault.Cave error) stages IsOutput old new never there kept = (there, kept)
+EndsBy-unwritten (fault.Cave error clue) stages IsOutput old new never there kept = (there, kept)
+EndsBy-unwritten (fault.Doubt doubt) stages IsOutput old new never there kept = (there, kept)
 EndsBy-unwritten fault.Seed stages IsOutput old new never there kept = (there, kept)
 EndsBy-unwritten fault.Every stages IsOutput old new never there kept = (there, kept)
 EndsBy-unwritten (fault.Log refused) stages IsOutput old new never there kept = (there, kept)

@@ -9,6 +9,7 @@ use Rattle.std.proofs.lemmas.List.{length-map}
 use Rattle.std.proofs.lemmas.List.Sums.{count_by-le-length}
 use Rattle.std.proofs.lemmas.List.Splits.{length-slice_split}
 use Rattle.replay_scripts.specs.Script.{Applied, IsScript, done, skips, spells, groups}
+use Rattle.replay_scripts.specs.Guards.{IsScriptBy, unguarded, unguarded_items}
 use Rattle.replay_scripts.specs.Views.{applied_item, items_of}
 use Rattle.replay_scripts.specs.declared.script.Item.{Item}
 
@@ -42,9 +43,18 @@ length-lines text =
       count_by-le-length newline text,
     )
 
+few_by : (guarded : Bool) (items : List Applied) (text : List ℕ) → IsScriptBy guarded text items
+    → length items ≤ length text + 1
+few_by false items text script = omega (arith, few_groups script, length-lines text)
+few_by true items text (read, script) =
+    let same : length (unguarded_items items) ≡ length items = simp length-map in
+    let blank : length (unguarded (lines text)) ≡ length (lines text) = simp length-map in
+    omega (arith, few_groups script, same, blank, length-lines text)
+
 -- a script has few items
-pub few_items : (items : Vec Item) (text bytes : List ℕ) → IsScript 1 (lines text) (items_of items)
+pub few_items : (guarded : Bool) (items : Vec Item) (text bytes : List ℕ)
+    → IsScriptBy guarded text (items_of items)
     → text ≡ bytes → length bytes ≤ 1048576 → length items.items < 2 ^ 32
-few_items items text bytes script same fits =
+few_items guarded items text bytes script same fits =
     let shown : length (map applied_item items.items) ≡ length items.items = simp length-map in
-    omega (arith, few_groups script, shown, length-lines text, ap length same)
+    omega (arith, few_by guarded (items_of items) text script, shown, ap length same)

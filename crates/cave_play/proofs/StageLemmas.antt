@@ -1,6 +1,6 @@
 -- Where a fault is found, and what is made, at some stages and then at later ones.
 use Rattle.std.proofs.Common.{◌≡◌, List, [], ◌∷◌, ◌++◌, None, Some, Ok, Err, inl, inr, ap, ◌∙◌}
-use Rattle.std.proofs.Common.{refl}
+use Rattle.std.proofs.Common.{refl, subst}
 use Rattle.std.specs.Prelude.{Result}
 use Rattle.std.specs.Option.{option_or}
 use Rattle.std.specs.declared.option.Option.{Option}
@@ -25,7 +25,7 @@ IsFoundIn-first (stage ∷ stages) later found (inl here) = inl here
 IsFoundIn-first (stage ∷ stages) later found (inr (none, there)) =
     inr (none, IsFoundIn-first stages later found there)
 
-neither : (first later : Option PlayFault)
+pub neither : (first later : Option PlayFault)
     → option_or first later ≡ None → (first ≡ None) × (later ≡ None)
 neither None later none = (refl, none)
 neither (Some first) later none = cc
@@ -38,9 +38,19 @@ IsFoundIn-later (stage ∷ stages) later found none there =
     let (here, rest) = neither stage.decides (first_decided stages) none in
     inr (here, IsFoundIn-later stages later found rest there)
 
+-- what was made, where something was
+pub Judges-made : {X : Type 0} (stages : List Stage) (P : X → Type 0) (r : Result X PlayFault)
+    (x : X) → r ≡ Ok x → Judges stages P r → (first_decided stages ≡ None) × P x
+Judges-made stages P r x is judged = subst (Judges stages P) is judged
+
 -- one stage that decides no fault
 pub first_decided-one : (stage : Stage) → stage.decides ≡ None → first_decided (stage ∷ []) ≡ None
 first_decided-one stage none = ap (λ f. option_or f None) none
+
+-- where a stage alone decides none, it has none to decide
+pub first_decided-alone : (stage : Stage) → first_decided (stage ∷ []) ≡ None
+    → stage.decides ≡ None
+first_decided-alone stage none = (neither stage.decides None none).0
 
 -- where the first decide none, the later ones decide what is decided
 pub first_decided-later : (stages later : List Stage)
@@ -80,7 +90,8 @@ outside_unread : (input : Input) (found : PlayFault)
     → IsOutsideOf None found → IsOutsideOf (Some input) found
 outside_unread input fault.Memory outside = tt
 outside_unread input (fault.Read from) outside = cc
-outside_unread input (fault.Cave error) outside = absurd outside
+outside_unread input (fault.Cave error clue) outside = absurd outside
+outside_unread input (fault.Doubt found) outside = absurd outside
 outside_unread input fault.Seed outside = absurd outside
 outside_unread input fault.Every outside = absurd outside
 outside_unread input (fault.Log refused) outside = absurd outside
@@ -102,7 +113,8 @@ Judges-read input decides P (Err found) (inr rest) = inr rest
 outside_of : (reads : Option Input) (found : PlayFault) → IsOutsideOf reads found → IsOutside found
 outside_of reads fault.Memory outside = tt
 outside_of reads (fault.Read from) outside = tt
-outside_of reads (fault.Cave error) outside = absurd outside
+outside_of reads (fault.Cave error clue) outside = absurd outside
+outside_of reads (fault.Doubt found) outside = absurd outside
 outside_of reads fault.Seed outside = absurd outside
 outside_of reads fault.Every outside = absurd outside
 outside_of reads (fault.Log refused) outside = absurd outside

@@ -7,34 +7,36 @@ use Rattle.std.specs.declared.option.Option.{Option}
 use Rattle.std.proofs.lemmas.List.{drop_all}
 use Rattle.data_bindings.specs.cave_data.CaveView.{CaveView}
 use Rattle.cave_replay.specs.replay_edits.Edit.{Game}
-use Rattle.cave_replay.specs.replay_edits.declared.fault.GroupFault.{GroupFault}
-use Rattle.replay_scripts.specs.Script.{Applied, script_of}
+use Rattle.replay_scripts.specs.Guards.{script_by}
+use Rattle.replay_scripts.specs.Script.{Applied}
 use Rattle.replay_scripts.specs.Views.{applied_item}
 use Rattle.replay_scripts.specs.declared.script.Item.{Item}
 use Rattle.replay_scripts.specs.declared.fault.ScriptRefusal.{ScriptRefusal}
 use Rattle.cave_play.specs.Outcome.{IsOutcome, refusal_in}
-use Rattle.cave_play.specs.Output.{game_after_item, group_refusal}
+use Rattle.cave_play.specs.Output.{game_after_item}
+use Rattle.cave_play.specs.Refusal.{item_refusal}
 use Rattle.cave_play.specs.Run.{IsFoundIn}
 use Rattle.cave_play.specs.Stages.{first_decided, judging_stage}
 use Rattle.cave_play.specs.Stages.{strict_stage}
 use Rattle.cave_play.specs.Strict.{fault_of_items, first_strict_fault, strict_fault}
 use Rattle.cave_play.specs.Strict.{strict_fault_by}
 use Rattle.cave_play.specs.declared.outcome.ItemOutcome.{ItemOutcome}
+use Rattle.cave_play.specs.declared.refusal.RefusedItem.{RefusedItem}
 use Rattle.cave_play.specs.declared.fault.PlayFault.{PlayFault}
 use Rattle.cave_play.specs.declared.fault.PlayFault.TheVariants as fault
 use Rattle.cave_play.proofs.EditLemmas.{applied_item-drop}
 use Rattle.cave_play.proofs.StageLemmas.{first_decided-one}
-use Rattle.cave_play.proofs.ViewLemmas.{group_refusal-outcome}
+use Rattle.cave_play.proofs.ViewLemmas.{item_refusal-outcome}
 
 -- what came of an item says whether a strict run ends there
 pub strict_fault-outcome : (strict : Bool) (cave : CaveView) (every : ℕ) (item : Applied)
     (game : Game) (checkpoints : List ℕ) (outcome : ItemOutcome)
     → IsOutcome cave every item game checkpoints outcome
-    → strict_fault strict item game ≡ strict_fault_by strict item (refusal_in outcome)
+    → strict_fault strict item game ≡ strict_fault_by strict (refusal_in outcome)
 unfolding strict_fault
 strict_fault-outcome strict cave every item game checkpoints outcome is =
-    ap (strict_fault_by strict item)
-    (group_refusal-outcome cave every item game checkpoints outcome is)
+    ap (strict_fault_by strict)
+    (item_refusal-outcome cave every item game checkpoints outcome is)
 
 -- ---- items by their places
 
@@ -96,35 +98,35 @@ found_alone decides found (inl memory) = rw memory (inl (inl tt))
 found_alone decides found (inr some) = inl (inr some)
 
 -- what is judged of the items of a script is judged of the script
-module _ (strict : Bool) (game : Game) (script : List ℕ) (items : List Applied) where
-  pub IsFoundIn-strict : (found : PlayFault) → script_of script ≡ Ok items
-      → (found ≡ fault.Memory) ⊎ (first_strict_fault strict items game ≡ Some found)
-      → IsFoundIn (strict_stage strict game script ∷ []) found
-  IsFoundIn-strict found spelled refused =
-      subst (λ (answer : Result (List Applied) ScriptRefusal).
-      IsFoundIn (judging_stage (fault_of_items strict game answer) ∷ []) found) (sym spelled)
-      (found_alone (first_strict_fault strict items game) found refused)
+module _ (strict : Bool) (game : Game) (guarded : Bool) (script : List ℕ) (items : List Applied)
+  where
+    pub IsFoundIn-strict : (found : PlayFault) → script_by guarded script ≡ Ok items
+        → (found ≡ fault.Memory) ⊎ (first_strict_fault strict items game ≡ Some found)
+        → IsFoundIn (strict_stage strict game guarded script ∷ []) found
+    IsFoundIn-strict found spelled refused =
+        subst (λ (answer : Result (List Applied) ScriptRefusal).
+        IsFoundIn (judging_stage (fault_of_items strict game answer) ∷ []) found) (sym spelled)
+        (found_alone (first_strict_fault strict items game) found refused)
 
-  pub first_decided-strict : script_of script ≡ Ok items
-      → first_strict_fault strict items game ≡ None
-      → first_decided (strict_stage strict game script ∷ []) ≡ None
-  first_decided-strict spelled none =
-      subst (λ (answer : Result (List Applied) ScriptRefusal).
-      first_decided (judging_stage (fault_of_items strict game answer) ∷ []) ≡ None) (sym spelled)
-      (first_decided-one (judging_stage (first_strict_fault strict items game)) none)
+    pub first_decided-strict : script_by guarded script ≡ Ok items
+        → first_strict_fault strict items game ≡ None
+        → first_decided (strict_stage strict game guarded script ∷ []) ≡ None
+    first_decided-strict spelled none =
+        subst (λ (answer : Result (List Applied) ScriptRefusal).
+        first_decided (judging_stage (fault_of_items strict game answer) ∷ []) ≡ None) (sym spelled)
+        (first_decided-one (judging_stage (first_strict_fault strict items game)) none)
 
 -- where the run is strict, the stage of its items decides no failing writer
-unwritten_refusal : (strict : Bool) (item : Applied) (refusal : Option GroupFault)
-    → strict_fault_by strict item refusal ≡ Some fault.Write → ⊥
-unwritten_refusal strict item None found = cc
-unwritten_refusal true item (Some refusal) found = cc
-unwritten_refusal false item (Some refusal) found = cc
+unwritten_refusal : (strict : Bool) (refusal : Option RefusedItem)
+    → strict_fault_by strict refusal ≡ Some fault.Write → ⊥
+unwritten_refusal strict None found = cc
+unwritten_refusal true (Some refused) found = cc
+unwritten_refusal false (Some refused) found = cc
 
 unwritten_item : (strict : Bool) (item : Applied) (game : Game)
     → strict_fault strict item game ≡ Some fault.Write → ⊥
 unfolding strict_fault
-unwritten_item strict item game = unwritten_refusal strict item
-    (group_refusal item.changes game.log)
+unwritten_item strict item game = unwritten_refusal strict (item_refusal item game.log)
 
 unwritten_either : (first later : Option PlayFault) → (first ≡ Some fault.Write → ⊥)
     → (later ≡ Some fault.Write → ⊥) → option_or first later ≡ Some fault.Write → ⊥

@@ -1,5 +1,6 @@
 -- What is written of items, by what is asked for.
-use Rattle.std.proofs.Common.{◌≡◌, ℕ, List, [], ◌∷◌, ◌++◌, length, sym, ap, ◌∙◌, refl}
+use Rattle.std.proofs.Common.{◌≡◌, ℕ, Bool, List, [], ◌∷◌, ◌++◌, length, reverse, sym, ap, ◌∙◌, refl}
+use Rattle.std.proofs.Common.{append-nil}
 use Rattle.std.specs.List.{sum_by}
 use Rattle.std.specs.Str.Lines.{lines}
 use Rattle.data_bindings.specs.cave_data.CaveView.{CaveView}
@@ -7,14 +8,19 @@ use Rattle.play_command.specs.play_options.declared.editing.EditView.{EditView}
 use Rattle.play_command.specs.play_options.declared.editing.EditView.TheVariants.{Transcript, Play}
 use Rattle.play_command.specs.play_options.declared.editing.EditView.TheVariants.{Log, Reports}
 use Rattle.play_command.specs.play_options.declared.editing.EditView.TheVariants.{Steps, Score}
-use Rattle.play_command.specs.play_options.declared.editing.EditView.TheVariants.{FinalState}
+use Rattle.play_command.specs.play_options.declared.editing.EditView.TheVariants.{FinalState, Table}
+use Rattle.play_command.specs.play_options.declared.editing.EditView.TheVariants.{Undo}
 use Rattle.world_packed.specs.replay_marks.Spacing.{IsSpaced}
 use Rattle.cave_replay.specs.LogText.{log_text}
-use Rattle.cave_replay.specs.replay_edits.Edit.{Game}
+use Rattle.cave_replay.specs.replay_edits.Edit.{Game, IsGame}
 use Rattle.replay_scripts.specs.Script.{Applied}
-use Rattle.cave_play.specs.Edits.{ReadsBack, text_at_end, text_of_item}
+use Rattle.replay_undo.specs.ScriptText.{Back, script_text}
+use Rattle.cave_play.specs.Edits.{ReadsBack, kept_for, text_at_end, text_at_start, text_of_item}
+use Rattle.cave_play.specs.Undo.{backs_of}
+use Rattle.cave_play.proofs.UndoLemmas.{undo-whole}
 use Rattle.cave_play.specs.Output.{final_state_text, game_after_item, game_after_items, play_text}
-use Rattle.cave_play.specs.Output.{group_refusal, report, report_by, reports}
+use Rattle.cave_play.specs.Output.{report, report_by, reports}
+use Rattle.cave_play.specs.Refusal.{item_refusal}
 use Rattle.cave_play.specs.Outcome.{AreOutcomes, IsOutcome, lines_in, played_in, refusal_in}
 use Rattle.cave_play.specs.Score.{score_text}
 use Rattle.cave_play.specs.Steps.{steps_text}
@@ -23,84 +29,96 @@ use Rattle.cave_play.specs.declared.outcome.ItemOutcome.{ItemOutcome}
 use Rattle.cave_play.specs.declared.outcome.ItemOutcome.TheVariants.{Refused, Replayed}
 
 -- what came of an item says whether it was refused
-pub group_refusal-outcome : (cave : CaveView) (every : ℕ) (item : Applied) (game : Game)
+pub item_refusal-outcome : (cave : CaveView) (every : ℕ) (item : Applied) (game : Game)
     (checkpoints : List ℕ) (outcome : ItemOutcome)
     → IsOutcome cave every item game checkpoints outcome
-    → group_refusal item.changes game.log ≡ refusal_in outcome
-group_refusal-outcome cave every item game checkpoints (Refused fault) is = is
-group_refusal-outcome cave every item game checkpoints (Replayed replay) is = is.accepted
+    → item_refusal item game.log ≡ refusal_in outcome
+item_refusal-outcome cave every item game checkpoints (Refused refused) is = is
+item_refusal-outcome cave every item game checkpoints (Replayed replay) is = is.accepted
 
 -- so what is written of items for a transcript are their reports
 told-reports : (cave : CaveView) (every : ℕ) (items : List Applied) (game : Game)
     (checkpoints : List ℕ) (outcomes : List ItemOutcome)
     → AreOutcomes cave every items game checkpoints outcomes
-    → text_of_items (text_of_item Transcript) items outcomes ≡ reports items game
+    → text_of_items (text_of_item Transcript cave) items game outcomes ≡ reports items game
 unfolding report
 told-reports cave every [] game checkpoints outcomes came = refl
 told-reports cave every (item ∷ items) game checkpoints [] came = absurd came
 told-reports cave every (item ∷ items) game checkpoints (outcome ∷ outcomes)
     (is, (after, left, others)) =
     let rest = told-reports cave every items (game_after_item item game) after outcomes others in
-    let same = group_refusal-outcome cave every item game checkpoints outcome is in
+    let same = item_refusal-outcome cave every item game checkpoints outcome is in
     ap (λ t. report_by item (refusal_in outcome) ++ t) rest
     ∙ ap (λ refusal. report_by item refusal ++ reports items (game_after_item item game)) (sym same)
 
 -- and for a log, a play alone or a state, nothing is written of them
-told-nothing : (tell : Applied → ItemOutcome → List ℕ)
-    → ((item : Applied) (outcome : ItemOutcome) → tell item outcome ≡ [])
-    → (items : List Applied) (outcomes : List ItemOutcome) → text_of_items tell items outcomes ≡ []
-told-nothing tell none [] outcomes = refl
-told-nothing tell none (item ∷ items) [] = refl
-told-nothing tell none (item ∷ items) (outcome ∷ outcomes) =
-    ap (λ t. t ++ text_of_items tell items outcomes) (none item outcome)
-    ∙ told-nothing tell none items outcomes
+told-nothing : (tell : Applied → Game → ItemOutcome → List ℕ)
+    → ((item : Applied) (game : Game) (outcome : ItemOutcome) → tell item game outcome ≡ [])
+    → (items : List Applied) (game : Game) (outcomes : List ItemOutcome)
+    → text_of_items tell items game outcomes ≡ []
+told-nothing tell none [] game outcomes = refl
+told-nothing tell none (item ∷ items) game [] = refl
+told-nothing tell none (item ∷ items) game (outcome ∷ outcomes) =
+    let next = game_after_item item game in
+    ap (λ t. t ++ text_of_items tell items next outcomes) (none item game outcome)
+    ∙ told-nothing tell none items next outcomes
 
 -- what is written of items, and then what is written after them, is what was asked for
 pub told-whole : (view : EditView) (cave : CaveView) (every : ℕ) (items : List Applied)
-    (game : Game)
-    (opened : List ℕ) (outcomes : List ItemOutcome) (played lines : ℕ) (text whole : List ℕ)
+    (game : Game) (guarded : Bool)
+    (opened : List ℕ) (outcomes : List ItemOutcome) (played lines : ℕ)
+    (backs : List (List Back)) (text whole : List ℕ)
     → IsSpaced every opened (length game.log) → AreOutcomes cave every items game opened outcomes
-    → text ≡ text_of_items (text_of_item view) items outcomes
+    → text ≡ text_at_start view ++ text_of_items (text_of_item view cave) items game outcomes
     → played ≡ sum_by played_in outcomes → lines ≡ sum_by lines_in outcomes
-    → whole ≡ text ++ text_at_end view cave (game_after_items items game) played lines
+    → whole ≡ text ++ text_at_end view cave (game_after_items items game) played lines backs
     → ReadsBack view (game_after_items items game).log
-    → IsViewOf view cave every game items whole
-told-whole Transcript cave every items game opened outcomes played counted text whole spaced came
-    told plays counts ends back =
+    → backs ≡ reverse (kept_for view (backs_of guarded items game)) → IsGame game
+    → IsViewOf view cave every game guarded items whole
+told-whole Transcript cave every items game guarded opened outcomes played counted backs text whole spaced came
+    told plays counts ends back kept good =
     ends ∙ ap (λ t. t ++ play_text cave (game_after_items items game))
     (told ∙ told-reports cave every items game opened outcomes came)
-told-whole Play cave every items game opened outcomes played counted text whole spaced came told
-    plays counts ends back =
+told-whole Play cave every items game guarded opened outcomes played counted backs text whole spaced came told
+    plays counts ends back kept good =
     ends ∙ ap (λ t. t ++ play_text cave (game_after_items items game))
-    (told ∙ told-nothing (text_of_item Play) (λ item outcome. refl) items outcomes)
-told-whole Steps cave every items game opened outcomes played counted text whole spaced came
-    told plays counts ends back =
+    (told ∙ told-nothing (text_of_item Play cave) (λ _ _ _. refl) items game outcomes)
+told-whole Steps cave every items game guarded opened outcomes played counted backs text whole spaced came
+    told plays counts ends back kept good =
     ends ∙ ap (λ t. t ++ steps_text cave (game_after_items items game))
-    (told ∙ told-nothing (text_of_item Steps) (λ item outcome. refl) items outcomes)
-told-whole Score cave every items game opened outcomes played counted text whole spaced came
-    told plays counts ends back =
+    (told ∙ told-nothing (text_of_item Steps cave) (λ _ _ _. refl) items game outcomes)
+told-whole Score cave every items game guarded opened outcomes played counted backs text whole spaced came
+    told plays counts ends back kept good =
     ends ∙ ap (λ t. t ++ score_text cave (game_after_items items game))
-    (told ∙ told-nothing (text_of_item Score) (λ item outcome. refl) items outcomes)
-told-whole FinalState cave every items game opened outcomes played counted text whole spaced came
-    told plays counts ends back =
+    (told ∙ told-nothing (text_of_item Score cave) (λ _ _ _. refl) items game outcomes)
+told-whole FinalState cave every items game guarded opened outcomes played counted backs text whole spaced came
+    told plays counts ends back kept good =
     ends ∙ ap (λ t. t ++ final_state_text cave (game_after_items items game))
-    (told ∙ told-nothing (text_of_item FinalState) (λ item outcome. refl) items outcomes)
-told-whole Log cave every items game opened outcomes played counted text whole spaced came told
-    plays counts ends back =
+    (told ∙ told-nothing (text_of_item FinalState cave) (λ _ _ _. refl) items game outcomes)
+told-whole Log cave every items game guarded opened outcomes played counted backs text whole spaced came told
+    plays counts ends back kept good =
     let log = (game_after_items items game).log in
-    let nothing = told-nothing (text_of_item Log) (λ item outcome. refl) items outcomes in
+    let nothing = told-nothing (text_of_item Log cave) (λ _ _ _. refl) items game outcomes in
     let written = ends ∙ ap (λ t. t ++ log_text log) (told ∙ nothing) in
     record { written = written; reads_back = ap lines written ∙ back }
-told-whole Reports cave every items game opened outcomes played counted text whole spaced came told
-    plays counts ends back = (
+told-whole Reports cave every items game guarded opened outcomes played counted backs text whole spaced came told
+    plays counts ends back kept good = (
       opened,
       spaced,
       (
         outcomes,
         came,
         ends ∙ ap (λ t. t ++ totals_line played counted) told
-            ∙ ap (λ t. text_of_items (text_of_item Reports) items outcomes ++ t)
+            ∙ ap (λ t. text_of_items (text_of_item Reports cave) items game outcomes ++ t)
             (ap (λ p. totals_line p counted) plays
             ∙ ap (totals_line (sum_by played_in outcomes)) counts),
       ),
     )
+told-whole Table cave every items game guarded opened outcomes played counted backs text whole spaced came
+    told plays counts ends back kept good =
+    (opened, spaced, (outcomes, came, ends ∙ append-nil text ∙ told))
+told-whole Undo cave every items game guarded opened outcomes played counted backs text whole spaced came
+    told plays counts ends back kept good =
+    let nothing = told-nothing (text_of_item Undo cave) (λ _ _ _. refl) items game outcomes in
+    undo-whole guarded items game whole good
+    (ends ∙ ap (λ t. t ++ script_text backs) (told ∙ nothing) ∙ ap script_text kept)

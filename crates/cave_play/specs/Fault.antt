@@ -2,6 +2,8 @@
 use Rattle.std.specs.Prelude.{ℕ, Option, None, Some, nat_lt, if◌then◌else◌}
 use Rattle.data_bindings.specs.data_rows.declared.error.FaultSite.{FaultSite}
 use Rattle.data_bindings.specs.data_rows.declared.error.FaultSite.TheVariants as site
+use Rattle.check_doubts.specs.declared.flaw.Source.{Source}
+use Rattle.check_doubts.specs.declared.flaw.Source.TheVariants.{Database, Bindings}
 use Rattle.cave_play.specs.declared.fault.Input.{Input}
 use Rattle.cave_play.specs.declared.fault.Input.TheVariants as input
 use Rattle.cave_play.specs.declared.fault.LogFault.{LogFault}
@@ -13,7 +15,8 @@ use Rattle.cave_play.specs.declared.fault.PlayFault.TheVariants as fault
 
 -- the status that the program ends with at a fault
 abbrev pub status_of : PlayFault → ℕ
-status_of (fault.Cave error) = 1
+status_of (fault.Cave error clue) = 1
+status_of (fault.Doubt found) = 1
 status_of fault.Seed = 2
 status_of fault.Every = 2
 status_of (fault.Log refused) = 3
@@ -27,9 +30,15 @@ abbrev pub input_at : FaultSite → Input
 input_at site.Bindings = input.Bindings
 input_at _ = input.Cave
 
+-- the input that a doubt is of
+abbrev pub input_from : Source → Input
+input_from Database = input.Cave
+input_from Bindings = input.Bindings
+
 -- the input that is at fault
 abbrev pub input_of : PlayFault → Option Input
-input_of (fault.Cave error) = Some (input_at error.site)
+input_of (fault.Cave error clue) = Some (input_at error.site)
+input_of (fault.Doubt found) = Some (input_from found.source)
 input_of (fault.Log refused) = Some input.Log
 input_of (fault.Script refused) = Some input.Script
 input_of (fault.Read from) = Some from
@@ -45,7 +54,8 @@ script_line_of (script.Refused line refusal) = Some line
 script_line_of _ = None
 
 abbrev pub faulty_line : PlayFault → Option ℕ
-faulty_line (fault.Cave error) = if nat_lt 0 error.line then Some error.line else None
+faulty_line (fault.Cave error clue) = if nat_lt 0 error.line then Some error.line else None
+faulty_line (fault.Doubt found) = Some found.line
 faulty_line (fault.Log refused) = log_line_of refused
 faulty_line (fault.Script refused) = script_line_of refused
 faulty_line _ = None

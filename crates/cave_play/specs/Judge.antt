@@ -1,9 +1,11 @@
 -- The fault that each input of a run decides.
-use Rattle.std.specs.Prelude.{ℕ, List, length, nat_lt, ◌||◌, ◌==◌, if◌then◌else◌, Option, None}
-use Rattle.std.specs.Prelude.{Some, option_map, Result, Err}
+use Rattle.std.specs.Prelude.{ℕ, Bool, List, length, nat_lt, ◌||◌, ◌==◌, if◌then◌else◌, Option}
+use Rattle.std.specs.Prelude.{None, Some, option_map, Result, Err}
 use Rattle.std.specs.Str.Lines.{lines}
+use Rattle.check_clues.specs.Clues.{clue_of}
 use Rattle.data_bindings.specs.cave_data.Reads.{fault as cave_fault}
 use Rattle.data_bindings.specs.data_rows.declared.error.Cause.TheVariants as cause
+use Rattle.data_bindings.specs.data_rows.declared.error.CaveError.{CaveError}
 use Rattle.data_bindings.specs.data_rows.declared.error.FaultSite.TheVariants as site
 use Rattle.cave_replay.specs.Opening.{first_bad_line}
 use Rattle.play_command.specs.base_lines.declared.line_flaw.LineFlaw.{LineFlaw}
@@ -11,7 +13,8 @@ use Rattle.play_command.specs.base_limits.Limits.{MAX_SEED, MAX_EVERY, MAX_LOG_L
 use Rattle.play_command.specs.base_limits.Limits.{MAX_INPUT_BYTES}
 use Rattle.cave_replay.specs.declared.fault.OpenFault.{OpenFault}
 use Rattle.cave_replay.specs.declared.fault.OpenFault.TheVariants as session
-use Rattle.replay_scripts.specs.Script.{Applied, script_of}
+use Rattle.replay_scripts.specs.Guards.{script_by}
+use Rattle.replay_scripts.specs.Script.{Applied}
 use Rattle.replay_scripts.specs.declared.fault.ScriptRefusal.{ScriptRefusal}
 use Rattle.replay_scripts.specs.declared.fault.ScriptRefusal.TheVariants.{Malformed, Memory}
 use Rattle.cave_play.specs.declared.fault.Input.{Input}
@@ -31,9 +34,9 @@ every_fault every = if every == 0 || nat_lt MAX_EVERY every then Some fault.Ever
 -- the fault of an input that has too many bytes
 abbrev pub too_large : Input → PlayFault
 too_large input.Cave =
-    fault.Cave (record { cause = cause.TooLarge; line = 0; site = site.Database })
+    fault.Cave (record { cause = cause.TooLarge; line = 0; site = site.Database }) None
 too_large input.Bindings =
-    fault.Cave (record { cause = cause.TooLarge; line = 0; site = site.Bindings })
+    fault.Cave (record { cause = cause.TooLarge; line = 0; site = site.Bindings }) None
 too_large input.Log = fault.Log log.TooLarge
 too_large input.Script = fault.Script script.TooLarge
 
@@ -41,9 +44,13 @@ abbrev pub input_size_fault : Input → List ℕ → Option PlayFault
 input_size_fault from bytes = if nat_lt MAX_INPUT_BYTES (length bytes) then Some (too_large from)
     else None
 
+-- the fault of a run whose cave is refused: what is wrong, with what is known beyond that
+abbrev pub cave_refusal : List ℕ → List ℕ → CaveError → PlayFault
+cave_refusal database bindings error = fault.Cave error (clue_of error database bindings)
+
 abbrev pub inputs_fault : List ℕ → List ℕ → Option PlayFault
 inputs_fault database bindings =
-    option_map (λ error. fault.Cave error) (cave_fault database bindings)
+    option_map (cave_refusal database bindings) (cave_fault database bindings)
 
 abbrev pub or_too_many : Option (ℕ × LineFlaw) → ℕ → Option PlayFault
 or_too_many (Some (number, flaw)) count = Some (fault.Log (log.BadLine number flaw))
@@ -60,9 +67,9 @@ abbrev pub first_malformed : Result (List Applied) ScriptRefusal → Option Play
 first_malformed (Err (Malformed line flaw)) = Some (fault.Script (script.Malformed line flaw))
 first_malformed _ = None
 
-unfoldable pub script_fault : List ℕ → Option PlayFault
-script_fault bytes = if nat_lt MAX_INPUT_BYTES (length bytes)
-    then Some (fault.Script script.TooLarge) else first_malformed (script_of bytes)
+unfoldable pub script_fault : Bool → List ℕ → Option PlayFault
+script_fault guarded bytes = if nat_lt MAX_INPUT_BYTES (length bytes)
+    then Some (fault.Script script.TooLarge) else first_malformed (script_by guarded bytes)
 
 -- the fault of a run in which a session couldn't be opened
 abbrev pub opening_fault : OpenFault → PlayFault

@@ -1,14 +1,17 @@
 -- Laws of the order in which faults are found, of what edits are refused for, and that the inputs
 -- have one output at most.
-use Rattle.std.specs.Prelude.{◌≡◌, ℕ, ◌⊎◌, ⊤, List, None, Some, Bool}
+use Rattle.std.specs.Prelude.{◌≡◌, ℕ, ◌⊎◌, ⊤, List, [], None, Some, Bool, take, slice_get}
+use Rattle.std.specs.List.{AllByRecursion}
 use Rattle.std.specs.Str.Lines.{lines}
-use Rattle.replay_scripts.specs.Script.{Applied}
-use Rattle.cave_replay.specs.replay_edits.Edit.{game_of}
+use Rattle.replay_scripts.specs.Script.{Applied, Expectation, guarded_by}
+use Rattle.cave_replay.specs.replay_edits.Edit.{Change, Game, game_of}
+use Rattle.cave_replay.specs.replay_edits.Faults.{fault_of_all, log_after_all}
 use Rattle.cave_replay.specs.replay_edits.declared.fault.EditFault.{EditFault}
 use Rattle.cave_replay.specs.replay_edits.declared.fault.EditFault.TheVariants.{MeterFull, Memory}
 use Rattle.cave_replay.specs.replay_edits.declared.fault.GroupFault.{GroupFault}
 use Rattle.cave_play.specs.Judge.{inputs_fault, large_seed, log_fault}
-use Rattle.cave_play.specs.Output.{game_after_items, group_refusal, IsChecked, IsPlayed}
+use Rattle.cave_play.specs.Output.{game_after_item, game_after_items, IsChecked, IsPlayed}
+use Rattle.cave_play.specs.Refusal.{group_refusal}
 use Rattle.cave_play.specs.Run.{IsFoundIn, AtMostOne}
 use Rattle.cave_play.specs.Stages.{Stage, first_decided}
 use Rattle.cave_play.specs.Stages.{cave_stages}
@@ -36,25 +39,44 @@ abbrev pub KnowsNoCheckpoints : EditView → Type 0
 KnowsNoCheckpoints asked.Transcript = ⊤
 KnowsNoCheckpoints asked.Play = ⊤
 KnowsNoCheckpoints asked.Log = ⊤
+KnowsNoCheckpoints asked.Undo = ⊤
 KnowsNoCheckpoints asked.Reports = ⊥
+KnowsNoCheckpoints asked.Table = ⊥
 KnowsNoCheckpoints asked.Steps = ⊤
 KnowsNoCheckpoints asked.Score = ⊤
 KnowsNoCheckpoints asked.FinalState = ⊤
 
 -- with a log, a script and a seed, one output of an edit, of the transcript, with reports or
--- without, of the edited log, of its lines, its score and the final state, whatever the distances of
--- checkpoints, and whether the runs are strict
+-- without, of the edited log, of what takes it back, of its lines, its score and the final state,
+-- whatever the distances of checkpoints, and whether the runs are strict
 abbrev pub OneEditedOutput : Type 0
 OneEditedOutput =
     (database bindings log script : List ℕ) (seed near far : ℕ) (view : EditView)
-    (first second : Bool)
+    (guarded first second : Bool)
     → KnowsNoCheckpoints view
     → (one other : List ℕ)
     → IsEdited database bindings log script
-    (record { seed = seed; every = near; view = view; strict = first }) one
+    (record { seed = seed; every = near; view = view; strict = first; guarded = guarded }) one
     → IsEdited database bindings log script
-    (record { seed = seed; every = far; view = view; strict = second }) other
+    (record { seed = seed; every = far; view = view; strict = second; guarded = guarded }) other
     → one ≡ other
+
+-- A log meets a guard among changes: where none of those before it is refused, the log that they
+-- leave has the guard's text at its place.
+abbrev pub IsMet : List Change → List (List ℕ) → Expectation → Type 0
+IsMet changes log guard =
+    fault_of_all (take guard.after changes) log 0 ≡ None
+    → slice_get (log_after_all (take guard.after changes) log) guard.place ≡ Some guard.text
+
+-- where its guards are met, an item makes of a game what it makes without them; where one isn't,
+-- the game stays
+abbrev pub GuardsRefuseAlone : Type 0
+GuardsRefuseAlone =
+    (item : Applied) (game : Game)
+    → (AllByRecursion (IsMet item.changes game.log) item.guards
+    → game_after_item item game ≡ game_after_item (guarded_by [] item) game)
+    × (¬ AllByRecursion (IsMet item.changes game.log) item.guards
+    → game_after_item item game ≡ game)
 
 -- a fault that no bytes decide
 abbrev pub IsOutside : PlayFault → Type 0

@@ -1,4 +1,5 @@
 pub mod Input
+pub mod Doubted
 pub mod Fault
 pub mod Judge
 pub mod Strict
@@ -11,13 +12,17 @@ pub mod PieceParts
 pub mod Machine
 pub mod Steps
 pub mod Score
+pub mod Refusal
 pub mod Output
 pub mod Outcome
+pub mod Table
+pub mod Undo
 pub mod Views
 pub mod Edits
 pub use Rattle.play_command.specs.base_lines as base_lines
 pub use Rattle.data_bindings.specs.cave_data as cave_data
 pub use Rattle.cave_replay.specs as cave_replay
+pub use Rattle.check_doubts.specs as check_doubts
 pub use Rattle.world_packed.specs.cave_words as cave_words
 pub use Rattle.world_packed.specs.cave_world as cave_world
 pub use Rattle.data_bindings.specs as data_bindings

@@ -7,26 +7,27 @@ use Rattle.cave_replay.specs.Play.{state_after, ticks_of}
 use Rattle.cave_turn.specs.turn_score.Score.{score_of, max_score_of}
 use Rattle.cave_play.specs.Transcript.{ticks}
 use Rattle.cave_replay.specs.Report.{IsReport}
-use Rattle.cave_replay.specs.replay_edits.declared.fault.GroupFault.{GroupFault}
 use Rattle.replay_scripts.specs.Script.{Applied}
 use Rattle.cave_play.specs.Machine.{cave_rules}
-use Rattle.cave_play.specs.Output.{group_refusal, game_after_item}
+use Rattle.cave_play.specs.Output.{game_after_item}
+use Rattle.cave_play.specs.Refusal.{item_refusal}
 use Rattle.cave_play.specs.declared.outcome.ItemOutcome.{ItemOutcome}
 use Rattle.cave_play.specs.declared.outcome.ItemOutcome.TheVariants.{Refused, Replayed}
 use Rattle.cave_play.specs.declared.outcome.ItemReplay.{ItemReplay}
 use Rattle.cave_play.specs.declared.outcome.Standing.{Standing}
+use Rattle.cave_play.specs.declared.refusal.RefusedItem.{RefusedItem}
 
-abbrev pub refusal_in : ItemOutcome → Option GroupFault
-refusal_in (Refused fault) = Some fault
+abbrev pub refusal_in : ItemOutcome → Option RefusedItem
+refusal_in (Refused refused) = Some refused
 refusal_in (Replayed replay) = None
 
 abbrev pub played_in : ItemOutcome → ℕ
-played_in (Refused fault) = 0
+played_in (Refused refused) = 0
 played_in (Replayed replay) = replay.played
 
 -- how many lines playing the edited log from its first line would have played
 abbrev pub lines_in : ItemOutcome → ℕ
-lines_in (Refused fault) = 0
+lines_in (Refused refused) = 0
 lines_in (Replayed replay) = replay.lines
 
 -- where the game is after its last line, by playing it from its first
@@ -47,22 +48,22 @@ standing_of cave game =
 -- so far; the log that it leaves has this many lines, and playing it leaves the game there.
 pub record IsReplay (cave : CaveView) (every : ℕ) (item : Applied) (game : Game)
     (checkpoints : List ℕ) (replay : ItemReplay) : Type 0 where
-  pub accepted : group_refusal item.changes game.log ≡ None
+  pub accepted : item_refusal item game.log ≡ None
   pub report : IsReport (cave_rules cave) item.changes game every checkpoints
       replay.from replay.met replay.played
   pub lines : replay.lines ≡ length (game_after_item item game).log
   pub standing : replay.standing ≡ standing_of cave (game_after_item item game)
 
 abbrev pub IsOutcome : CaveView → ℕ → Applied → Game → List ℕ → ItemOutcome → Type 0
-IsOutcome cave every item game checkpoints (Refused fault) =
-    group_refusal item.changes game.log ≡ Some fault
+IsOutcome cave every item game checkpoints (Refused refused) =
+    item_refusal item game.log ≡ Some refused
 IsOutcome cave every item game checkpoints (Replayed replay) =
     IsReplay cave every item game checkpoints replay
 
 -- the checkpoints after an item: those before it where it was refused, and else spaced in the log
 -- that it leaves
 abbrev pub AreLeft : ℕ → ItemOutcome → List ℕ → Game → List ℕ → Type 0
-AreLeft every (Refused fault) before game after = after ≡ before
+AreLeft every (Refused refused) before game after = after ≡ before
 AreLeft every (Replayed replay) before game after = IsSpaced every after (length game.log)
 
 -- what came of items, each in the game and with the checkpoints that those before it left

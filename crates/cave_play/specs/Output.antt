@@ -1,27 +1,28 @@
 -- What a run writes.
-use Rattle.std.specs.Prelude.{◌≡◌, ℕ, ◌-◌, ◌^◌, List, [], ◌∷◌, ◌++◌, codes, Option, None, Some}
+use Rattle.std.specs.Prelude.{◌≡◌, ℕ, List, [], ◌∷◌, ◌++◌, codes, Option, None, Some}
 use Rattle.std.specs.Prelude.{length}
 use Rattle.std.specs.Fmt.{decimal}
 use Rattle.std.specs.Str.Lines.{lines}
 use Rattle.data_bindings.specs.cave_data.CaveView.{CaveView}
 use Rattle.data_bindings.specs.cave_data.Reads.{Reads}
 use Rattle.data_bindings.specs.Listing.{bindings_text}
+use Rattle.check_tables.specs.Names.{names_table}
+use Rattle.check_tables.specs.Unused.{unused_table}
 use Rattle.play_command.specs.play_options.declared.views.CheckView.{CheckView}
 use Rattle.play_command.specs.play_options.declared.views.CheckView.TheVariants.{Maximum, Bindings}
+use Rattle.play_command.specs.play_options.declared.views.CheckView.TheVariants.{Names, Unused}
 use Rattle.play_command.specs.play_options.declared.views.PlayView.{PlayView}
 use Rattle.play_command.specs.play_options.declared.views.PlayView.TheVariants as play
-use Rattle.cave_replay.specs.replay_edits.Edit.{Change, apply_all, Game, game_of}
-use Rattle.cave_replay.specs.replay_edits.Faults.{group_fault}
+use Rattle.cave_replay.specs.replay_edits.Edit.{apply_all, Game, game_of}
 use Rattle.cave_replay.specs.Play.{texts_of, ticks_of, state_after}
-use Rattle.cave_replay.specs.replay_edits.declared.fault.EditFault.{EditFault}
-use Rattle.cave_replay.specs.replay_edits.declared.fault.EditFault.TheVariants as cause
-use Rattle.cave_replay.specs.replay_edits.declared.fault.GroupFault.{GroupFault}
 use Rattle.cave_turn.specs.turn_score.Score.{score_of, max_score_of}
-use Rattle.replay_scripts.specs.Script.{Applied, line_of_refusal}
+use Rattle.replay_scripts.specs.Script.{Applied}
 use Rattle.cave_play.specs.Machine.{cave_rules, rendering_of}
+use Rattle.cave_play.specs.Refusal.{item_refusal, refusal_number}
 use Rattle.cave_play.specs.Score.{score_text}
 use Rattle.cave_play.specs.Steps.{steps_text}
 use Rattle.cave_play.specs.Transcript.{transcript, ticks}
+use Rattle.cave_play.specs.declared.refusal.RefusedItem.{RefusedItem}
 use Rattle.cave_turn.specs.turn_begin.Begin.{starting_objects}
 use Rattle.play_state_text.specs.StateText.{state_text}
 
@@ -44,6 +45,8 @@ cave_line most = codes "cave ok, maximum " ++ (decimal most ++ codes "\n")
 abbrev pub check_text : CheckView → CaveView → List ℕ
 check_text Maximum cave = cave_line (max_score_of cave)
 check_text Bindings cave = bindings_text cave
+check_text Names cave = names_table cave
+check_text Unused cave = unused_table cave
 
 -- the output of a check of a database that is a cave
 abbrev pub IsChecked : CheckView → List ℕ → List ℕ → List ℕ → Type 0
@@ -76,38 +79,23 @@ IsPlayed database bindings log seed view output =
 
 -- ---- what is edited
 
--- the number by which a report names a refusal
-abbrev pub refusal_number : EditFault → ℕ
-refusal_number cause.NoSuchPlace = 1
-refusal_number cause.BadLine = 2
-refusal_number cause.LogFull = 3
-refusal_number cause.BadSeed = 4
-refusal_number cause.MeterFull = 5
-refusal_number cause.Memory = 6
-refusal_number cause.EmptyGroup = 7
-
--- why the changes of an item are refused as a group, if they are, where the meter has counted no
--- step yet
-unfoldable pub group_refusal : List Change → List (List ℕ) → Option GroupFault
-group_refusal changes log = group_fault changes log (2 ^ 64 - 1)
-
-abbrev pub report_by : Applied → Option GroupFault → List ℕ
+abbrev pub report_by : Applied → Option RefusedItem → List ℕ
 report_by item None = codes "line " ++ (decimal item.line ++ codes ": ok\n")
-report_by item (Some fault) =
+report_by item (Some refused) =
     codes "line "
-    ++ (decimal (line_of_refusal item fault.at)
-    ++ (codes ": refused " ++ (decimal (refusal_number fault.cause) ++ codes "\n")))
+    ++ (decimal refused.line
+    ++ (codes ": refused " ++ (decimal (refusal_number refused.cause) ++ codes "\n")))
 
-abbrev pub game_by : Applied → Option GroupFault → Game → Game
+abbrev pub game_by : Applied → Option RefusedItem → Game → Game
 game_by item None game = apply_all item.changes game
-game_by item (Some fault) game = game
+game_by item (Some refused) game = game
 
 -- what is reported of an item, and the game after it
 unfoldable pub report : Applied → Game → List ℕ
-report item game = report_by item (group_refusal item.changes game.log)
+report item game = report_by item (item_refusal item game.log)
 
 unfoldable pub game_after_item : Applied → Game → Game
-game_after_item item game = game_by item (group_refusal item.changes game.log) game
+game_after_item item game = game_by item (item_refusal item game.log) game
 
 -- what is reported of several items, and the game after all that were accepted
 abbrev pub reports : List Applied → Game → List ℕ

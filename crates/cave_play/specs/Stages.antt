@@ -4,7 +4,7 @@ use Rattle.std.specs.Option.{option_or}
 use Rattle.std.specs.Str.Lines.{lines}
 use Rattle.play_command.specs.play_options.declared.editing.Editing.{Editing}
 use Rattle.cave_replay.specs.replay_edits.Edit.{Game, game_of}
-use Rattle.replay_scripts.specs.Script.{script_of}
+use Rattle.replay_scripts.specs.Guards.{script_by}
 use Rattle.cave_play.specs.Judge.{large_seed, every_fault, input_size_fault, inputs_fault}
 use Rattle.cave_play.specs.Judge.{log_fault, script_fault}
 use Rattle.cave_play.specs.Strict.{fault_of_items}
@@ -38,16 +38,17 @@ cave_stages database bindings =
 abbrev pub log_stage : List ℕ → Stage
 log_stage log = reading_stage input.Log (log_fault log)
 
-abbrev pub script_stage : List ℕ → Stage
-script_stage script = reading_stage input.Script (script_fault script)
+abbrev pub script_stage : Bool → List ℕ → Stage
+script_stage guarded script = reading_stage input.Script (script_fault guarded script)
 
 abbrev pub play_stages : List ℕ → List ℕ → List ℕ → ℕ → List Stage
 play_stages database bindings log seed =
     judging_stage (large_seed seed) ∷ cave_stages database bindings ++ log_stage log ∷ []
 
 -- where the run is strict, the items of the script are judged in the game
-abbrev pub strict_stage : Bool → Game → List ℕ → Stage
-strict_stage strict game script = judging_stage (fault_of_items strict game (script_of script))
+abbrev pub strict_stage : Bool → Game → Bool → List ℕ → Stage
+strict_stage strict game guarded script =
+    judging_stage (fault_of_items strict game (script_by guarded script))
 
 -- first the seed is judged, then the distance of checkpoints, the cave, the log, the script, and
 -- last its items
@@ -55,5 +56,5 @@ abbrev pub edit_stages : List ℕ → List ℕ → List ℕ → List ℕ → Edi
 edit_stages database bindings log script editing =
     judging_stage (large_seed editing.seed) ∷ judging_stage (every_fault editing.every)
     ∷ cave_stages database bindings
-    ++ log_stage log ∷ script_stage script
-    ∷ strict_stage editing.strict (game_of editing.seed (lines log)) script ∷ []
+    ++ log_stage log ∷ script_stage editing.guarded script
+    ∷ strict_stage editing.strict (game_of editing.seed (lines log)) editing.guarded script ∷ []

@@ -3,26 +3,25 @@ use Rattle.std.specs.Prelude.{Bool, List, [], ◌∷◌, Option, None, Some, Res
 use Rattle.std.specs.Prelude.{if◌then◌else◌}
 use Rattle.std.specs.Option.{option_or}
 use Rattle.cave_replay.specs.replay_edits.Edit.{Game}
-use Rattle.cave_replay.specs.replay_edits.declared.fault.GroupFault.{GroupFault}
-use Rattle.replay_scripts.specs.Script.{Applied, line_of_refusal}
+use Rattle.replay_scripts.specs.Script.{Applied}
 use Rattle.replay_scripts.specs.declared.fault.ScriptRefusal.{ScriptRefusal}
-use Rattle.cave_play.specs.Output.{game_after_item, group_refusal}
+use Rattle.cave_play.specs.Output.{game_after_item}
+use Rattle.cave_play.specs.Refusal.{item_refusal}
 use Rattle.cave_play.specs.declared.fault.ScriptFault.TheVariants as script
+use Rattle.cave_play.specs.declared.refusal.RefusedItem.{RefusedItem}
 use Rattle.cave_play.specs.declared.fault.PlayFault.{PlayFault}
 use Rattle.cave_play.specs.declared.fault.PlayFault.TheVariants as fault
 
-abbrev pub refusal_fault : Applied → GroupFault → PlayFault
-refusal_fault item found = fault.Script
-    (script.Refused (line_of_refusal item found.at) (record { cause = found.cause }))
+abbrev pub refusal_fault : RefusedItem → PlayFault
+refusal_fault refused = fault.Script (script.Refused refused.line refused.cause)
 
 -- where the run is strict, the fault of an item that is refused
-abbrev pub strict_fault_by : Bool → Applied → Option GroupFault → Option PlayFault
-strict_fault_by strict item None = None
-strict_fault_by strict item (Some found) =
-    if strict then Some (refusal_fault item found) else None
+abbrev pub strict_fault_by : Bool → Option RefusedItem → Option PlayFault
+strict_fault_by strict None = None
+strict_fault_by strict (Some refused) = if strict then Some (refusal_fault refused) else None
 
 unfoldable pub strict_fault : Bool → Applied → Game → Option PlayFault
-strict_fault strict item game = strict_fault_by strict item (group_refusal item.changes game.log)
+strict_fault strict item game = strict_fault_by strict (item_refusal item game.log)
 
 -- the first fault of items, each in the game that those before it left
 abbrev pub first_strict_fault : Bool → List Applied → Game → Option PlayFault

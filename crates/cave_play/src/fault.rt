@@ -2,10 +2,11 @@
 
 ghost use Rattle.std.specs.Prelude.{◌≡◌};
 ghost use Rattle.cave_play.specs.declared.fault.PlayFault.TheVariants.{Memory};
-ghost use Rattle.cave_play.specs.Fault.{status_of, input_of, faulty_line};
+ghost use Rattle.cave_play.specs.Fault.{status_of, input_from, input_of, faulty_line};
 
-use crate::refusal::{refusal_number, refusal_words};
-use cave_replay::EditFault;
+use crate::refusal::Refusal;
+use check_clues::Clue;
+use check_doubts::{Doubt, Source};
 use data_bindings::{CaveError, Expected, FaultSite};
 use play_command::LineFlaw;
 use replay_scripts::Flaw;
@@ -22,6 +23,25 @@ pub enum Input {
     Script,
 }
 
+/// What is wrong with a line of a log. The first bytes of a log may be a byte order mark.
+#[derive(Clone, Copy, Debug)]
+struct LineWords {
+    line: usize,
+    flaw: LineFlaw,
+}
+
+impl fmt::Display for LineWords {
+    fn fmt<W: fmt::Write>(&self, f: &mut fmt::Formatter<W>) -> fmt::Result {
+        let flaw = self.flaw;
+        match (self.line, flaw) {
+            (1, LineFlaw::Byte(239 | 254 | 255, 1)) => {
+                write!(f, "{flaw}: a byte order mark begins so")
+            }
+            _ => write!(f, "{flaw}"),
+        }
+    }
+}
+
 /// Why a log is refused.
 #[derive(Clone, Copy, Debug, PartialEq, Eq, Error)]
 pub enum LogFault {
@@ -29,24 +49,11 @@ pub enum LogFault {
     #[error("the log is larger than 1,048,576 bytes")]
     TooLarge,
     /// The line with this number, from 1, isn't allowed in a log.
-    #[error("{1}")]
+    #[error("{}", LineWords {line: *.0, flaw: *.1})]
     BadLine(usize, LineFlaw),
     /// It has more lines than a log may have.
     #[error("the log has more than 65,535 lines")]
     Full,
-}
-
-/// Why an item of a script is refused, as reports say it.
-#[derive(Clone, Copy, Debug, PartialEq, Eq)]
-pub struct Refusal {
-    pub cause: EditFault,
-}
-
-impl fmt::Display for Refusal {
-    fn fmt<W: fmt::Write>(&self, f: &mut fmt::Formatter<W>) -> fmt::Result {
-        let number = refusal_number(self.cause);
-        write!(f, "refused {number}, {}", refusal_words(self.cause))
-    }
 }
 
 /// Why a script is refused.
@@ -63,12 +70,35 @@ pub enum ScriptFault {
     Refused(usize, Refusal),
 }
 
+/// What is wrong with a cave: the cause, and what is known beyond it or else was expected.
+#[derive(Clone, Copy, Debug)]
+struct CaveWords {
+    error: CaveError,
+    clue: Option<Clue>,
+}
+
+impl fmt::Display for CaveWords {
+    fn fmt<W: fmt::Write>(&self, f: &mut fmt::Formatter<W>) -> fmt::Result {
+        let (cause, site) = (self.error.cause, self.error.site);
+        match self.clue {
+            Some(clue) => write!(f, "{cause}: {clue}"),
+            None => {
+                let expected = Expected { cause, site };
+                write!(f, "{expected}")
+            }
+        }
+    }
+}
+
 /// Why a run failed. The text says what is wrong, and not where: that is `Complaint`.
 #[derive(Clone, Copy, Debug, PartialEq, Eq, Error)]
 pub enum PlayFault {
     /// The database or its bindings are refused.
-    #[error("{}", Expected {cause: .0.cause, site: .0.site})]
-    Cave(CaveError),
+    #[error("{}", CaveWords {error: *.0, clue: *.1})]
+    Cave(CaveError, Option<Clue>),
+    /// The cave is doubtful, and the run is strict.
+    #[error("{}", .0.flaw)]
+    Doubt(Doubt),
     /// The seed is too great.
     #[error("a seed is at most 2147483647")]
     Seed,
@@ -100,13 +130,23 @@ impl From<AllocError> for PlayFault {
     }
 }
 
+/// The input that a doubt is of.
+fn input_from(source: Source) -> Input
+    ensures { result ≡ input_from source }
+{
+    match source {
+        Source::Database => Input::Cave,
+        Source::Bindings => Input::Bindings,
+    }
+}
+
 impl PlayFault {
     /// The status that the program ends with.
     pub fn status(self) -> u8
         ensures { result ≡ status_of self }
     {
         match self {
-            PlayFault::Cave(_) => 1,
+            PlayFault::Cave(_, _) | PlayFault::Doubt(_) => 1,
             PlayFault::Seed | PlayFault::Every => 2,
             PlayFault::Log(_) => 3,
             PlayFault::Script(_) => 4,
@@ -121,8 +161,9 @@ impl PlayFault {
         ensures { result ≡ input_of self }
     {
         match self {
-            PlayFault::Cave(error) if error.site == FaultSite::Bindings => Some(Input::Bindings),
-            PlayFault::Cave(_) => Some(Input::Cave),
+            PlayFault::Cave(error, _) if error.site == FaultSite::Bindings => Some(Input::Bindings),
+            PlayFault::Cave(_, _) => Some(Input::Cave),
+            PlayFault::Doubt(found) => Some(input_from(found.source)),
             PlayFault::Log(_) => Some(Input::Log),
             PlayFault::Script(_) => Some(Input::Script),
             PlayFault::Read(input) => Some(input),
@@ -135,7 +176,8 @@ impl PlayFault {
         ensures { result ≡ faulty_line self }
     {
         match self {
-            PlayFault::Cave(error) if error.line > 0 => Some(error.line),
+            PlayFault::Cave(error, _) if error.line > 0 => Some(error.line),
+            PlayFault::Doubt(found) => Some(found.line),
             PlayFault::Log(LogFault::BadLine(line, _)) => Some(line),
             PlayFault::Script(ScriptFault::Malformed(line, _) | ScriptFault::Refused(line, _)) => {
                 Some(line)

@@ -1,16 +1,17 @@
 //! Reading the inputs of a run, each of which is judged before the next.
 
-ghost use Rattle.std.specs.Prelude.{◌≡◌, ℕ, ◌^◌, ◌<◌, List, [], ◌∷◌, None, Some, Ok, IfOk};
+ghost use Rattle.std.specs.Prelude.{◌≡◌, ◌⊎◌, ℕ, ◌^◌, ◌<◌, List, [], ◌∷◌, None, Some, Ok, IfOk};
 ghost use Rattle.std.specs.Prelude.{MatchResult, length};
 ghost use Rattle.std.specs.Str.Lines.{lines};
 ghost use Rattle.world_packed.specs.replay_marks.Spacing.{IsSpaced};
 ghost use Rattle.data_bindings.specs.cave_data.Reads.{Reads};
 ghost use Rattle.cave_replay.specs.replay_edits.Edit.{game_of};
-ghost use Rattle.replay_scripts.specs.Script.{IsScript, script_of};
-ghost use Rattle.replay_scripts.specs.Views.{items_of};
+ghost use Rattle.replay_scripts.specs.Guards.{IsScriptBy, script_by};
+ghost use Rattle.replay_scripts.specs.Views.{IsFaultOf, items_of};
 ghost use Rattle.cave_play.specs.Input.{Says};
 ghost use Rattle.cave_play.specs.Judge.{large_seed, every_fault, lines_fault, script_refusal};
-ghost use Rattle.cave_play.specs.Judge.{opening_fault};
+ghost use Rattle.cave_play.specs.Judge.{cave_refusal, inputs_fault, opening_fault};
+ghost use Rattle.cave_play.specs.Doubted.{IsReadOf};
 ghost use Rattle.cave_play.specs.Edits.{HoldsGame};
 ghost use Rattle.cave_play.specs.Run.{Judges};
 ghost use Rattle.cave_play.specs.Stages.{judging_stage};
@@ -21,7 +22,8 @@ use crate::inputs::CaveReaders;
 use crate::machine::CaveMachine;
 use crate::read::read;
 use cave_replay::{OpenFault, Session};
-use data_bindings::{Cause, Cave};
+use check_clues::clue_of;
+use data_bindings::{Cause, Cave, CaveError};
 use play_command::{Meter, is_bad_every, is_large_seed};
 use replay_scripts::{Script, ScriptRefusal};
 use std::alloc::Global;
@@ -49,6 +51,63 @@ pub(crate) fn check_every(every: u32) -> Result<(), PlayFault>
     Ok(())
 }
 
+/// The fault of a run whose cave is refused.
+fn cave_refusal(alloc: Global, error: CaveError, database: &[u8], bindings: &[u8]) -> PlayFault
+    ensures memory { error.cause ≡ Cause.Memory → result ≡ PlayFault.Memory }
+    ensures told { (result ≡ PlayFault.Memory)
+        ⊎ (result ≡ cave_refusal database.now bindings.now error) }
+{
+    if error.cause == Cause::Memory {
+        return PlayFault::Memory;
+    }
+    match clue_of(alloc, error, database, bindings) {
+        Ok(clue) => PlayFault::Cave(error, clue),
+        Err(_) => PlayFault::Memory,
+    }
+}
+
+/// The cave of a database and its bindings.
+fn cave_of(alloc: Global, database: &[u8], bindings: &[u8]) -> Result<Cave, PlayFault>
+    ensures { MatchResult result (Reads database.now bindings.now)
+        (λ found. (found ≡ PlayFault.Memory)
+        ⊎ (inputs_fault database.now bindings.now ≡ Some found)) }
+{
+    match Cave::read(alloc, database, bindings) {
+        Ok(cave) => Ok(cave),
+        Err(error) => Err(cave_refusal(alloc, error, database, bindings)),
+    }
+}
+
+/// A cave with the texts that it was read from.
+#[derive(Drop)]
+pub(crate) struct ReadCave {
+    pub(crate) cave: Cave,
+    pub(crate) database: Vec<u8>,
+    pub(crate) bindings: Vec<u8>,
+}
+
+/// Reads a database and its bindings, and keeps them.
+pub(crate) fn read_texts<C: Read, B: Read>(
+    alloc: Global,
+    cave: &mut CaveReaders<C, B>,
+) -> Result<ReadCave, PlayFault>
+    ensures judged { (database : List ℕ) × (bindings : List ℕ)
+        × Says (C.remaining cave.old.database) database
+        × Says (B.remaining cave.old.bindings) bindings
+        × Judges (cave_stages database bindings) (IsReadOf database bindings) result }
+{
+    let database = read(alloc, Input::Cave, &mut cave.database)?;
+    let bindings = read(alloc, Input::Bindings, &mut cave.bindings)?;
+    match cave_of(alloc, &database, &bindings) {
+        Ok(cave) => Ok(ReadCave {
+            cave,
+            database,
+            bindings,
+        }),
+        Err(fault) => Err(fault),
+    }
+}
+
 /// Reads a database and its bindings.
 pub fn read_cave<C: Read, B: Read>(
     alloc: Global,
@@ -59,12 +118,9 @@ pub fn read_cave<C: Read, B: Read>(
         × Says (B.remaining cave.old.bindings) bindings
         × Judges (cave_stages database bindings) (Reads database bindings) result }
 {
-    let database = read(alloc, Input::Cave, &mut cave.database)?;
-    let bindings = read(alloc, Input::Bindings, &mut cave.bindings)?;
-    match Cave::read(alloc, &database, &bindings) {
-        Ok(cave) => Ok(cave),
-        Err(error) if error.cause == Cause::Memory => Err(PlayFault::Memory),
-        Err(error) => Err(PlayFault::Cave(error)),
+    match read_texts(alloc, cave) {
+        Ok(ReadCave { cave, .. }) => Ok(cave),
+        Err(fault) => Err(fault),
     }
 }
 
@@ -125,17 +181,37 @@ pub fn play_log<'a, L: Read>(
     open_session(alloc, machine, &log, seed, every)
 }
 
-pub(crate) fn read_script<S: Read>(alloc: Global, script: &mut S) -> Result<Script, PlayFault>
+/// Reads a script, some of whose lines may be guards.
+pub(crate) fn read_script<S: Read>(
+    alloc: Global,
+    script: &mut S,
+    guarded: bool,
+) -> Result<Script, PlayFault>
     ensures judged { (bytes : List ℕ) × Says (S.remaining script.old) bytes
-        × Judges (script_stage bytes ∷ [])
-        (λ script. IsScript 1 (lines bytes) (items_of script.items)
+        × Judges (script_stage guarded bytes ∷ [])
+        (λ script. IsScriptBy guarded bytes (items_of script.items)
         × (length script.items.items < 2 ^ 32)
-        × (script_of bytes ≡ Ok (items_of script.items))) result }
+        × (script_by guarded bytes ≡ Ok (items_of script.items))) result }
 {
     let text = read(alloc, Input::Script, script)?;
-    match Script::read(alloc, &text) {
+    match script_in(alloc, &text, guarded) {
         Ok(script) => Ok(script),
         Err(fault) => Err(script_refusal(fault)),
+    }
+}
+
+/// The script of a text, some of whose lines may be guards.
+fn script_in(alloc: Global, text: &[u8], guarded: bool) -> Result<Script, ScriptRefusal>
+    ensures script { MatchResult result
+        (λ script. script_by guarded text.now ≡ Ok (items_of script.items))
+        (λ fault. IsFaultOf fault (script_by guarded text.now)) }
+    ensures grammar { IfOk result
+        (λ script. IsScriptBy guarded text.now (items_of script.items)) }
+{
+    if guarded {
+        Script::read_guarded(alloc, text)
+    } else {
+        Script::read(alloc, text)
     }
 }
 

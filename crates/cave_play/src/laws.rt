@@ -2,6 +2,7 @@
 //! determine the output. Each is the contract of a function that does nothing.
 
 ghost use Rattle.cave_play.specs.Laws.{CavesAreJudgedWhole, FirstIsFound, RefusalsAreOfChanges};
+ghost use Rattle.cave_play.specs.Laws.{GuardsRefuseAlone};
 ghost use Rattle.cave_play.specs.Laws.{OneCheckedOutput, OneEditedOutput, OnePlayedOutput};
 
 /// A fault that is found comes from outside, or is the first that a stage decides.
@@ -19,6 +20,11 @@ pub fn refusals_are_of_changes()
     ensures { RefusalsAreOfChanges }
 {}
 
+/// Guards can but refuse: where they are met, an item does what it does without them.
+pub fn guards_refuse_alone()
+    ensures { GuardsRefuseAlone }
+{}
+
 /// A database and its bindings have one output of a check at most.
 pub fn one_checked_output()
     ensures { OneCheckedOutput }
@@ -29,8 +35,8 @@ pub fn one_played_output()
     ensures { OnePlayedOutput }
 {}
 
-/// With a script too each view but that of reports has one text at most, whatever the distance of
-/// checkpoints.
+/// With a script too each view but those of reports and of the table has one text at most, whatever
+/// the distance of checkpoints.
 pub fn one_edited_output()
     ensures { OneEditedOutput }
 {}

@@ -1,9 +1,11 @@
 //! Runs of the program: from the bytes of its inputs to the bytes of its output.
 #![tactic(auto)]
 
+pub mod doubted;
 mod edits;
 pub mod fault;
 mod final_state;
+mod guards;
 pub mod input;
 pub mod inputs;
 pub mod judge;
@@ -13,18 +15,23 @@ pub mod outcome;
 pub mod output;
 pub mod piece;
 mod read;
-mod refusal;
+pub mod refusal;
 mod reports;
 pub mod run;
 mod score;
 mod steps;
+mod table;
 mod transcript;
+mod undo;
 mod views;
 
 pub use cave_replay::{Edit, EditFault, LineText, Machine, OpenFault, Report, Session};
 pub use cave_turn::render;
+pub use check_clues::Clue;
+pub use check_doubts::DoubtFiles;
 pub use data_bindings::{Cause, Cave, CaveError, FaultSite, ROLE_NAMES, Role, first_line};
-pub use fault::{Complaint, Input, LogFault, PlayFault, Refusal, ScriptFault, Unopened};
+pub use doubted::run_doubts;
+pub use fault::{Complaint, Input, LogFault, PlayFault, ScriptFault, Unopened};
 pub use inputs::{CaveReaders, InputReader, Inputs};
 pub use machine::CaveMachine;
 pub use piece::Piece;
@@ -33,6 +40,7 @@ pub use play_command::{
     MAX_INPUT_BYTES, Meter, PlayView, Steps, command_line,
 };
 pub use play_state_text::{Counts, push_state};
+pub use refusal::{KeptLine, Refusal, RefusedItem};
 pub use replay_scripts::Flaw;
 pub use run::{run_check, run_edit, run_play};
 pub use world_packed::{Lexicon, Object, Part};

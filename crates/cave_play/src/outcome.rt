@@ -3,7 +3,7 @@
 ghost use Rattle.std.specs.Prelude.{◌≡◌};
 ghost use Rattle.cave_play.specs.Outcome.{lines_in, played_in, refusal_in};
 
-use cave_replay::GroupFault;
+use crate::refusal::RefusedItem;
 use world_packed::Ending;
 
 /// Where a game is after its last line.
@@ -36,17 +36,17 @@ pub struct ItemReplay {
 /// What came of an item of a script.
 #[derive(Clone, Copy, Debug, PartialEq, Eq)]
 pub enum ItemOutcome {
-    Refused(GroupFault),
+    Refused(RefusedItem),
     Replayed(ItemReplay),
 }
 
 impl ItemOutcome {
     /// Why the item was refused, if it was.
-    pub fn refusal(self) -> Option<GroupFault>
+    pub fn refusal(self) -> Option<RefusedItem>
         ensures { result ≡ refusal_in self }
     {
         match self {
-            ItemOutcome::Refused(fault) => Some(fault),
+            ItemOutcome::Refused(refused) => Some(refused),
             ItemOutcome::Replayed(_) => None,
         }
     }

@@ -1,6 +1,6 @@
 //! Reading the inputs of a run.
 
-ghost use Rattle.std.specs.Prelude.{◌≡◌, ℕ, ◌≤◌, ◌<◌, ◌⊎◌, List, length, Some, MatchResult};
+ghost use Rattle.std.specs.Prelude.{◌≡◌, ℕ, ◌≤◌, ◌<◌, ◌⊎◌, List, length, None, Some, MatchResult};
 ghost use Rattle.play_command.specs.base_limits.Limits.{MAX_INPUT_BYTES};
 ghost use Rattle.cave_play.specs.Input.{Says};
 ghost use Rattle.cave_play.specs.Judge.{too_large};
@@ -41,11 +41,13 @@ fn too_large(input: Input) -> PlayFault
 }
 
 fn too_large_at(site: FaultSite) -> PlayFault
-    ensures { result ≡ PlayFault.Cave (record { cause = Cause.TooLarge; line = 0; site = site }) }
+    ensures { result
+        ≡ PlayFault.Cave (record { cause = Cause.TooLarge; line = 0; site = site }) None }
 {
-    PlayFault::Cave(CaveError {
+    let error = CaveError {
         cause: Cause::TooLarge,
         line: 0,
         site,
-    })
+    };
+    PlayFault::Cave(error, None)
 }

@@ -1,17 +1,19 @@
 //! What is written of the items of a script.
 
 ghost use Rattle.std.specs.Prelude.{◌≡◌, ◌++◌, IfOk, OnOk, string_bytes};
+ghost use Rattle.cave_replay.specs.replay_edits.Edit.{changes_of};
 ghost use Rattle.replay_scripts.specs.Views.{applied_item};
-ghost use Rattle.cave_play.specs.Edits.{text_of_item};
+ghost use Rattle.cave_play.specs.Edits.{text_by};
 ghost use Rattle.cave_play.specs.Output.{report_by};
 ghost use Rattle.cave_play.specs.Views.{account, ending_text, ending_words, met_text};
+ghost use Rattle.cave_play.specs.Views.{refusal_text};
 ghost use Rattle.cave_play.specs.Views.{standing_text, totals_line};
 ghost use Rattle.cave_play.specs.declared.outcome.ItemOutcome.TheVariants.{Replayed};
 
 use crate::edits::Totals;
 use crate::outcome::{ItemOutcome, ItemReplay, Standing};
-use crate::refusal::{refusal_number, refusal_words};
-use cave_replay::GroupFault;
+use crate::refusal::RefusedItem;
+use crate::table::{Done, push_row};
 use play_command::EditView;
 use replay_scripts::Item;
 use std::alloc::{AllocError, Global};
@@ -23,16 +25,18 @@ pub(crate) fn push_outcome(
     text: &mut Vec<u8>,
     item: &Item,
     view: EditView,
-    outcome: ItemOutcome,
+    done: &Done<'_>,
 ) -> Result<(), AllocError>
-    ensures { OnOk result
-        (text.new.items ≡ text.old.items ++ text_of_item view (applied_item item.now) outcome) }
+    ensures { OnOk result (text.new.items ≡ text.old.items ++ text_by view (applied_item item.now)
+        done.now.outcome (changes_of done.now.inverse.now) done.now.before.now
+        done.now.after.now) }
 {
     match view {
-        EditView::Transcript => push_report(alloc, text, item, outcome.refusal()),
-        EditView::Play | EditView::Log | EditView::Steps | EditView::Score | EditView::FinalState =>
-            Ok(()),
-        EditView::Reports => push_account(alloc, text, item, outcome),
+        EditView::Transcript => push_report(alloc, text, item, done.outcome.refusal()),
+        EditView::Reports => push_account(alloc, text, item, done.outcome),
+        EditView::Table => push_row(alloc, text, item, done),
+        EditView::Play | EditView::Log | EditView::Undo => Ok(()),
+        EditView::Steps | EditView::Score | EditView::FinalState => Ok(()),
     }
 }
 
@@ -57,7 +61,7 @@ fn push_report(
     alloc: Global,
     text: &mut Vec<u8>,
     item: &Item,
-    refusal: Option<GroupFault>,
+    refusal: Option<RefusedItem>,
 ) -> Result<(), AllocError>
     ensures { OnOk result
         (text.new.items ≡ text.old.items ++ report_by (applied_item item.now) refusal) }
@@ -67,9 +71,8 @@ fn push_report(
             let line = item.line;
             format!(in alloc; "line {line}: ok\n")?
         }
-        Some(fault) => {
-            let line = item.line_of(fault.at);
-            let number = refusal_number(fault.cause);
+        Some(refused) => {
+            let (line, number) = (refused.line, refused.cause.number());
             format!(in alloc; "line {line}: refused {number}\n")?
         }
     };
@@ -150,14 +153,24 @@ fn push_account(
     ensures { OnOk result (text.new.items ≡ text.old.items
         ++ account (applied_item item.now) outcome) }
 {
-    let told = match outcome {
-        ItemOutcome::Refused(fault) => {
-            let line = item.line_of(fault.at);
-            let number = refusal_number(fault.cause);
-            let words = refusal_words(fault.cause);
-            format!(in alloc; "line {line}: refused {number}, {words}\n")?
+    match outcome {
+        ItemOutcome::Refused(refused) => push_refusal(alloc, text, refused),
+        ItemOutcome::Replayed(replay) => {
+            let told = account_text(alloc, item, replay)?;
+            text.extend_from_slice(told.as_bytes())
         }
-        ItemOutcome::Replayed(replay) => account_text(alloc, item, replay)?,
-    };
-    text.extend_from_slice(told.as_bytes())
+    }
+}
+
+/// Writes why an item was refused.
+fn push_refusal(alloc: Global, text: &mut Vec<u8>, refused: RefusedItem) -> Result<(), AllocError>
+    ensures { OnOk result (text.new.items ≡ text.old.items ++ refusal_text refused) }
+{
+    let (line, cause) = (refused.line, refused.cause);
+    let (number, words) = (cause.number(), cause.words());
+    let told = format!(in alloc; "line {line}: refused {number}, {words}")?;
+    text.extend_from_slice(told.as_bytes())?;
+    text.extend_from_slice(cause.line())?;
+    text.push(b'\n')?;
+    Ok(())
 }

@@ -132,10 +132,11 @@ fn edit_in_cave<L: Read, S: Read>(
     requires every_fits { every_fault editing.every ≡ None }
     ensures judged { (moves : List ℕ) × (edits : List ℕ)
         × Says (L.remaining log.old) moves × Says (S.remaining script.old) edits
-        × Judges (log_stage moves ∷ script_stage edits
-        ∷ strict_stage editing.strict (game_of editing.seed (lines moves)) edits ∷ [])
+        × Judges (log_stage moves ∷ script_stage editing.guarded edits
+        ∷ strict_stage editing.strict (game_of editing.seed (lines moves)) editing.guarded edits
+        ∷ [])
         (λ text. IsEditOf editing.view cave.now editing.every
-        (game_of editing.seed (lines moves)) edits text.items) result }
+        (game_of editing.seed (lines moves)) editing.guarded edits text.items) result }
 {
     let lexicon = Lexicon::build(alloc, cave)?;
     let machine = CaveMachine::new(cave, &lexicon);

@@ -12,6 +12,7 @@ use crate::steps::push_steps;
 use crate::transcript::{push_cave_line, push_play};
 use cave_replay::Session;
 use cave_turn::{Rules, max_score};
+use check_tables::{push_names, push_unused};
 use data_bindings::{Cave, push_bindings};
 use play_command::{CheckView, PlayView};
 use std::alloc::{AllocError, Global};
@@ -25,6 +26,8 @@ pub(crate) fn check_text(alloc: Global, cave: &Cave, view: CheckView) -> Result<
     match view {
         CheckView::Maximum => push_maximum(alloc, cave, &mut text)?,
         CheckView::Bindings => push_bindings(alloc, cave, &mut text)?,
+        CheckView::Names => push_names(alloc, cave, &mut text)?,
+        CheckView::Unused => push_unused(alloc, cave, &mut text)?,
     }
     Ok(text)
 }

@@ -44,6 +44,10 @@ abbrev pub strict_argument : Rule
 strict_argument =
     record (new_rule (codes "strict")) { long = Some (codes "strict"); action = Some SetTrue }
 
+abbrev pub guarded_argument : Rule
+guarded_argument =
+    record (new_rule (codes "guarded")) { long = Some (codes "guarded"); action = Some SetTrue }
+
 abbrev pub output_argument : Rule
 output_argument = record (new_rule (codes "output"))
     { long = Some (codes "output"); value_names = 1 }
@@ -52,11 +56,15 @@ output_argument = record (new_rule (codes "output"))
 abbrev pub with_output : App → App
 with_output app = with_rule app output_argument
 
+-- a command with the options of a check
+abbrev pub with_check_options : App → App
+with_check_options app =
+    with_rule (with_rule (with_rule app bind_argument) print_argument) strict_argument
+
 -- the commands
 abbrev pub check_app : App
 check_app = with_output
-    (with_rule (with_rule (with_rule (new_app (codes "check")) cave_argument) bind_argument)
-    print_argument)
+    (with_check_options (with_rule (new_app (codes "check")) cave_argument))
 
 -- a command with the files of a game
 abbrev pub with_game : App → App
@@ -76,7 +84,8 @@ with_cover_options app = with_rule (with_options app) print_argument
 
 abbrev pub with_edit_options : App → App
 with_edit_options app =
-    with_rule (with_rule (with_rule app every_argument) print_argument) strict_argument
+    with_rule (with_rule (with_rule (with_rule app every_argument) print_argument) strict_argument)
+    guarded_argument
 
 abbrev pub play_app : App
 play_app = with_output (with_rule (with_options (with_game (new_app (codes "play"))))

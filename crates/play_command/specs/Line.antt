@@ -1,6 +1,6 @@
 -- Which run the words ask for, and why they are refused.
-use Rattle.std.specs.Prelude.{◌≡◌, ◌≢◌, ◌⊎◌, ◌&&◌, ◌||◌, ℕ, Bool, false, bytes_eq, is_some, List}
-use Rattle.std.specs.Prelude.{[], Option, Some, None, option_map, unwrap_or, map, codes, Result}
+use Rattle.std.specs.Prelude.{◌≡◌, ◌≢◌, ◌⊎◌, ◌&&◌, ◌||◌, ℕ, Bool, true, false, bytes_eq, is_some}
+use Rattle.std.specs.Prelude.{List, [], Option, Some, None, option_map, unwrap_or, map, codes, Result}
 use Rattle.std.specs.Prelude.{MatchResult, nat_lt, nat_le, length, if◌then◌else◌}
 use Rattle.std.specs.Option.{option_map_or}
 use Rattle.clap.specs.Words.{IsAmong, Kinds, Row, all_of, first_of, found_of, kind_of, rows_of}
@@ -26,7 +26,8 @@ use Rattle.play_command.specs.declared.fault.CommandFault.{CommandFault}
 use Rattle.play_command.specs.declared.fault.CommandFault.TheVariants as fault_is
 use Rattle.play_command.specs.declared.line.Files.{Files}
 use Rattle.play_command.specs.declared.line.Line.{Line}
-use Rattle.play_command.specs.declared.line.Line.TheVariants.{Check, Play, Edit, Cover, Map, Text}
+use Rattle.play_command.specs.declared.line.Line.TheVariants.{Check, Doubts, Play, Edit, Cover}
+use Rattle.play_command.specs.declared.line.Line.TheVariants.{Map, Text}
 use Rattle.base_lines.specs.base_limits.Limits.{MAX_SEED, MAX_EVERY, MAX_DIGITS}
 use Rattle.play_command.specs.App.{cave_app}
 use Rattle.std.specs.List.{list_all}
@@ -112,6 +113,10 @@ IsView rows view = IsEditViewGiven (first_of (codes "print") rows) view
 abbrev pub is_strict : List Row → Bool
 is_strict rows = option_map_or (bytes_eq (codes "true")) (first_of (codes "strict") rows) false
 
+-- whether a script may have guards is what was found for it, or it may not
+abbrev pub is_guarded : List Row → Bool
+is_guarded rows = option_map_or (bytes_eq (codes "true")) (first_of (codes "guarded") rows) false
+
 -- what a play prints, where this was found for it, or else the transcript
 abbrev pub IsPlayViewGiven : Option (List ℕ) → PlayView → Type 0
 IsPlayViewGiven None view = view ≡ play.Transcript
@@ -127,11 +132,21 @@ pub record IsEditing (rows : List Row) (editing : Editing) : Type 0 where
   pub every : IsEveryGiven rows editing.every
   pub view : IsView rows editing.view
   pub strict : editing.strict ≡ is_strict rows
+  pub guarded : editing.guarded ≡ is_guarded rows
+
+-- what a check prints was found to be the list of doubts; a strict check prints it unless another
+-- is asked for
+abbrev pub are_doubts_asked : List Row → Bool
+are_doubts_asked rows =
+    option_map_or (bytes_eq (codes "doubts")) (first_of (codes "print") rows) (is_strict rows)
 
 -- the run is what was found for the command of this name
 abbrev pub IsRunOf : List ℕ → List Row → Line → Type 0
 IsRunOf name rows (Check files view) =
     (name ≡ codes "check") × IsFiles rows files × IsCheckView rows view
+IsRunOf name rows (Doubts files strict) =
+    (name ≡ codes "check") × IsFiles rows files × (are_doubts_asked rows ≡ true)
+    × (strict ≡ is_strict rows)
 IsRunOf name rows (Play files log seed view) =
     (name ≡ codes "play") × IsFiles rows files × (first_of (codes "log") rows ≡ Some log.now)
     × IsSeed rows seed × IsPlayView rows view
@@ -200,7 +215,7 @@ IsBadView rows _ = ⊥
 -- what was found for what a check prints names nothing that it may print
 abbrev pub IsBadCheckView : List Row → CommandFault → Type 0
 IsBadCheckView rows (fault_is.BadCheckView name) = (first_of (codes "print") rows ≡ Some name.now)
-    × (check_view_named name.now ≡ None)
+    × (check_view_named name.now ≡ None) × (are_doubts_asked rows ≡ false)
 IsBadCheckView rows _ = ⊥
 
 -- and the same for what is printed of texts

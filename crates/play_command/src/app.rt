@@ -5,13 +5,15 @@ ghost use Rattle.clap.specs.Words.{App, app_of, with_subcommand};
 ghost use Rattle.clap.specs.declared.builder.command.Command.TheViews.{out-Command};
 ghost use Rattle.play_command.specs.App.{IsLocal, cave_app, check_and_play_app, check_app};
 ghost use Rattle.play_command.specs.App.{check_play_and_edit_app, cover_app, edit_app, map_app};
-ghost use Rattle.play_command.specs.App.{plain_app, play_app, with_cover_options, with_game};
-ghost use Rattle.play_command.specs.App.{with_logs, with_options, with_output, with_edit_options};
+ghost use Rattle.play_command.specs.App.{plain_app, play_app, with_check_options};
+ghost use Rattle.play_command.specs.App.{with_cover_options, with_edit_options, with_game};
+ghost use Rattle.play_command.specs.App.{with_logs, with_options, with_output};
 
 use crate::arguments::{
-    bind_argument, cave_argument, check_print_argument, cover_print_argument, edit_print_argument,
-    every_argument, log_argument, logs_argument, output_argument, play_print_argument,
-    script_argument, seed_argument, some_logs_argument, strict_argument,
+    bind_argument, cave_argument, check_print_argument, check_strict_argument,
+    cover_print_argument, edit_print_argument, every_argument, guarded_argument, log_argument,
+    logs_argument, output_argument, play_print_argument, script_argument, seed_argument,
+    some_logs_argument, strict_argument,
 };
 use clap::Command;
 use std::alloc::{AllocError, Global};
@@ -22,7 +24,7 @@ const VERSION: &str = "1.0";
 /// What is under the help of the program.
 const STATUSES: &str = "Exit status:
   0  done, also where edits were refused
-  1  the cave or its bindings are refused
+  1  the cave or its bindings are refused, or doubtful under --strict
   2  the command line is wrong
   3  the log is refused
   4  the script is refused, or an edit under --strict
@@ -62,7 +64,8 @@ An edit that is refused is reported by a number, or ends the run under --strict:
   2  a bad line: too long, or with a byte that no line may have
   3  a full log: it has as many lines as it may
   4  a bad seed: it is too large
-  7  an empty group: nothing is between begin and end";
+  7  an empty group: nothing is between begin and end
+  8  another line: under --guarded, a line `expect N TEXT` found another one or none";
 
 fn check_command<'a>(alloc: Global) -> Result<Command<'a>, AllocError>
     ensures { IfOk result (IsLocal check_app) }
@@ -70,11 +73,19 @@ fn check_command<'a>(alloc: Global) -> Result<Command<'a>, AllocError>
     let command = Command::new(alloc, "check")
         .about("Reads a cave and says whether it is one that can be played")
         .after_help("Example: cave check caves/b.txt --bind caves/b.bind");
-    let command = command
-        .arg(cave_argument(alloc))?
-        .arg(bind_argument(alloc))?
-        .arg(check_print_argument(alloc))?;
+    let command = with_check_options(alloc, command.arg(cave_argument(alloc))?)?;
     with_output(alloc, command)
+}
+
+/// Adds the options of a check: the bindings, what is printed, and whether a doubt ends the run.
+fn with_check_options<'a>(alloc: Global, command: Command<'a>) -> Result<Command<'a>, AllocError>
+    requires { (out-Command command).has_globals ≡ false }
+    ensures { IfOk result (IsLocal (with_check_options (app_of command.entry))) }
+{
+    command
+        .arg(bind_argument(alloc))?
+        .arg(check_print_argument(alloc))?
+        .arg(check_strict_argument(alloc))
 }
 
 /// Adds the option of a file that the output goes into.
@@ -117,8 +128,8 @@ fn with_cover_options<'a>(alloc: Global, command: Command<'a>) -> Result<Command
     with_options(alloc, command)?.arg(cover_print_argument(alloc))
 }
 
-/// Adds the options of an edit alone: the distance of checkpoints, what is printed, and whether a
-/// refused edit ends the run.
+/// Adds the options of an edit alone: the distance of checkpoints, what is printed, whether a
+/// refused edit ends the run, and whether the script may have guards.
 fn with_edit_options<'a>(alloc: Global, command: Command<'a>) -> Result<Command<'a>, AllocError>
     requires { (out-Command command).has_globals ≡ false }
     ensures { IfOk result (IsLocal (with_edit_options (app_of command.entry))) }
@@ -126,14 +137,18 @@ fn with_edit_options<'a>(alloc: Global, command: Command<'a>) -> Result<Command<
     command
         .arg(every_argument(alloc))?
         .arg(edit_print_argument(alloc))?
-        .arg(strict_argument(alloc))
+        .arg(strict_argument(alloc))?
+        .arg(guarded_argument(alloc))
 }
 
 fn play_command<'a>(alloc: Global) -> Result<Command<'a>, AllocError>
     ensures { IfOk result (IsLocal play_app) }
 {
     let command = Command::new(alloc, "play")
-        .about("Plays a log from its first line to its last and prints what is said or the state")
+        .about(
+            "Plays a log from its first line to its last and prints what is said, what each line \
+             did, the score or the state",
+        )
         .after_help(PLAY_EXAMPLE);
     let command = with_options(alloc, with_game(alloc, command)?)?;
     with_output(alloc, command.arg(play_print_argument(alloc))?)
@@ -144,7 +159,8 @@ fn edit_command<'a>(alloc: Global) -> Result<Command<'a>, AllocError>
 {
     let command = Command::new(alloc, "edit")
         .about(
-            "Edits a log by a script, replays what the edits change and prints what the game then says",
+            "Edits a log by a script, replays what the edits change and prints what is then said, \
+             what each line did, the score or the state",
         )
         .after_help(EDIT_EXAMPLE);
     let command = with_game(alloc, command)?.arg(script_argument(alloc))?;

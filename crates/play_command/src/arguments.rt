@@ -5,7 +5,7 @@ ghost use Rattle.clap.specs.Words.{rule_of};
 ghost use Rattle.play_command.specs.App.{bind_argument, cave_argument, every_argument};
 ghost use Rattle.play_command.specs.App.{log_argument, logs_argument, output_argument};
 ghost use Rattle.play_command.specs.App.{print_argument, script_argument, seed_argument};
-ghost use Rattle.play_command.specs.App.{some_logs_argument, strict_argument};
+ghost use Rattle.play_command.specs.App.{guarded_argument, some_logs_argument, strict_argument};
 
 use clap::{Arg, ArgAction};
 use std::alloc::Global;
@@ -114,10 +114,10 @@ pub(crate) fn edit_print_argument<'a>(alloc: Global) -> Arg<'a>
         .value_name("WHAT")
         .help(
             "What is printed: `transcript`, the reports and what the game says, `play`, what it \
-             says alone, `log`, the edited log without its seed, `reports`, what each edit \
-             replayed and what came of it, `steps`, what each line of the edited log did, \
-             `score`, where the score comes from, or `state`, the final state \
-             [default: transcript]",
+             says alone, `log`, the edited log without its seed, `undo`, the script that takes the \
+             edits back, `reports`, what each edit replayed and what came of it, `table`, the \
+             same as a table, `steps`, what each line of the edited log did, `score`, where the \
+             score comes from, or `state`, the final state [default: transcript]",
         )
 }
 
@@ -143,8 +143,10 @@ pub(crate) fn check_print_argument<'a>(alloc: Global) -> Arg<'a>
         .long("print")
         .value_name("WHAT")
         .help(
-            "What is printed: `maximum`, the greatest score, or `bindings`, each key of the \
-             bindings with its number and the first line of the text there [default: maximum]",
+            "What is printed: `maximum`, the greatest score, `bindings`, each key of the bindings \
+             with its number and the first line of the text there, `names`, the object of each \
+             name that rules know, `unused`, the messages that nothing says, or `doubts`, what is \
+             doubtful of the cave [default: maximum]",
         )
 }
 
@@ -161,6 +163,19 @@ pub(crate) fn cover_print_argument<'a>(alloc: Global) -> Arg<'a>
         )
 }
 
+pub(crate) fn check_strict_argument<'a>(alloc: Global) -> Arg<'a>
+    ensures rule { rule_of result ≡ strict_argument }
+    ensures local { result.global ≡ false }
+{
+    Arg::new(alloc, "strict")
+        .long("strict")
+        .action(ArgAction::SetTrue)
+        .help(
+            "Prints `doubts`; where there is one, ends with status 1, and prints and writes only \
+             its line",
+        )
+}
+
 pub(crate) fn strict_argument<'a>(alloc: Global) -> Arg<'a>
     ensures rule { rule_of result ≡ strict_argument }
     ensures local { result.global ≡ false }
@@ -169,4 +184,17 @@ pub(crate) fn strict_argument<'a>(alloc: Global) -> Arg<'a>
         .long("strict")
         .action(ArgAction::SetTrue)
         .help("Where an edit is refused, ends with status 4, and prints and writes only its line")
+}
+
+pub(crate) fn guarded_argument<'a>(alloc: Global) -> Arg<'a>
+    ensures rule { rule_of result ≡ guarded_argument }
+    ensures local { result.global ≡ false }
+{
+    Arg::new(alloc, "guarded")
+        .long("guarded")
+        .action(ArgAction::SetTrue)
+        .help(
+            "Lets SCRIPT have lines `expect N TEXT`: the edit or group after one is refused where \
+             the log has no line N then, or another one",
+        )
 }

@@ -24,14 +24,15 @@ pub enum CommandFault<'a> {
         For more information, try '--help'.\n")]
     BadEvery(&'a str),
     #[error("error: invalid value '{0}' for '--print <WHAT>': wanted is transcript, \
-        play, log, reports, steps, score or state\n\n\
+        play, log, undo, reports, table, steps, score or state\n\n\
         For more information, try '--help'.\n")]
     BadView(&'a str),
     #[error("error: invalid value '{0}' for '--print <WHAT>': wanted is transcript, \
         steps, score or state\n\n\
         For more information, try '--help'.\n")]
     BadPlayView(&'a str),
-    #[error("error: invalid value '{0}' for '--print <WHAT>': wanted is maximum or bindings\n\n\
+    #[error("error: invalid value '{0}' for '--print <WHAT>': wanted is maximum, \
+        bindings, names, unused or doubts\n\n\
         For more information, try '--help'.\n")]
     BadCheckView(&'a str),
     #[error("error: invalid value '{0}' for '--print <WHAT>': wanted is counts or texts\n\n\

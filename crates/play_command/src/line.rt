@@ -18,6 +18,12 @@ pub enum Line<'a> {
         files: Files<'a>,
         view: CheckView,
     },
+    /// What is doubtful of a cave.
+    Doubts {
+        files: Files<'a>,
+        /// Whether a doubt ends the run.
+        strict: bool,
+    },
     Play {
         files: Files<'a>,
         log: &'a str,

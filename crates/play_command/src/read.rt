@@ -1,7 +1,7 @@
 //! Which run the words ask for.
 
 ghost use Rattle.std.specs.Prelude.{◌≡◌, IfOk, IfErr, MatchOption, MatchResult, None, Some, codes};
-ghost use Rattle.std.specs.Prelude.{map, option_map};
+ghost use Rattle.std.specs.Prelude.{false, map, option_map};
 ghost use Rattle.clap.specs.Words.{all_of, fault_of, first_of, kind_of, subcommand_of};
 ghost use Rattle.clap.specs.Words.{subcommand_rows_of};
 ghost use Rattle.clap.specs.declared.error.kind.ErrorKind.TheVariants.{UnknownArgument};
@@ -11,7 +11,7 @@ ghost use Rattle.play_command.specs.Line.{IsBadEvery, IsBadOption, IsBadSeed, Is
 ghost use Rattle.play_command.specs.Line.{IsCheckView, IsCoverView, IsEditing, IsEveryGiven};
 ghost use Rattle.play_command.specs.Line.{IsFiles, IsRun, IsRunMet, IsRunOf, IsRefusal, IsRefused};
 ghost use Rattle.play_command.specs.Line.{IsRequest, IsSeed, IsUnmade, IsView, is_strict, rows_in};
-ghost use Rattle.play_command.specs.Line.{IsBadPlayView, IsPlayView};
+ghost use Rattle.play_command.specs.Line.{IsBadPlayView, IsPlayView, are_doubts_asked, is_guarded};
 
 use crate::app::cave_app;
 use crate::below_zero::seed_below_zero;
@@ -104,8 +104,7 @@ fn run_of<'a>(
         return Err(CommandFault::Incomplete);
     };
     if name == "check" {
-        let view = check_view_in(found)?;
-        return Ok(Line::Check { files, view });
+        return check_of(files, found);
     }
     if name == "cover" {
         return cover_of(alloc, files, found);
@@ -131,6 +130,30 @@ fn run_of<'a>(
         script,
         editing: editing_in(found)?,
     })
+}
+
+/// The run of `check`, of the cave that has these files.
+fn check_of<'a>(files: Files<'a>, found: &ArgMatches<'a>) -> Result<Line<'a>, CommandFault<'a>>
+    requires { IsFiles (rows_in found.now) files }
+    ensures { MatchResult result (IsRunOf (codes "check") (rows_in found.now))
+        (IsUnmade (Some (codes "check", rows_in found.now))) }
+{
+    if are_doubts_asked(found) {
+        let strict = strict_in(found);
+        return Ok(Line::Doubts { files, strict });
+    }
+    let view = check_view_in(found)?;
+    Ok(Line::Check { files, view })
+}
+
+/// Whether the list of doubts is asked for.
+fn are_doubts_asked(found: &ArgMatches<'_>) -> bool
+    ensures { result ≡ are_doubts_asked (rows_in found.now) }
+{
+    match value_in(found, "print") {
+        Some(name) => name == "doubts",
+        None => strict_in(found),
+    }
 }
 
 /// The run of `play`, of a log in the cave that has these files.
@@ -263,6 +286,7 @@ fn play_view_in<'a>(found: &ArgMatches<'a>) -> Result<PlayView, CommandFault<'a>
 }
 
 fn check_view_in<'a>(found: &ArgMatches<'a>) -> Result<CheckView, CommandFault<'a>>
+    requires { are_doubts_asked (rows_in found.now) ≡ false }
     ensures { MatchResult result (IsCheckView (rows_in found.now))
         (IsBadCheckView (rows_in found.now)) }
 {
@@ -283,11 +307,21 @@ fn cover_view_in<'a>(found: &ArgMatches<'a>) -> Result<CoverView, CommandFault<'
     }
 }
 
-/// Whether a refused edit ends the run.
+/// Whether a refused edit, or a doubt, ends the run.
 fn strict_in(found: &ArgMatches<'_>) -> bool
     ensures { result ≡ is_strict (rows_in found.now) }
 {
     match value_in(found, "strict") {
+        Some(text) => text == "true",
+        None => false,
+    }
+}
+
+/// Whether a script may have guards.
+fn guarded_in(found: &ArgMatches<'_>) -> bool
+    ensures { result ≡ is_guarded (rows_in found.now) }
+{
+    match value_in(found, "guarded") {
         Some(text) => text == "true",
         None => false,
     }
@@ -303,5 +337,6 @@ fn editing_in<'a>(found: &ArgMatches<'a>) -> Result<Editing, CommandFault<'a>>
         every: every_in(found)?,
         view: edit_view_in(found)?,
         strict: strict_in(found),
+        guarded: guarded_in(found),
     })
 }

@@ -14,8 +14,8 @@ pub mod text;
 pub use play_logs::fault::LogsFault;
 pub use play_logs::{
     Cause, Cave, CaveError, CaveMachine, CaveReaders, CheckView, CommandFault, Complaint,
-    CoverView, Edit, EditFault, EditView, Editing, FaultSite, Files, Flaw, Input, InputReader,
-    Inputs, Lexicon, Line, LineFlaw, LineText, LogFault, MAX_INPUT_BYTES, Machine, Meter,
-    OpenFault, Piece, PlayFault, PlayView, Report, ScriptFault, Session, Steps, Unopened,
-    command_line, render, run_check, run_edit, run_play,
+    CoverView, DoubtFiles, Edit, EditFault, EditView, Editing, FaultSite, Files, Flaw, Input,
+    InputReader, Inputs, Lexicon, Line, LineFlaw, LineText, LogFault, MAX_INPUT_BYTES, Machine,
+    Meter, OpenFault, Piece, PlayFault, PlayView, Report, ScriptFault, Session, Steps, Unopened,
+    command_line, render, run_check, run_doubts, run_edit, run_play,
 };

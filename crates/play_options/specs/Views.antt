@@ -2,6 +2,7 @@
 use Rattle.std.specs.Prelude.{ℕ, List, bytes_eq, codes, if◌then◌else◌, Option, Some, None}
 use Rattle.play_options.specs.declared.views.CheckView.{CheckView}
 use Rattle.play_options.specs.declared.views.CheckView.TheVariants.{Maximum, Bindings}
+use Rattle.play_options.specs.declared.views.CheckView.TheVariants.{Names, Unused}
 use Rattle.play_options.specs.declared.views.CoverView.{CoverView}
 use Rattle.play_options.specs.declared.views.CoverView.TheVariants.{Counts, Texts}
 use Rattle.play_options.specs.declared.views.PlayView.{PlayView}
@@ -14,15 +15,19 @@ edit_view_named name =
     if bytes_eq name (codes "transcript") then Some asked.Transcript
     else (if bytes_eq name (codes "play") then Some asked.Play
     else (if bytes_eq name (codes "log") then Some asked.Log
+    else (if bytes_eq name (codes "undo") then Some asked.Undo
     else (if bytes_eq name (codes "reports") then Some asked.Reports
+    else (if bytes_eq name (codes "table") then Some asked.Table
     else (if bytes_eq name (codes "steps") then Some asked.Steps
     else (if bytes_eq name (codes "score") then Some asked.Score
-    else (if bytes_eq name (codes "state") then Some asked.FinalState else None))))))
+    else (if bytes_eq name (codes "state") then Some asked.FinalState else None))))))))
 
 abbrev pub check_view_named : List ℕ → Option CheckView
 check_view_named name =
     if bytes_eq name (codes "maximum") then Some Maximum
-    else (if bytes_eq name (codes "bindings") then Some Bindings else None)
+    else (if bytes_eq name (codes "bindings") then Some Bindings
+    else (if bytes_eq name (codes "names") then Some Names
+    else (if bytes_eq name (codes "unused") then Some Unused else None)))
 
 abbrev pub cover_view_named : List ℕ → Option CoverView
 cover_view_named name =

@@ -10,8 +10,12 @@ pub enum EditView {
     Play,
     /// The lines of the edited log.
     Log,
+    /// A script that takes back all edits that were accepted.
+    Undo,
     /// What each edit replayed.
     Reports,
+    /// The same as a table, with what each edit is and what it changed.
+    Table,
     /// What each line of the edited log did.
     Steps,
     /// Where the score of the edited log comes from.
@@ -29,7 +33,9 @@ impl EditView {
             "transcript" => Some(EditView::Transcript),
             "play" => Some(EditView::Play),
             "log" => Some(EditView::Log),
+            "undo" => Some(EditView::Undo),
             "reports" => Some(EditView::Reports),
+            "table" => Some(EditView::Table),
             "steps" => Some(EditView::Steps),
             "score" => Some(EditView::Score),
             "state" => Some(EditView::FinalState),
@@ -49,4 +55,6 @@ pub struct Editing {
     pub view: EditView,
     /// Whether nothing is printed where an edit is refused.
     pub strict: bool,
+    /// Whether lines of the script may be guards.
+    pub guarded: bool,
 }

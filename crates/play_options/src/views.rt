@@ -10,6 +10,10 @@ pub enum CheckView {
     Maximum,
     /// What each key of the bindings is bound to.
     Bindings,
+    /// Which object each name has by which rules know one.
+    Names,
+    /// The messages that nothing can say.
+    Unused,
 }
 
 impl CheckView {
@@ -20,6 +24,8 @@ impl CheckView {
         match name {
             "maximum" => Some(CheckView::Maximum),
             "bindings" => Some(CheckView::Bindings),
+            "names" => Some(CheckView::Names),
+            "unused" => Some(CheckView::Unused),
             _ => None,
         }
     }

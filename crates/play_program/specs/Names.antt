@@ -3,7 +3,8 @@ use Rattle.std.specs.Prelude.{ℕ, List, [], ◌∷◌, ◌++◌, map, Option, N
 use Rattle.std.specs.List.{slice_get}
 use Rattle.cave_play.specs.play_command.declared.line.Files.{Files}
 use Rattle.cave_play.specs.play_command.declared.line.Line.{Line}
-use Rattle.cave_play.specs.play_command.declared.line.Line.TheVariants.{Check, Play, Edit, Cover, Map, Text}
+use Rattle.cave_play.specs.play_command.declared.line.Line.TheVariants.{Check, Doubts, Play, Edit}
+use Rattle.cave_play.specs.play_command.declared.line.Line.TheVariants.{Cover, Map, Text}
 use Rattle.cave_play.specs.declared.fault.Input.{Input}
 use Rattle.cave_play.specs.declared.fault.Input.TheVariants as input
 use Rattle.play_program.specs.declared.names.Names.{Names}
@@ -34,6 +35,7 @@ names_in names = names_by names.files (option_map (λ s. s.now) names.log)
 -- the files that a line names, where it asks for a run
 abbrev pub names_of : Line → Option FileNames
 names_of (Check files view) = Some (names_by files None [] None)
+names_of (Doubts files strict) = Some (names_by files None [] None)
 names_of (Play files log seed view) = Some (names_by files (Some log.now) [] None)
 names_of (Edit files log script editing) =
     Some (names_by files (Some log.now) [] (Some script.now))

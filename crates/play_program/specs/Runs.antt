@@ -1,6 +1,8 @@
 -- The run that a line of the command line asks for.
-use Rattle.std.specs.Prelude.{◌≡◌, ℕ, List, Option, Result, Ok, Err}
+use Rattle.std.specs.Prelude.{◌≡◌, ℕ, List, [], Option, option_map, unwrap_or, Result, Ok, Err}
+use Rattle.cave_play.specs.Doubted.{RunsDoubts}
 use Rattle.cave_play.specs.Input.{InputTexts}
+use Rattle.cave_play.specs.check_doubts.declared.listing.DoubtFiles.{DoubtFiles}
 use Rattle.cave_play.specs.Output.{IsChecked, IsPlayed}
 use Rattle.cave_play.specs.Run as one
 use Rattle.cave_play.specs.Stages.{Stage, cave_stages, play_stages, edit_stages}
@@ -8,8 +10,10 @@ use Rattle.cave_play.specs.Views.{IsEdited}
 use Rattle.cave_play.specs.declared.fault.PlayFault.{PlayFault}
 use Rattle.map_run.specs.Plays.{IsMapped}
 use Rattle.play_cover.specs.Plays.{IsCovered}
+use Rattle.cave_play.specs.play_command.declared.line.Files.{Files}
 use Rattle.cave_play.specs.play_command.declared.line.Line.{Line}
-use Rattle.cave_play.specs.play_command.declared.line.Line.TheVariants.{Check, Play, Edit, Cover, Map, Text}
+use Rattle.cave_play.specs.play_command.declared.line.Line.TheVariants.{Check, Doubts, Play, Edit}
+use Rattle.cave_play.specs.play_command.declared.line.Line.TheVariants.{Cover, Map, Text}
 use Rattle.play_logs.specs.Faults.{RunsLogs, at_none, first_stages}
 use Rattle.play_logs.specs.declared.fault.LogsFault.{LogsFault}
 
@@ -24,12 +28,20 @@ abbrev pub RunsAlone : List Stage → (List ℕ → Type 0)
 RunsAlone stages IsOutput old new ended = (alone : Result (Unit {0}) PlayFault)
     × (ended ≡ ended_alone alone) × one.Runs stages IsOutput old new alone
 
+-- doubts are told of the files of the cave
+pub record AreListed (files : Files) (listed : DoubtFiles) : Type 0 where
+  pub database : listed.database.now ≡ files.cave.now
+  pub bindings : listed.bindings.now ≡ unwrap_or (option_map (λ s. s.now) files.bind) []
+
 -- what the run leaves that a line asks for, over the bytes of its inputs
 abbrev pub RunsLine : Line → InputTexts → List (List ℕ)
     → Option (List ℕ) → Option (List ℕ) → Result (Unit {0}) LogsFault → Type 0
 RunsLine (Check files view) texts logs old new ended =
     RunsAlone (cave_stages texts.database texts.bindings)
     (IsChecked view texts.database texts.bindings) old new ended
+RunsLine (Doubts files strict) texts logs old new ended =
+    (alone : Result (Unit {0}) PlayFault) × (listed : DoubtFiles) × (ended ≡ ended_alone alone)
+    × AreListed files listed × RunsDoubts strict listed texts.database texts.bindings old new alone
 RunsLine (Play files log seed view) texts logs old new ended =
     RunsAlone (play_stages texts.database texts.bindings texts.log seed)
     (IsPlayed texts.database texts.bindings texts.log seed view) old new ended

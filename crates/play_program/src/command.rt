@@ -3,12 +3,14 @@
 ghost use Rattle.std.specs.Prelude.{◌≡◌, ℕ, List, map};
 ghost use Rattle.std.specs.List.{AllZip};
 ghost use Rattle.cave_play.specs.Input.{AreTextsOf, InputTexts, Says, input_left};
-ghost use Rattle.play_program.specs.Runs.{RunsLine, ended_alone};
+ghost use Rattle.play_program.specs.Runs.{AreListed, RunsLine, ended_alone};
 
 use crate::readers::Readers;
 use map_run::run::run_map;
 use play_cover::run::run_cover;
-use play_cover::{Line, LogsFault, PlayFault, run_check, run_edit, run_play};
+use play_cover::{
+    DoubtFiles, Files, Line, LogsFault, PlayFault, run_check, run_doubts, run_edit, run_play,
+};
 use std::alloc::Global;
 use std::io::{Read, Write};
 
@@ -19,6 +21,16 @@ fn alone(ended: Result<(), PlayFault>) -> Result<(), LogsFault>
     match ended {
         Ok(()) => Ok(()),
         Err(fault) => Err(LogsFault::from(fault)),
+    }
+}
+
+/// The files that doubts are told of.
+fn doubt_files<'a>(files: &Files<'a>) -> DoubtFiles<'a>
+    ensures { AreListed files.now result }
+{
+    DoubtFiles {
+        database: files.cave,
+        bindings: files.bind.unwrap_or(""),
     }
 }
 
@@ -38,6 +50,9 @@ pub fn run_command<F: Read, W: Write>(
     let Readers { inputs, logs } = readers;
     match asked {
         Line::Check { view, .. } => alone(run_check(alloc, inputs, *view, output)),
+        Line::Doubts { files, strict } => {
+            alone(run_doubts(alloc, inputs, &doubt_files(files), *strict, output))
+        }
         Line::Play { seed, view, .. } => alone(run_play(alloc, inputs, *seed, *view, output)),
         Line::Edit { editing, .. } => alone(run_edit(alloc, inputs, *editing, output)),
         Line::Cover { seed, view, .. } => {

@@ -22,7 +22,7 @@ impl<'a> Names<'a> {
         ensures { option_map names_in result ≡ names_of asked.now }
     {
         let (files, log, logs, script): (_, _, &'a [&'a str], _) = match asked {
-            Line::Check { files, .. } => (*files, None, &[], None),
+            Line::Check { files, .. } | Line::Doubts { files, .. } => (*files, None, &[], None),
             Line::Play { files, log, .. } => (*files, Some(*log), &[], None),
             Line::Edit {
                 files,

@@ -61,6 +61,16 @@ line 2: refused 1, no such line\n\
 line 3: ok, from 1, met none, played 4 of 5, score 32 of 132, turns 3, at 9\n\
 played 5 lines; from the start it would have been 11\n";
 
+/// The script that takes the edits back.
+pub const UNDO: &str = "begin\ninsert 3 take lamp\nreplace 1 in\nend\ndelete 2\n";
+
+/// What each edit did, as a table.
+pub const TABLE: &str = "line\tedit\ttext\tresult\tfrom\tmet\tplayed\tscore\tturns\tplace\tended\t\
+    differs\n\
+    1\tinsert 2\t# note\tok\t2\t3\t1\t32\t4\t9\t-\t-\n\
+    2\tdelete 9\t\trefused 1\t-\t-\t-\t-\t-\t-\t-\t-\n\
+    3\tgroup of 2\t\tok\t1\tnone\t4\t32\t3\t9\t-\tobjects, visits\n";
+
 /// How the list of keys ends, none of which is bound.
 pub const KEYS_TAIL: &str =
     "\nnum.letters 5\n-- 0 of 156 messages and 2 of 19 places have a text\n";

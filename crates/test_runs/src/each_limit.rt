@@ -19,11 +19,14 @@ fn too_large(input: Input) -> PlayFault {
         Input::Log => return PlayFault::Log(LogFault::TooLarge),
         Input::Script => return PlayFault::Script(ScriptFault::TooLarge),
     };
-    PlayFault::Cave(CaveError {
-        cause: Cause::TooLarge,
-        line: 0,
-        site,
-    })
+    PlayFault::Cave(
+        CaveError {
+            cause: Cause::TooLarge,
+            line: 0,
+            site,
+        },
+        None,
+    )
 }
 
 /// Each input of an edit, and the second log of a run over several.

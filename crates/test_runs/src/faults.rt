@@ -25,11 +25,14 @@ fn complaint_of(alloc: Global, fault: PlayFault) -> Result<String, AllocError> {
 /// Faults, the status of each, and the line that is printed.
 const FAULTS: [(PlayFault, u8, &str); 12] = [
     (
-        PlayFault::Cave(CaveError {
-            cause: Cause::TooLarge,
-            line: 0,
-            site: FaultSite::Bindings,
-        }),
+        PlayFault::Cave(
+            CaveError {
+                cause: Cause::TooLarge,
+                line: 0,
+                site: FaultSite::Bindings,
+            },
+            None,
+        ),
         1,
         "cave: a.bind: the input is too large: bindings have at most 1,048,576 bytes",
     ),

@@ -43,18 +43,24 @@ fn a_reader_that_fails_at_any_byte_is_named_and_no_later_one_is_asked(rt: HostRu
 }
 
 /// Why a database without a byte is refused.
-const NO_END: PlayFault = PlayFault::Cave(CaveError {
-    cause: Cause::NoEnd,
-    line: 1,
-    site: FaultSite::Database,
-});
+const NO_END: PlayFault = PlayFault::Cave(
+    CaveError {
+        cause: Cause::NoEnd,
+        line: 1,
+        site: FaultSite::Database,
+    },
+    None,
+);
 
 /// Why bindings with a key that nobody knows are refused.
-const UNKNOWN_ROLE: PlayFault = PlayFault::Cave(CaveError {
-    cause: Cause::UnknownRole,
-    line: 1,
-    site: FaultSite::Bindings,
-});
+const UNKNOWN_ROLE: PlayFault = PlayFault::Cave(
+    CaveError {
+        cause: Cause::UnknownRole,
+        line: 1,
+        site: FaultSite::Bindings,
+    },
+    None,
+);
 
 /// Why a log is refused whose first line begins with a byte that isn't printable, and one whose
 /// second does.

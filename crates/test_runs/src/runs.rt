@@ -3,14 +3,14 @@
 use crate::caves::{
     CAVE, COVERED_HEAD, COVERED_TAIL, EDITED_LOG, EDITED_PLAY, EDITED_STEPS, EDITED_TEXT,
     KEYS_TAIL, LONG_LOG, LONG_TEXT, MAP_HEAD, MAP_TAIL, REPORTS, SCORE, SCRIPT, SHORT_LOG, STEPS,
-    STEPS_HEAD,
+    STEPS_HEAD, TABLE, UNDO,
 };
 use crate::streams::{Sink, Source};
 use map_run::run::run_map;
 use play_cover::run::run_cover;
 use play_cover::{
-    CaveReaders, CheckView, CoverView, EditView, Editing, Input, Inputs, LogsFault, PlayFault,
-    PlayView, run_check, run_edit, run_play,
+    CaveReaders, CheckView, CoverView, DoubtFiles, EditView, Editing, Input, Inputs, LogsFault,
+    PlayFault, PlayView, run_check, run_doubts, run_edit, run_play,
 };
 use std::alloc::Global;
 use std::io::{Read, Write};
@@ -19,6 +19,7 @@ use std::io::{Read, Write};
 #[derive(Clone, Copy, Debug)]
 pub enum Run {
     Check(CheckView),
+    Doubts,
     Play(PlayView),
     Edit(EditView),
     Cover(CoverView),
@@ -42,7 +43,7 @@ pub const EDIT: Run = Run::Edit(EditView::Transcript);
 pub const COVER: Run = Run::Cover(CoverView::Counts);
 
 /// Each run that the program can be asked for, and what it prints of the usual inputs.
-pub const RUNS: [(Run, Printed); 16] = [
+pub const RUNS: [(Run, Printed); 21] = [
     (
         Run::Check(CheckView::Maximum),
         Printed::Whole("cave ok, maximum 132\n"),
@@ -51,6 +52,15 @@ pub const RUNS: [(Run, Printed); 16] = [
         Run::Check(CheckView::Bindings),
         Printed::Between("msg.answer unbound\n", KEYS_TAIL),
     ),
+    (
+        Run::Check(CheckView::Names),
+        Printed::Between("name\tobject\ttext\nKEYS\tabsent\t\n", "TROLL2\tabsent\t\n"),
+    ),
+    (
+        Run::Check(CheckView::Unused),
+        Printed::Whole("message\ttext\n"),
+    ),
+    (Run::Doubts, Printed::Whole("-- 0 doubts\n")),
     (PLAY, Printed::Whole(LONG_TEXT)),
     (
         Run::Play(PlayView::Steps),
@@ -64,7 +74,9 @@ pub const RUNS: [(Run, Printed); 16] = [
     (EDIT, Printed::Whole(EDITED_TEXT)),
     (Run::Edit(EditView::Play), Printed::Whole(EDITED_PLAY)),
     (Run::Edit(EditView::Log), Printed::Whole(EDITED_LOG)),
+    (Run::Edit(EditView::Undo), Printed::Whole(UNDO)),
     (Run::Edit(EditView::Reports), Printed::Whole(REPORTS)),
+    (Run::Edit(EditView::Table), Printed::Whole(TABLE)),
     (
         Run::Edit(EditView::Steps),
         Printed::Between(STEPS_HEAD, EDITED_STEPS),
@@ -105,7 +117,7 @@ impl Run {
     /// How many of the inputs it reads, the first of them first.
     pub fn inputs(self) -> usize {
         match self {
-            Run::Check(_) => CAVE_INPUTS,
+            Run::Check(_) | Run::Doubts => CAVE_INPUTS,
             Run::Play(_) => 3,
             _ => INPUTS,
         }
@@ -193,6 +205,19 @@ fn check_into<C: Read, B: Read, L: Read, S: Read, W: Write>(
     sink: &mut W,
 ) -> Result<(), PlayFault> {
     run_check(alloc, inputs, view, sink)
+}
+
+fn doubts_into<C: Read, B: Read, L: Read, S: Read, W: Write>(
+    alloc: Global,
+    inputs: &mut Inputs<C, B, L, S>,
+    strict: bool,
+    sink: &mut W,
+) -> Result<(), PlayFault> {
+    let files = DoubtFiles {
+        database: "cave",
+        bindings: "bind",
+    };
+    run_doubts(alloc, inputs, &files, strict, sink)
 }
 
 fn play_into<C: Read, B: Read, L: Read, S: Read, W: Write>(
@@ -316,6 +341,7 @@ impl<'a> Feeds<'a> {
     pub fn run_into(&mut self, alloc: Global, run: Run, sink: &mut Sink) -> Result<(), LogsFault> {
         match run {
             Run::Check(view) => check_into(alloc, &mut self.inputs, view, sink)?,
+            Run::Doubts => doubts_into(alloc, &mut self.inputs, false, sink)?,
             Run::Play(view) => play_into(alloc, &mut self.inputs, self.seed, view, sink)?,
             Run::Edit(view) => {
                 let editing = Editing {
@@ -323,6 +349,7 @@ impl<'a> Feeds<'a> {
                     every: self.every,
                     view,
                     strict: false,
+                    guarded: false,
                 };
                 edit_into(alloc, &mut self.inputs, editing, sink)?;
             }

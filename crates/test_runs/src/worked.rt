@@ -53,7 +53,7 @@ fn the_greatest_target_says_a_message_and_one_whose_test_fails_is_no_way(
 fn a_target_over_the_greatest_is_out_of_range(rt: HostRuntime) -> Result<(), Fail> {
     let end = play_north(rt.alloc(), b"3\n1 1000000 45\n-1\n")?;
     assert!(rt;
-        matches!(end.ended, Err(LogsFault { fault: PlayFault::Cave(fault), .. })
+        matches!(end.ended, Err(LogsFault { fault: PlayFault::Cave(fault, _), .. })
             if fault.cause == Cause::OutOfRange && fault.line == 38)
     );
     assert!(rt; end.output.is_empty());

@@ -21,10 +21,22 @@ fn shown(alloc: Global, words: &[&str]) -> Result<String, AllocError> {
 }
 
 /// Words, and what the answer to them says.
-const ANSWERS: [(&[&str], &str); 30] = [
+const ANSWERS: [(&[&str], &str); 34] = [
     (
         &["cave", "check", "a"],
         "Check { files: Files { cave: \"a\", bind: None, output: None }, view: Maximum }",
+    ),
+    (
+        &["cave", "check", "a", "--print", "unused", "--strict"],
+        "Check { files: Files { cave: \"a\", bind: None, output: None }, view: Unused }",
+    ),
+    (
+        &["cave", "check", "a", "--print", "doubts", "--strict"],
+        "Doubts { files: Files { cave: \"a\", bind: None, output: None }, strict: true }",
+    ),
+    (
+        &["cave", "check", "--print=names", "a"],
+        "Check { files: Files { cave: \"a\", bind: None, output: None }, view: Names }",
     ),
     (
         &["cave", "play", "a", "b", "--seed", "7"],
@@ -55,7 +67,7 @@ const ANSWERS: [(&[&str], &str); 30] = [
         &["cave", "edit", "a", "b", "c"],
         "Edit { files: Files { cave: \"a\", bind: None, output: None }, \
         log: \"b\", script: \"c\", \
-        editing: Editing { seed: 0, every: 50, view: Transcript, strict: false } }",
+        editing: Editing { seed: 0, every: 50, view: Transcript, strict: false, guarded: false } }",
     ),
     (
         &[
@@ -69,7 +81,7 @@ const ANSWERS: [(&[&str], &str); 30] = [
         ],
         "Edit { files: Files { cave: \"a\", bind: None, output: None }, \
         log: \"b\", script: \"c\", \
-        editing: Editing { seed: 3, every: 10000, view: Transcript, strict: false } }",
+        editing: Editing { seed: 3, every: 10000, view: Transcript, strict: false, guarded: false } }",
     ),
     (
         &[
@@ -85,19 +97,25 @@ const ANSWERS: [(&[&str], &str); 30] = [
         ],
         "Edit { files: Files { cave: \"a\", bind: None, output: Some(\"d\") }, \
         log: \"b\", script: \"c\", \
-        editing: Editing { seed: 0, every: 50, view: Log, strict: true } }",
+        editing: Editing { seed: 0, every: 50, view: Log, strict: true, guarded: false } }",
     ),
     (
         &["cave", "edit", "a", "b", "c", "--print=reports"],
         "Edit { files: Files { cave: \"a\", bind: None, output: None }, \
         log: \"b\", script: \"c\", \
-        editing: Editing { seed: 0, every: 50, view: Reports, strict: false } }",
+        editing: Editing { seed: 0, every: 50, view: Reports, strict: false, guarded: false } }",
     ),
     (
         &["cave", "edit", "a", "b", "c", "--print=steps"],
         "Edit { files: Files { cave: \"a\", bind: None, output: None }, \
         log: \"b\", script: \"c\", \
-        editing: Editing { seed: 0, every: 50, view: Steps, strict: false } }",
+        editing: Editing { seed: 0, every: 50, view: Steps, strict: false, guarded: false } }",
+    ),
+    (
+        &["cave", "edit", "--guarded", "a", "b", "c"],
+        "Edit { files: Files { cave: \"a\", bind: None, output: None }, \
+        log: \"b\", script: \"c\", \
+        editing: Editing { seed: 0, every: 50, view: Transcript, strict: false, guarded: true } }",
     ),
     (&["cave", "help", "edit"], "text DisplayHelp"),
     (&["cave", "-V"], "text DisplayVersion"),
@@ -250,7 +268,7 @@ const TEXTS: [(&[&str], &str); 22] = [
     (
         &["cave", "edit", "a", "b", "c", "--print", "text"],
         "error: invalid value 'text' for '--print <WHAT>': wanted is transcript, play, log, \
-        reports, steps, score or state",
+        undo, reports, table, steps, score or state",
     ),
 ];
 
@@ -277,6 +295,7 @@ fn out_of_memory_is_no_other_fault(rt: HostRuntime) {
                         every: 7,
                         view: EditView::Transcript,
                         strict: false,
+                        guarded: false,
                     },
                     ..
                 }

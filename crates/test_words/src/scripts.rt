@@ -4,6 +4,11 @@ use replay_scripts::{Item, Script, ScriptRefusal};
 use std::alloc::{AllocError, Global};
 use std::test::Fail;
 
+/// The script of a text whose lines may be guards, of which nothing is promised.
+fn guarded_script_of(alloc: Global, text: &[u8]) -> Result<Script, ScriptRefusal> {
+    Script::read_guarded(alloc, text)
+}
+
 /// The script of a text, of which nothing is promised.
 fn script_of(alloc: Global, text: &[u8]) -> Result<Script, ScriptRefusal> {
     Script::read(alloc, text)
@@ -14,6 +19,9 @@ fn item_shown(alloc: Global, item: &Item) -> Result<String, AllocError> {
     let mut text = format!(in alloc; "{}:", item.line)?;
     for (edit, line) in item.edits.iter().zip(item.lines.iter()) {
         text.push_str(format!(in alloc; " {edit:?} on {line},")?.as_str())?;
+    }
+    for guard in &item.guards {
+        text.push_str(format!(in alloc; " {guard:?},")?.as_str())?;
     }
     Ok(text)
 }
@@ -71,6 +79,52 @@ fn a_script_has_items(rt: HostRuntime) -> Result<(), Fail> {
     Ok(())
 }
 
+/// The same of a script whose lines may be guards.
+fn guarded_shown(alloc: Global, text: &[u8]) -> Result<String, AllocError> {
+    match guarded_script_of(alloc, text) {
+        Ok(script) => items_shown(alloc, &script.items),
+        Err(fault) => format!(in alloc; "{fault}"),
+    }
+}
+
+/// Scripts whose lines may be guards, with what is reported of them.
+const GUARDED: [(&[u8], &str); 6] = [
+    (
+        b"expect 2 x \n#\nexpect\t0\ndelete 2",
+        "4: Delete(2) on 4, Guard { line: 1, place: 2, text: [120, 32], after: 0 }, \
+        Guard { line: 3, place: 0, text: [], after: 0 },;",
+    ),
+    (
+        b"expect 1 a\nbegin\ndelete 3\nexpect 2 b\nend\ndelete 0",
+        "2: Delete(3) on 3, Guard { line: 1, place: 1, text: [97], after: 0 }, \
+        Guard { line: 4, place: 2, text: [98], after: 1 },;6: Delete(0) on 6,;",
+    ),
+    (
+        b"delete 1\nexpect 1 a\n# x",
+        "line 2 of the script: `expect` without an edit or a group after it",
+    ),
+    (
+        b"expect 1 a\nbegin",
+        "line 2 of the script: `begin` without an `end` after it",
+    ),
+    (
+        b"expect x\ndelete 0",
+        "line 1 of the script: expected an edit, `begin`, `end` or `expect N TEXT`",
+    ),
+    (
+        b" expect 0 x\ndelete 0",
+        "line 1 of the script: expected an edit, `begin`, `end` or `expect N TEXT`",
+    ),
+];
+
+#[test]
+fn a_script_has_guards(rt: HostRuntime) -> Result<(), Fail> {
+    for &(text, want) in &GUARDED {
+        assert_eq!(rt; guarded_shown(rt.alloc(), text)?.as_str(), want);
+    }
+    Ok(())
+}
+
 /// Malformed scripts, and what is reported of them.
 const FAULTS: [(&[u8], &str); 5] = [
     (
@@ -111,6 +165,13 @@ fn out_of_memory_is_no_other_fault(rt: HostRuntime) {
     let text = b"insert 2 take lamp\nbegin\nreplace 0 x\ndelete 1\nend\nseed 3\n";
     match script_of(rt.alloc(), text) {
         Ok(script) => assert_eq!(rt; script.items.len(), 3),
+        Err(fault) => assert_eq!(rt; fault, ScriptRefusal::Memory),
+    }
+    match guarded_script_of(
+        rt.alloc(),
+        b"expect 3 a line of eighteen\nbegin\ndelete 1\nend\n",
+    ) {
+        Ok(script) => assert_eq!(rt; script.items.len(), 1),
         Err(fault) => assert_eq!(rt; fault, ScriptRefusal::Memory),
     }
 }

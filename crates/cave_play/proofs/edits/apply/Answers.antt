@@ -1,15 +1,18 @@
-use Rattle.std.proofs.Common.{◌≡◌, List, None, Some, ◌∙◌, refl, map, subst, arith}
+use Rattle.std.proofs.Common.{◌≡◌, ◌++◌, List, None, Some, ◌∙◌, refl, map, subst, arith}
 use Rattle.std.specs.Prelude.{◌⊎◌}
 use Rattle.std.proofs.lemmas.Result.{err_from_is_err_and}
 use Rattle.cave_play.specs.Strict.{first_strict_fault}
 use Rattle.cave_play.specs.declared.fault.PlayFault.TheVariants as fault
 use Rattle.replay_scripts.specs.Views.{applied_item}
 use Rattle.replay_scripts.specs.declared.script.Item.{Item}
-use Rattle.cave_play.specs.Edits.{IsApplied}
+use Rattle.replay_undo.specs.ScriptText.{groups_in}
+use Rattle.cave_play.specs.Edits.{IsApplied, kept_for}
+use Rattle.cave_play.specs.Undo.{backs_of}
 use Rattle.cave_play.proofs.EditLemmas.{Completes-none, Completes-more, IsApplied-whole}
 use Rattle.cave_play.proofs.EditLemmas.{game_after_items-more}
 use Rattle.cave_play.proofs.StrictLemmas.{first_strict_fault-more, first_strict_fault-here}
 use Rattle.cave_play.proofs.StrictLemmas.{first_strict_fault-end}
+use Rattle.cave_play.proofs.UndoLemmas.{kept-more, kept-whole}
 use Rattle.cave_play.proofs.edits.apply.Goals as goal
 
 pub loop-item-init : goal.loop-item-init
@@ -20,6 +23,7 @@ loop-item-init c =
           Completes-none c.args.editing.view first.machine.rules.cave.now first.every
           (map applied_item c.deref-item-items.result.now) first.game first.checkpoints
           c.args.text.now.items;
+      kept = refl;
       strict = refl;
       game = refl;
       cave = refl;
@@ -40,6 +44,9 @@ loop-item-preserved c =
           _ _ _ _ _ _ _ _ _ _ _ _ c.loop-item-test.true c.item-item.is before.cave before.every
           applies c.in_ok-outcome.ensures.told c.with-totals.ensures.played
           c.with-totals.ensures.lines before.completes;
+      kept = kept-more c.args.editing.view c.args.editing.guarded items place c.item-item.result _ _ _ _ _
+          c.loop-item-test.true c.item-item.is applies.holds.game_is c.in_ok-outcome.ensures.kept
+          before.kept;
       strict = first_strict_fault-more c.args.editing.strict items place c.item-item.result
           _ _ c.loop-item-test.true c.item-item.is _ applies.holds.game_is
           c.in_ok-outcome.ensures.accepted before.strict;
@@ -61,6 +68,17 @@ returns-clause-applied c =
     subst (λ (items : List Item). IsApplied c.args.editing.view (map applied_item items)
     c.args.session.now
     c.args.text.now.items last.text.items last.totals.played last.totals.lines)
+    c.deref-item-items.ensures.value whole
+
+pub returns-clause-kept : goal.returns-clause-kept
+returns-clause-kept c =
+    let last = c.loop-item in
+    let whole =
+    kept-whole c.args.editing.view c.args.editing.guarded c.deref-item-items.result.now last.item-index _ _ _
+    (omega (arith, c.loop-item-test.false)) last.invariant.kept in
+    subst (λ (items : List Item). groups_in last.backs.items
+    ≡ groups_in c.args.backs.now.items
+    ++ kept_for c.args.editing.view (backs_of c.args.editing.guarded (map applied_item items) c.args.session.now.game))
     c.deref-item-items.ensures.value whole
 
 pub returns-clause-accepted : goal.returns-clause-accepted

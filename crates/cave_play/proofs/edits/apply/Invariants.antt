@@ -1,7 +1,10 @@
 -- What came of the items so far, with what is still to come, and the game that comes of it.
-use Rattle.std.proofs.Common.{◌≡◌, ◌≤◌, ◌*◌, ◌^◌, drop, map}
+use Rattle.std.proofs.Common.{◌≡◌, ◌≤◌, ◌*◌, ◌^◌, ◌++◌, drop, map}
 use Rattle.replay_scripts.specs.Views.{applied_item}
+use Rattle.replay_undo.specs.ScriptText.{groups_in}
+use Rattle.cave_play.specs.Edits.{kept_for}
 use Rattle.cave_play.specs.Output.{game_after_items}
+use Rattle.cave_play.specs.Undo.{backs_of}
 use Rattle.cave_play.specs.Strict.{first_strict_fault}
 use Rattle.cave_play.proofs.EditLemmas.{Completes}
 use Rattle.cave_play.proofs.edits.apply.Given as goal
@@ -16,6 +19,10 @@ invariant-loop-item l =
           first.game
           l.session.game first.checkpoints l.session.checkpoints
           l.initial.text.items l.text.items l.totals.played l.totals.lines;
+      kept : groups_in l.backs.items
+          ++ kept_for l.editing.view (backs_of l.editing.guarded left l.session.game)
+          ≡ groups_in l.initial.backs.items
+          ++ kept_for l.editing.view (backs_of l.editing.guarded all first.game);
       strict : first_strict_fault l.editing.strict left l.session.game
           ≡ first_strict_fault l.editing.strict all first.game;
       game : game_after_items left l.session.game ≡ game_after_items all first.game;

@@ -1,75 +1,26 @@
-use Rattle.std.proofs.Common.{◌≡◌, Some, length, sym, subst, ap, ◌∙◌}
-use Rattle.world_packed.specs.replay_marks.Spacing.{IsSpaced}
-use Rattle.cave_replay.specs.replay_edits.Edit.{changes_of, apply_all, Game}
-use Rattle.cave_replay.specs.replay_edits.declared.fault.EditFault.TheVariants as cause
+use Rattle.std.proofs.Common.{refl, sym, ◌∙◌}
 use Rattle.replay_scripts.specs.Views.{applied_item}
-use Rattle.data_bindings.specs.cave_data.CaveView.{CaveView}
-use Rattle.cave_play.specs.Outcome.{standing_of}
-use Rattle.cave_play.specs.Output.{group_refusal}
-use Rattle.cave_play.proofs.EditLemmas.{group_refusal-fresh, accepted_without, refused_by}
-use Rattle.cave_play.proofs.EditLemmas.{game_after_item-accepted, game_after_item-refused}
-use Rattle.cave_play.proofs.EditLemmas.{IsReport-same}
+use Rattle.cave_play.proofs.EditLemmas.{game_after_item-refused}
+use Rattle.cave_play.proofs.GuardLemmas.{item_refusal-unmet}
 use Rattle.cave_play.proofs.edits.edit.Goals as goal
 
-pub returns-in-Ok : goal.returns-in-Ok
-returns-in-Ok c =
-    let old = c.args.session.now in
-    let changes = changes_of c.args.item.now.edits.items in
-    let same = ap changes_of c.deref.ensures.value in
-    let fresh =
-    group_refusal-fresh _ changes old.game.log c.new-meter.result same c.new-meter.ensures in
-    let none = sym fresh ∙ accepted_without _ _ _ c.in-Ok.is c.edit_group.ensures.faults in
-    let made = c.in-Ok.ensures.game ∙ ap (λ said. apply_all said old.game) same
-    ∙ sym (game_after_item-accepted (applied_item c.args.item.now) old.game none) in
-    let cave_is = ap (λ m. m.rules.cave.now) c.in-Ok.ensures.kept.machine in
-    record {
-      applies = record {
-        came = record {
-          accepted = none;
-          report =
-              IsReport-same _ _ _ _ _ _ same c.replay_of.ensures.from c.replay_of.ensures.met
-              c.replay_of.ensures.played c.in-Ok.ensures.report;
-          lines = c.replay_of.ensures.lines ∙ ap (λ (g : Game). length g.log) made;
-          standing = c.replay_of.ensures.standing
-              ∙ ap (λ (k : CaveView). standing_of k c.edit_group.new.self.game) cave_is
-              ∙ ap (standing_of old.machine.rules.cave.now) made;
-        };
-        holds = record {
-          cave_is = cave_is;
-          game_is = made;
-        };
-        every = c.in-Ok.ensures.kept.every;
-        left = subst
-            (λ e. IsSpaced e c.edit_group.new.self.checkpoints
-            (length c.edit_group.new.self.game.log)) c.in-Ok.ensures.kept.every
-            c.replay_of.ensures.spaced;
-      };
-      memory = tt;
-    }
-
-pub returns : goal.returns
-returns c =
+pub returns-in-Some : goal.returns-in-Some
+returns-in-Some c =
+    let item = applied_item c.args.item.now in
     let game = c.args.session.now.game in
-    let fresh =
-    group_refusal-fresh _ (changes_of c.args.item.now.edits.items) game.log c.new-meter.result
-    (ap changes_of c.deref.ensures.value) c.new-meter.ensures in
-    let other : c.in-Err.fault.cause ≡ cause.Memory
-    → ⊥ = λ is. let yes = c.is_memory.ensures.1 is in cc in
-    let some : group_refusal (changes_of c.args.item.now.edits.items) game.log
-    ≡ Some c.in-Err.fault =
-    sym fresh ∙ refused_by _ c.in-Err.fault _ c.in-Err.is other c.edit_group.ensures.faults in
-    let stays = c.in-Err.ensures.refused in
+    let refused =
+    item_refusal-unmet item game.log c.in-Some.refused (sym c.in_ok-refused.ensures ∙ c.in-Some.is) in
     record {
       applies = record {
-        came = some;
+        came = refused;
         holds = record {
-          cave_is = ap (λ s. s.machine.rules.cave.now) stays;
-          game_is = ap (λ s. s.game) stays
-              ∙ sym (game_after_item-refused (applied_item c.args.item.now) game c.in-Err.fault
-              some);
+          cave_is = refl;
+          game_is = sym (game_after_item-refused item game _ refused);
         };
-        every = ap (λ s. s.every) stays;
-        left = ap (λ s. s.checkpoints) stays;
+        every = refl;
+        left = refl;
       };
+      inverse = λ accepted. cc;
+      back_free = λ accepted. cc;
       memory = tt;
     }

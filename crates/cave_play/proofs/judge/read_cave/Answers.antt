@@ -1,49 +1,12 @@
-use Rattle.std.proofs.Common.{subst, ◌∙◌}
-use Rattle.std.proofs.lemmas.Result.{err_from_is_err_and}
-use Rattle.data_bindings.specs.cave_data.Reads.{Reads}
-use Rattle.cave_play.proofs.InputLemmas.{Says-some}
-use Rattle.cave_play.proofs.JudgeLemmas.{IsFoundIn-database, IsFoundIn-bindings, cave_stages-read}
+use Rattle.cave_play.specs.Doubted.{IsReadOf}
+use Rattle.cave_play.specs.Stages.{cave_stages}
+use Rattle.cave_play.proofs.StageLemmas.{Judges-made}
 use Rattle.cave_play.proofs.judge.read_cave.Goals as goal
-
-pub returns-in_err-database : goal.returns-in_err-database
-returns-in_err-database g c =
-    let exit = err_from_is_err_and c.from_residual.result c.from_residual.ensures.1 in
-    let (database, said, refused) = c.in_err-database.ensures.read in
-    let (bindings, others) = Says-some (g.B.Read.remaining c.args.cave.now.bindings) in
-    rw (exit.1, exit.2)
-    (record {
-      judged =
-          (database, bindings, said, others, IsFoundIn-database database bindings _ refused);
-    })
-
-pub returns-in_err-bindings : goal.returns-in_err-bindings
-returns-in_err-bindings g c =
-    let exit =
-    err_from_is_err_and c.from_residual-in_err-bindings.result
-    c.from_residual-in_err-bindings.ensures.1 in
-    let (database, said, read) = c.in_ok-database.ensures.read in
-    let (bindings, others, refused) = c.in_err-bindings.ensures.read in
-    rw (exit.1, exit.2)
-    (record {
-      judged =
-          (database, bindings, said, others, IsFoundIn-bindings database bindings _ read.1 refused);
-    })
 
 pub returns-in-Ok : goal.returns-in-Ok
 returns-in-Ok g c =
-    let (database, said, read) = c.in_ok-database.ensures.read in
-    let (bindings, others, more) = c.in_ok-bindings.ensures.read in
-    let cave = c.in-Ok.cave in
-    let reads =
-    subst (λ d. Reads d bindings cave) (c.deref.ensures.value ∙ read.0)
-    (subst (λ b. Reads c.deref.result.now b cave) (c.deref-2.ensures.value ∙ more.0)
-    c.in-Ok.ensures.found) in
-    record {
-      judged = (
-        database,
-        bindings,
-        said,
-        others,
-        (cave_stages-read database bindings cave reads, reads),
-      );
-    }
+    let (database, bindings, said, others, judged) = c.read_texts.ensures.judged in
+    let read =
+    Judges-made (cave_stages database bindings) (IsReadOf database bindings) c.read_texts.result _
+    c.in-Ok.is judged in
+    record { judged = (database, bindings, said, others, (read.0, read.1.reads)) }

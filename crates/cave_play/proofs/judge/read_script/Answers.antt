@@ -1,7 +1,6 @@
 use Rattle.std.proofs.Common.{subst, sym, ap, ◌∙◌}
-use Rattle.std.specs.Str.Lines.{lines}
 use Rattle.std.proofs.lemmas.Result.{err_from_is_err_and}
-use Rattle.replay_scripts.specs.Script.{IsScript, script_of}
+use Rattle.replay_scripts.specs.Guards.{IsScriptBy, script_by}
 use Rattle.replay_scripts.specs.Views.{items_of}
 use Rattle.cave_play.specs.Stages.{script_stage}
 use Rattle.cave_play.proofs.ScriptLemmas.{few_items}
@@ -13,24 +12,27 @@ pub returns-in_err-text : goal.returns-in_err-text
 returns-in_err-text g c =
     let exit = err_from_is_err_and c.from_residual.result c.from_residual.ensures.1 in
     let (bytes, said, refused) = c.in_err-text.ensures.read in
-    rw (exit.1, exit.2) (record { judged = (bytes, said, IsFoundIn-script bytes _ refused) })
+    rw (exit.1, exit.2)
+    (record { judged = (bytes, said, IsFoundIn-script c.args.guarded bytes _ refused) })
 
 pub returns-in-Ok : goal.returns-in-Ok
 returns-in-Ok g c =
     let (bytes, said, read) = c.in_ok-text.ensures.read in
     let items = c.in-Ok.script.items in
     let same = c.deref.ensures.value ∙ read.0 in
-    let is = ap script_of (sym same) ∙ c.in-Ok.ensures.script in
-    let spelled = subst (λ t. IsScript 1 (lines t) (items_of items)) same c.in-Ok.ensures.grammar in
+    let guarded = c.args.guarded in
+    let is = ap (script_by guarded) (sym same) ∙ c.in-Ok.ensures.script in
+    let spelled = subst (λ t. IsScriptBy guarded t (items_of items)) same c.in-Ok.ensures.grammar in
     record {
       judged = (
         bytes,
         said,
         (
-          first_decided-one (script_stage bytes) (script_fault-none bytes _ read.1 is),
+          first_decided-one (script_stage guarded bytes)
+              (script_fault-none guarded bytes _ read.1 is),
           (
             spelled,
-            few_items items _ bytes c.in-Ok.ensures.grammar same read.1,
+            few_items guarded items _ bytes c.in-Ok.ensures.grammar same read.1,
             is,
           ),
         ),
@@ -45,7 +47,7 @@ returns g c =
       judged = (
         bytes,
         said,
-        IsFoundIn-refused bytes _ c.in-Err.fault read.1 (c.deref.ensures.value ∙ read.0)
-            c.in-Err.ensures.script,
+        IsFoundIn-refused c.args.guarded bytes _ c.in-Err.fault read.1
+            (c.deref.ensures.value ∙ read.0) c.in-Err.ensures.script,
       );
     })

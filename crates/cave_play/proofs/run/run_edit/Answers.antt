@@ -18,8 +18,8 @@ use Rattle.cave_play.proofs.run.run_edit.Goals as goal
 -- the stages of the log and of the script
 abbrev after_cave : List ℕ → List ℕ → Editing → List Stage
 after_cave log script editing =
-    log_stage log ∷ script_stage script
-    ∷ strict_stage editing.strict (game_of editing.seed (lines log)) script ∷ []
+    log_stage log ∷ script_stage editing.guarded script
+    ∷ strict_stage editing.strict (game_of editing.seed (lines log)) editing.guarded script ∷ []
 
 -- the stages after that of the distance of checkpoints
 abbrev after_every : List ℕ → List ℕ → List ℕ → List ℕ → Editing → List Stage

@@ -24,6 +24,29 @@ returns-in-Check g c =
       );
     }
 
+pub returns-in-Doubts : goal.returns-in-Doubts
+returns-in-Doubts g c =
+    let (texts, are, runs) = c.run_doubts.ensures.runs in
+    let (logs, say) = AllSay-some (map g.F.Read.remaining c.args.readers.now.logs.items) in
+    record {
+      runs = (
+        texts,
+        logs,
+        are,
+        say,
+        subst
+            (λ (line : Line). RunsLine line texts logs (g.W.Write.contents c.args.output.now)
+            (g.W.Write.contents c.run_doubts.new.output) c.alone-in-Doubts.result)
+            (sym c.in-Doubts.is) (
+              c.run_doubts.result,
+              c.doubt_files.result,
+              c.alone-in-Doubts.ensures,
+              c.doubt_files.ensures,
+              runs,
+            ),
+      );
+    }
+
 pub returns-in-Play : goal.returns-in-Play
 returns-in-Play g c =
     let (texts, are, runs) = c.run_play.ensures.runs in
