@@ -4,6 +4,7 @@ from collections import namedtuple
 
 from lines import FIELD, LINE_LENGTH, Fault, fields_of, folded, lines_of, number_of
 
+MARKS = ("\xef\xbb\xbf", "\xff\xfe", "\xfe\xff")  # of UTF-8 and of both UTF-16
 PLACE, MESSAGE = (1, 300), (1, 499)
 LONGEST_LIST = 40
 
@@ -112,8 +113,8 @@ def row_of(line, at, section, rows):
             raise Fault(at, cause.format(section, SECTIONS[section]))
     return row
 
-def sections_of(text):
-    """The rows of each section of a database, or its first fault."""
+def numbered_rows(text):
+    """Each row of a database with its line and its section, up to its first fault."""
     sections, section, at = {it: [] for it in SECTIONS}, 0, 0
     for at, line in enumerate(lines_of(text), 1):
         if not (first := FIELD.search(line)):
@@ -121,10 +122,11 @@ def sections_of(text):
         value = number_of(first[0])
         if section and value != -1:
             sections[section].append(row_of(line, at, section, sections[section]))
+            yield at, section, sections[section][-1]
         elif section:
             section = 0
         elif value == 0:
-            return sections
+            return
         elif value in SECTIONS:
             section = value
         else:
@@ -133,6 +135,13 @@ def sections_of(text):
     ends = f"section {section} has to end with -1, and the database with 0"
     says = ends if section else "its last line has to be 0"
     raise Fault(at + 1, f"the database has no end: {says}")
+
+def sections_of(text):
+    """The rows of each section of a database, or its first fault."""
+    sections = {it: [] for it in SECTIONS}
+    for _, section, row in numbered_rows(text):
+        sections[section].append(row)
+    return sections
 
 def last_runs(rows):
     """The lines of the last run of each key: adjacent rows of a key are one run."""
@@ -152,6 +161,25 @@ def keyed_by_object(rows):
         owner = owner if is_prop else number
         yield (owner, number // 100 if is_prop else None), line
 
+def is_near(word, known):
+    """Whether a word is another but for one letter, or for two neighbours that are swapped."""
+    def without_one(of):
+        return {of[:at] + of[at + 1:] for at in range(len(of))}
+    changed = len(word) == len(known) and sum(a != b for a, b in zip(word, known)) == 1
+    swapped = {word[:at] + word[at:at + 2][::-1] + word[at + 2:] for at in range(len(word) - 1)}
+    return changed or known in without_one(word) or word in without_one(known) or known in swapped
+
+def with_mark(judge, text):
+    """What a judge says of a text, of which a byte order mark may spoil the first line."""
+    try:
+        return judge(text)
+    except Fault as fault:
+        if fault.line != 1 or not text.startswith(MARKS):
+            raise
+        cause = fault.message.split(": ")[0]
+        raise Fault(1, f"{cause}: the file begins with a byte order mark: save it without one") \
+            from None
+
 def bindings_of(text):
     """What a text binds, or its first fault."""
     bound = {}
@@ -170,8 +198,10 @@ def bindings_of(text):
         if key in bound:
             raise Fault(at, "the key was bound before: each key is bound at most once")
         if key not in KEYS:
-            raise Fault(at, "the key is not known: expected `msg.` or `place.` with a name that the"
-                            " game knows, or `num.letters`")
+            near = [it for it in KEYS if is_near(key, it)]
+            clue = (f"did you mean {near[0]}?" if len(near) == 1 else
+                    "expected `msg.` or `place.` with a name that the game knows, or `num.letters`")
+            raise Fault(at, f"the key is not known: {clue}")
         bound[key] = int(number)
     return bound
 

@@ -777,28 +777,35 @@ class Player:
 # ---- Scripts
 
 
-def script_for(rng, log, suggestions):
-    """A script of edits of a log; `suggestions` are lines that may come in."""
-    lines, length, is_open = [], len(log), False
+def script_for(rng, log, suggestions, guarded):
+    """A script of edits of a log; `suggestions` are lines that may come in. Where it may have
+    guards, most of them are of the log as all edits before leave it."""
+    lines, now, is_open = [], log[:], False
 
     def text():
         bad = rng.random() < 0.03
         return rng.choice(["x" * 256, "\x7f"] if bad else [*log, *suggestions, "", "  blanks"])
 
     for _ in range(rng.choice([0, 1, 1, 2, 4, 8])):
+        length = len(now)
         place = rng.randrange(length + 1) if rng.random() < 0.9 else rng.randrange(2 * length + 2)
+        if guarded and rng.random() < 0.6:
+            at = place if rng.random() < 0.8 else rng.randrange(length + 2)
+            lines.append(f"expect {at} " + ("".join(now[at:at + 1])
+                                            if rng.random() < 0.8 else text()))
         kind = rng.choice(["insert", "delete", "replace", "seed", "insert", "replace"])
         if kind == "seed":
             lines.append(f"seed {rng.choice([rng.randrange(1 << 31), 7, 2147483648])}")
         else:
-            lines.append(f"{kind} {place}" + (f" {text()}" if kind != "delete" else ""))
-            length += {"insert": 1, "delete": -(length > 0), "replace": 0}[kind]
+            new = [] if kind == "delete" else [text()]
+            lines.append(" ".join([kind, str(place), *new]))
+            now[place:place + (kind != "insert")] = new
         if rng.random() < 0.15:
             lines.append("end" if is_open else "begin")
             is_open = not is_open
         if rng.random() < 0.05:
             lines.append(rng.choice(["# a comment", "", "  ", "begin", "end", "insert", "delete x",
-                                     "insert  1 x", "seed 1 ", "delete 0 0"]))
+                                     "insert  1 x", "seed 1 ", "delete 0 0", "expect 0 x"]))
     return "".join(it + "\n" for it in lines + ["end"] * is_open)
 
 

@@ -1,7 +1,7 @@
 """The program `cave` (docs/PROGRAM.md): its words, files, output, messages and statuses.
 
-What is left out: `map`, `--output`, `--help`, and what `edit --print reports` says with a
-distance of checkpoints above 1, for which the pages leave room.
+What is left out: `map`, `--output`, `--help`, and what `edit --print reports` and `table` say with
+a distance of checkpoints above 1, for which the pages leave room.
 """
 
 import os
@@ -9,20 +9,23 @@ from functools import lru_cache
 from itertools import takewhile
 from re import fullmatch
 
+import checks
 import cover
 import edits
 import scores
-from database import KEYS, PLACES, ROLES, Cave, bindings_of, sections_of
+from database import KEYS, PLACES, ROLES, Cave, bindings_of, sections_of, with_mark
 from lines import GREATEST_SEED, MOST_BYTES, Fault, log_of
 
 FILES = {"check": ["<CAVE>"], "play": ["<CAVE>", "<LOG>"], "edit": ["<CAVE>", "<LOG>", "<SCRIPT>"],
          "cover": ["<CAVE>", "<LOG>..."]}
-PRINTS = {"check": ["maximum", "bindings"], "play": ["transcript", "steps", "score", "state"],
-          "edit": ["transcript", "play", "log", "reports", "steps", "score", "state"],
+PRINTS = {"check": ["maximum", "bindings", "names", "unused", "doubts"],
+          "play": ["transcript", "steps", "score", "state"],
+          "edit": ["transcript", "play", "log", "undo", "reports", "table", "steps", "score", "state"],
           "cover": ["counts", "texts"]}
-OPTIONS = {"--bind": "FILE", "--seed": "N", "--every": "K", "--print": "WHAT", "--strict": None}
-KNOWN = {"check": ["--bind", "--print"], "play": ["--bind", "--seed", "--print"], "edit": OPTIONS,
-         "cover": ["--bind", "--seed", "--print"]}
+OPTIONS = {"--bind": "FILE", "--seed": "N", "--every": "K", "--print": "WHAT", "--strict": None,
+           "--guarded": None}
+KNOWN = {"check": ["--bind", "--print", "--strict"], "play": ["--bind", "--seed", "--print"],
+         "edit": OPTIONS, "cover": ["--bind", "--seed", "--print"]}
 
 class Stop(Exception):
     """The end of a run: its status, and what is said on standard error."""
@@ -95,12 +98,14 @@ def unexpected(word, below_zero, usage):
 def judged_options(command, options):
     """The options, and what they are where they aren't there."""
     number_in("--every", options.get("--every", "50"), 1, 10_000)
-    prints = options.get("--print", PRINTS[command][0])
+    is_strict_check = command == "check" and "--strict" in options
+    prints = options.get("--print", "doubts" if is_strict_check else PRINTS[command][0])
     if prints not in PRINTS[command]:
         *some, last = PRINTS[command]
         raise wrong(f"invalid value '{prints}' for '--print <WHAT>': wanted is"
                     f" {', '.join(some)} or {last}")
     return {"bind": options.get("--bind"), "print": prints, "strict": "--strict" in options,
+            "guarded": "--guarded" in options,
             "seed": number_in("--seed", options.get("--seed", "0"), 0, GREATEST_SEED)}
 
 def number_in(option, text, least, most):
@@ -140,8 +145,8 @@ def judged_as(status, name, judge, *of):
 @lru_cache(maxsize=2)
 def cave_of(name, database, bind, bindings):
     """The cave of a database and of bindings, the last of which are kept for another run."""
-    sections = judged_as(1, name, sections_of, database)
-    return Cave(sections, judged_as(1, bind, bindings_of, bindings))
+    sections = judged_as(1, name, with_mark, sections_of, database)
+    return Cave(sections, judged_as(1, bind, with_mark, bindings_of, bindings))
 
 # ---- Commands
 
@@ -163,6 +168,18 @@ def bindings_lines(cave):
     yield (f"-- {counts['msg']} of {len(ROLES)} messages and {counts['place']} of {len(PLACES)}"
            " places have a text")
 
+def check_lines(cave, options, name, database, bindings):
+    """What is asked for of a cave."""
+    what, bind = options["print"], options["bind"]
+    if what == "doubts":
+        found = checks.doubts(cave, name, database, bind, bindings)
+        if found and options["strict"]:
+            raise Stop(1, f"cave: {found[0]}\n")
+        return [*found, f"-- {len(found)} doubts"]
+    views = {"bindings": bindings_lines, "names": checks.names_lines,
+             "unused": checks.unused_lines}
+    return views[what](cave) if what in views else [f"cave ok, maximum {cave.greatest_score()}"]
+
 def stretch(group, log, new_log, old, new):
     """Where a replay begins, the place where it meets the old play or None, and how many lines it
     plays. `old` and `new` are the states at all places, each of which is a checkpoint, but the end
@@ -171,6 +188,7 @@ def stretch(group, log, new_log, old, new):
     for edit in group.edits:
         if edit.kind == "seed":
             prefix = 0
+        if edit.kind in ("seed", "expect"):
             continue
         prefix = min(prefix, edit.number)
         suffix = min(suffix, length - edit.number - (edit.kind != "insert"))
@@ -184,16 +202,18 @@ def stretch(group, log, new_log, old, new):
 
 def run_edit(cave, file, log, script, options):
     """Edits a log by a script, and gives what is printed, as lines."""
-    seed, reports, replays = options["seed"], [], options["print"] == "reports"
+    seed, reports, backs, rows = options["seed"], [], [], []
+    replays = options["print"] in ("reports", "table")
     before, played, wanted = edits.play(cave, seed, log, True) if replays else None, 0, 0
     for group in script:
         try:
             new_seed, new_log = edits.apply_group(group, seed, log)
         except edits.Refused as refused:
-            said, words = f"refused {refused.fault}", f", {edits.WORDS[refused.fault]}"
+            said, words = f"refused {refused.fault}", f", {refused.words}"
             if options["strict"]:
                 raise Stop(4, f"cave: {file}:{refused.line}: {said}{words}\n") from None
             reports.append(f"line {refused.line}: {said}{words if replays else ''}")
+            rows.append([refused.line, edits.words_of(group), "", said, *["-"] * 8])
             continue
         report = f"line {group.line}: ok"
         if replays:
@@ -202,11 +222,20 @@ def run_edit(cave, file, log, script, options):
             report += (f", from {start}, met {'none' if met is None else met}, played {count} of"
                        f" {len(new_log)}, {edits.score_and_turns(after.game)}, at {after.game.here}"
                        + (f", ended: {after.game.ended}" if after.game.ended else ""))
+            rows.append([group.line, edits.words_of(group), edits.text_of(group, log), "ok", start,
+                         "none" if met is None else met, count, after.game.score(),
+                         after.game.turns, after.game.here, after.game.ended or "-",
+                         edits.differences(before.states[-1], after.states[-1])])
             before, played, wanted = after, played + count, wanted + len(new_log)
         reports.append(report)
+        backs.append(edits.undo_of(group, seed, log, options["guarded"]))
         seed, log = new_seed, new_log
+    if options["print"] == "table":
+        return ["\t".join(map(str, row)) for row in [edits.TABLE, *rows]]
     if replays:
         return [*reports, f"played {played} lines; from the start it would have been {wanted}"]
+    if options["print"] == "undo":
+        return [line for lines in reversed(backs) for line in lines]
     if options["print"] == "steps":
         return edits.steps(cave, seed, log)
     ended = edits.play(cave, seed, log)
@@ -234,15 +263,14 @@ def run_words(words):
             most = "at most 1,048,576 bytes"
             raise Stop(1, f"cave: {name}: the input is too large: {says} {most}\n")
     cave = cave_of(names[0], database, bind, bindings)
-    if command == "check" and options["print"] == "bindings":
-        return bindings_lines(cave)
     if command == "check":
-        return [f"cave ok, maximum {cave.greatest_score()}"]
+        return check_lines(cave, options, names[0], database, bindings)
     if command == "cover":
         return run_cover(cave, names[1:], files[2:], options)
     log = judged_as(3, names[1], log_of, text_of(files[2]))
     if command == "edit":
-        script = judged_as(4, names[2], edits.script_of, text_of(files[3]))
+        script = judged_as(4, names[2], edits.script_of, text_of(files[3]),
+                           options["guarded"])
         return run_edit(cave, names[2], log, script, options)
     if options["print"] == "steps":
         return edits.steps(cave, options["seed"], log)
