@@ -41,6 +41,7 @@ checks:
 	tools/counts --check
 	tools/check-checks
 	logs/tools/check-documents
+	logs/tools/plant --check
 	logs/tools/check-runner
 	tools/check-completions
 
@@ -60,6 +61,7 @@ test: checks
 	logs/tools/check-large-cave $(PROGRAM)
 	logs/tools/check-coverage $(PROGRAM)
 	logs/tools/check-maps $(PROGRAM)
+	logs/tools/check-undo $(PROGRAM)
 	tools/prefixes --lines $(PROGRAM)
 	tools/prefixes $(PROGRAM)
 	tools/check-memory
@@ -78,6 +80,7 @@ suite: checks $(PROGRAM)
 	@logs/tools/check-large-cave $(PROGRAM)
 	@logs/tools/check-coverage $(PROGRAM)
 	@logs/tools/check-maps $(PROGRAM)
+	@logs/tools/check-undo $(PROGRAM)
 	@model/suite
 
 # Plays random games, and reads mutated databases, with the program and with the model in Python, and
