@@ -1,18 +1,15 @@
 -- One object more falls.
 use Rattle.std.proofs.Common.{◌≡◌, ℕ, zero, suc, ◌-◌, ◌<◌, refl, arith}
-use Rattle.turn_text.specs.cave_data.CaveView.{CaveView}
-use Rattle.cave_turn.specs.Revival.{layout_after_fall, layout_after_falls}
-use Rattle.turn_text.specs.world_objects.Objects.{Layout}
+use Rattle.cave_verbs.specs.verb_commands.turn_rules.Effects.{for_each_down_from}
 
--- of the objects up to a number the last one falls first
-pub falling-one : (cave : CaveView) (place n : ℕ) (o : Layout) → 0 < n
-    → layout_after_falls cave place n o
-    ≡ layout_after_falls cave place (n - 1) (layout_after_fall cave place n o)
-unfolding layout_after_falls
-falling-one cave place zero o some = absurd (omega (arith, some))
-falling-one cave place (suc n) o some = let less : suc n - 1 ≡ n = omega arith in rw less refl
+-- of the numbers from one down it comes first
+pub first-down : {S : Type 0} (n : ℕ) (what : ℕ → S → S) (s : S) → 0 < n
+    → for_each_down_from n what s ≡ for_each_down_from (n - 1) what (what n s)
+unfolding for_each_down_from
+first-down zero what s some = absurd (omega (arith, some))
+first-down (suc n) what s some = let less : suc n - 1 ≡ n = omega arith in rw less refl
 
--- and where there are none, nothing falls
-pub fallen-none : (cave : CaveView) (place : ℕ) (o : Layout) → layout_after_falls cave place 0 o ≡ o
-unfolding layout_after_falls
-fallen-none cave place o = refl
+-- and where there are none, nothing is done
+pub none-down : {S : Type 0} (what : ℕ → S → S) (s : S) → for_each_down_from 0 what s ≡ s
+unfolding for_each_down_from
+none-down what s = refl

@@ -10,12 +10,13 @@ use Rattle.turn_text.specs.cave_world.declared.ending.Question.{Question}
 use Rattle.turn_text.specs.cave_world.declared.ending.Question.TheVariants as question
 use Rattle.turn_text.specs.cave_world.declared.state.State.{State}
 use Rattle.turn_begin.specs.turn_scene.Scene.{Scene, scene_at_start, after_saying, with_state}
-use Rattle.cave_verbs.specs.verb_commands.turn_rules.Rows.{Effect, deed, by_table_about, given}
-use Rattle.cave_verbs.specs.verb_commands.turn_rules.Rows.{after_all}
+use Rattle.turn_begin.specs.rule_rows.declared.tables.Table.TheVariants as table
+use Rattle.cave_verbs.specs.verb_commands.turn_rules.Rows.{Effect, always, deed, by_rows_about}
+use Rattle.cave_verbs.specs.verb_commands.turn_rules.Rows.{after_all, noted, note_row}
 use Rattle.cave_verbs.specs.verb_commands.turn_rules.Tests.{start}
 use Rattle.cave_verbs.specs.verb_commands.turn_rules.Effects.{say, take_hint, set_charge}
 use Rattle.turn_moves.specs.turn_ends.Endings.{end_as}
-use Rattle.turn_moves.specs.turn_ends.Questions.{is_dragon, after_question}
+use Rattle.turn_moves.specs.turn_ends.Questions.{is_dragon, after_question, question_row}
 use Rattle.turn_hints.specs.Hints.{price_rows, give_rows}
 use Rattle.cave_turn.specs.Dragon.{fight}
 use Rattle.cave_turn.specs.Effects.{arrive}
@@ -45,7 +46,7 @@ INSTRUCTED_CHARGE = 1000
 
 unfoldable pub give_instructions : List (Effect Question)
 give_instructions =
-    say role.Instructions ∷ take_hint (given INSTRUCTIONS_HINT) ∷ set_charge (pos INSTRUCTED_CHARGE)
+    say role.Instructions ∷ take_hint (always INSTRUCTIONS_HINT) ∷ set_charge (pos INSTRUCTED_CHARGE)
     ∷ arrive start ∷ []
 
 unfoldable pub quit : List (Effect Question)
@@ -57,17 +58,21 @@ answers_to question.Welcome = (give_instructions, arrive start ∷ [])
 answers_to question.Quit = (quit, say role.Ok ∷ [])
 answers_to question.ScoreQuit = (quit, say role.Ok ∷ [])
 answers_to question.Die = (come_back, bury)
-answers_to (question.Hint h) = (by_table_about (given h) price_rows ∷ [], say role.Ok ∷ [])
-answers_to (question.Take h) = (by_table_about (given h) give_rows ∷ [], say role.Ok ∷ [])
+answers_to (question.Hint h) =
+    (by_rows_about (always h) (noted table.HintPrice price_rows) ∷ [], say role.Ok ∷ [])
+answers_to (question.Take h) =
+    (by_rows_about (always h) (noted table.HintGiven give_rows) ∷ [], say role.Ok ∷ [])
 answers_to question.Oyster =
-    (say role.OysterHint ∷ take_hint (given CLUE_HINT) ∷ [], say role.Ok ∷ [])
+    (say role.OysterHint ∷ take_hint (always CLUE_HINT) ∷ [], say role.Ok ∷ [])
 answers_to question.Dragon = (fight, [])
 
 abbrev pub after_yes : CaveView → Question → Scene → Scene
-after_yes cave q p = (after_all (answers_to q).0 (deed cave q p)).scene
+after_yes cave q p =
+    (after_all (note_row table.Yes (question_row q) ∷ (answers_to q).0) (deed cave q p)).scene
 
 abbrev pub after_no : CaveView → Question → Scene → Scene
-after_no cave q p = (after_all (answers_to q).1 (deed cave q p)).scene
+after_no cave q p =
+    (after_all (note_row table.No (question_row q) ∷ (answers_to q).1) (deed cave q p)).scene
 
 -- what is neither leaves the question open, and its message is said again
 abbrev pub reply_scene : CaveView → Question → Answer → Scene → Scene

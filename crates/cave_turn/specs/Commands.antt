@@ -19,10 +19,11 @@ use Rattle.turn_moves.specs.turn_ends.Questions.{after_ask}
 use Rattle.turn_moves.specs.Arrival.{after_arrival, description_anew}
 use Rattle.turn_moves.specs.Journeys.{journey_by_request}
 use Rattle.turn_begin.specs.turn_scene.Scene.{Scene, scene_at_start, after_telling, after_saying}
-use Rattle.turn_begin.specs.turn_scene.Scene.{with_state, after_draw, happens, thing}
+use Rattle.turn_begin.specs.turn_scene.Scene.{with_state, after_draw, happens, thing, after_row}
 use Rattle.turn_begin.specs.turn_things.Effects.{with_talk, with_dwarves}
+use Rattle.turn_begin.specs.rule_rows.declared.tables.Table.TheVariants as table
 use Rattle.cave_verbs.specs.verb_commands.turn_rules.Rows.{Act, Row, act_of, deed, plain_row}
-use Rattle.cave_verbs.specs.verb_commands.turn_rules.Rows.{chance_row, by_table, otherwise}
+use Rattle.cave_verbs.specs.verb_commands.turn_rules.Rows.{chance_row, otherwise, by_table}
 use Rattle.cave_verbs.specs.verb_commands.turn_rules.Tests.{percent}
 use Rattle.cave_verbs.specs.verb_commands.turn_rules.Effects.{say}
 use Rattle.cave_verbs.specs.verb_commands.Rows.{command_of}
@@ -49,16 +50,16 @@ with_magic_waiting s =
     with_talk (record (s.talk) { magic = int_min (pos 0) (pos 0 -ℤ s.talk.magic) }) s
 
 -- a knife that was thrown elsewhere is forgotten
-abbrev pub knife_here : ℕ → Knife → Knife
-knife_here here (knife.At place) = if place == here then knife.At place else knife.Unthrown
-knife_here here other = other
+abbrev pub kept_knife : ℕ → Knife → Knife
+kept_knife here (knife.At place) = if place == here then knife.At place else knife.Unthrown
+kept_knife here other = other
 
 abbrev pub with_knife : Knife → State → State
 with_knife k s = with_dwarves (record (s.dwarves) { knife = k }) s
 
 unfoldable pub begin_command : State → State
 begin_command s =
-    let t = with_magic_waiting s in with_knife (knife_here t.trail.here t.dwarves.knife) t
+    let t = with_magic_waiting s in with_knife (kept_knife t.trail.here t.dwarves.knife) t
 
 unfoldable pub after_travel : CaveView → ℕ → Scene → Scene
 after_travel cave motion p =
@@ -73,7 +74,8 @@ puzzle_rows =
 
 -- a draw is made before, whatever comes of it
 unfoldable pub after_puzzle : CaveView → Scene → Scene
-after_puzzle cave p = (by_table puzzle_rows (deed cave (happens 20 p) (after_draw p))).scene
+after_puzzle cave p =
+    (by_table table.UnknownWord puzzle_rows (deed cave (happens 20 p) (after_draw p))).scene
 
 abbrev pub after_vanished_knives : Scene → Scene
 after_vanished_knives p = after_saying role.Knife (with_state (with_knife knife.Vanished p.state) p)
@@ -108,14 +110,14 @@ done_by_request cave (request.Act number x word) p =
 done_by_request cave (request.WhatToDo word) p =
     act_of (after_telling (part.Word line.WhatToDo word) p) next_is.Stay
 
--- what is kept for the next command: the verb that asks what it is to be done to, or what was said
--- so far where the verb is missing or a word isn't known
-abbrev pub half_command_kept : Request → Next → HalfCommand → Option HalfCommand
+-- what is kept for the next command, by the number of its row: the verb that asks what it is to be
+-- done to, or what was said so far where the verb is missing or a word isn't known
+abbrev pub half_command_kept : Request → Next → HalfCommand → ℕ × Option HalfCommand
 half_command_kept (request.Act number x word) next_is.Keep half =
-    Some (record { verb = Some number; object = 0 })
-half_command_kept (request.WhatToDo word) next half = Some half
-half_command_kept request.Unknown next half = Some half
-half_command_kept _ next half = None
+    (1, Some (record { verb = Some number; object = 0 }))
+half_command_kept (request.WhatToDo word) next half = (2, Some half)
+half_command_kept request.Unknown next half = (3, Some half)
+half_command_kept _ next half = (4, None)
 
 -- what is kept is remembered; where nothing is, the object that was read is the last one
 abbrev pub after_remembering : Option HalfCommand → ℕ → State → State
@@ -129,12 +131,14 @@ kept_scene kept x p = with_state (after_remembering kept x p.state) p
 unfoldable pub scene_of_understood : CaveView → Understood → Scene → Scene
 scene_of_understood cave u p =
     let done = done_by_request cave u.request p in
-    kept_scene (half_command_kept u.request done.step u.half) u.half.object done.scene
+    let kept = half_command_kept u.request done.step u.half in
+    kept_scene kept.1 u.half.object (after_row table.HalfCommand kept.0 done.scene)
 
 -- an input line has a first word
 abbrev pub scene_of_words : CaveView → Option (List ℕ) → Option (List ℕ) → Scene → Scene
 scene_of_words cave None next p = p
-scene_of_words cave (Some word) next p = scene_of_understood cave (read_words cave word next p) p
+scene_of_words cave (Some word) next p =
+    let read = read_words cave word next p in scene_of_understood cave read.step read.scene
 
 -- a command that isn't read leaves nothing for the next line
 abbrev pub unread_scene : Scene → Scene

@@ -1,5 +1,5 @@
 -- The dragon that is fought with bare hands.
-use Rattle.std.specs.Prelude.{ℕ, zero, suc, ◌+◌, ◌/◌, Bool, ◌==◌, ◌&&◌, ◌||◌, not, if◌then◌else◌}
+use Rattle.std.specs.Prelude.{ℕ, ◌+◌, ◌/◌, Bool, ◌==◌, ◌&&◌, ◌||◌, not, if◌then◌else◌}
 use Rattle.std.specs.Prelude.{List, [], ◌∷◌}
 use Rattle.turn_text.specs.data_numbers.Numbers.{LAST_OBJECT}
 use Rattle.turn_text.specs.cave_data.CaveView.{CaveView}
@@ -12,7 +12,7 @@ use Rattle.turn_begin.specs.turn_things.Props.{DRAGON_DEAD, DRAGON_DYING, RUG_FR
 use Rattle.cave_verbs.specs.verb_commands.turn_rules.Rows.{Deed, Effect}
 use Rattle.cave_verbs.specs.verb_commands.turn_rules.Tests.{the, here}
 use Rattle.cave_verbs.specs.verb_commands.turn_rules.Effects.{look, set_prop, fix, loosen, move}
-use Rattle.cave_verbs.specs.verb_commands.turn_rules.Effects.{in_objects}
+use Rattle.cave_verbs.specs.verb_commands.turn_rules.Effects.{in_objects, for_each_from}
 use Rattle.cave_turn.specs.Effects.{arrive, stand}
 
 -- between two places; where one is none, the other; where both are none, here
@@ -36,17 +36,15 @@ is_by_dragon cave o x =
     let b = second_home cave (thing cave name.Dragon) in
     (not (a == 0) && is_first_at o a x) || (not (b == 0) && is_first_at o b x)
 
--- the objects up to a number, one after another, are moved from the places of the dragon to one
-unfoldable pub after_gathering : CaveView → ℕ → ℕ → Layout → Layout
-after_gathering cave place zero o = o
-after_gathering cave place (suc n) o =
-    let before = after_gathering cave place n o in if is_by_dragon cave before (suc n)
-    then after_move_to before (suc n) place else before
+-- an object that is by the dragon is moved to a place
+abbrev pub after_gathering : CaveView → ℕ → ℕ → Layout → Layout
+after_gathering cave place x o = if is_by_dragon cave o x then after_move_to o x place else o
 
--- all that is by the dragon is moved to one place
+-- all that is by the dragon is
 abbrev pub gather : (Deed Question → ℕ) → Effect Question
 gather place d =
-    in_objects (after_gathering d.cave (place d) LAST_OBJECT d.scene.state.objects) d
+    in_objects (for_each_from 1 LAST_OBJECT (after_gathering d.cave (place d))
+    d.scene.state.objects) d
 
 -- the dragon is dead, its rug is loose beside it, and all that was there is where the player is
 unfoldable pub fight : List (Effect Question)

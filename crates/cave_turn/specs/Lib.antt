@@ -13,6 +13,7 @@ pub use Rattle.cave_verbs.specs as cave_verbs
 pub use Rattle.turn_text.specs.cave_words as cave_words
 pub use Rattle.turn_text.specs.cave_world as cave_world
 pub use Rattle.turn_text.specs.data_rows as data_rows
+pub use Rattle.turn_begin.specs.rule_rows as rule_rows
 pub use Rattle.turn_begin.specs as turn_begin
 pub use Rattle.turn_clocks.specs as turn_clocks
 pub use Rattle.turn_moves.specs.turn_dwarves as turn_dwarves

@@ -2,8 +2,9 @@
 use Rattle.std.specs.Prelude.{ℕ, Bool, false, ◌==◌, [], ◌∷◌, Option, Some, None}
 use Rattle.turn_begin.specs.turn_scene.Scene.{is_called}
 use Rattle.turn_begin.specs.turn_things.Props.{PLANT_SMALL}
-use Rattle.cave_verbs.specs.verb_commands.turn_rules.Rows.{Deed, Test, Thing, answer_row}
-use Rattle.cave_verbs.specs.verb_commands.turn_rules.Rows.{answer_by_rows, always, otherwise_row}
+use Rattle.turn_begin.specs.rule_rows.declared.tables.Table.TheVariants as table
+use Rattle.cave_verbs.specs.verb_commands.turn_rules.Rows.{Deed, Test, Thing, answer_row, always}
+use Rattle.cave_verbs.specs.verb_commands.turn_rules.Rows.{otherwise_row, Act, act_by_table}
 use Rattle.cave_verbs.specs.verb_commands.turn_rules.Tests.{the, either, both, in_hand, near}
 use Rattle.cave_verbs.specs.verb_commands.turn_rules.Tests.{is_here, other_prop, dwarf, in_bottle}
 use Rattle.cave_verbs.specs.verb_commands.turn_rules.Tests.{in_lake, at_one_of, at_from_to}
@@ -57,8 +58,8 @@ abbrev pub leads : Motion → Deed NamedObject → ObjectWord
 leads m d = Leads (motion_number m)
 
 -- what the word of an object says
-unfoldable pub object_word : Deed NamedObject → ObjectWord
-object_word d = answer_by_rows
+unfoldable pub object_word : Deed NamedObject → Act ObjectWord
+object_word d = act_by_table table.ObjectWord
     (answer_row (either (is_here object) (in_hand object) ∷ []) (stands_for object)
     ∷ answer_row (word_names name.Grate ∷ at_one_of (1 ∷ 4 ∷ 7 ∷ []) ∷ []) (leads motion.Depression)
     ∷ answer_row (word_names name.Grate ∷ at_from_to 10 14 ∷ []) (leads motion.Entrance)

@@ -17,13 +17,15 @@ use Rattle.turn_text.specs.cave_world.declared.part.Part.TheVariants as part
 use Rattle.turn_text.specs.cave_world.declared.part.WordLine.TheVariants as line
 use Rattle.turn_text.specs.cave_world.declared.talk.Talk.{Talk}
 use Rattle.turn_begin.specs.turn_scene.Scene.{Scene, or_no_object}
+use Rattle.turn_begin.specs.rule_rows.declared.tables.Table.TheVariants as table
 use Rattle.cave_verbs.specs.verb_commands.turn_rules.Rows.{Deed, Test, Effect, deed, row_then}
-use Rattle.cave_verbs.specs.verb_commands.turn_rules.Rows.{answer_row, answer_by_rows}
-use Rattle.cave_verbs.specs.verb_commands.turn_rules.Rows.{otherwise_row}
+use Rattle.cave_verbs.specs.verb_commands.turn_rules.Rows.{answer_row, otherwise_row, Act, act_of}
+use Rattle.cave_verbs.specs.verb_commands.turn_rules.Rows.{answer_by_table}
 use Rattle.cave_verbs.specs.verb_commands.turn_rules.Tests.{the, no, either, both, is_here, in_lake}
 use Rattle.cave_verbs.specs.verb_commands.Verbs.{verb_number}
 use Rattle.cave_verbs.specs.verb_commands.declared.verb.Verb.{Verb}
 use Rattle.cave_verbs.specs.verb_commands.declared.verb.Verb.TheVariants as verb
+use Rattle.cave_verbs.specs.verb_commands.turn_rules.Effects.{in_scene}
 use Rattle.cave_turn.specs.ObjectWords.{is_verb_of, object_word}
 use Rattle.cave_turn.specs.declared.object_words.ObjectWord.{ObjectWord}
 use Rattle.cave_turn.specs.declared.object_words.ObjectWord.TheVariants as object_is
@@ -117,57 +119,58 @@ abbrev pub put_pour : Effect Phrase
 put_pour d = record d { about = record (d.about) { next = Some (pour_in d.cave) } }
 
 -- what is asked for, with the half command as it is then
-abbrev pub asks_for : Request → Deed Phrase → Understood
-asks_for asked d = record { half = d.about.half; request = asked }
+abbrev pub asks_for : Request → Deed Phrase → Act Understood
+asks_for asked d = act_of d.scene (record { half = d.about.half; request = asked })
 
-abbrev pub travels : Deed Phrase → Understood
+abbrev pub travels : Deed Phrase → Act Understood
 travels d = asks_for (request.Motion (number d)) d
 
-abbrev pub says : Role → Deed Phrase → Understood
+abbrev pub says : Role → Deed Phrase → Act Understood
 says r d = asks_for (request.Tell (part.Role r)) d
 
-abbrev pub tells_message : Deed Phrase → Understood
+abbrev pub tells_message : Deed Phrase → Act Understood
 tells_message d = asks_for (request.Tell (part.Message (number d))) d
 
 -- the word is said aloud
-abbrev pub echoes : Deed Phrase → Understood
+abbrev pub echoes : Deed Phrase → Act Understood
 echoes d = asks_for (request.Tell (part.Word line.Okay d.about.word.word)) d
 
 -- a verb is done to an object, or to none
-abbrev pub acts : ℕ → ℕ → Deed Phrase → Understood
+abbrev pub acts : ℕ → ℕ → Deed Phrase → Act Understood
 acts v x d = asks_for (request.Act v x d.about.word.word) d
 
 -- the verb is done to no object
-abbrev pub acts_alone : Deed Phrase → Understood
+abbrev pub acts_alone : Deed Phrase → Act Understood
 acts_alone d = acts (number d) 0 d
 
 -- the verb is done to the object, if there is one; without a verb the player is asked what to do
-abbrev pub acts_by : Option ℕ → Deed Phrase → Understood
+abbrev pub acts_by : Option ℕ → Deed Phrase → Act Understood
 acts_by (Some v) d = acts v d.about.half.object d
 acts_by None d = asks_for (request.WhatToDo d.about.word.word) d
 
-abbrev pub acts_by_verb : Deed Phrase → Understood
+abbrev pub acts_by_verb : Deed Phrase → Act Understood
 acts_by_verb d = acts_by d.about.half.verb d
 
 -- what the word of an object comes to
-abbrev pub object_comes_to : Bool → Deed Phrase → ObjectWord
+abbrev pub object_comes_to : Bool → Deed Phrase → Act ObjectWord
 object_comes_to is_alone d =
     let x = or_no_object (Some (number d)) in let v = d.about.half.verb in
     object_word (deed d.cave (record { object = x; verb = v; is_alone = is_alone }) d.scene)
 
-abbrev pub by_object_alone : ObjectWord → Deed Phrase → Understood
+abbrev pub by_object_alone : ObjectWord → Deed Phrase → Act Understood
 by_object_alone (object_is.Is x) d = acts_by_verb (take_object x d)
 by_object_alone (object_is.Leads motion) d = asks_for (request.Motion motion) d
 by_object_alone object_is.Knives d = asks_for request.Knives d
 by_object_alone object_is.Unseen d =
     asks_for (request.Tell (part.Word line.NotSeen d.about.word.word)) d
 
-abbrev pub object_alone : Deed Phrase → Understood
-object_alone d = by_object_alone (object_comes_to true d) d
+abbrev pub object_alone : Deed Phrase → Act Understood
+object_alone d =
+    let found = object_comes_to true d in by_object_alone found.step (in_scene found.scene d)
 
 -- a word that no other follows
-unfoldable pub word_alone : Deed Phrase → Understood
-word_alone d = answer_by_rows
+unfoldable pub word_alone : Deed Phrase → Act Understood
+word_alone d = answer_by_table table.WordAlone
     (answer_row (no has_meaning ∷ []) (asks_for request.Unknown)
     ∷ answer_row (means class.Motion ∷ []) travels
     ∷ answer_row (means class.Special ∷ []) tells_message
@@ -180,30 +183,31 @@ abbrev pub into_water : Test Phrase
 into_water = either (next_word_is (codes "STREA")) (next_word_is (codes "WATER"))
 
 -- the word after ENTER
-unfoldable pub word_entered : Deed Phrase → Understood
-word_entered d = answer_by_rows
+unfoldable pub word_entered : Deed Phrase → Act Understood
+word_entered d = answer_by_table table.WordEntered
     (answer_row (into_water ∷ in_lake (the name.Water) ∷ []) (says role.FeetWet)
     ∷ answer_row (into_water ∷ []) (says role.Where) ∷ [])
     (otherwise_row (read_next ∷ []) word_alone) d
 
 -- a word that is said aloud
-unfoldable pub word_aloud : Deed Phrase → Understood
-word_aloud d = answer_by_rows
+unfoldable pub word_aloud : Deed Phrase → Act Understood
+word_aloud d = answer_by_table table.WordAloud
     (answer_row (means class.Motion ∷ either (of_motion motion.Xyzzy)
     (either (of_motion motion.Plugh) (of_motion motion.Plover)) ∷ []) word_alone
     ∷ answer_row (means class.Action ∷ of_action verb.Foo ∷ []) word_alone ∷ [])
     (otherwise_row [] echoes) d
 
-abbrev pub by_object_before : ObjectWord → Deed Phrase → Understood
+abbrev pub by_object_before : ObjectWord → Deed Phrase → Act Understood
 by_object_before (object_is.Is x) d = word_alone (read_next (take_object x d))
 by_object_before word d = by_object_alone word d
 
-abbrev pub object_before : Deed Phrase → Understood
-object_before d = by_object_before (object_comes_to false d) d
+abbrev pub object_before : Deed Phrase → Act Understood
+object_before d =
+    let found = object_comes_to false d in by_object_before found.step (in_scene found.scene d)
 
 -- a word that another follows
-unfoldable pub word_before : Deed Phrase → Understood
-word_before d = answer_by_rows
+unfoldable pub word_before : Deed Phrase → Act Understood
+word_before d = answer_by_table table.WordBefore
     (answer_row (no has_meaning ∷ []) (asks_for request.Unknown)
     ∷ answer_row (means class.Motion ∷ []) travels
     ∷ answer_row (means class.Special ∷ []) tells_message
@@ -219,22 +223,22 @@ pours_over d =
     (both (next_word_is (codes "DOOR")) (is_here (the name.Door)))) d
 
 -- two words that are put together
-unfoldable pub two_words : Deed Phrase → Understood
-two_words d = answer_by_rows
+unfoldable pub two_words : Deed Phrase → Act Understood
+two_words d = answer_by_table table.TwoWords
     (answer_row (word_is (codes "ENTER") ∷ []) word_entered
     ∷ row_then (pours_over ∷ []) (put_pour ∷ []) word_before ∷ [])
     (otherwise_row [] word_before) d
 
 -- after SAY alone a word is said, and of two words SAY is forgotten
-unfoldable pub words_of_line : Deed Phrase → Understood
-words_of_line d = answer_by_rows
+unfoldable pub words_of_line : Deed Phrase → Act Understood
+words_of_line d = answer_by_table table.Words
     (row_then (after_say ∷ has_next ∷ []) (forget_verb ∷ []) two_words
     ∷ answer_row (after_say ∷ []) word_aloud
     ∷ answer_row (has_next ∷ []) two_words ∷ [])
     (otherwise_row [] word_alone) d
 
 -- the words of a line, with the half command that the game remembers
-abbrev pub read_words : CaveView → List ℕ → Option (List ℕ) → Scene → Understood
+abbrev pub read_words : CaveView → List ℕ → Option (List ℕ) → Scene → Act Understood
 read_words cave word next p =
     words_of_line (deed cave (phrase (half_command_of p.state.talk) (said_word cave word)
     (option_map (said_word cave) next)) p)

@@ -1,5 +1,5 @@
 -- How a player comes back from death.
-use Rattle.std.specs.Prelude.{ℕ, nat_le, if◌then◌else◌, suc, zero, List, [], ◌∷◌}
+use Rattle.std.specs.Prelude.{ℕ, nat_le, if◌then◌else◌, List, [], ◌∷◌}
 use Rattle.turn_text.specs.data_numbers.Numbers.{LAST_OBJECT}
 use Rattle.turn_text.specs.data_rows.declared.role.Role.TheVariants as role
 use Rattle.turn_text.specs.cave_data.CaveView.{CaveView}
@@ -14,11 +14,12 @@ use Rattle.cave_verbs.specs.verb_commands.turn_rules.Rows.{Test, Effect, Row, pl
 use Rattle.cave_verbs.specs.verb_commands.turn_rules.Rows.{otherwise}
 use Rattle.cave_verbs.specs.verb_commands.turn_rules.Tests.{the, in_hand, deaths, building}
 use Rattle.cave_verbs.specs.verb_commands.turn_rules.Effects.{in_state, put_player, say, set_prop}
-use Rattle.cave_verbs.specs.verb_commands.turn_rules.Effects.{when}
+use Rattle.cave_verbs.specs.verb_commands.turn_rules.Effects.{when, for_each_down_from}
 use Rattle.turn_begin.specs.turn_scene.Scene.{is_called}
 use Rattle.turn_begin.specs.turn_things.Effects.{with_objects}
 use Rattle.turn_begin.specs.turn_things.Places.{start_place}
 use Rattle.turn_begin.specs.turn_things.Props.{LAMP_OFF}
+use Rattle.turn_begin.specs.rule_rows.declared.tables.Table.TheVariants as table
 use Rattle.cave_turn.specs.Effects.{describe}
 
 -- what is said of a first, a second, a third revival
@@ -36,17 +37,12 @@ unfoldable pub layout_after_fall : CaveView → ℕ → ℕ → Layout → Layou
 layout_after_fall cave place x o =
     if is_carried o x then after_move_to o x (fallen_place cave place x) else o
 
--- the objects up to a number fall, one after another, from the last down
-unfoldable pub layout_after_falls : CaveView → ℕ → ℕ → Layout → Layout
-layout_after_falls cave place zero o = o
-layout_after_falls cave place (suc n) o =
-    layout_after_falls cave place n (layout_after_fall cave place (suc n) o)
-
--- all that was carried but the lamp is at the older place of the trail, which a death sets to where
--- it leaves things, except a death at place 0
+-- the last object falls first: the lamp where the game begins, all else at the older place of the
+-- trail, which each death but one at place 0 sets to where things are left
 unfoldable pub without_belongings : CaveView → State → State
 without_belongings cave s =
-    with_objects (layout_after_falls cave s.trail.older LAST_OBJECT s.objects) s
+    with_objects
+    (for_each_down_from LAST_OBJECT (layout_after_fall cave s.trail.older) s.objects) s
 
 abbrev pub leave_belongings : Effect Question
 leave_belongings d = in_state (without_belongings d.cave d.scene.state) d
@@ -68,7 +64,11 @@ revival_rows =
 
 -- the player wants to come back
 unfoldable pub come_back : List (Effect Question)
-come_back = by_table reborn_rows ∷ count_death ∷ by_table revival_rows ∷ []
+come_back =
+    by_table table.Reborn reborn_rows
+    ∷ count_death
+    ∷ by_table table.Revival revival_rows
+    ∷ []
 
 -- the player doesn't, and is dead
 unfoldable pub bury : List (Effect Question)

@@ -14,6 +14,7 @@ use Rattle.turn_text.specs.cave_world.declared.part.Part.TheVariants as part
 use Rattle.turn_text.specs.cave_world.declared.state.State.{State}
 use Rattle.turn_begin.specs.turn_scene.Scene.{Scene}
 use Rattle.turn_begin.specs.Begin.{begun_state}
+use Rattle.turn_begin.specs.rule_rows.declared.tables.RuleRow.{RuleRow}
 use Rattle.cave_turn.specs.Answers.{after_answer, answers, without_question}
 use Rattle.cave_turn.specs.Commands.{command_scene}
 
@@ -50,6 +51,23 @@ turn_on_log_line cave line _ s = silent_turn s
 
 unfoldable pub turn_on_line : CaveView → State → List ℕ → Turn
 turn_on_line cave s line = turn_on_log_line cave line (log_line line) s
+
+-- the rows of the rules that are noted on a line of input
+abbrev pub rows_of_input : CaveView → List ℕ → Option Ending → Option Question → State
+    → List RuleRow
+rows_of_input cave line (Some ending) question s = []
+rows_of_input cave line None (Some question) s =
+    if answers cave line question then (after_answer cave question line s).rows
+    else (command_scene cave line (without_question s)).rows
+rows_of_input cave line None None s = (command_scene cave line s).rows
+
+abbrev pub rows_on_log_line : CaveView → List ℕ → LogLine → State → List RuleRow
+rows_on_log_line cave line kind.Input s = rows_of_input cave line s.ending s.question s
+rows_on_log_line cave line _ s = []
+
+-- the rows of the rules that are noted on a line of a log
+unfoldable pub rows_on_line : CaveView → State → List ℕ → List RuleRow
+rows_on_line cave s line = rows_on_log_line cave line (log_line line) s
 
 -- a state, and what is said as it begins
 pub record Beginning : Type 0 where

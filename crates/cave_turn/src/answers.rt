@@ -10,17 +10,16 @@ ghost use Rattle.turn_moves.specs.turn_ends.Questions.{is_dragon};
 ghost use Rattle.cave_verbs.specs.verb_commands.turn_rules.Rows.{Does};
 ghost use Rattle.cave_verbs.specs.verb_commands.turn_rules.Effects.{with_charge};
 ghost use Rattle.cave_turn.specs.Answers as defined;
-ghost use Rattle.cave_turn.specs.Answers.{answer_of, answer_in, quit};
-ghost use Rattle.cave_turn.specs.Answers.{after_yes, after_no, reply_scene, is_of_hint};
-ghost use Rattle.cave_turn.specs.Answers.{end_of_answer, after_answer, answers, without_question};
-ghost use Rattle.cave_turn.specs.Answers.{is_yes};
+ghost use Rattle.cave_turn.specs.Answers.{answer_of, answer_in, quit, after_yes, after_no};
+ghost use Rattle.cave_turn.specs.Answers.{reply_scene, is_of_hint, end_of_answer, after_answer};
+ghost use Rattle.cave_turn.specs.Answers.{answers, without_question, is_yes};
 
 use crate::dragon::fight;
 use crate::finish::end_turn;
 use crate::revival::{bury, come_back};
-use turn_begin::{Rules, Scene, start_place};
+use turn_begin::{RowNotes, Rules, Scene, Table, start_place};
 use turn_hints::{give_hint, price};
-use turn_moves::{arrive, end, tell_question};
+use turn_moves::{arrive, end, question_row, tell_question};
 use turn_text::{
     CLUE_HINT, Charge, Ending, HintNumber, INSTRUCTIONS_HINT, Out, Question, Role, State, Word,
 };
@@ -38,22 +37,26 @@ const INSTRUCTED_CHARGE: i32 = 1000;
 
 /// Takes a line as the answer to the open question.
 #[tactic(auto, unfolding(crate::specs::Answers::after_answer))]
-pub fn take_answer(
+pub fn take_answer<N: RowNotes>(
     rules: &Rules<'_>,
     question: &Question,
     line: &[u8],
     state: &mut State,
     out: &mut Out,
+    notes: &mut N,
 )
-    requires { out.old.items ≡ [] }
+    requires parts { out.old.items ≡ [] }
+    requires rows { N.rows notes.old ≡ [] }
     ensures state { (after_answer (cave_of rules.now) question.now line.now state.old).state
         ≡ state.new }
     ensures parts { (after_answer (cave_of rules.now) question.now line.now state.old).parts
         ≡ out.new.items }
+    ensures rows { (after_answer (cave_of rules.now) question.now line.now state.old).rows
+        ≡ N.rows notes.new }
     ensures few { array_vec_len out.new ≤ parts_of_answer }
 {
     let answer = answer_in(rules, line);
-    let mut scene = Scene::open(state, out, false);
+    let mut scene = Scene::open(state, out, notes, false);
     take_reply(rules, question, answer, &mut scene);
     end_answer(rules, question, &mut scene);
 }
@@ -98,21 +101,22 @@ pub fn close_question(state: &mut State)
 }
 
 #[tactic(auto, unfolding(crate::specs::Answers::quit))]
-fn quit(rules: &Rules<'_>, question: &Question, scene: &mut Scene<'_>)
+fn quit<N: RowNotes>(rules: &Rules<'_>, question: &Question, scene: &mut Scene<'_, N>)
     requires { HasRoom (1 + parts_of_end) scene.old }
-    ensures rows { Does quit (1 + parts_of_end) rules.now question.now scene.old scene.new }
+    ensures rows { Does N.rows quit (1 + parts_of_end) rules.now question.now scene.old scene.new }
 {
     scene.say(Role::Ok);
     end(rules, Ending::Quit, scene);
 }
 
 #[tactic(auto, unfolding(crate::specs::Answers::give_instructions))]
-fn say_yes(rules: &Rules<'_>, question: &Question, scene: &mut Scene<'_>)
+fn say_yes<N: RowNotes>(rules: &Rules<'_>, question: &Question, scene: &mut Scene<'_, N>)
     requires { HasRoom (parts_of_arrival scene.old.left + 1) scene.old }
-    ensures scene { scene_of scene.new
-        ≡ after_yes (cave_of rules.now) question.now (scene_of scene.old) }
+    ensures scene { scene_of N.rows scene.new
+        ≡ after_yes (cave_of rules.now) question.now (scene_of N.rows scene.old) }
     ensures says { MovesOnSaying (parts_of_arrival scene.old.left + 1) scene.old scene.new }
 {
+    scene.note(Table::Yes, question_row(question));
     match question {
         Question::Welcome => {
             scene.say(Role::Instructions);
@@ -131,12 +135,13 @@ fn say_yes(rules: &Rules<'_>, question: &Question, scene: &mut Scene<'_>)
     }
 }
 
-fn say_no(rules: &Rules<'_>, question: &Question, scene: &mut Scene<'_>)
+fn say_no<N: RowNotes>(rules: &Rules<'_>, question: &Question, scene: &mut Scene<'_, N>)
     requires { HasRoom (parts_of_arrival scene.old.left + 1) scene.old }
-    ensures scene { scene_of scene.new
-        ≡ after_no (cave_of rules.now) question.now (scene_of scene.old) }
+    ensures scene { scene_of N.rows scene.new
+        ≡ after_no (cave_of rules.now) question.now (scene_of N.rows scene.old) }
     ensures says { MovesOnSaying (parts_of_arrival scene.old.left + 1) scene.old scene.new }
 {
+    scene.note(Table::No, question_row(question));
     match question {
         Question::Welcome => arrive(rules, start_place(rules.cave), scene),
         Question::Die => bury(rules, scene),
@@ -149,10 +154,15 @@ fn say_no(rules: &Rules<'_>, question: &Question, scene: &mut Scene<'_>)
     }
 }
 
-fn take_reply(rules: &Rules<'_>, question: &Question, answer: Answer, scene: &mut Scene<'_>)
+fn take_reply<N: RowNotes>(
+    rules: &Rules<'_>,
+    question: &Question,
+    answer: Answer,
+    scene: &mut Scene<'_, N>,
+)
     requires { HasRoom (parts_of_arrival scene.old.left + 1) scene.old }
-    ensures scene { scene_of scene.new
-        ≡ reply_scene (cave_of rules.now) question.now answer (scene_of scene.old) }
+    ensures scene { scene_of N.rows scene.new
+        ≡ reply_scene (cave_of rules.now) question.now answer (scene_of N.rows scene.old) }
     ensures says { MovesOnSaying (parts_of_arrival scene.old.left + 1) scene.old scene.new }
 {
     match answer {
@@ -178,10 +188,10 @@ fn is_of_hint(question: &Question) -> bool
 }
 
 /// The turn ends, except after an answer about a hint.
-fn end_answer(rules: &Rules<'_>, question: &Question, scene: &mut Scene<'_>)
+fn end_answer<N: RowNotes>(rules: &Rules<'_>, question: &Question, scene: &mut Scene<'_, N>)
     requires { HasRoom (parts_of_finish + parts_of_question) scene.old }
-    ensures scene { scene_of scene.new
-        ≡ end_of_answer (cave_of rules.now) question.now (scene_of scene.old) }
+    ensures scene { scene_of N.rows scene.new
+        ≡ end_of_answer (cave_of rules.now) question.now (scene_of N.rows scene.old) }
     ensures says { GoesOnSaying parts_of_finish scene.old scene.new }
 {
     if !is_of_hint(question) {

@@ -6,20 +6,20 @@ ghost use Rattle.turn_begin.specs.turn_scene.Bounds.{parts_of_command, room_of_r
 ghost use Rattle.turn_begin.specs.turn_scene.Bounds.{parts_of_request, parts_of_timed_request};
 ghost use Rattle.turn_begin.specs.turn_scene.Bounds.{room_of_timed_request};
 ghost use Rattle.turn_begin.specs.turn_scene.Scene.{scene_of, cave_of};
-ghost use Rattle.cave_turn.specs.Commands.{with_magic_waiting, knife_here, begin_command};
-ghost use Rattle.cave_turn.specs.Commands.{after_travel, after_puzzle};
-ghost use Rattle.cave_turn.specs.Commands.{after_vanished_knives, next_scene, half_command_kept};
-ghost use Rattle.cave_turn.specs.Commands.{done_by_verb, done_by_request};
-ghost use Rattle.cave_turn.specs.Commands.{after_remembering, kept_scene, scene_of_understood};
-ghost use Rattle.cave_turn.specs.Commands.{scene_of_words, unread_scene, after_clocks};
-ghost use Rattle.cave_turn.specs.Commands.{clocks_scene, command_scene, done_by_action};
+ghost use Rattle.cave_turn.specs.Commands.{with_magic_waiting, kept_knife, begin_command};
+ghost use Rattle.cave_turn.specs.Commands.{after_travel, after_puzzle, after_vanished_knives};
+ghost use Rattle.cave_turn.specs.Commands.{next_scene, half_command_kept, done_by_verb};
+ghost use Rattle.cave_turn.specs.Commands.{done_by_request, after_remembering, kept_scene};
+ghost use Rattle.cave_turn.specs.Commands.{scene_of_understood, scene_of_words, unread_scene};
+ghost use Rattle.cave_turn.specs.Commands.{after_clocks, clocks_scene, command_scene};
+ghost use Rattle.cave_turn.specs.Commands.{done_by_action};
 ghost use Rattle.cave_verbs.specs.verb_commands.Verbs.{verb_of};
 ghost use Rattle.cave_verbs.specs.verb_commands.turn_rules.Rows.{act_of};
 
 use crate::finish::end_turn;
 use crate::request::{HalfCommand, Request, Understood, read_words};
 use cave_verbs::{Command, Next, Verb, act, tell_default};
-use turn_begin::{Rules, Scene};
+use turn_begin::{RowNotes, Rules, Scene, Table};
 use turn_clocks::{Clocks, run_clocks};
 use turn_moves::{arrive, ask, describe_here, end, journey_by_request};
 use turn_text::{
@@ -28,16 +28,24 @@ use turn_text::{
 
 /// Does what a line commands.
 #[tactic(auto, unfolding(crate::specs::Commands::command_scene))]
-pub fn command(rules: &Rules<'_>, line: &[u8], state: &mut State, out: &mut Out)
-    requires { out.old.items ≡ [] }
+pub fn command<N: RowNotes>(
+    rules: &Rules<'_>,
+    line: &[u8],
+    state: &mut State,
+    out: &mut Out,
+    notes: &mut N,
+)
+    requires parts { out.old.items ≡ [] }
+    requires rows { N.rows notes.old ≡ [] }
     ensures state { (command_scene (cave_of rules.now) line.now state.old).state ≡ state.new }
     ensures parts { (command_scene (cave_of rules.now) line.now state.old).parts ≡ out.new.items }
+    ensures rows { (command_scene (cave_of rules.now) line.now state.old).rows ≡ N.rows notes.new }
     ensures few { array_vec_len out.new ≤ parts_of_command }
 {
     begin_command(state);
     let was_dark = state.dark(rules.cave, rules.thing(Named::Lamp));
     let words = rules.words_of(line);
-    let mut scene = Scene::open(state, out, was_dark);
+    let mut scene = Scene::open(state, out, notes, was_dark);
     do_by_clocks(rules, words, &mut scene);
     end_turn(rules, &mut scene);
 }
@@ -50,8 +58,8 @@ fn wait_for_magic(state: &mut State)
     state.talk.magic = Magic::new((-magic).min(0));
 }
 
-fn knife_here(here: Place, knife: Knife) -> Knife
-    ensures { result ≡ knife_here here knife }
+fn kept_knife(here: Place, knife: Knife) -> Knife
+    ensures { result ≡ kept_knife here knife }
 {
     match knife {
         Knife::At(place) => {
@@ -71,14 +79,14 @@ fn begin_command(state: &mut State)
     ensures { state.new ≡ begin_command state.old }
 {
     wait_for_magic(state);
-    state.dwarves.knife = knife_here(state.trail.here, state.dwarves.knife);
+    state.dwarves.knife = kept_knife(state.trail.here, state.dwarves.knife);
 }
 
 #[tactic(auto, unfolding(crate::specs::Commands::after_travel))]
-fn travel_by(rules: &Rules<'_>, motion: u16, scene: &mut Scene<'_>)
+fn travel_by<N: RowNotes>(rules: &Rules<'_>, motion: u16, scene: &mut Scene<'_, N>)
     requires { HasRoom (parts_of_arrival scene.old.left + parts_of_journey) scene.old }
-    ensures scene { scene_of scene.new
-        ≡ after_travel (cave_of rules.now) motion (scene_of scene.old) }
+    ensures scene { scene_of N.rows scene.new
+        ≡ after_travel (cave_of rules.now) motion (scene_of N.rows scene.old) }
     ensures says { MovesOnSaying (parts_of_arrival scene.old.left + parts_of_journey) scene.old
         scene.new }
 {
@@ -88,28 +96,32 @@ fn travel_by(rules: &Rules<'_>, motion: u16, scene: &mut Scene<'_>)
 
 /// The cave doesn't have the word.
 #[tactic(auto, unfolding(crate::specs::Commands::after_puzzle, crate::specs::Commands::puzzle_rows))]
-fn puzzle(rules: &Rules<'_>, scene: &mut Scene<'_>)
+fn puzzle<N: RowNotes>(rules: &Rules<'_>, scene: &mut Scene<'_, N>)
     requires { HasRoom 1 scene.old }
-    ensures scene { scene_of scene.new ≡ after_puzzle (cave_of rules.now) (scene_of scene.old) }
+    ensures scene { scene_of N.rows scene.new
+        ≡ after_puzzle (cave_of rules.now) (scene_of N.rows scene.old) }
     ensures says { GoesOnSaying 1 scene.old scene.new }
 {
     let first = scene.happens(20);
     let second = scene.happens(20);
     if second {
+        scene.note(Table::UnknownWord, 1);
         scene.say(Role::NoWord3);
         return;
     }
     if first {
+        scene.note(Table::UnknownWord, 2);
         scene.say(Role::NoWord2);
         return;
     }
+    scene.note(Table::UnknownWord, 3);
     scene.say(Role::NoWord);
 }
 
 /// It is said that the knives vanished.
-fn tell_of_knives(scene: &mut Scene<'_>)
+fn tell_of_knives<N: RowNotes>(scene: &mut Scene<'_, N>)
     requires { HasRoom 1 scene.old }
-    ensures scene { scene_of scene.new ≡ after_vanished_knives (scene_of scene.old) }
+    ensures scene { scene_of N.rows scene.new ≡ after_vanished_knives (scene_of N.rows scene.old) }
     ensures says { GoesOnSaying 1 scene.old scene.new }
 {
     scene.state.dwarves.knife = Knife::Vanished;
@@ -117,10 +129,10 @@ fn tell_of_knives(scene: &mut Scene<'_>)
 }
 
 /// Does what a verb left to the turn.
-fn do_next(rules: &Rules<'_>, next: &Next, scene: &mut Scene<'_>)
+fn do_next<N: RowNotes>(rules: &Rules<'_>, next: &Next, scene: &mut Scene<'_, N>)
     requires { HasRoom (parts_of_arrival scene.old.left) scene.old }
-    ensures scene { scene_of scene.new
-        ≡ next_scene (cave_of rules.now) next.now (scene_of scene.old) }
+    ensures scene { scene_of N.rows scene.new
+        ≡ next_scene (cave_of rules.now) next.now (scene_of N.rows scene.old) }
     ensures says { MovesOnSaying (parts_of_arrival scene.old.left) scene.old scene.new }
 {
     match next {
@@ -134,10 +146,10 @@ fn do_next(rules: &Rules<'_>, next: &Next, scene: &mut Scene<'_>)
 
 /// A verb is done by the first of its rows that fits, and then what follows, which is returned.
 #[tactic(auto, unfolding(crate::specs::Commands::done_by_verb))]
-fn do_verb(rules: &Rules<'_>, command: Command, scene: &mut Scene<'_>) -> Next
+fn do_verb<N: RowNotes>(rules: &Rules<'_>, command: Command, scene: &mut Scene<'_, N>) -> Next
     requires { HasRoom (room_of_request scene.old.left) scene.old }
-    ensures scene { act_of (scene_of scene.new) result
-        ≡ done_by_verb (cave_of rules.now) command (scene_of scene.old) }
+    ensures scene { act_of (scene_of N.rows scene.new) result
+        ≡ done_by_verb (cave_of rules.now) command (scene_of N.rows scene.old) }
     ensures says { MovesOnSaying (parts_of_request scene.old.left) scene.old scene.new }
 {
     let next = act(rules, command, scene);
@@ -146,17 +158,17 @@ fn do_verb(rules: &Rules<'_>, command: Command, scene: &mut Scene<'_>) -> Next
 }
 
 /// An action that has rules is done by them; of another it is said what the cave says of it.
-fn do_action(
+fn do_action<N: RowNotes>(
     rules: &Rules<'_>,
     number: u16,
     object: Object,
     word: Word,
-    scene: &mut Scene<'_>,
+    scene: &mut Scene<'_, N>,
 ) -> Next
     requires { HasRoom (room_of_request scene.old.left) scene.old }
-    ensures scene { act_of (scene_of scene.new) result
+    ensures scene { act_of (scene_of N.rows scene.new) result
         ≡ done_by_action (cave_of rules.now) (verb_of number) number object word
-        (scene_of scene.old) }
+        (scene_of N.rows scene.old) }
     ensures says { MovesOnSaying (parts_of_request scene.old.left) scene.old scene.new }
 {
     match Verb::try_from(number) {
@@ -169,10 +181,10 @@ fn do_action(
 }
 
 /// What was read is done. Returns what a verb leaves to the turn.
-fn do_request(rules: &Rules<'_>, request: &Request, scene: &mut Scene<'_>) -> Next
+fn do_request<N: RowNotes>(rules: &Rules<'_>, request: &Request, scene: &mut Scene<'_, N>) -> Next
     requires { HasRoom (room_of_request scene.old.left) scene.old }
-    ensures scene { act_of (scene_of scene.new) result
-        ≡ done_by_request (cave_of rules.now) request.now (scene_of scene.old) }
+    ensures scene { act_of (scene_of N.rows scene.new) result
+        ≡ done_by_request (cave_of rules.now) request.now (scene_of N.rows scene.old) }
     ensures says { MovesOnSaying (parts_of_request scene.old.left) scene.old scene.new }
 {
     match request {
@@ -200,21 +212,26 @@ fn do_request(rules: &Rules<'_>, request: &Request, scene: &mut Scene<'_>) -> Ne
     }
 }
 
-/// What is kept for the next command: the verb that asks back, or what was said so far.
-fn half_command_kept(understood: &Understood, next: &Next) -> Option<HalfCommand>
+/// What is kept for the next command, by the number of its row: the verb that asks back, or what was
+/// said so far.
+fn half_command_kept(understood: &Understood, next: &Next) -> (u8, Option<HalfCommand>)
     ensures { result
         ≡ half_command_kept understood.now.request next.now understood.now.half }
 {
     match &understood.request {
         Request::Act(number, _, _) => match next {
-            Next::Keep => Some(HalfCommand {
-                verb: Some(*number),
-                object: Object::none(),
-            }),
-            _ => None,
+            Next::Keep => {
+                let verb = HalfCommand {
+                    verb: Some(*number),
+                    object: Object::none(),
+                };
+                (1, Some(verb))
+            }
+            _ => (4, None),
         },
-        Request::WhatToDo(_) | Request::Unknown => Some(understood.half),
-        Request::Motion(_) | Request::Tell(_) | Request::Knives => None,
+        Request::WhatToDo(_) => (2, Some(understood.half)),
+        Request::Unknown => (3, Some(understood.half)),
+        Request::Motion(_) | Request::Tell(_) | Request::Knives => (4, None),
     }
 }
 
@@ -237,22 +254,23 @@ fn remember_command(kept: Option<HalfCommand>, object: Object, state: &mut State
 
 /// What was read is carried out, and what is left of it is remembered.
 #[tactic(auto, unfolding(crate::specs::Commands::scene_of_understood, crate::specs::Commands::kept_scene))]
-fn do_understood(rules: &Rules<'_>, understood: &Understood, scene: &mut Scene<'_>)
+fn do_understood<N: RowNotes>(rules: &Rules<'_>, understood: &Understood, scene: &mut Scene<'_, N>)
     requires { HasRoom (room_of_request scene.old.left) scene.old }
-    ensures scene { scene_of scene.new
-        ≡ scene_of_understood (cave_of rules.now) understood.now (scene_of scene.old) }
+    ensures scene { scene_of N.rows scene.new
+        ≡ scene_of_understood (cave_of rules.now) understood.now (scene_of N.rows scene.old) }
     ensures says { MovesOnSaying (parts_of_request scene.old.left) scene.old scene.new }
 {
     let next = do_request(rules, &understood.request, scene);
-    let kept = half_command_kept(understood, &next);
+    let (row, kept) = half_command_kept(understood, &next);
+    scene.note(Table::HalfCommand, row);
     remember_command(kept, understood.half.object, scene.state);
 }
 
 /// Does what the words of a line say.
-fn do_words(rules: &Rules<'_>, words: Words, scene: &mut Scene<'_>)
+fn do_words<N: RowNotes>(rules: &Rules<'_>, words: Words, scene: &mut Scene<'_, N>)
     requires { HasRoom (room_of_request scene.old.left) scene.old }
-    ensures scene { scene_of scene.new
-        ≡ scene_of_words (cave_of rules.now) words.first words.second (scene_of scene.old) }
+    ensures scene { scene_of N.rows scene.new
+        ≡ scene_of_words (cave_of rules.now) words.first words.second (scene_of N.rows scene.old) }
     ensures says { MovesOnSaying (parts_of_request scene.old.left) scene.old scene.new }
 {
     match words.first {
@@ -266,18 +284,23 @@ fn do_words(rules: &Rules<'_>, words: Words, scene: &mut Scene<'_>)
 
 /// A command that isn't read leaves nothing for the next line.
 #[tactic(auto, unfolding(crate::specs::Commands::kept_scene))]
-fn leave_unread(scene: &mut Scene<'_>)
-    ensures scene { scene_of scene.new ≡ unread_scene (scene_of scene.old) }
+fn leave_unread<N: RowNotes>(scene: &mut Scene<'_, N>)
+    ensures scene { scene_of N.rows scene.new ≡ unread_scene (scene_of N.rows scene.old) }
     ensures says { GoesOnSaying 0 scene.old scene.new }
 {
     remember_command(None, Object::none(), scene.state);
 }
 
 /// Does what the clocks leave of a command.
-fn go_on_after_clocks(rules: &Rules<'_>, words: Words, clocks: Clocks, scene: &mut Scene<'_>)
+fn go_on_after_clocks<N: RowNotes>(
+    rules: &Rules<'_>,
+    words: Words,
+    clocks: Clocks,
+    scene: &mut Scene<'_, N>,
+)
     requires { HasRoom (room_of_request scene.old.left) scene.old }
-    ensures scene { scene_of scene.new
-        ≡ after_clocks (cave_of rules.now) words clocks (scene_of scene.old) }
+    ensures scene { scene_of N.rows scene.new
+        ≡ after_clocks (cave_of rules.now) words clocks (scene_of N.rows scene.old) }
     ensures says { MovesOnSaying (parts_of_request scene.old.left) scene.old scene.new }
 {
     match clocks {
@@ -295,10 +318,10 @@ fn go_on_after_clocks(rules: &Rules<'_>, words: Words, clocks: Clocks, scene: &m
 
 /// The clocks run, and the words of the line are done.
 #[tactic(auto, unfolding(crate::specs::Commands::clocks_scene))]
-fn do_by_clocks(rules: &Rules<'_>, words: Words, scene: &mut Scene<'_>)
+fn do_by_clocks<N: RowNotes>(rules: &Rules<'_>, words: Words, scene: &mut Scene<'_, N>)
     requires { HasRoom (room_of_timed_request scene.old.left) scene.old }
-    ensures scene { scene_of scene.new
-        ≡ clocks_scene (cave_of rules.now) words (scene_of scene.old) }
+    ensures scene { scene_of N.rows scene.new
+        ≡ clocks_scene (cave_of rules.now) words (scene_of N.rows scene.old) }
     ensures says { MovesOnSaying (parts_of_timed_request scene.old.left) scene.old scene.new }
 {
     let clocks = run_clocks(rules, scene);

@@ -1,12 +1,13 @@
 ghost use Rattle.std.specs.Prelude.{◌≡◌, ◌+◌, ◌<◌};
 ghost use Rattle.turn_text.specs.data_numbers.Numbers.{LAST_OBJECT};
+ghost use Rattle.turn_text.specs.cave_world.declared.ending.Question.TheVariants as question_is;
 ghost use Rattle.turn_begin.specs.turn_scene.Bounds.{HasRoom, MovesOnSaying, parts_of_arrival};
 ghost use Rattle.turn_begin.specs.turn_scene.Scene.{scene_of, cave_of};
-ghost use Rattle.turn_text.specs.cave_world.declared.ending.Question.TheVariants as question_is;
 ghost use Rattle.cave_verbs.specs.verb_commands.turn_rules.Rows.{after_all, deed};
+ghost use Rattle.cave_verbs.specs.verb_commands.turn_rules.Effects.{for_each_from};
 ghost use Rattle.cave_turn.specs.Dragon.{between, lair_from, is_by_dragon, after_gathering, fight};
 
-use turn_begin::{DRAGON_DEAD, DRAGON_DYING, RUG_FREE, Rules, Scene, home, second_home};
+use turn_begin::{DRAGON_DEAD, DRAGON_DYING, RUG_FREE, RowNotes, Rules, Scene, home, second_home};
 use turn_moves::arrive;
 use turn_text::{Anchor, Named, OBJECTS, Object, Objects, Place, Prop};
 
@@ -43,7 +44,8 @@ fn is_by_dragon(rules: &Rules<'_>, objects: &Objects, object: Object) -> bool
 
 /// All that is at the places of the dragon is moved to one place.
 fn gather(rules: &Rules<'_>, place: Place, objects: &mut Objects)
-    ensures { objects.new ≡ after_gathering (cave_of rules.now) place LAST_OBJECT objects.old }
+    ensures { objects.new
+        ≡ for_each_from 1 LAST_OBJECT (after_gathering (cave_of rules.now) place) objects.old }
 {
     for before in 0..OBJECTS as u8 {
         let object = Object::new(before + 1);
@@ -55,10 +57,10 @@ fn gather(rules: &Rules<'_>, place: Place, objects: &mut Objects)
 
 /// The player fights the dragon with bare hands, and wins.
 #[tactic(auto, unfolding(crate::specs::Dragon::fight, crate::specs::state_with_player_at))]
-pub fn fight(rules: &Rules<'_>, scene: &mut Scene<'_>)
+pub fn fight<N: RowNotes>(rules: &Rules<'_>, scene: &mut Scene<'_, N>)
     requires { HasRoom (parts_of_arrival scene.old.left + 1) scene.old }
-    ensures scene { scene_of scene.new ≡ (after_all fight
-        (deed (cave_of rules.now) question_is.Dragon (scene_of scene.old))).scene }
+    ensures scene { scene_of N.rows scene.new ≡ (after_all fight
+        (deed (cave_of rules.now) question_is.Dragon (scene_of N.rows scene.old))).scene }
     ensures says { MovesOnSaying (parts_of_arrival scene.old.left + 1) scene.old scene.new }
 {
     let dragon = rules.thing(Named::Dragon);

@@ -2,7 +2,7 @@ ghost use Rattle.std.specs.Prelude.{◌≡◌, ◌==◌, ◌∷◌, [], pos};
 ghost use Rattle.turn_begin.specs.turn_scene.Scene.{cave_of, scene_of};
 ghost use Rattle.turn_text.specs.cave_words.declared.named.Named.TheVariants as name;
 ghost use Rattle.cave_verbs.specs.verb_commands.declared.verb.Verb.TheVariants as verb_is;
-ghost use Rattle.cave_verbs.specs.verb_commands.turn_rules.Rows.{all_hold, deed};
+ghost use Rattle.cave_verbs.specs.verb_commands.turn_rules.Rows.{all_hold, deed, PlaysBy};
 ghost use Rattle.cave_verbs.specs.verb_commands.turn_rules.Tests.{the, either, both, in_hand, near};
 ghost use Rattle.cave_verbs.specs.verb_commands.turn_rules.Tests.{is_here, other_prop, dwarf};
 ghost use Rattle.cave_verbs.specs.verb_commands.turn_rules.Tests.{in_bottle, in_lake, at_one_of};
@@ -12,8 +12,8 @@ ghost use Rattle.cave_turn.specs.ObjectWords.{is_verb_of, by_verb, alone, object
 
 use cave_verbs::Verb;
 use turn_begin::{
-    PLANT_SMALL, Rules, Scene, has_other_prop, is_dwarf_here, is_in_hand, is_liquid, is_near, lake,
-    liquid,
+    PLANT_SMALL, RowNotes, Rules, Scene, Table, has_other_prop, is_dwarf_here, is_in_hand,
+    is_liquid, is_near, lake, liquid,
 };
 use turn_text::{Knife, Motion, Named, Object, Place};
 
@@ -42,75 +42,89 @@ pub struct NamedObject {
 
 /// What the word of an object says.
 #[tactic(auto, unfolding(crate::specs::ObjectWords::object_word))]
-pub fn object_word(rules: &Rules<'_>, about: &NamedObject, scene: &Scene<'_>) -> ObjectWord
-    ensures { result ≡ object_word (deed (cave_of rules.now) about.now (scene_of scene.now)) }
+pub fn object_word<N: RowNotes>(
+    rules: &Rules<'_>,
+    about: &NamedObject,
+    scene: &mut Scene<'_, N>,
+) -> ObjectWord
+    ensures row { PlaysBy N.rows object_word 0 rules.now about.now scene.old scene.new result }
 {
     if is_there(rules, about, scene) {
+        scene.note(Table::ObjectWord, 1);
         return ObjectWord::Is(about.object);
     }
     if is_above_grate(rules, about, scene) {
+        scene.note(Table::ObjectWord, 2);
         return ObjectWord::Leads(Motion::Depression.number());
     }
     if is_below_grate(rules, about, scene) {
+        scene.note(Table::ObjectWord, 3);
         return ObjectWord::Leads(Motion::Entrance.number());
     }
     if is_dwarf(rules, about, scene) {
+        scene.note(Table::ObjectWord, 4);
         return ObjectWord::Is(about.object);
     }
     if is_liquid_here(rules, about, scene) {
+        scene.note(Table::ObjectWord, 5);
         return ObjectWord::Is(about.object);
     }
     if is_grown_plant(rules, about, scene) {
+        scene.note(Table::ObjectWord, 6);
         return ObjectWord::Is(rules.thing(Named::SecondPlant));
     }
     if is_knife_here(rules, about, scene) {
+        scene.note(Table::ObjectWord, 7);
         return ObjectWord::Knives;
     }
     if is_second_rod(rules, about, scene) {
+        scene.note(Table::ObjectWord, 8);
         return ObjectWord::Is(rules.thing(Named::SecondRod));
     }
     if is_sought(rules, about, scene) {
+        scene.note(Table::ObjectWord, 9);
         return ObjectWord::Is(about.object);
     }
+    scene.note(Table::ObjectWord, 10);
     ObjectWord::Unseen
 }
 
-fn is_there(rules: &Rules<'_>, about: &NamedObject, scene: &Scene<'_>) -> bool
+fn is_there<N: RowNotes>(rules: &Rules<'_>, about: &NamedObject, scene: &Scene<'_, N>) -> bool
     ensures { result ≡ either (is_here object) (in_hand object)
-        (deed (cave_of rules.now) about.now (scene_of scene.now)) }
+        (deed (cave_of rules.now) about.now (scene_of N.rows scene.now)) }
 {
     scene.state.at(about.object) || is_in_hand(rules, scene.state, about.object)
 }
 
 /// On the way to the cave the grate's word leads to it. The places are those before the building,
 /// in the valley and at the slit. No role names them, since nothing else is asked of them.
-fn is_above_grate(rules: &Rules<'_>, about: &NamedObject, scene: &Scene<'_>) -> bool
+fn is_above_grate<N: RowNotes>(rules: &Rules<'_>, about: &NamedObject, scene: &Scene<'_, N>) -> bool
     ensures { result ≡ all_hold (word_names name.Grate ∷ at_one_of (1 ∷ 4 ∷ 7 ∷ []) ∷ [])
-        (deed (cave_of rules.now) about.now (scene_of scene.now)) }
+        (deed (cave_of rules.now) about.now (scene_of N.rows scene.now)) }
 {
     rules.is(about.object, Named::Grate) && matches!(scene.state.trail.here.number(), 1 | 4 | 7)
 }
 
 /// And in the first halls of the cave back to it.
-fn is_below_grate(rules: &Rules<'_>, about: &NamedObject, scene: &Scene<'_>) -> bool
+fn is_below_grate<N: RowNotes>(rules: &Rules<'_>, about: &NamedObject, scene: &Scene<'_, N>) -> bool
     ensures { result ≡ all_hold (word_names name.Grate ∷ at_from_to 10 14 ∷ [])
-        (deed (cave_of rules.now) about.now (scene_of scene.now)) }
+        (deed (cave_of rules.now) about.now (scene_of N.rows scene.now)) }
 {
     rules.is(about.object, Named::Grate)
         && (10 <= scene.state.trail.here.number() && scene.state.trail.here.number() <= 14)
 }
 
-fn is_dwarf(rules: &Rules<'_>, about: &NamedObject, scene: &Scene<'_>) -> bool
+fn is_dwarf<N: RowNotes>(rules: &Rules<'_>, about: &NamedObject, scene: &Scene<'_, N>) -> bool
     ensures { result ≡ all_hold (word_names name.Dwarf ∷ dwarf ∷ [])
-        (deed (cave_of rules.now) about.now (scene_of scene.now)) }
+        (deed (cave_of rules.now) about.now (scene_of N.rows scene.now)) }
 {
     rules.is(about.object, Named::Dwarf) && is_dwarf_here(scene.state)
 }
 
 /// Whether an object is what a bottle at hand has in it, or what the lake is of.
-fn is_liquid_here(rules: &Rules<'_>, about: &NamedObject, scene: &Scene<'_>) -> bool
+fn is_liquid_here<N: RowNotes>(rules: &Rules<'_>, about: &NamedObject, scene: &Scene<'_, N>) -> bool
     ensures { result ≡ either (both (in_bottle object) (near (the name.Bottle))) (in_lake object)
-        (deed (cave_of rules.now) about.now (scene_of scene.now)) }
+        (deed (cave_of rules.now) about.now (scene_of N.rows scene.now)) }
 {
     (is_liquid(about.object, liquid(rules, scene.state))
         && is_near(rules, scene.state, rules.thing(Named::Bottle)))
@@ -118,10 +132,10 @@ fn is_liquid_here(rules: &Rules<'_>, about: &NamedObject, scene: &Scene<'_>) -> 
 }
 
 /// Whether the plant that grew is taken for an object.
-fn is_grown_plant(rules: &Rules<'_>, about: &NamedObject, scene: &Scene<'_>) -> bool
+fn is_grown_plant<N: RowNotes>(rules: &Rules<'_>, about: &NamedObject, scene: &Scene<'_, N>) -> bool
     ensures { result ≡ all_hold (word_names name.Plant ∷ is_here (the name.SecondPlant)
         ∷ other_prop (the name.SecondPlant) (pos 0) ∷ [])
-        (deed (cave_of rules.now) about.now (scene_of scene.now)) }
+        (deed (cave_of rules.now) about.now (scene_of N.rows scene.now)) }
 {
     let grown = rules.thing(Named::SecondPlant);
     rules.is(about.object, Named::Plant)
@@ -137,17 +151,17 @@ fn is_knife_at(here: Place, knife: Knife) -> bool
     }
 }
 
-fn is_knife_here(rules: &Rules<'_>, about: &NamedObject, scene: &Scene<'_>) -> bool
+fn is_knife_here<N: RowNotes>(rules: &Rules<'_>, about: &NamedObject, scene: &Scene<'_, N>) -> bool
     ensures { result ≡ all_hold (word_names name.Knife ∷ is_knife_here ∷ [])
-        (deed (cave_of rules.now) about.now (scene_of scene.now)) }
+        (deed (cave_of rules.now) about.now (scene_of N.rows scene.now)) }
 {
     rules.is(about.object, Named::Knife)
         && is_knife_at(scene.state.trail.here, scene.state.dwarves.knife)
 }
 
-fn is_second_rod(rules: &Rules<'_>, about: &NamedObject, scene: &Scene<'_>) -> bool
+fn is_second_rod<N: RowNotes>(rules: &Rules<'_>, about: &NamedObject, scene: &Scene<'_, N>) -> bool
     ensures { result ≡ all_hold (word_names name.Rod ∷ near (the name.SecondRod) ∷ [])
-        (deed (cave_of rules.now) about.now (scene_of scene.now)) }
+        (deed (cave_of rules.now) about.now (scene_of N.rows scene.now)) }
 {
     rules.is(about.object, Named::Rod) && is_near(rules, scene.state, rules.thing(Named::SecondRod))
 }
@@ -163,10 +177,10 @@ pub fn is_verb_of(verb: Verb, number: Option<u16>) -> bool
 }
 
 /// What isn't here can still be sought.
-fn is_sought(rules: &Rules<'_>, about: &NamedObject, scene: &Scene<'_>) -> bool
+fn is_sought<N: RowNotes>(rules: &Rules<'_>, about: &NamedObject, scene: &Scene<'_, N>) -> bool
     ensures { result ≡ all_hold
         (either (by_verb verb_is.Find) (by_verb verb_is.Inventory) ∷ alone ∷ [])
-        (deed (cave_of rules.now) about.now (scene_of scene.now)) }
+        (deed (cave_of rules.now) about.now (scene_of N.rows scene.now)) }
 {
     (is_verb_of(Verb::Find, about.verb) || is_verb_of(Verb::Inventory, about.verb))
         && about.is_alone

@@ -1,15 +1,16 @@
 ghost use Rattle.std.specs.Prelude.{◌≡◌, ◌==◌, ◌||◌, Some, None};
 ghost use Rattle.turn_begin.specs.turn_scene.Scene.{cave_of, scene_of};
+ghost use Rattle.turn_begin.specs.turn_scene.Bounds.{GoesOnSaying};
 ghost use Rattle.turn_text.specs.cave_world.declared.motion.Motion.TheVariants as motion_is;
 ghost use Rattle.turn_text.specs.cave_world.Motions.{motion_number};
-ghost use Rattle.cave_verbs.specs.verb_commands.turn_rules.Rows.{deed};
+ghost use Rattle.cave_verbs.specs.verb_commands.turn_rules.Rows.{deed, PlaysBy, act_of};
 ghost use Rattle.cave_turn.specs.Request.{half_command_of, phrase, said_word, by_object_alone};
 ghost use Rattle.cave_turn.specs.Request.{word_alone, word_aloud, by_object_before, word_before};
 ghost use Rattle.cave_turn.specs.Request.{pours_over, pour_in, word_entered, two_words, read_words};
 
 use crate::object_words::{NamedObject, ObjectWord, is_verb_of, object_word};
 use cave_verbs::Verb;
-use turn_begin::{Rules, Scene, is_liquid, lake, or_no_object};
+use turn_begin::{RowNotes, Rules, Scene, Table, is_liquid, lake, or_no_object};
 use turn_text::{Class, Meaning, Motion, Named, Object, Part, Role, Talk, Word, WordLine};
 
 /// Half a command: what was said of it before its other half.
@@ -93,13 +94,15 @@ impl HalfCommand {
 
 /// What the words of a line say, with what was said before.
 #[tactic(auto, unfolding(crate::specs::Request::words_of_line))]
-pub fn read_words(
+pub fn read_words<N: RowNotes>(
     rules: &Rules<'_>,
     word: Word,
     next: Option<Word>,
-    scene: &Scene<'_>,
+    scene: &mut Scene<'_, N>,
 ) -> Understood
-    ensures { result ≡ read_words (cave_of rules.now) word next (scene_of scene.now) }
+    ensures read { act_of (scene_of N.rows scene.new) result
+        ≡ read_words (cave_of rules.now) word next (scene_of N.rows scene.old) }
+    ensures says { GoesOnSaying 0 scene.old scene.new }
 {
     let half = HalfCommand::of(scene.state.talk);
     let is_saying = is_verb_of(Verb::Say, half.verb);
@@ -107,14 +110,18 @@ pub fn read_words(
         None => {
             let said = said_word(rules, word);
             if is_saying {
+                scene.note(Table::Words, 2);
                 return word_aloud(rules, half, said, scene);
             }
+            scene.note(Table::Words, 4);
             word_alone(rules, half, said, scene)
         }
         Some(next) => {
             if is_saying {
+                scene.note(Table::Words, 1);
                 return two_words(rules, half.with_verb(None), word, next, scene);
             }
+            scene.note(Table::Words, 3);
             two_words(rules, half, word, next, scene)
         }
     }
@@ -130,15 +137,15 @@ fn said_word(rules: &Rules<'_>, word: Word) -> SaidWord
 }
 
 /// What an object asks for that no other word follows.
-fn object_alone(
+fn object_alone<N: RowNotes>(
     rules: &Rules<'_>,
     found: ObjectWord,
     half: HalfCommand,
     word: SaidWord,
-    scene: &Scene<'_>,
+    scene: &Scene<'_, N>,
 ) -> Understood
-    ensures { result ≡ by_object_alone found
-        (deed (cave_of rules.now) (phrase half word None) (scene_of scene.now)) }
+    ensures { act_of (scene_of N.rows scene.now) result ≡ by_object_alone found
+        (deed (cave_of rules.now) (phrase half word None) (scene_of N.rows scene.now)) }
 {
     match found {
         ObjectWord::Is(object) => match half.verb {
@@ -155,28 +162,46 @@ fn object_alone(
 
 /// What a word says that no other follows.
 #[tactic(auto, unfolding(crate::specs::Request::word_alone))]
-fn word_alone(rules: &Rules<'_>, half: HalfCommand, word: SaidWord, scene: &Scene<'_>) -> Understood
-    ensures { result ≡ word_alone
-        (deed (cave_of rules.now) (phrase half word None) (scene_of scene.now)) }
+fn word_alone<N: RowNotes>(
+    rules: &Rules<'_>,
+    half: HalfCommand,
+    word: SaidWord,
+    scene: &mut Scene<'_, N>,
+) -> Understood
+    ensures row { PlaysBy N.rows word_alone 0 rules.now (phrase half word None) scene.old scene.new
+        result }
 {
     match word.meaning {
-        None => half.asks(Request::Unknown),
+        None => {
+            scene.note(Table::WordAlone, 1);
+            half.asks(Request::Unknown)
+        }
         Some(meaning) => match meaning.class {
-            Class::Motion => half.asks(Request::Motion(meaning.number)),
-            Class::Special => half.asks(Request::Tell(Part::Message(meaning.number))),
+            Class::Motion => {
+                scene.note(Table::WordAlone, 2);
+                half.asks(Request::Motion(meaning.number))
+            }
+            Class::Special => {
+                scene.note(Table::WordAlone, 3);
+                half.asks(Request::Tell(Part::Message(meaning.number)))
+            }
             Class::Object => {
+                scene.note(Table::WordAlone, 4);
                 let named = NamedObject {
                     object: or_no_object(Some(meaning.number)),
                     verb: half.verb,
                     is_alone: true,
                 };
-                object_alone(rules, object_word(rules, &named, scene), half, word, scene)
+                let found = object_word(rules, &named, scene);
+                object_alone(rules, found, half, word, scene)
             }
             Class::Action => {
                 let object = half.object;
                 if meaning.number == Verb::Say.number() {
+                    scene.note(Table::WordAlone, 5);
                     return half.asks(Request::Act(meaning.number, Object::none(), word.word));
                 }
+                scene.note(Table::WordAlone, 6);
                 half.with_verb(Some(meaning.number))
                     .asks(Request::Act(meaning.number, object, word.word))
             }
@@ -195,42 +220,47 @@ fn is_magic_motion(number: u16) -> bool
 
 /// What is done where a word is said aloud.
 #[tactic(auto, unfolding(crate::specs::Request::word_aloud))]
-fn word_aloud(rules: &Rules<'_>, half: HalfCommand, word: SaidWord, scene: &Scene<'_>) -> Understood
-    ensures { result ≡ word_aloud
-        (deed (cave_of rules.now) (phrase half word None) (scene_of scene.now)) }
+fn word_aloud<N: RowNotes>(
+    rules: &Rules<'_>,
+    half: HalfCommand,
+    word: SaidWord,
+    scene: &mut Scene<'_, N>,
+) -> Understood
+    ensures row { PlaysBy N.rows word_aloud 0 rules.now (phrase half word None) scene.old scene.new
+        result }
 {
-    let echo = Part::Word(WordLine::Okay, word.word);
-    match word.meaning {
-        None => half.asks(Request::Tell(echo)),
-        Some(meaning) => match meaning.class {
+    if let Some(meaning) = word.meaning {
+        match meaning.class {
             Class::Motion => {
                 if is_magic_motion(meaning.number) {
+                    scene.note(Table::WordAloud, 1);
                     return word_alone(rules, half, word, scene);
                 }
-                half.asks(Request::Tell(echo))
             }
             Class::Action => {
                 if meaning.number == Verb::Foo.number() {
+                    scene.note(Table::WordAloud, 2);
                     return word_alone(rules, half, word, scene);
                 }
-                half.asks(Request::Tell(echo))
             }
-            Class::Object | Class::Special => half.asks(Request::Tell(echo)),
-        },
+            Class::Object | Class::Special => {}
+        }
     }
+    scene.note(Table::WordAloud, 3);
+    half.asks(Request::Tell(Part::Word(WordLine::Okay, word.word)))
 }
 
 /// What an object asks for that another word follows.
-fn object_before(
+fn object_before<N: RowNotes>(
     rules: &Rules<'_>,
     found: ObjectWord,
     half: HalfCommand,
     word: SaidWord,
     next: SaidWord,
-    scene: &Scene<'_>,
+    scene: &mut Scene<'_, N>,
 ) -> Understood
-    ensures { result ≡ by_object_before found
-        (deed (cave_of rules.now) (phrase half word (Some next)) (scene_of scene.now)) }
+    ensures row { PlaysBy N.rows (by_object_before found) 0 rules.now (phrase half word (Some next))
+        scene.old scene.new result }
 {
     match found {
         ObjectWord::Is(object) => { word_alone(rules, half.with_object(object), next, scene) }
@@ -242,40 +272,46 @@ fn object_before(
 
 /// What a word says that another follows.
 #[tactic(auto, unfolding(crate::specs::Request::word_before))]
-fn word_before(
+fn word_before<N: RowNotes>(
     rules: &Rules<'_>,
     half: HalfCommand,
     word: SaidWord,
     next: SaidWord,
-    scene: &Scene<'_>,
+    scene: &mut Scene<'_, N>,
 ) -> Understood
-    ensures { result ≡ word_before
-        (deed (cave_of rules.now) (phrase half word (Some next)) (scene_of scene.now)) }
+    ensures row { PlaysBy N.rows word_before 0 rules.now (phrase half word (Some next)) scene.old
+        scene.new result }
 {
     match word.meaning {
-        None => half.asks(Request::Unknown),
+        None => {
+            scene.note(Table::WordBefore, 1);
+            half.asks(Request::Unknown)
+        }
         Some(meaning) => match meaning.class {
-            Class::Motion => half.asks(Request::Motion(meaning.number)),
-            Class::Special => half.asks(Request::Tell(Part::Message(meaning.number))),
+            Class::Motion => {
+                scene.note(Table::WordBefore, 2);
+                half.asks(Request::Motion(meaning.number))
+            }
+            Class::Special => {
+                scene.note(Table::WordBefore, 3);
+                half.asks(Request::Tell(Part::Message(meaning.number)))
+            }
             Class::Object => {
+                scene.note(Table::WordBefore, 4);
                 let named = NamedObject {
                     object: or_no_object(Some(meaning.number)),
                     verb: half.verb,
                     is_alone: false,
                 };
-                object_before(
-                    rules,
-                    object_word(rules, &named, scene),
-                    half,
-                    word,
-                    next,
-                    scene,
-                )
+                let found = object_word(rules, &named, scene);
+                object_before(rules, found, half, word, next, scene)
             }
             Class::Action => {
                 if meaning.number == Verb::Say.number() {
+                    scene.note(Table::WordBefore, 5);
                     return word_aloud(rules, half, next, scene);
                 }
+                scene.note(Table::WordBefore, 6);
                 word_alone(rules, half.with_verb(Some(meaning.number)), next, scene)
             }
         },
@@ -284,10 +320,10 @@ fn word_before(
 
 /// Whether two words pour a liquid over what is where the player is.
 #[tactic(auto, unfolding(crate::specs::Request::pours_over))]
-fn pours_over(rules: &Rules<'_>, word: Word, next: Word, scene: &Scene<'_>) -> bool
+fn pours_over<N: RowNotes>(rules: &Rules<'_>, word: Word, next: Word, scene: &Scene<'_, N>) -> bool
     ensures { (half : HalfCommand) → result ≡ pours_over (deed (cave_of rules.now)
         (phrase half (said_word (cave_of rules.now) word)
-        (Some (said_word (cave_of rules.now) next))) (scene_of scene.now)) }
+        (Some (said_word (cave_of rules.now) next))) (scene_of N.rows scene.now)) }
 {
     (word.is(b"WATER") || word.is(b"OIL"))
         && ((next.is(b"PLANT") && scene.state.at(rules.thing(Named::Plant)))
@@ -308,38 +344,51 @@ fn pour_in(rules: &Rules<'_>) -> SaidWord
 
 /// What a word says that follows ENTER.
 #[tactic(auto, unfolding(crate::specs::Request::word_entered))]
-fn word_entered(rules: &Rules<'_>, half: HalfCommand, next: Word, scene: &Scene<'_>) -> Understood
-    ensures { (word : SaidWord) → result ≡ word_entered (deed (cave_of rules.now)
-        (phrase half word (Some (said_word (cave_of rules.now) next))) (scene_of scene.now)) }
+fn word_entered<N: RowNotes>(
+    rules: &Rules<'_>,
+    half: HalfCommand,
+    next: Word,
+    scene: &mut Scene<'_, N>,
+) -> Understood
+    ensures row { (word : SaidWord) → act_of (scene_of N.rows scene.new) result
+        ≡ word_entered (deed (cave_of rules.now)
+        (phrase half word (Some (said_word (cave_of rules.now) next)))
+        (scene_of N.rows scene.old)) }
+    ensures says { GoesOnSaying 0 scene.old scene.new }
 {
     if next.is(b"STREA") || next.is(b"WATER") {
         if is_liquid(rules.thing(Named::Water), lake(rules, scene.state)) {
+            scene.note(Table::WordEntered, 1);
             return half.asks(Request::Tell(Part::Role(Role::FeetWet)));
         }
+        scene.note(Table::WordEntered, 2);
         return half.asks(Request::Tell(Part::Role(Role::Where)));
     }
+    scene.note(Table::WordEntered, 3);
     word_alone(rules, half, said_word(rules, next), scene)
 }
 
 /// What two words say. They are looked up as far as they are read.
 #[tactic(auto, unfolding(crate::specs::Request::two_words))]
-fn two_words(
+fn two_words<N: RowNotes>(
     rules: &Rules<'_>,
     half: HalfCommand,
     word: Word,
     next: Word,
-    scene: &Scene<'_>,
+    scene: &mut Scene<'_, N>,
 ) -> Understood
-    ensures { result ≡ two_words (deed (cave_of rules.now)
-        (phrase half (said_word (cave_of rules.now) word)
-        (Some (said_word (cave_of rules.now) next))) (scene_of scene.now)) }
+    ensures row { PlaysBy N.rows two_words 0 rules.now (phrase half (said_word (cave_of rules.now)
+        word) (Some (said_word (cave_of rules.now) next))) scene.old scene.new result }
 {
     if word.is(b"ENTER") {
+        scene.note(Table::TwoWords, 1);
         return word_entered(rules, half, next, scene);
     }
     let first = said_word(rules, word);
     if pours_over(rules, word, next, scene) {
+        scene.note(Table::TwoWords, 2);
         return word_before(rules, half, first, pour_in(rules), scene);
     }
+    scene.note(Table::TwoWords, 3);
     word_before(rules, half, first, said_word(rules, next), scene)
 }

@@ -2,31 +2,43 @@
 
 ghost use Rattle.std.specs.Prelude.{◌≡◌, ◌+◌, [], ◌∷◌};
 ghost use Rattle.turn_text.specs.data_numbers.Numbers.{LAST_OBJECT};
-ghost use Rattle.turn_begin.specs.turn_scene.Bounds.{HasRoom, MovesOnSaying};
-ghost use Rattle.turn_begin.specs.turn_scene.Bounds.{parts_of_arrival, parts_of_end};
-ghost use Rattle.turn_begin.specs.turn_scene.Scene.{scene_of, cave_of};
 ghost use Rattle.turn_text.specs.cave_world.declared.ending.Question.TheVariants as question_is;
-ghost use Rattle.cave_verbs.specs.verb_commands.turn_rules.Rows.{Does, after_all, by_table, deed};
+ghost use Rattle.turn_begin.specs.turn_scene.Bounds.{HasRoom, MovesOnSaying, parts_of_arrival};
+ghost use Rattle.turn_begin.specs.turn_scene.Bounds.{parts_of_end};
+ghost use Rattle.turn_begin.specs.turn_scene.Scene.{scene_of, cave_of};
+ghost use Rattle.turn_begin.specs.rule_rows.declared.tables.Table.TheVariants as table;
+ghost use Rattle.cave_verbs.specs.verb_commands.turn_rules.Rows.{Does, after_all, deed, by_table};
 ghost use Rattle.cave_turn.specs.Revival.{reborn_rows, fallen_place, layout_after_fall};
-ghost use Rattle.cave_turn.specs.Revival.{layout_after_falls};
-ghost use Rattle.cave_turn.specs.Revival.{without_belongings, revive, revival_rows, come_back};
-ghost use Rattle.cave_turn.specs.Revival.{bury};
+ghost use Rattle.cave_turn.specs.Revival.{without_belongings, revive};
+ghost use Rattle.cave_verbs.specs.verb_commands.turn_rules.Effects.{for_each_down_from};
+ghost use Rattle.cave_turn.specs.Revival.{revival_rows, come_back, bury};
 
-use turn_begin::{LAMP_OFF, Rules, Scene, building_place, is_in_hand, start_place};
+use turn_begin::{
+    LAMP_OFF, RowNotes, Rules, Scene, Table, building_place, is_in_hand, start_place,
+};
 use turn_moves::{count_death, describe_here, end};
 use turn_text::{Ending, LIVES, Named, OBJECTS, Object, Objects, Place, Prop, Role, State};
 
 /// What is said of a first, a second, a third revival.
 #[tactic(auto, unfolding(crate::specs::Revival::reborn_rows))]
-fn tell_reborn(rules: &Rules<'_>, scene: &mut Scene<'_>)
+fn tell_reborn<N: RowNotes>(rules: &Rules<'_>, scene: &mut Scene<'_, N>)
     requires { HasRoom 1 scene.old }
-    ensures rows { Does (by_table reborn_rows ∷ []) 1 rules.now question_is.Die scene.old
-        scene.new }
+    ensures rows { Does N.rows (by_table table.Reborn reborn_rows ∷ []) 1 rules.now
+        question_is.Die scene.old scene.new }
 {
     match scene.state.tallies.deaths.number() {
-        0 => scene.say(Role::Reborn1),
-        1 => scene.say(Role::Reborn2),
-        _ => scene.say(Role::Reborn3),
+        0 => {
+            scene.note(Table::Reborn, 1);
+            scene.say(Role::Reborn1);
+        }
+        1 => {
+            scene.note(Table::Reborn, 2);
+            scene.say(Role::Reborn2);
+        }
+        _ => {
+            scene.note(Table::Reborn, 3);
+            scene.say(Role::Reborn3);
+        }
     }
 }
 
@@ -51,7 +63,9 @@ fn let_fall(rules: &Rules<'_>, place: Place, object: Object, objects: &mut Objec
 
 /// What was carried falls, the last object first.
 fn let_all_fall(rules: &Rules<'_>, place: Place, objects: &mut Objects)
-    ensures { objects.new ≡ layout_after_falls (cave_of rules.now) place LAST_OBJECT objects.old }
+    ensures { objects.new
+        ≡ for_each_down_from LAST_OBJECT (layout_after_fall (cave_of rules.now) place)
+        objects.old }
 {
     for before in 0..OBJECTS as u8 {
         let object = Object::new(OBJECTS as u8 - before);
@@ -71,10 +85,11 @@ fn leave_belongings(rules: &Rules<'_>, state: &mut State)
 
 /// The player is back, without what was carried, and a lamp that was carried is out.
 #[tactic(auto, unfolding(crate::specs::Revival::revive))]
-fn revive(rules: &Rules<'_>, scene: &mut Scene<'_>)
+fn revive<N: RowNotes>(rules: &Rules<'_>, scene: &mut Scene<'_, N>)
     requires { HasRoom (parts_of_arrival scene.old.left) scene.old }
-    ensures scene { scene_of scene.new
-        ≡ (after_all revive (deed (cave_of rules.now) question_is.Die (scene_of scene.old))).scene }
+    ensures scene { scene_of N.rows scene.new
+        ≡ (after_all revive
+        (deed (cave_of rules.now) question_is.Die (scene_of N.rows scene.old))).scene }
     ensures says { MovesOnSaying (parts_of_arrival scene.old.left) scene.old scene.new }
 {
     let lamp = rules.thing(Named::Lamp);
@@ -88,25 +103,27 @@ fn revive(rules: &Rules<'_>, scene: &mut Scene<'_>)
 
 /// The third death is the last, and after another the player is back.
 #[tactic(auto, unfolding(crate::specs::Revival::revival_rows))]
-fn decide_revival(rules: &Rules<'_>, scene: &mut Scene<'_>)
+fn decide_revival<N: RowNotes>(rules: &Rules<'_>, scene: &mut Scene<'_, N>)
     requires { HasRoom (parts_of_arrival scene.old.left) scene.old }
-    ensures scene { scene_of scene.new ≡ (by_table revival_rows
-        (deed (cave_of rules.now) question_is.Die (scene_of scene.old))).scene }
+    ensures scene { scene_of N.rows scene.new ≡ (by_table table.Revival revival_rows
+        (deed (cave_of rules.now) question_is.Die (scene_of N.rows scene.old))).scene }
     ensures says { MovesOnSaying (parts_of_arrival scene.old.left) scene.old scene.new }
 {
     if LIVES <= scene.state.tallies.deaths.number() {
+        scene.note(Table::Revival, 1);
         end(rules, Ending::Killed, scene);
         return;
     }
+    scene.note(Table::Revival, 2);
     revive(rules, scene);
 }
 
 /// The player wants to come back.
 #[tactic(auto, unfolding(crate::specs::Revival::come_back))]
-pub fn come_back(rules: &Rules<'_>, scene: &mut Scene<'_>)
+pub fn come_back<N: RowNotes>(rules: &Rules<'_>, scene: &mut Scene<'_, N>)
     requires { HasRoom (parts_of_arrival scene.old.left + 1) scene.old }
-    ensures scene { scene_of scene.new ≡ (after_all come_back
-        (deed (cave_of rules.now) question_is.Die (scene_of scene.old))).scene }
+    ensures scene { scene_of N.rows scene.new ≡ (after_all come_back
+        (deed (cave_of rules.now) question_is.Die (scene_of N.rows scene.old))).scene }
     ensures says { MovesOnSaying (parts_of_arrival scene.old.left + 1) scene.old scene.new }
 {
     tell_reborn(rules, scene);
@@ -116,9 +133,10 @@ pub fn come_back(rules: &Rules<'_>, scene: &mut Scene<'_>)
 
 /// A player who doesn't want to come back is dead.
 #[tactic(auto, unfolding(crate::specs::Revival::bury))]
-pub fn bury(rules: &Rules<'_>, scene: &mut Scene<'_>)
+pub fn bury<N: RowNotes>(rules: &Rules<'_>, scene: &mut Scene<'_, N>)
     requires { HasRoom (1 + parts_of_end) scene.old }
-    ensures rows { Does bury (1 + parts_of_end) rules.now question_is.Die scene.old scene.new }
+    ensures rows { Does N.rows bury (1 + parts_of_end) rules.now question_is.Die scene.old
+        scene.new }
 {
     scene.say(Role::Ok);
     count_death(scene.state);

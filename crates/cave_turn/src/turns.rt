@@ -3,15 +3,15 @@ ghost use Rattle.arrayvec.specs.ArrayVec.{array_vec_len};
 ghost use Rattle.turn_text.specs.base_lines.Line.{is_line};
 ghost use Rattle.turn_begin.specs.turn_scene.Bounds.{parts_of_turn};
 ghost use Rattle.turn_begin.specs.turn_scene.Scene.{cave_of};
-ghost use Rattle.cave_turn.specs.Turns.{start_of_game, turn_on_line, turn_of_input};
+ghost use Rattle.cave_turn.specs.Turns.{start_of_game, turn_on_line, turn_of_input, rows_on_line};
+ghost use Rattle.cave_turn.specs.Turns.{rows_of_input};
 
 use crate::answers::{answers, close_question, take_answer};
 use crate::commands::command;
-use turn_begin::{Rules, begun_state};
+use turn_begin::{RowNotes, Rules, Unnoted, begun_state};
 use turn_text::{Cave, LogLine, Meter, Out, Part, Role, State, Stream};
 
 /// Plays a line of a log in the state itself. Returns whether it is a turn of the game.
-#[tactic(auto, unfolding(crate::specs::Turns::turn_on_line))]
 pub fn take_line(
     rules: &Rules<'_>,
     state: &mut State,
@@ -28,6 +28,30 @@ pub fn take_line(
     ensures few { array_vec_len out.new ≤ parts_of_turn }
     ensures counted { meter.new ≡ meter.old + 1 }
 {
+    note_rows_on_line(rules, state, line, out, &mut Unnoted::new(), meter)
+}
+
+/// The same, and the rows of the rules are noted as they apply or are tried.
+#[tactic(auto, unfolding(crate::specs::Turns::turn_on_line, crate::specs::Turns::rows_on_line))]
+pub fn note_rows_on_line<N: RowNotes>(
+    rules: &Rules<'_>,
+    state: &mut State,
+    line: &[u8],
+    out: &mut Out,
+    notes: &mut N,
+    meter: &mut Meter,
+) -> bool
+    requires line { IsTrue (is_line line.now) }
+    requires empty { out.old.items ≡ [] }
+    requires unnoted { N.rows notes.old ≡ [] }
+    requires room { meter.old + 1 < 2 ^ 64 }
+
+    ensures turn { record { state = state.new; parts = out.new.items; ticked = result }
+        ≡ turn_on_line (cave_of rules.now) state.old line.now }
+    ensures rows { N.rows notes.new ≡ rows_on_line (cave_of rules.now) state.old line.now }
+    ensures few { array_vec_len out.new ≤ parts_of_turn }
+    ensures counted { meter.new ≡ meter.old + 1 }
+{
     meter.tick();
     match LogLine::of(line) {
         LogLine::Comment | LogLine::Blank => false,
@@ -35,7 +59,7 @@ pub fn take_line(
             state.stream = Stream::seeded(seed);
             false
         }
-        LogLine::Input => play_turn(rules, line, state, out),
+        LogLine::Input => play_turn(rules, line, state, out, notes),
     }
 }
 
@@ -79,10 +103,19 @@ pub fn start(cave: &Cave, seed: u32, out: &mut Out) -> State
 }
 
 /// Plays a line of input. Returns whether it is a turn of the game.
-fn play_turn(rules: &Rules<'_>, line: &[u8], state: &mut State, out: &mut Out) -> bool
-    requires { out.old.items ≡ [] }
+fn play_turn<N: RowNotes>(
+    rules: &Rules<'_>,
+    line: &[u8],
+    state: &mut State,
+    out: &mut Out,
+    notes: &mut N,
+) -> bool
+    requires empty { out.old.items ≡ [] }
+    requires unnoted { N.rows notes.old ≡ [] }
     ensures turn { record { state = state.new; parts = out.new.items; ticked = result }
         ≡ turn_of_input (cave_of rules.now) line.now state.old.ending state.old.question state.old }
+    ensures rows { N.rows notes.new
+        ≡ rows_of_input (cave_of rules.now) line.now state.old.ending state.old.question state.old }
     ensures few { array_vec_len out.new ≤ parts_of_turn }
 {
     if state.ending.is_some() {
@@ -92,14 +125,14 @@ fn play_turn(rules: &Rules<'_>, line: &[u8], state: &mut State, out: &mut Out) -
         Some(question) => {
             if !answers(rules, line, &question) {
                 close_question(state);
-                command(rules, line, state, out);
+                command(rules, line, state, out, notes);
                 return true;
             }
-            take_answer(rules, &question, line, state, out);
+            take_answer(rules, &question, line, state, out, notes);
             false
         }
         None => {
-            command(rules, line, state, out);
+            command(rules, line, state, out, notes);
             true
         }
     }

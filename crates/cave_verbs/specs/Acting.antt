@@ -2,7 +2,7 @@
 use Rattle.std.specs.Prelude.{ℕ, ◌==◌, if◌then◌else◌, List, suc, zero}
 use Rattle.verb_commands.specs.cave_data.CaveView.{CaveView}
 use Rattle.verb_commands.specs.turn_scene.Scene.{Scene}
-use Rattle.verb_commands.specs.turn_rules.Rows.{Deed, Act, deed}
+use Rattle.verb_commands.specs.turn_rules.Rows.{Deed, Act, deed, noted}
 use Rattle.verb_commands.specs.Rows.{going_on, VerbRow, first_fitting}
 use Rattle.verb_commands.specs.declared.next.Next.{Next}
 use Rattle.verb_commands.specs.declared.next.Next.TheVariants.{Stay}
@@ -11,6 +11,7 @@ use Rattle.verb_commands.specs.declared.next.Step.TheVariants.{Done, GoOn}
 use Rattle.verb_commands.specs.declared.command.Command.{Command}
 use Rattle.verb_commands.specs.declared.verb.Verb.{Verb}
 use Rattle.verb_commands.specs.declared.verb.Verb.TheVariants as verb
+use Rattle.verb_commands.specs.rule_rows.declared.tables.Table.TheVariants as table
 use Rattle.cave_verbs.specs.Blasting.{blast_rows}
 use Rattle.cave_verbs.specs.Breaking.{break_rows, wake_rows}
 use Rattle.cave_verbs.specs.Dropping.{drop_rows}
@@ -30,34 +31,34 @@ use Rattle.cave_verbs.specs.Waving.{wave_rows, rub_rows}
 
 -- the rows of a verb without an object, and those of the verb with one
 abbrev pub rows_of : Verb → List VerbRow × List VerbRow
-rows_of verb.Take = (bare_take_rows, take_rows)
-rows_of verb.Drop = (bare_rows, drop_rows)
+rows_of verb.Take = (noted table.BareTake bare_take_rows, noted table.Take take_rows)
+rows_of verb.Drop = (bare_rows, noted table.Drop drop_rows)
 rows_of verb.Say = (bare_rows, other_rows)
-rows_of verb.Open = (bare_open_rows, open_rows)
+rows_of verb.Open = (noted table.BareOpen bare_open_rows, noted table.Open open_rows)
 rows_of verb.Nothing = (nothing_rows, nothing_rows)
-rows_of verb.Lock = (bare_open_rows, open_rows)
-rows_of verb.On = (on_rows, on_rows)
-rows_of verb.Off = (off_rows, off_rows)
-rows_of verb.Wave = (bare_rows, wave_rows)
+rows_of verb.Lock = (noted table.BareOpen bare_open_rows, noted table.Open open_rows)
+rows_of verb.On = (noted table.On on_rows, noted table.On on_rows)
+rows_of verb.Off = (noted table.Off off_rows, noted table.Off off_rows)
+rows_of verb.Wave = (bare_rows, noted table.Wave wave_rows)
 rows_of verb.Calm = (bare_rows, other_rows)
-rows_of verb.Kill = (bare_kill_rows, kill_rows)
-rows_of verb.Pour = (pour_rows, pour_rows)
-rows_of verb.Eat = (bare_eat_rows, eat_rows)
-rows_of verb.Drink = (drink_rows, drink_rows)
-rows_of verb.Rub = (bare_rows, rub_rows)
-rows_of verb.Throw = (bare_rows, throw_rows)
+rows_of verb.Kill = (noted table.BareKill bare_kill_rows, noted table.Kill kill_rows)
+rows_of verb.Pour = (noted table.Pour pour_rows, noted table.Pour pour_rows)
+rows_of verb.Eat = (noted table.BareEat bare_eat_rows, noted table.Eat eat_rows)
+rows_of verb.Drink = (noted table.Drink drink_rows, noted table.Drink drink_rows)
+rows_of verb.Rub = (bare_rows, noted table.Rub rub_rows)
+rows_of verb.Throw = (bare_rows, noted table.Throw throw_rows)
 rows_of verb.Quit = (bare_quit_rows, other_rows)
-rows_of verb.Find = (bare_rows, find_rows)
-rows_of verb.Inventory = (bare_inventory_rows, find_rows)
-rows_of verb.Feed = (bare_rows, feed_rows)
-rows_of verb.Fill = (bare_fill_rows, fill_rows)
-rows_of verb.Blast = (blast_rows, blast_rows)
+rows_of verb.Find = (bare_rows, noted table.Find find_rows)
+rows_of verb.Inventory = (noted table.BareInventory bare_inventory_rows, noted table.Find find_rows)
+rows_of verb.Feed = (bare_rows, noted table.Feed feed_rows)
+rows_of verb.Fill = (noted table.BareFill bare_fill_rows, noted table.Fill fill_rows)
+rows_of verb.Blast = (noted table.Blast blast_rows, noted table.Blast blast_rows)
 rows_of verb.Score = (bare_score_rows, other_rows)
-rows_of verb.Foo = (bare_foo_rows, other_rows)
+rows_of verb.Foo = (noted table.BareFoo bare_foo_rows, other_rows)
 rows_of verb.Brief = (bare_brief_rows, other_rows)
-rows_of verb.Read = (bare_read_rows, read_rows)
-rows_of verb.Break = (bare_rows, break_rows)
-rows_of verb.Wake = (bare_rows, wake_rows)
+rows_of verb.Read = (noted table.BareRead bare_read_rows, noted table.Read read_rows)
+rows_of verb.Break = (bare_rows, noted table.Break break_rows)
+rows_of verb.Wake = (bare_rows, noted table.Wake wake_rows)
 
 unfoldable pub act_bare : Deed Command → Act Step
 act_bare d = first_fitting (rows_of d.about.verb).0 d

@@ -8,11 +8,11 @@ use Rattle.verb_commands.specs.turn_things.Props.{SNAKE_GONE, TROLL_FLED, VASE_B
 use Rattle.verb_commands.specs.turn_things.Props.{VASE_BROKEN, VASE_ON_PILLOW, VASE_WHOLE}
 use Rattle.verb_commands.specs.turn_rules.Effects.{say, look, bring, destroy, fix, set_prop, put}
 use Rattle.verb_commands.specs.turn_rules.Effects.{troll_goes, lose_to_snake}
-use Rattle.verb_commands.specs.turn_rules.Rows.{row_then}
+use Rattle.verb_commands.specs.turn_rules.Rows.{row_then, otherwise_then}
 use Rattle.verb_commands.specs.turn_rules.Tests.{the, no, in_hand, near, is_here, prop, cave_closed}
 use Rattle.verb_commands.specs.turn_rules.Tests.{away_from_home}
 use Rattle.verb_commands.specs.Effects.{default}
-use Rattle.verb_commands.specs.Rows.{VerbRow, row, ends, does}
+use Rattle.verb_commands.specs.Rows.{VerbRow, row, ends, does, stays}
 use Rattle.verb_commands.specs.declared.verb.Verb.TheVariants as verb
 use Rattle.verb_commands.specs.Tests.{x, is}
 
@@ -41,4 +41,4 @@ drop_rows =
     (say role.BirdDragon ∷ destroy x ∷ set_prop x BIRD_FREE ∷ lose_to_snake ∷ [])
     ∷ row (is name.Bear ∷ is_here (the name.Troll) ∷ [])
     (say role.TrollFlees ∷ troll_goes ∷ set_prop (the name.Troll) TROLL_FLED ∷ put x ∷ [])
-    ∷ (drop_vase_rows ++ row [] (say role.Ok ∷ put x ∷ []) ∷ [])
+    ∷ (drop_vase_rows ++ otherwise_then (say role.Ok ∷ put x ∷ []) stays)

@@ -62,4 +62,4 @@ feed_rows =
     ∷ row (is name.Dwarf ∷ near (the name.Food) ∷ []) (change with_more_anger
     ∷ say role.DwarfFeed ∷ [])
     ∷ row (is name.Dwarf ∷ []) (default ∷ [])
-    ∷ (feed_bear_rows ++ row [] (say role.FeedWhat ∷ []) ∷ [])
+    ∷ (feed_bear_rows ++ otherwise_then (say role.FeedWhat ∷ []) stays)

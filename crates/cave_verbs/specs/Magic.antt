@@ -10,12 +10,14 @@ use Rattle.verb_commands.specs.turn_things.Props.{EGGS_APPEARING, EGGS_ELSEWHERE
 use Rattle.verb_commands.specs.turn_things.Props.{TROLL_CALM, TROLL_RETURNING}
 use Rattle.verb_commands.specs.turn_things.Effects.{with_talk}
 use Rattle.verb_commands.specs.turn_rules.Rows.{Deed, Test, Effect, Thing, always, otherwise_row}
-use Rattle.verb_commands.specs.turn_rules.Rows.{otherwise_then, answer_row, answer_by_rows}
-use Rattle.verb_commands.specs.turn_rules.Effects.{in_state, say, set_prop, look, move}
+use Rattle.verb_commands.specs.turn_rules.Rows.{otherwise_then, answer_row, Act}
+use Rattle.verb_commands.specs.turn_rules.Rows.{act_by_table}
+use Rattle.verb_commands.specs.turn_rules.Effects.{in_state, say, set_prop, look, move, in_scene}
 use Rattle.verb_commands.specs.turn_rules.Tests.{the, no, either, there_is, in_hand, prop, nowhere}
 use Rattle.verb_commands.specs.turn_rules.Tests.{player_at_home, home_of, near}
 use Rattle.verb_commands.specs.Rows.{VerbRow, row, stays}
 use Rattle.verb_commands.specs.declared.command.Command.{Command}
+use Rattle.verb_commands.specs.rule_rows.declared.tables.Table.TheVariants as table
 
 -- the number of the word that was just read among the special words; 0 if it is none of them
 abbrev pub k : Deed Command → ℕ
@@ -36,9 +38,12 @@ is_out_of_turn d = not (int_eq (foo d) (pos 1 -ℤ pos (k d)))
 abbrev pub is_unbegun : Test Command
 is_unbegun d = int_eq (foo d) (pos 0)
 
--- it is the last of the magic words
+-- how many magic words there are
+abbrev pub LAST_MAGIC_WORD : ℕ
+LAST_MAGIC_WORD = 4
+
 abbrev pub is_last : Test Command
-is_last d = k d == 4
+is_last d = k d == LAST_MAGIC_WORD
 
 abbrev pub eggs : Thing Command
 eggs = the name.Eggs
@@ -61,15 +66,17 @@ abbrev pub begin_anew : Effect Command
 begin_anew d = in_state (with_magic (pos 0) d.scene.state) d
 
 -- which text is printed of the eggs as they go home
-unfoldable pub eggs_sight : Deed Command → ℤ
-eggs_sight d = answer_by_rows
+unfoldable pub eggs_sight : Deed Command → Act ℤ
+eggs_sight d = act_by_table table.Eggs
     (answer_row (player_at_home eggs ∷ []) (always EGGS_APPEARING)
     ∷ answer_row (near eggs ∷ []) (always EGGS_VANISHING) ∷ [])
     (otherwise_row [] (always EGGS_ELSEWHERE)) d
 
 -- it is printed, and they go home
 unfoldable pub send_eggs_home : Effect Command
-send_eggs_home d = move eggs (home_of eggs) (look eggs (eggs_sight d) d)
+send_eggs_home d =
+    let sight = eggs_sight d in
+    move eggs (home_of eggs) (look eggs sight.step (in_scene sight.scene d))
 
 unfoldable pub bare_foo_rows : List VerbRow
 bare_foo_rows =

@@ -6,7 +6,7 @@ use Rattle.verb_commands.specs.cave_world.State.{CLUE_HINT}
 use Rattle.verb_commands.specs.cave_world.declared.ending.Question.TheVariants as question
 use Rattle.verb_commands.specs.cave_world.declared.part.Part.TheVariants as part
 use Rattle.verb_commands.specs.cave_world.declared.part.WordLine.TheVariants as line
-use Rattle.verb_commands.specs.turn_rules.Rows.{Deed, Effect, row_then, given, otherwise_then}
+use Rattle.verb_commands.specs.turn_rules.Rows.{Deed, Effect, row_then, otherwise_then, always}
 use Rattle.verb_commands.specs.turn_rules.Effects.{tell, say}
 use Rattle.verb_commands.specs.turn_rules.Tests.{the, there_is, in_hand, near, cave_closed}
 use Rattle.verb_commands.specs.turn_rules.Tests.{in_the_dark, has_hint}
@@ -41,6 +41,6 @@ read_rows =
     ∷ row (is name.Magazine ∷ []) (say role.ReadMagazine ∷ [])
     ∷ row (is name.Tablet ∷ []) (say role.ReadTablet ∷ [])
     ∷ row (is name.Message ∷ []) (say role.ReadMessage ∷ [])
-    ∷ row (is name.Oyster ∷ in_hand x ∷ has_hint (given CLUE_HINT) ∷ []) (say role.ReadOyster ∷ [])
+    ∷ row (is name.Oyster ∷ in_hand x ∷ has_hint (always CLUE_HINT) ∷ []) (say role.ReadOyster ∷ [])
     ∷ row_then (is name.Oyster ∷ in_hand x ∷ cave_closed ∷ []) [] (poses question.Oyster)
     ∷ otherwise_then (default ∷ []) stays

@@ -4,14 +4,14 @@ use Rattle.std.specs.Prelude.{slice_index_or, slice_set}
 use Rattle.std.specs.List.{position}
 use Rattle.verb_commands.specs.data_rows.declared.role.Role.TheVariants as role
 use Rattle.verb_commands.specs.cave_words.declared.named.Named.TheVariants as name
-use Rattle.verb_commands.specs.cave_world.Limits.{MAX_KILLS}
+use Rattle.verb_commands.specs.cave_world.Limits.{MAX_KILLS, PIRATE}
 use Rattle.verb_commands.specs.cave_world.State.{no_dwarf}
 use Rattle.verb_commands.specs.cave_world.declared.dwarves.Dwarf.{Dwarf}
 use Rattle.verb_commands.specs.cave_world.declared.state.State.{State}
 use Rattle.verb_commands.specs.turn_things.Reach.{is_dwarf_at}
 use Rattle.verb_commands.specs.turn_things.Props.{AXE_BY_BEAR, BEAR_WILD, DRAGON_ALIVE}
 use Rattle.verb_commands.specs.turn_things.Effects.{with_dwarves}
-use Rattle.verb_commands.specs.turn_rules.Rows.{Test, Effect, row_then, row_by_draw, given}
+use Rattle.verb_commands.specs.turn_rules.Rows.{Test, Effect, row_then, row_by_draw, always}
 use Rattle.verb_commands.specs.turn_rules.Rows.{otherwise_then}
 use Rattle.verb_commands.specs.turn_rules.Effects.{in_state, say, bring, destroy, fix, juggle}
 use Rattle.verb_commands.specs.turn_rules.Effects.{set_prop, troll_goes}
@@ -33,7 +33,7 @@ without_one each (Some index) =
 
 -- of the dwarves, the first of the five that is at a place is gone; the sixth is the pirate
 unfoldable pub without_first_at : ℕ → List Dwarf → List Dwarf
-without_first_at place each = without_one each (position (is_dwarf_at place) (take 5 each))
+without_first_at place each = without_one each (position (is_dwarf_at place) (take PIRATE each))
 
 abbrev pub with_one_killed : State → State
 with_one_killed s = let dwarves = s.dwarves in
@@ -59,7 +59,7 @@ axe_rows =
     ∷ row_then (is_here (the name.Troll) ∷ []) (say role.AxeTroll ∷ bring x ∷ []) again
     ∷ row (near (the name.Bear) ∷ prop (the name.Bear) BEAR_WILD ∷ [])
     (bring x ∷ fix x ∷ set_prop x AXE_BY_BEAR ∷ juggle (the name.Bear) ∷ say role.AxeBear ∷ [])
-    ∷ otherwise_then [] (does verb.Kill (given 0))
+    ∷ otherwise_then [] (does verb.Kill (always 0))
 
 unfoldable pub throw_rows : List VerbRow
 throw_rows =

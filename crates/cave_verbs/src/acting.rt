@@ -3,11 +3,11 @@ ghost use Rattle.verb_commands.specs.turn_scene.Bounds.{GoesOnSaying, HasRoom, p
 ghost use Rattle.verb_commands.specs.turn_scene.Bounds.{parts_of_inventory, parts_of_verb};
 ghost use Rattle.verb_commands.specs.turn_scene.Scene.{scene_of, cave_of};
 ghost use Rattle.verb_commands.specs.declared.next.Step.TheVariants.{Done};
-ghost use Rattle.cave_verbs.specs.Acting.{act, act_bare, act_on, act_once, act_within};
 ghost use Rattle.verb_commands.specs.Rows.{ActsBy};
 ghost use Rattle.verb_commands.specs.turn_rules.Rows.{act_of, deed};
-ghost use Rattle.cave_verbs.specs.Ranks.{rank, rank_of};
 ghost use Rattle.verb_commands.specs.Room.{parts_by};
+ghost use Rattle.cave_verbs.specs.Acting.{act, act_bare, act_on, act_once, act_within};
+ghost use Rattle.cave_verbs.specs.Ranks.{rank, rank_of};
 
 use crate::blasting::blast;
 use crate::breaking::{break_object, wake};
@@ -24,14 +24,14 @@ use crate::small::brief;
 use crate::taking::{take, take_what_is_here};
 use crate::throwing::throw;
 use crate::waving::{rub, wave};
-use verb_commands::{Command, Next, Question, Role, Rules, Scene, Step, Verb};
+use verb_commands::{Command, Next, Question, Role, RowNotes, Rules, Scene, Step, Verb};
 
 /// Does what is commanded, and returns what follows.
 #[tactic(auto, using(crate::proofs::Falls::few_ranks), unfolding(crate::specs::Acting::act))]
-pub fn act(rules: &Rules<'_>, command: Command, scene: &mut Scene<'_>) -> Next
+pub fn act<N: RowNotes>(rules: &Rules<'_>, command: Command, scene: &mut Scene<'_, N>) -> Next
     requires { HasRoom parts_of_verb scene.old }
-    ensures rules { act_of (scene_of scene.new) (Done result)
-        ≡ act (cave_of rules.now) command (scene_of scene.old) }
+    ensures rules { act_of (scene_of N.rows scene.new) (Done result)
+        ≡ act (cave_of rules.now) command (scene_of N.rows scene.old) }
     ensures says { GoesOnSaying (parts_of_goings_on 3 + parts_by (Done result)) scene.old
         scene.new }
 {
@@ -40,10 +40,10 @@ pub fn act(rules: &Rules<'_>, command: Command, scene: &mut Scene<'_>) -> Next
 
 /// Does a verb that is done to no object.
 #[tactic(auto, unfolding(crate::specs::Acting::act_bare, crate::specs::Small::bare_rows, crate::specs::Small::nothing_rows, crate::specs::Small::bare_quit_rows, crate::specs::Small::bare_score_rows))]
-fn act_bare(rules: &Rules<'_>, command: Command, scene: &mut Scene<'_>) -> Step
+fn act_bare<N: RowNotes>(rules: &Rules<'_>, command: Command, scene: &mut Scene<'_, N>) -> Step
     requires bare { command.object ≡ 0 }
     requires room { HasRoom parts_of_inventory scene.old }
-    ensures rules { ActsBy act_bare rules.now command scene.old scene.new result }
+    ensures rules { ActsBy N.rows act_bare rules.now command scene.old scene.new result }
     ensures ranks { rank_of (cave_of rules.now) result
         ≤ rank (cave_of rules.now) command.verb command.object }
 {
@@ -80,10 +80,10 @@ fn act_bare(rules: &Rules<'_>, command: Command, scene: &mut Scene<'_>) -> Step
 
 /// Does a verb that is done to an object.
 #[tactic(auto, unfolding(crate::specs::Acting::act_on, crate::specs::Small::nothing_rows, crate::specs::Small::other_rows))]
-fn act_on(rules: &Rules<'_>, command: Command, scene: &mut Scene<'_>) -> Step
+fn act_on<N: RowNotes>(rules: &Rules<'_>, command: Command, scene: &mut Scene<'_, N>) -> Step
     requires object { 0 < command.object }
     requires room { HasRoom parts_of_inventory scene.old }
-    ensures rules { ActsBy act_on rules.now command scene.old scene.new result }
+    ensures rules { ActsBy N.rows act_on rules.now command scene.old scene.new result }
     ensures ranks { rank_of (cave_of rules.now) result
         ≤ rank (cave_of rules.now) command.verb command.object }
 {
@@ -115,9 +115,9 @@ fn act_on(rules: &Rules<'_>, command: Command, scene: &mut Scene<'_>) -> Step
 }
 
 /// Does a verb by its own rules.
-fn act_once(rules: &Rules<'_>, command: Command, scene: &mut Scene<'_>) -> Step
+fn act_once<N: RowNotes>(rules: &Rules<'_>, command: Command, scene: &mut Scene<'_, N>) -> Step
     requires room { HasRoom parts_of_inventory scene.old }
-    ensures rules { ActsBy act_once rules.now command scene.old scene.new result }
+    ensures rules { ActsBy N.rows act_once rules.now command scene.old scene.new result }
     ensures ranks { rank_of (cave_of rules.now) result
         ≤ rank (cave_of rules.now) command.verb command.object }
 {
@@ -130,11 +130,16 @@ fn act_once(rules: &Rules<'_>, command: Command, scene: &mut Scene<'_>) -> Step
 
 /// Does a verb, and those that it goes on with, which are so many at most.
 #[tactic(auto, unfolding(crate::specs::Acting::act_within))]
-fn act_within(rules: &Rules<'_>, left: u8, command: Command, scene: &mut Scene<'_>) -> Next
+fn act_within<N: RowNotes>(
+    rules: &Rules<'_>,
+    left: u8,
+    command: Command,
+    scene: &mut Scene<'_, N>,
+) -> Next
     requires rank { rank (cave_of rules.now) command.verb command.object ≤ left }
     requires room { HasRoom (parts_of_goings_on left + parts_of_inventory) scene.old }
-    ensures rules { act_of (scene_of scene.new) (Done result)
-        ≡ act_within left (deed (cave_of rules.now) command (scene_of scene.old)) }
+    ensures rules { act_of (scene_of N.rows scene.new) (Done result)
+        ≡ act_within left (deed (cave_of rules.now) command (scene_of N.rows scene.old)) }
     ensures says { GoesOnSaying (parts_of_goings_on left + parts_by (Done result)) scene.old
         scene.new }
 {

@@ -1,44 +1,58 @@
 ghost use Rattle.verb_commands.specs.turn_scene.Bounds.{HasRoom, parts_of_row};
-ghost use Rattle.cave_verbs.specs.Breaking.{break_rows, wake_rows};
 ghost use Rattle.verb_commands.specs.Rows.{DoneByRows};
+ghost use Rattle.verb_commands.specs.turn_rules.Rows.{noted};
+ghost use Rattle.verb_commands.specs.rule_rows.declared.tables.Table.TheVariants as table;
+ghost use Rattle.cave_verbs.specs.Breaking.{break_rows, wake_rows};
 
 use verb_commands::{
-    Anchor, Command, Named, Next, Prop, Role, Rules, Scene, VASE_BROKEN, VASE_WHOLE, has_prop,
-    let_go,
+    Anchor, Command, Named, Next, Prop, Role, RowNotes, Rules, Scene, Table, VASE_BROKEN,
+    VASE_WHOLE, has_prop, let_go,
 };
 
 /// BREAK an object.
 #[tactic(auto, unfolding(crate::specs::Breaking::break_rows))]
-pub fn break_object(rules: &Rules<'_>, command: Command, scene: &mut Scene<'_>) -> Next
+pub fn break_object<N: RowNotes>(
+    rules: &Rules<'_>,
+    command: Command,
+    scene: &mut Scene<'_, N>,
+) -> Next
     requires { HasRoom parts_of_row scene.old }
-    ensures row { DoneByRows break_rows rules.now command scene.old scene.new result }
+    ensures row { DoneByRows N.rows (noted table.Break break_rows) rules.now command scene.old
+        scene.new result }
 {
     let x = command.object;
     if rules.is(x, Named::Vase) && has_prop(scene.state, x, VASE_WHOLE) {
+        scene.note(Table::Break, 1);
         let_go(rules, x, scene.state);
         scene.state.objects.set_prop(x, Prop::new(VASE_BROKEN));
         scene.state.objects.anchor_to(x, Anchor::Fixed);
         return Next::say(Role::VaseSmash, scene);
     }
     if !rules.is(x, Named::Mirror) {
+        scene.note(Table::Break, 4);
         return command.say_default(rules, scene);
     }
     if scene.state.closing.is_closed {
+        scene.note(Table::Break, 2);
         scene.say(Role::MirrorBreak);
         return Next::disturb(scene);
     }
+    scene.note(Table::Break, 3);
     Next::say(Role::MirrorNo, scene)
 }
 
 /// WAKE an object.
 #[tactic(auto, unfolding(crate::specs::Breaking::wake_rows))]
-pub fn wake(rules: &Rules<'_>, command: Command, scene: &mut Scene<'_>) -> Next
+pub fn wake<N: RowNotes>(rules: &Rules<'_>, command: Command, scene: &mut Scene<'_, N>) -> Next
     requires { HasRoom parts_of_row scene.old }
-    ensures row { DoneByRows wake_rows rules.now command scene.old scene.new result }
+    ensures row { DoneByRows N.rows (noted table.Wake wake_rows) rules.now command scene.old
+        scene.new result }
 {
     if rules.is(command.object, Named::Dwarf) && scene.state.closing.is_closed {
+        scene.note(Table::Wake, 1);
         scene.say(Role::WakeDwarf);
         return Next::disturb(scene);
     }
+    scene.note(Table::Wake, 2);
     command.say_default(rules, scene)
 }

@@ -5,29 +5,39 @@ ghost use Rattle.verb_commands.specs.turn_things.Homes.{is_home_elsewhere};
 ghost use Rattle.verb_commands.specs.turn_things.Reach.{is_in_hand, is_near};
 ghost use Rattle.verb_commands.specs.turn_scene.Bounds.{HasRoom, parts_of_row};
 ghost use Rattle.verb_commands.specs.Rows.{ByRows, DoneByRows};
+ghost use Rattle.verb_commands.specs.turn_rules.Rows.{noted, noted_from};
+ghost use Rattle.verb_commands.specs.rule_rows.declared.tables.Table.TheVariants as table;
 ghost use Rattle.cave_verbs.specs.Ranks.{rank_of, drop_rank};
 ghost use Rattle.cave_verbs.specs.Dropping.{drop_rows, drop_vase_rows};
 
 use verb_commands::{
-    Anchor, BATTERIES_FRESH, BIRD_FREE, Command, DRAGON_ALIVE, Named, Next, Prop, Role, Rules,
-    SNAKE_GONE, Scene, Step, TROLL_FLED, VASE_BREAKING, VASE_BROKEN, VASE_ON_PILLOW, VASE_WHOLE,
-    Verb, has_prop, is_home_elsewhere, is_in_hand, is_near, lose_to_snake, put_down, remove_troll,
+    Anchor, BATTERIES_FRESH, BIRD_FREE, Command, DRAGON_ALIVE, Named, Next, Prop, Role, RowNotes,
+    Rules, SNAKE_GONE, Scene, Step, TROLL_FLED, Table, VASE_BREAKING, VASE_BROKEN, VASE_ON_PILLOW,
+    VASE_WHOLE, Verb, has_prop, is_home_elsewhere, is_in_hand, is_near, lose_to_snake, put_down,
+    remove_troll,
 };
 
 /// The bird drives the snake away; in the closed cave it wakes the dwarves.
 #[tactic(auto, unfolding(crate::specs::Dropping::drop_rows))]
-fn drop_bird_by_snake(rules: &Rules<'_>, command: Command, scene: &mut Scene<'_>) -> Next
+fn drop_bird_by_snake<N: RowNotes>(
+    rules: &Rules<'_>,
+    command: Command,
+    scene: &mut Scene<'_, N>,
+) -> Next
     requires room { HasRoom parts_of_row scene.old }
     requires held { IsTrue (is_in_hand (cave_of rules.now) scene.old.state.now command.object) }
     requires bird { IsTrue (is_called (cave_of rules.now) command.object name.Bird) }
     requires snake { let cave = cave_of rules.now in
         IsTrue (is_near cave scene.old.state.now (thing cave name.Snake)) }
-    ensures row { DoneByRows drop_rows rules.now command scene.old scene.new result }
+    ensures row { DoneByRows N.rows (noted table.Drop drop_rows) rules.now command scene.old
+        scene.new result }
 {
     if scene.state.closing.is_closed {
+        scene.note(Table::Drop, 3);
         scene.say(Role::BirdSnake);
         return Next::disturb(scene);
     }
+    scene.note(Table::Drop, 4);
     let snake = rules.thing(Named::Snake);
     scene.state.destroy(snake);
     scene.state.objects.set_prop(snake, Prop::new(SNAKE_GONE));
@@ -36,18 +46,21 @@ fn drop_bird_by_snake(rules: &Rules<'_>, command: Command, scene: &mut Scene<'_>
 }
 
 /// A vase that is put down elsewhere than where the pillow is at home breaks without the pillow.
-fn drop_vase(rules: &Rules<'_>, command: Command, scene: &mut Scene<'_>) -> Next
+fn drop_vase<N: RowNotes>(rules: &Rules<'_>, command: Command, scene: &mut Scene<'_, N>) -> Next
     requires room { HasRoom parts_of_row scene.old }
     requires vase { IsTrue (is_called (cave_of rules.now) command.object name.Vase) }
     requires away { let cave = cave_of rules.now in
         IsTrue (is_home_elsewhere cave scene.old.state.now (thing cave name.Pillow)) }
-    ensures row { DoneByRows drop_vase_rows rules.now command scene.old scene.new result }
+    ensures row { DoneByRows N.rows (noted_from table.Drop 8 drop_vase_rows) rules.now command
+        scene.old scene.new result }
 {
     let x = command.object;
     if scene.state.at(rules.thing(Named::Pillow)) {
+        scene.note(Table::Drop, 8);
         scene.state.objects.set_prop(x, Prop::new(VASE_WHOLE));
         scene.look(x, VASE_ON_PILLOW);
     } else {
+        scene.note(Table::Drop, 9);
         scene.state.objects.set_prop(x, Prop::new(VASE_BROKEN));
         scene.look(x, VASE_BREAKING);
         scene.state.objects.anchor_to(x, Anchor::Fixed);
@@ -58,9 +71,14 @@ fn drop_vase(rules: &Rules<'_>, command: Command, scene: &mut Scene<'_>) -> Next
 
 /// DROP an object.
 #[tactic(auto, unfolding(crate::specs::Dropping::drop_rows), using(crate::proofs::Falls::drop_falls))]
-pub fn drop_object(rules: &Rules<'_>, command: Command, scene: &mut Scene<'_>) -> Step
+pub fn drop_object<N: RowNotes>(
+    rules: &Rules<'_>,
+    command: Command,
+    scene: &mut Scene<'_, N>,
+) -> Step
     requires { HasRoom parts_of_row scene.old }
-    ensures row { ByRows drop_rows rules.now command scene.old scene.new result }
+    ensures row { ByRows N.rows (noted table.Drop drop_rows) rules.now command scene.old scene.new
+        result }
     ensures ranks { let cave = cave_of rules.now in
         rank_of cave result ≤ drop_rank cave command.object }
 {
@@ -68,14 +86,17 @@ pub fn drop_object(rules: &Rules<'_>, command: Command, scene: &mut Scene<'_>) -
     if !is_in_hand(rules, scene.state, x) {
         let second_rod = rules.thing(Named::SecondRod);
         if rules.is(x, Named::Rod) && is_in_hand(rules, scene.state, second_rod) {
+            scene.note(Table::Drop, 1);
             return Step::GoOn(Verb::Drop, second_rod);
         }
+        scene.note(Table::Drop, 2);
         return Step::Done(command.say_default(rules, scene));
     }
     if rules.is(x, Named::Bird) && is_near(rules, scene.state, rules.thing(Named::Snake)) {
         return Step::Done(drop_bird_by_snake(rules, command, scene));
     }
     if rules.is(x, Named::Coins) && is_near(rules, scene.state, rules.thing(Named::Vending)) {
+        scene.note(Table::Drop, 5);
         let batteries = rules.thing(Named::Batteries);
         scene.state.destroy(x);
         let here = scene.state.trail.here;
@@ -88,6 +109,7 @@ pub fn drop_object(rules: &Rules<'_>, command: Command, scene: &mut Scene<'_>) -
         && scene.state.at(dragon)
         && has_prop(scene.state, dragon, DRAGON_ALIVE)
     {
+        scene.note(Table::Drop, 6);
         scene.state.destroy(x);
         scene.state.objects.set_prop(x, Prop::new(BIRD_FREE));
         lose_to_snake(rules, scene.state);
@@ -95,6 +117,7 @@ pub fn drop_object(rules: &Rules<'_>, command: Command, scene: &mut Scene<'_>) -
     }
     let troll = rules.thing(Named::Troll);
     if rules.is(x, Named::Bear) && scene.state.at(troll) {
+        scene.note(Table::Drop, 7);
         remove_troll(rules, scene.state);
         scene.state.objects.set_prop(troll, Prop::new(TROLL_FLED));
         put_down(rules, x, scene.state);
@@ -104,6 +127,7 @@ pub fn drop_object(rules: &Rules<'_>, command: Command, scene: &mut Scene<'_>) -
     if rules.is(x, Named::Vase) && is_home_elsewhere(rules, scene.state, pillow) {
         return Step::Done(drop_vase(rules, command, scene));
     }
+    scene.note(Table::Drop, 10);
     put_down(rules, x, scene.state);
     Step::Done(Next::say(Role::Ok, scene))
 }

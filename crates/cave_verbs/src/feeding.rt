@@ -3,12 +3,15 @@ ghost use Rattle.verb_commands.specs.cave_words.declared.named.Named.TheVariants
 ghost use Rattle.verb_commands.specs.turn_scene.Bounds.{HasRoom, parts_of_row};
 ghost use Rattle.verb_commands.specs.Rows.{ByRows, DoneByRows};
 ghost use Rattle.verb_commands.specs.turn_scene.Scene.{is_called, cave_of};
+ghost use Rattle.verb_commands.specs.turn_rules.Rows.{noted, noted_from};
+ghost use Rattle.verb_commands.specs.rule_rows.declared.tables.Table.TheVariants as table;
 ghost use Rattle.cave_verbs.specs.Ranks.{rank_of};
 ghost use Rattle.cave_verbs.specs.Feeding.{feed_rows, feed_bear_rows, bare_eat_rows, eat_rows};
 
 use verb_commands::{
     AXE_FREE, Anchor, BEAR_DEAD, BEAR_FED, BEAR_WILD, BIRD_FREE, Command, DRAGON_ALIVE, Named,
-    Next, Prop, Role, Rules, Scene, Step, Verb, has_other_prop, has_prop, is_near, lose_one,
+    Next, Prop, Role, RowNotes, Rules, Scene, Step, Table, Verb, has_other_prop, has_prop, is_near,
+    lose_one,
 };
 
 /// Living beings that are no food.
@@ -25,15 +28,16 @@ const LIVING: [Named; 8] = [
 
 /// FEED an object.
 #[tactic(auto, unfolding(crate::specs::Feeding::feed_rows))]
-pub fn feed(rules: &Rules<'_>, command: Command, scene: &mut Scene<'_>) -> Next
+pub fn feed<N: RowNotes>(rules: &Rules<'_>, command: Command, scene: &mut Scene<'_, N>) -> Next
     requires { HasRoom parts_of_row scene.old }
-    ensures row { DoneByRows feed_rows rules.now command scene.old scene.new result }
+    ensures row { DoneByRows N.rows (noted table.Feed feed_rows) rules.now command scene.old
+        scene.new result }
 {
     let x = command.object;
     let bird = rules.thing(Named::Bird);
     let food = rules.thing(Named::Food);
-    let role = if rules.is(x, Named::Bird) {
-        Role::BirdFeed
+    let (row, role) = if rules.is(x, Named::Bird) {
+        (1, Role::BirdFeed)
     } else if rules.is(x, Named::Snake)
         && !scene.state.closing.is_closed
         && is_near(rules, scene.state, bird)
@@ -41,36 +45,40 @@ pub fn feed(rules: &Rules<'_>, command: Command, scene: &mut Scene<'_>) -> Next
         scene.state.destroy(bird);
         scene.state.objects.set_prop(bird, Prop::new(BIRD_FREE));
         lose_one(scene.state);
-        Role::BirdEaten
+        (2, Role::BirdEaten)
     } else if rules.is(x, Named::Dragon) && has_other_prop(scene.state, x, DRAGON_ALIVE) {
-        Role::Ridiculous
+        (3, Role::Ridiculous)
     } else if rules.is(x, Named::Snake) || rules.is(x, Named::Dragon) {
-        Role::NotHungry
+        (4, Role::NotHungry)
     } else if rules.is(x, Named::Troll) {
-        Role::TrollFeed
+        (5, Role::TrollFeed)
     } else if rules.is(x, Named::Dwarf) && is_near(rules, scene.state, food) {
         scene.state.dwarves.anger = scene.state.dwarves.anger.up();
-        Role::DwarfFeed
+        (6, Role::DwarfFeed)
     } else if rules.is(x, Named::Dwarf) {
+        scene.note(Table::Feed, 7);
         return command.say_default(rules, scene);
     } else if rules.is(x, Named::Bear) {
         return feed_bear(rules, command, scene);
     } else {
-        Role::FeedWhat
+        (12, Role::FeedWhat)
     };
+    scene.note(Table::Feed, row);
     Next::say(role, scene)
 }
 
 /// FEED the bear.
 #[tactic(auto, unfolding(crate::specs::Feeding::feed_bear_rows))]
-fn feed_bear(rules: &Rules<'_>, command: Command, scene: &mut Scene<'_>) -> Next
+fn feed_bear<N: RowNotes>(rules: &Rules<'_>, command: Command, scene: &mut Scene<'_, N>) -> Next
     requires room { HasRoom parts_of_row scene.old }
     requires bear { IsTrue (is_called (cave_of rules.now) command.object name.Bear) }
-    ensures row { DoneByRows feed_bear_rows rules.now command scene.old scene.new result }
+    ensures row { DoneByRows N.rows (noted_from table.Feed 8 feed_bear_rows) rules.now command
+        scene.old scene.new result }
 {
     let bear = command.object;
     let food = rules.thing(Named::Food);
     if is_near(rules, scene.state, food) {
+        scene.note(Table::Feed, 8);
         scene.state.destroy(food);
         scene.state.objects.set_prop(bear, Prop::new(BEAR_FED));
         let axe = rules.thing(Named::Axe);
@@ -79,41 +87,55 @@ fn feed_bear(rules: &Rules<'_>, command: Command, scene: &mut Scene<'_>) -> Next
         return Next::say(Role::BearFed, scene);
     }
     if has_prop(scene.state, bear, BEAR_WILD) {
+        scene.note(Table::Feed, 9);
         return Next::say(Role::NotHungry, scene);
     }
     if has_prop(scene.state, bear, BEAR_DEAD) {
+        scene.note(Table::Feed, 10);
         return Next::say(Role::Ridiculous, scene);
     }
+    scene.note(Table::Feed, 11);
     command.say_default(rules, scene)
 }
 
 /// EAT without an object.
 #[tactic(auto, using(crate::proofs::Near::is_something), unfolding(crate::specs::Feeding::bare_eat_rows))]
-pub fn eat_what_is_here(rules: &Rules<'_>, command: Command, scene: &mut Scene<'_>) -> Step
+pub fn eat_what_is_here<N: RowNotes>(
+    rules: &Rules<'_>,
+    command: Command,
+    scene: &mut Scene<'_, N>,
+) -> Step
     requires { HasRoom parts_of_row scene.old }
-    ensures row { ByRows bare_eat_rows rules.now command scene.old scene.new result }
+    ensures row { ByRows N.rows (noted table.BareEat bare_eat_rows) rules.now command scene.old
+        scene.new result }
     ensures ranks { rank_of (cave_of rules.now) result ≤ 1 }
 {
     let food = rules.thing(Named::Food);
     if is_near(rules, scene.state, food) {
+        scene.note(Table::BareEat, 1);
         return Step::GoOn(Verb::Eat, food);
     }
+    scene.note(Table::BareEat, 2);
     Step::Done(command.ask_what(rules, scene))
 }
 
 /// EAT an object.
 #[tactic(auto, unfolding(crate::specs::Feeding::eat_rows))]
-pub fn eat(rules: &Rules<'_>, command: Command, scene: &mut Scene<'_>) -> Next
+pub fn eat<N: RowNotes>(rules: &Rules<'_>, command: Command, scene: &mut Scene<'_, N>) -> Next
     requires { HasRoom parts_of_row scene.old }
-    ensures row { DoneByRows eat_rows rules.now command scene.old scene.new result }
+    ensures row { DoneByRows N.rows (noted table.Eat eat_rows) rules.now command scene.old scene.new
+        result }
 {
     let x = command.object;
     if rules.is(x, Named::Food) {
+        scene.note(Table::Eat, 1);
         scene.state.destroy(x);
         return Next::say(Role::Eaten, scene);
     }
     if rules.is_one_of(x, &LIVING) {
+        scene.note(Table::Eat, 2);
         return Next::say(Role::NoAppetite, scene);
     }
+    scene.note(Table::Eat, 3);
     command.say_default(rules, scene)
 }

@@ -2,36 +2,45 @@ ghost use Rattle.std.specs.Prelude.{◌≡◌, ◌+◌, [], ◌∷◌, length};
 ghost use Rattle.verb_commands.specs.data_numbers.Numbers.{LAST_OBJECT};
 ghost use Rattle.verb_commands.specs.turn_scene.Bounds.{GoesOnSaying, HasRoom, parts_of_inventory};
 ghost use Rattle.verb_commands.specs.turn_scene.Scene.{scene_of, cave_of};
+ghost use Rattle.verb_commands.specs.Rows.{DoneByRow, DoneByRows, row};
+ghost use Rattle.verb_commands.specs.turn_rules.Rows.{noted};
+ghost use Rattle.verb_commands.specs.rule_rows.declared.tables.Table.TheVariants as table;
 ghost use Rattle.cave_verbs.specs.Finding.{find_rows, bare_inventory_rows, is_in_inventory};
 ghost use Rattle.cave_verbs.specs.Finding.{listed_up_to, after_naming, tell_bear};
-ghost use Rattle.verb_commands.specs.Rows.{DoneByRow, DoneByRows, row};
 
 use arrayvec::ArrayVec;
 use verb_commands::{
-    Command, Named, Next, OBJECTS, Object, Part, Role, Rules, Scene, State, is_dwarf_here,
-    is_in_hand, is_liquid, lake, liquid,
+    Command, Named, Next, OBJECTS, Object, Part, Role, RowNotes, Rules, Scene, State, Table,
+    is_dwarf_here, is_in_hand, is_liquid, lake, liquid,
 };
 
 /// FIND an object, or INVENTORY of one.
 #[tactic(auto, unfolding(crate::specs::Finding::find_rows))]
-pub fn find(rules: &Rules<'_>, command: Command, scene: &mut Scene<'_>) -> Next
+pub fn find<N: RowNotes>(rules: &Rules<'_>, command: Command, scene: &mut Scene<'_, N>) -> Next
     requires { HasRoom 1 scene.old }
-    ensures row { DoneByRows find_rows rules.now command scene.old scene.new result }
+    ensures row { DoneByRows N.rows (noted table.Find find_rows) rules.now command scene.old
+        scene.new result }
 {
     let x = command.object;
-    let role = if is_in_hand(rules, scene.state, x) {
-        Role::HeldIt
+    let (row, role) = if is_in_hand(rules, scene.state, x) {
+        (1, Role::HeldIt)
     } else if scene.state.closing.is_closed {
-        Role::Around
-    } else if scene.state.at(x)
-        || is_liquid(x, liquid(rules, scene.state)) && scene.state.at(rules.thing(Named::Bottle))
-        || is_liquid(x, lake(rules, scene.state))
-        || rules.is(x, Named::Dwarf) && is_dwarf_here(scene.state)
+        (2, Role::Around)
+    } else if scene.state.at(x) {
+        (3, Role::HereIt)
+    } else if is_liquid(x, liquid(rules, scene.state))
+        && scene.state.at(rules.thing(Named::Bottle))
     {
-        Role::HereIt
+        (4, Role::HereIt)
+    } else if is_liquid(x, lake(rules, scene.state)) {
+        (5, Role::HereIt)
+    } else if rules.is(x, Named::Dwarf) && is_dwarf_here(scene.state) {
+        (6, Role::HereIt)
     } else {
+        scene.note(Table::Find, 7);
         return command.say_default(rules, scene);
     };
+    scene.note(Table::Find, row);
     Next::say(role, scene)
 }
 
@@ -56,9 +65,10 @@ fn listed(rules: &Rules<'_>, state: &State) -> ArrayVec<Object, OBJECTS>
     listed
 }
 
-fn name_all(objects: &[Object], scene: &mut Scene<'_>)
+fn name_all<N: RowNotes>(objects: &[Object], scene: &mut Scene<'_, N>)
     requires { HasRoom (length objects.now) scene.old }
-    ensures scene { scene_of scene.new ≡ after_naming objects.now (scene_of scene.old) }
+    ensures scene { scene_of N.rows scene.new
+        ≡ after_naming objects.now (scene_of N.rows scene.old) }
     ensures says { GoesOnSaying (length objects.now) scene.old scene.new }
 {
     for object in objects {
@@ -67,9 +77,9 @@ fn name_all(objects: &[Object], scene: &mut Scene<'_>)
 }
 
 /// It is said that the bear follows, if it does, and nothing more is done.
-fn tell_bear(rules: &Rules<'_>, command: Command, scene: &mut Scene<'_>) -> Next
+fn tell_bear<N: RowNotes>(rules: &Rules<'_>, command: Command, scene: &mut Scene<'_, N>) -> Next
     requires { HasRoom 1 scene.old }
-    ensures row { DoneByRow (row [] (tell_bear ∷ [])) rules.now command scene.old scene.new
+    ensures row { DoneByRow N.rows (row [] (tell_bear ∷ [])) rules.now command scene.old scene.new
         result }
 {
     if is_in_hand(rules, scene.state, rules.thing(Named::Bear)) {
@@ -80,15 +90,18 @@ fn tell_bear(rules: &Rules<'_>, command: Command, scene: &mut Scene<'_>) -> Next
 
 /// INVENTORY without an object.
 #[tactic(auto, unfolding(crate::specs::Finding::bare_inventory_rows))]
-pub fn inventory(rules: &Rules<'_>, command: Command, scene: &mut Scene<'_>) -> Next
+pub fn inventory<N: RowNotes>(rules: &Rules<'_>, command: Command, scene: &mut Scene<'_, N>) -> Next
     requires { HasRoom parts_of_inventory scene.old }
-    ensures row { DoneByRows bare_inventory_rows rules.now command scene.old scene.new result }
+    ensures row { DoneByRows N.rows (noted table.BareInventory bare_inventory_rows) rules.now
+        command scene.old scene.new result }
 {
     let listed = listed(rules, scene.state);
     if listed.is_empty() {
+        scene.note(Table::BareInventory, 1);
         scene.say(Role::Empty);
         return tell_bear(rules, command, scene);
     }
+    scene.note(Table::BareInventory, 2);
     scene.say(Role::Holding);
     name_all(listed.as_slice(), scene);
     tell_bear(rules, command, scene)

@@ -2,7 +2,8 @@ ghost use Rattle.std.specs.Prelude.{◌≡◌, ◌≤◌};
 ghost use Rattle.verb_commands.specs.turn_scene.Bounds.{HasRoom, parts_of_row};
 ghost use Rattle.verb_commands.specs.turn_scene.Scene.{scene_of, cave_of};
 ghost use Rattle.verb_commands.specs.Rows.{ByRows, DoneByRows};
-ghost use Rattle.verb_commands.specs.turn_rules.Rows.{deed};
+ghost use Rattle.verb_commands.specs.turn_rules.Rows.{deed, noted};
+ghost use Rattle.verb_commands.specs.rule_rows.declared.tables.Table.TheVariants as table;
 ghost use Rattle.cave_verbs.specs.Ranks.{rank_of};
 ghost use Rattle.cave_verbs.specs.Killing.{foes, prey, bare_kill_rows, kill_rows};
 
@@ -10,12 +11,13 @@ use arrayvec::ArrayVec;
 use verb_commands::choice::{Meant, add_meant, first, several};
 use verb_commands::{
     BEAR_DEAD, BEAR_WILD, BIRD_FREE, Command, DRAGON_ALIVE, Named, Next, Prop, Question, Role,
-    Rules, Scene, Step, Verb, has_prop, is_dwarf_here, is_near, lose_to_snake,
+    RowNotes, Rules, Scene, Step, Table, Verb, has_prop, is_dwarf_here, is_near, lose_to_snake,
 };
 
 /// The foes that the player could mean.
-fn foes(rules: &Rules<'_>, command: &Command, scene: &Scene<'_>) -> Meant
-    ensures { result.items ≡ foes (deed (cave_of rules.now) command.now (scene_of scene.now)) }
+fn foes<N: RowNotes>(rules: &Rules<'_>, command: &Command, scene: &Scene<'_, N>) -> Meant
+    ensures { result.items
+        ≡ foes (deed (cave_of rules.now) command.now (scene_of N.rows scene.now)) }
 {
     let dwarf = rules.thing(Named::Dwarf);
     let snake = rules.thing(Named::Snake);
@@ -34,8 +36,9 @@ fn foes(rules: &Rules<'_>, command: &Command, scene: &Scene<'_>) -> Meant
 }
 
 /// What the player could mean where there is no foe.
-fn prey(rules: &Rules<'_>, command: &Command, scene: &Scene<'_>) -> Meant
-    ensures { result.items ≡ prey (deed (cave_of rules.now) command.now (scene_of scene.now)) }
+fn prey<N: RowNotes>(rules: &Rules<'_>, command: &Command, scene: &Scene<'_, N>) -> Meant
+    ensures { result.items
+        ≡ prey (deed (cave_of rules.now) command.now (scene_of N.rows scene.now)) }
 {
     let bird = rules.thing(Named::Bird);
     let clam = rules.thing(Named::Clam);
@@ -50,67 +53,82 @@ fn prey(rules: &Rules<'_>, command: &Command, scene: &Scene<'_>) -> Meant
 
 /// KILL without an object.
 #[tactic(auto, unfolding(crate::specs::Killing::bare_kill_rows))]
-pub fn kill_what_is_here(rules: &Rules<'_>, command: Command, scene: &mut Scene<'_>) -> Step
+pub fn kill_what_is_here<N: RowNotes>(
+    rules: &Rules<'_>,
+    command: Command,
+    scene: &mut Scene<'_, N>,
+) -> Step
     requires { HasRoom parts_of_row scene.old }
-    ensures row { ByRows bare_kill_rows rules.now command scene.old scene.new result }
+    ensures row { ByRows N.rows (noted table.BareKill bare_kill_rows) rules.now command scene.old
+        scene.new result }
     ensures ranks { rank_of (cave_of rules.now) result ≤ 1 }
 {
     let foes = foes(rules, &command, scene);
     if several(foes.as_slice()) {
+        scene.note(Table::BareKill, 1);
         return Step::Done(command.ask_what(rules, scene));
     }
     let foe = first(foes.as_slice());
     if !foe.is_none() {
+        scene.note(Table::BareKill, 2);
         return Step::GoOn(Verb::Kill, foe);
     }
     let prey = prey(rules, &command, scene);
     if several(prey.as_slice()) {
+        scene.note(Table::BareKill, 3);
         return Step::Done(command.ask_what(rules, scene));
     }
     let game = first(prey.as_slice());
     if !game.is_none() {
+        scene.note(Table::BareKill, 4);
         return Step::GoOn(Verb::Kill, game);
     }
+    scene.note(Table::BareKill, 5);
     Step::Done(Next::say(Role::NoneToKill, scene))
 }
 
 /// KILL an object.
 #[tactic(auto, unfolding(crate::specs::Killing::kill_rows))]
-pub fn kill(rules: &Rules<'_>, command: Command, scene: &mut Scene<'_>) -> Next
+pub fn kill<N: RowNotes>(rules: &Rules<'_>, command: Command, scene: &mut Scene<'_, N>) -> Next
     requires { HasRoom parts_of_row scene.old }
-    ensures row { DoneByRows kill_rows rules.now command scene.old scene.new result }
+    ensures row { DoneByRows N.rows (noted table.Kill kill_rows) rules.now command scene.old
+        scene.new result }
 {
     let x = command.object;
     let is_closed = scene.state.closing.is_closed;
-    let role = if rules.is(x, Named::Bird) && is_closed {
-        Role::BirdNo
+    let (row, role) = if rules.is(x, Named::Bird) && is_closed {
+        (1, Role::BirdNo)
     } else if rules.is(x, Named::Bird) {
         scene.state.destroy(x);
         scene.state.objects.set_prop(x, Prop::new(BIRD_FREE));
         lose_to_snake(rules, scene.state);
-        Role::BirdDead
+        (2, Role::BirdDead)
     } else if rules.is(x, Named::Clam) || rules.is(x, Named::Oyster) {
-        Role::Shell
+        (3, Role::Shell)
     } else if rules.is(x, Named::Snake) {
-        Role::SnakeNo
+        (4, Role::SnakeNo)
     } else if rules.is(x, Named::Dwarf) && is_closed {
+        scene.note(Table::Kill, 5);
         return Next::disturb(scene);
     } else if rules.is(x, Named::Dwarf) {
-        Role::WithWhat
+        (6, Role::WithWhat)
     } else if rules.is(x, Named::Dragon) && has_prop(scene.state, x, DRAGON_ALIVE) {
+        scene.note(Table::Kill, 7);
         return Next::Ask(Question::Dragon);
     } else if rules.is(x, Named::Dragon) {
-        Role::DeadAlready
+        (8, Role::DeadAlready)
     } else if rules.is(x, Named::Troll) {
-        Role::TrollNo
+        (9, Role::TrollNo)
     } else if rules.is(x, Named::Bear) && has_prop(scene.state, x, BEAR_WILD) {
-        Role::BearFight
+        (10, Role::BearFight)
     } else if rules.is(x, Named::Bear) && has_prop(scene.state, x, BEAR_DEAD) {
-        Role::DeadAlready
+        (11, Role::DeadAlready)
     } else if rules.is(x, Named::Bear) {
-        Role::BearFriend
+        (12, Role::BearFriend)
     } else {
+        scene.note(Table::Kill, 13);
         return command.say_default(rules, scene);
     };
+    scene.note(Table::Kill, row);
     Next::say(role, scene)
 }

@@ -20,6 +20,6 @@ pub mod waving;
 
 pub use acting::act;
 pub use verb_commands::{
-    Cave, Command, Ending, Lexicon, Named, Next, NoRules, Object, Out, Place, Question, Rules,
-    Scene, State, Verb, tell_default,
+    Cave, Command, Ending, Lexicon, Named, Next, NoRules, Object, Out, Place, Question, RowNotes,
+    Rules, Scene, State, Table, Verb, tell_default,
 };

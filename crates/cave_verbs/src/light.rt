@@ -1,40 +1,52 @@
 ghost use Rattle.verb_commands.specs.turn_scene.Bounds.{HasRoom, parts_of_row};
-ghost use Rattle.cave_verbs.specs.Light.{on_rows, off_rows};
 ghost use Rattle.verb_commands.specs.Rows.{DoneByRows};
+ghost use Rattle.verb_commands.specs.turn_rules.Rows.{noted};
+ghost use Rattle.verb_commands.specs.rule_rows.declared.tables.Table.TheVariants as table;
+ghost use Rattle.cave_verbs.specs.Light.{on_rows, off_rows};
 
-use verb_commands::{Command, LAMP_OFF, LAMP_ON, Named, Next, Prop, Role, Rules, Scene, is_near};
+use verb_commands::{
+    Command, LAMP_OFF, LAMP_ON, Named, Next, Prop, Role, RowNotes, Rules, Scene, Table, is_near,
+};
 
 /// ON, whatever it is done to.
 #[tactic(auto, unfolding(crate::specs::Light::on_rows))]
-pub fn turn_on(rules: &Rules<'_>, command: Command, scene: &mut Scene<'_>) -> Next
+pub fn turn_on<N: RowNotes>(rules: &Rules<'_>, command: Command, scene: &mut Scene<'_, N>) -> Next
     requires { HasRoom parts_of_row scene.old }
-    ensures row { DoneByRows on_rows rules.now command scene.old scene.new result }
+    ensures row { DoneByRows N.rows (noted table.On on_rows) rules.now command scene.old scene.new
+        result }
 {
     let lamp = rules.thing(Named::Lamp);
     if !is_near(rules, scene.state, lamp) {
+        scene.note(Table::On, 1);
         return command.say_default(rules, scene);
     }
     if scene.state.lamp.charge.turns() < 0 {
+        scene.note(Table::On, 2);
         return Next::say(Role::LampDead, scene);
     }
     scene.state.objects.set_prop(lamp, Prop::new(LAMP_ON));
     scene.say(Role::LampOn);
     if scene.was_dark {
+        scene.note(Table::On, 3);
         return Next::Describe;
     }
+    scene.note(Table::On, 4);
     Next::Stay
 }
 
 /// OFF, whatever it is done to.
 #[tactic(auto, unfolding(crate::specs::Light::off_rows))]
-pub fn turn_off(rules: &Rules<'_>, command: Command, scene: &mut Scene<'_>) -> Next
+pub fn turn_off<N: RowNotes>(rules: &Rules<'_>, command: Command, scene: &mut Scene<'_, N>) -> Next
     requires { HasRoom parts_of_row scene.old }
-    ensures row { DoneByRows off_rows rules.now command scene.old scene.new result }
+    ensures row { DoneByRows N.rows (noted table.Off off_rows) rules.now command scene.old scene.new
+        result }
 {
     let lamp = rules.thing(Named::Lamp);
     if !is_near(rules, scene.state, lamp) {
+        scene.note(Table::Off, 1);
         return command.say_default(rules, scene);
     }
+    scene.note(Table::Off, 2);
     scene.state.objects.set_prop(lamp, Prop::new(LAMP_OFF));
     scene.say(Role::LampOff);
     if scene.state.dark(rules.cave, lamp) {

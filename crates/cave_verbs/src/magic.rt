@@ -1,19 +1,18 @@
 ghost use Rattle.std.specs.Prelude.{◌≡◌, ◌<◌, ◌-ℤ◌, not, pos, [], ◌∷◌};
 ghost use Rattle.std.specs.Ordering.{int_eq};
 ghost use Rattle.verb_commands.specs.turn_scene.Bounds.{HasRoom};
-ghost use Rattle.verb_commands.specs.turn_scene.Scene.{scene_of, cave_of};
 ghost use Rattle.verb_commands.specs.declared.next.Next.TheVariants.{Stay};
-ghost use Rattle.cave_verbs.specs.Magic.{bare_foo_rows, eggs_sight, send_eggs_home};
-ghost use Rattle.cave_verbs.specs.Magic.{with_magic};
 ghost use Rattle.verb_commands.specs.Rows.{DoneByRows};
-ghost use Rattle.verb_commands.specs.turn_rules.Rows.{Does, deed};
+ghost use Rattle.verb_commands.specs.turn_rules.Rows.{Does, PlaysBy, noted};
 ghost use Rattle.verb_commands.specs.data_rows.Rows.{WORDS_PER_CLASS};
 ghost use Rattle.verb_commands.specs.cave_world.Limits.{IsMagic};
+ghost use Rattle.verb_commands.specs.rule_rows.declared.tables.Table.TheVariants as table;
+ghost use Rattle.cave_verbs.specs.Magic.{bare_foo_rows, eggs_sight, send_eggs_home, with_magic};
 
 use verb_commands::{
-    Command, EGGS_APPEARING, EGGS_ELSEWHERE, EGGS_VANISHING, Magic, Named, Next, Prop, Role, Rules,
-    Scene, State, TROLL_CALM, TROLL_RETURNING, has_prop, home, is_at_home, is_home_here,
-    is_in_hand, is_near, special,
+    Command, EGGS_APPEARING, EGGS_ELSEWHERE, EGGS_VANISHING, Magic, Named, Next, Prop, Role,
+    RowNotes, Rules, Scene, State, TROLL_CALM, TROLL_RETURNING, Table, has_prop, home, is_at_home,
+    is_home_here, is_in_hand, is_near, special,
 };
 
 /// How far the player has come with the magic words.
@@ -48,24 +47,31 @@ fn remember(state: &mut State, k: u16)
 
 /// Which text is printed of the eggs as they go home.
 #[tactic(auto, unfolding(crate::specs::Magic::eggs_sight))]
-fn eggs_sight(rules: &Rules<'_>, command: &Command, scene: &Scene<'_>) -> Prop
-    ensures { result ≡ eggs_sight (deed (cave_of rules.now) command.now (scene_of scene.now)) }
+fn eggs_sight<N: RowNotes>(rules: &Rules<'_>, command: &Command, scene: &mut Scene<'_, N>) -> Prop
+    ensures row { PlaysBy N.rows eggs_sight 0 rules.now command.now scene.old scene.new result }
 {
     let eggs = rules.thing(Named::Eggs);
     if is_home_here(rules, scene.state, eggs) {
+        scene.note(Table::Eggs, 1);
         Prop::new(EGGS_APPEARING)
     } else if is_near(rules, scene.state, eggs) {
+        scene.note(Table::Eggs, 2);
         Prop::new(EGGS_VANISHING)
     } else {
+        scene.note(Table::Eggs, 3);
         Prop::new(EGGS_ELSEWHERE)
     }
 }
 
 /// The text of the eggs is printed, and they go home.
 #[tactic(auto, unfolding(crate::specs::Magic::send_eggs_home))]
-fn send_eggs_home(rules: &Rules<'_>, command: &Command, scene: &mut Scene<'_>) -> Next
+fn send_eggs_home<N: RowNotes>(
+    rules: &Rules<'_>,
+    command: &Command,
+    scene: &mut Scene<'_, N>,
+) -> Next
     requires { HasRoom 1 scene.old }
-    ensures scene { Does (send_eggs_home ∷ []) 1 rules.now command.now scene.old scene.new }
+    ensures scene { Does N.rows (send_eggs_home ∷ []) 1 rules.now command.now scene.old scene.new }
     ensures next { result ≡ Stay }
 {
     let eggs = rules.thing(Named::Eggs);
@@ -77,26 +83,38 @@ fn send_eggs_home(rules: &Rules<'_>, command: &Command, scene: &mut Scene<'_>) -
 
 /// FOO without an object.
 #[tactic(auto, unfolding(crate::specs::Magic::bare_foo_rows))]
-pub fn foo(rules: &Rules<'_>, command: Command, scene: &mut Scene<'_>) -> Next
+pub fn foo<N: RowNotes>(rules: &Rules<'_>, command: Command, scene: &mut Scene<'_, N>) -> Next
     requires { HasRoom 1 scene.old }
-    ensures row { DoneByRows bare_foo_rows rules.now command scene.old scene.new result }
+    ensures row { DoneByRows N.rows (noted table.BareFoo bare_foo_rows) rules.now command scene.old
+        scene.new result }
 {
     let k = special(rules, command.word);
     if k == 0 || is_out_of_turn(scene.state, k) {
         if magic_of(scene.state) == 0 {
+            scene.note(Table::BareFoo, 1);
             return Next::say(Role::Magic, scene);
         }
+        scene.note(Table::BareFoo, 2);
         return Next::say(Role::FooOrder, scene);
     }
     if k != 4 {
+        scene.note(Table::BareFoo, 3);
         remember(scene.state, k);
         return Next::say(Role::Ok, scene);
     }
     let (eggs, troll) = (rules.thing(Named::Eggs), rules.thing(Named::Troll));
-    if eggs.is_none()
-        || is_at_home(rules, scene.state, eggs)
-        || is_in_hand(rules, scene.state, eggs) && is_home_here(rules, scene.state, eggs)
-    {
+    if eggs.is_none() {
+        scene.note(Table::BareFoo, 4);
+        set_magic(scene.state, 0);
+        return Next::say(Role::Magic, scene);
+    }
+    if is_at_home(rules, scene.state, eggs) {
+        scene.note(Table::BareFoo, 5);
+        set_magic(scene.state, 0);
+        return Next::say(Role::Magic, scene);
+    }
+    if is_in_hand(rules, scene.state, eggs) && is_home_here(rules, scene.state, eggs) {
+        scene.note(Table::BareFoo, 6);
         set_magic(scene.state, 0);
         return Next::say(Role::Magic, scene);
     }
@@ -104,6 +122,7 @@ pub fn foo(rules: &Rules<'_>, command: Command, scene: &mut Scene<'_>) -> Next
         && scene.state.is_gone(troll)
         && has_prop(scene.state, troll, TROLL_CALM)
     {
+        scene.note(Table::BareFoo, 7);
         set_magic(scene.state, 0);
         scene
             .state
@@ -111,6 +130,7 @@ pub fn foo(rules: &Rules<'_>, command: Command, scene: &mut Scene<'_>) -> Next
             .set_prop(troll, Prop::new(TROLL_RETURNING));
         return send_eggs_home(rules, &command, scene);
     }
+    scene.note(Table::BareFoo, 8);
     set_magic(scene.state, 0);
     send_eggs_home(rules, &command, scene)
 }

@@ -2,16 +2,17 @@ ghost use Rattle.std.specs.Prelude.{◌≡◌, ◌+◌, ◌≤◌, ◌+ℤ◌, p
 ghost use Rattle.std.specs.Int.{int_rem_euclid};
 ghost use Rattle.verb_commands.specs.turn_scene.Bounds.{HasRoom, parts_of_row};
 ghost use Rattle.verb_commands.specs.Rows.{ByRows, DoneByRow, DoneByRows, again};
-ghost use Rattle.verb_commands.specs.turn_rules.Rows.{row_then};
+ghost use Rattle.verb_commands.specs.turn_rules.Rows.{row_then, noted};
 ghost use Rattle.verb_commands.specs.turn_scene.Scene.{cave_of};
+ghost use Rattle.verb_commands.specs.rule_rows.declared.tables.Table.TheVariants as table;
 ghost use Rattle.cave_verbs.specs.Ranks.{rank_of};
 ghost use Rattle.cave_verbs.specs.Pouring.{poured_of, plant_watered, pour_rows, drink_rows};
 ghost use Rattle.cave_verbs.specs.Pouring.{bare_fill_rows, fill_rows};
 
 use verb_commands::{
     Anchor, BOTTLE_EMPTY, BOTTLE_OF_OIL, BOTTLE_OF_WATER, Command, DOOR_OILED, DOOR_RUSTY, Named,
-    Next, Object, Prop, Role, Rules, Scene, State, Step, VASE_BROKEN, Verb, is_in_hand, is_liquid,
-    is_near, lake, liquid,
+    Next, Object, Prop, Role, RowNotes, Rules, Scene, State, Step, Table, VASE_BROKEN, Verb,
+    is_in_hand, is_liquid, is_near, lake, liquid,
 };
 
 /// What is poured: of the bottle, and where nothing is named, what is in the bottle.
@@ -46,10 +47,10 @@ fn half(prop: Prop) -> Prop
 }
 
 /// The plant is watered, and the player arrives again where the player is.
-fn water_plant(rules: &Rules<'_>, command: Command, scene: &mut Scene<'_>) -> Next
+fn water_plant<N: RowNotes>(rules: &Rules<'_>, command: Command, scene: &mut Scene<'_, N>) -> Next
     requires { HasRoom 1 scene.old }
-    ensures row { DoneByRow (row_then [] plant_watered again) rules.now command scene.old scene.new
-        result }
+    ensures row { DoneByRow N.rows (row_then [] plant_watered again) rules.now command scene.old
+        scene.new result }
 {
     let plant = rules.thing(Named::Plant);
     let prop = scene.state.objects.prop(plant);
@@ -63,22 +64,26 @@ fn water_plant(rules: &Rules<'_>, command: Command, scene: &mut Scene<'_>) -> Ne
 
 /// POUR, with an object or without one.
 #[tactic(auto, unfolding(crate::specs::Pouring::pour_rows))]
-pub fn pour(rules: &Rules<'_>, command: Command, scene: &mut Scene<'_>) -> Next
+pub fn pour<N: RowNotes>(rules: &Rules<'_>, command: Command, scene: &mut Scene<'_, N>) -> Next
     requires { HasRoom parts_of_row scene.old }
-    ensures row { DoneByRows pour_rows rules.now command scene.old scene.new result }
+    ensures row { DoneByRows N.rows (noted table.Pour pour_rows) rules.now command scene.old
+        scene.new result }
 {
     if (command.object.is_none() || rules.is(command.object, Named::Bottle))
         && liquid(rules, scene.state).is_none()
     {
+        scene.note(Table::Pour, 1);
         return command.ask_what(rules, scene);
     }
     let x = poured(rules, scene.state, command.object);
     if !is_in_hand(rules, scene.state, x) {
+        scene.note(Table::Pour, 2);
         return command.say_default(rules, scene);
     }
     let is_water = rules.is(x, Named::Water);
     let is_oil = rules.is(x, Named::Oil);
     if !is_water && !is_oil {
+        scene.note(Table::Pour, 3);
         return Next::say(Role::CantPour, scene);
     }
     let bottle = rules.thing(Named::Bottle);
@@ -89,9 +94,11 @@ pub fn pour(rules: &Rules<'_>, command: Command, scene: &mut Scene<'_>) -> Next
             .objects
             .set_prop(bottle, Prop::new(BOTTLE_EMPTY));
         if is_oil {
+            scene.note(Table::Pour, 4);
             scene.state.objects.set_prop(door, Prop::new(DOOR_OILED));
             return Next::say(Role::DoorOiled, scene);
         }
+        scene.note(Table::Pour, 5);
         scene.state.objects.set_prop(door, Prop::new(DOOR_RUSTY));
         return Next::say(Role::DoorWet, scene);
     }
@@ -101,22 +108,26 @@ pub fn pour(rules: &Rules<'_>, command: Command, scene: &mut Scene<'_>) -> Next
             .objects
             .set_prop(bottle, Prop::new(BOTTLE_EMPTY));
         if is_water {
+            scene.note(Table::Pour, 6);
             return water_plant(rules, command, scene);
         }
+        scene.note(Table::Pour, 7);
         return Next::say(Role::PlantOil, scene);
     }
     scene
         .state
         .objects
         .set_prop(bottle, Prop::new(BOTTLE_EMPTY));
+    scene.note(Table::Pour, 8);
     Next::say(Role::PourGround, scene)
 }
 
 /// DRINK, with an object or without one.
 #[tactic(auto, unfolding(crate::specs::Pouring::drink_rows))]
-pub fn drink(rules: &Rules<'_>, command: Command, scene: &mut Scene<'_>) -> Next
+pub fn drink<N: RowNotes>(rules: &Rules<'_>, command: Command, scene: &mut Scene<'_, N>) -> Next
     requires { HasRoom parts_of_row scene.old }
-    ensures row { DoneByRows drink_rows rules.now command scene.old scene.new result }
+    ensures row { DoneByRows N.rows (noted table.Drink drink_rows) rules.now command scene.old
+        scene.new result }
 {
     let x = command.object;
     let water = rules.thing(Named::Water);
@@ -124,9 +135,11 @@ pub fn drink(rules: &Rules<'_>, command: Command, scene: &mut Scene<'_>) -> Next
     let has_water = is_liquid(water, liquid(rules, scene.state))
         && is_near(rules, scene.state, bottle);
     if x.is_none() && !is_liquid(water, lake(rules, scene.state)) && !has_water {
+        scene.note(Table::Drink, 1);
         return command.ask_what(rules, scene);
     }
     if !x.is_none() && !rules.is(x, Named::Water) {
+        scene.note(Table::Drink, 2);
         return Next::say(Role::Ridiculous, scene);
     }
     if has_water {
@@ -134,56 +147,64 @@ pub fn drink(rules: &Rules<'_>, command: Command, scene: &mut Scene<'_>) -> Next
             .state
             .objects
             .set_prop(bottle, Prop::new(BOTTLE_EMPTY));
+        scene.note(Table::Drink, 3);
         return Next::say(Role::Drunk, scene);
     }
+    scene.note(Table::Drink, 4);
     command.say_default(rules, scene)
 }
 
 /// FILL without an object.
 #[tactic(auto, unfolding(crate::specs::Pouring::bare_fill_rows), using(crate::proofs::Falls::fill_falls))]
-pub fn fill_what(rules: &Rules<'_>, command: Command, scene: &mut Scene<'_>) -> Step
+pub fn fill_what<N: RowNotes>(rules: &Rules<'_>, command: Command, scene: &mut Scene<'_, N>) -> Step
     requires { HasRoom parts_of_row scene.old }
-    ensures row { ByRows bare_fill_rows rules.now command scene.old scene.new result }
+    ensures row { ByRows N.rows (noted table.BareFill bare_fill_rows) rules.now command scene.old
+        scene.new result }
     ensures ranks { rank_of (cave_of rules.now) result ≤ 1 }
 {
     let bottle = rules.thing(Named::Bottle);
     if is_near(rules, scene.state, bottle) {
+        scene.note(Table::BareFill, 1);
         return Step::GoOn(Verb::Fill, bottle);
     }
+    scene.note(Table::BareFill, 2);
     Step::Done(command.ask_what(rules, scene))
 }
 
 /// FILL an object.
 #[tactic(auto, unfolding(crate::specs::Pouring::fill_rows))]
-pub fn fill(rules: &Rules<'_>, command: Command, scene: &mut Scene<'_>) -> Next
+pub fn fill<N: RowNotes>(rules: &Rules<'_>, command: Command, scene: &mut Scene<'_, N>) -> Next
     requires { HasRoom parts_of_row scene.old }
-    ensures row { DoneByRows fill_rows rules.now command scene.old scene.new result }
+    ensures row { DoneByRows N.rows (noted table.Fill fill_rows) rules.now command scene.old
+        scene.new result }
 {
     let x = command.object;
     let is_vase = rules.is(x, Named::Vase);
     let lake_here = lake(rules, scene.state);
-    let role = if is_vase && lake_here.is_none() {
-        Role::VaseDry
+    let (row, role) = if is_vase && lake_here.is_none() {
+        (1, Role::VaseDry)
     } else if is_vase && !is_in_hand(rules, scene.state, x) {
-        Role::NotHeld
+        (2, Role::NotHeld)
     } else if is_vase {
         scene.state.objects.set_prop(x, Prop::new(VASE_BROKEN));
         scene.state.objects.anchor_to(x, Anchor::Fixed);
         let here = scene.state.trail.here;
         scene.state.move_to(x, here);
-        Role::VaseBreak
+        (3, Role::VaseBreak)
     } else if !rules.is(x, Named::Bottle) {
+        scene.note(Table::Fill, 4);
         return command.say_default(rules, scene);
     } else if liquid(rules, scene.state).is_some() {
-        Role::BottleFull
+        (5, Role::BottleFull)
     } else if lake_here.is_none() {
-        Role::NoLake
+        (6, Role::NoLake)
     } else if is_liquid(rules.thing(Named::Oil), lake_here) {
         scene.state.objects.set_prop(x, Prop::new(BOTTLE_OF_OIL));
-        Role::FilledOil
+        (7, Role::FilledOil)
     } else {
         scene.state.objects.set_prop(x, Prop::new(BOTTLE_OF_WATER));
-        Role::FilledWater
+        (8, Role::FilledWater)
     };
+    scene.note(Table::Fill, row);
     Next::say(role, scene)
 }

@@ -2,20 +2,22 @@ ghost use Rattle.std.specs.Prelude.{◌≡◌, ◌≤◌};
 ghost use Rattle.verb_commands.specs.turn_scene.Bounds.{HasRoom, parts_of_row};
 ghost use Rattle.verb_commands.specs.turn_scene.Scene.{scene_of, cave_of};
 ghost use Rattle.verb_commands.specs.Rows.{ByRows, DoneByRows};
-ghost use Rattle.verb_commands.specs.turn_rules.Rows.{deed};
+ghost use Rattle.verb_commands.specs.turn_rules.Rows.{deed, noted};
+ghost use Rattle.verb_commands.specs.rule_rows.declared.tables.Table.TheVariants as table;
 ghost use Rattle.cave_verbs.specs.Ranks.{rank_of};
 ghost use Rattle.cave_verbs.specs.Reading.{papers, bare_read_rows, read_rows};
 
 use arrayvec::ArrayVec;
 use verb_commands::choice::{Meant, add_meant, only};
 use verb_commands::{
-    CLUE_HINT, Command, HintNumber, Named, Next, Part, Question, Role, Rules, Scene, Step, Verb,
-    WordLine, is_in_hand, is_near,
+    CLUE_HINT, Command, HintNumber, Named, Next, Part, Question, Role, RowNotes, Rules, Scene,
+    Step, Table, Verb, WordLine, is_in_hand, is_near,
 };
 
 /// The papers that the player could mean.
-fn papers(rules: &Rules<'_>, command: &Command, scene: &Scene<'_>) -> Meant
-    ensures { result.items ≡ papers (deed (cave_of rules.now) command.now (scene_of scene.now)) }
+fn papers<N: RowNotes>(rules: &Rules<'_>, command: &Command, scene: &Scene<'_, N>) -> Meant
+    ensures { result.items
+        ≡ papers (deed (cave_of rules.now) command.now (scene_of N.rows scene.now)) }
 {
     let magazine = rules.thing(Named::Magazine);
     let tablet = rules.thing(Named::Tablet);
@@ -29,49 +31,63 @@ fn papers(rules: &Rules<'_>, command: &Command, scene: &Scene<'_>) -> Meant
 
 /// READ without an object.
 #[tactic(auto, using(crate::proofs::Falls::read_falls), unfolding(crate::specs::Reading::bare_read_rows))]
-pub fn read_what_is_here(rules: &Rules<'_>, command: Command, scene: &mut Scene<'_>) -> Step
+pub fn read_what_is_here<N: RowNotes>(
+    rules: &Rules<'_>,
+    command: Command,
+    scene: &mut Scene<'_, N>,
+) -> Step
     requires { HasRoom parts_of_row scene.old }
-    ensures row { ByRows bare_read_rows rules.now command scene.old scene.new result }
+    ensures row { ByRows N.rows (noted table.BareRead bare_read_rows) rules.now command scene.old
+        scene.new result }
     ensures ranks { rank_of (cave_of rules.now) result ≤ 1 }
 {
     if scene.state.dark(rules.cave, rules.thing(Named::Lamp)) {
+        scene.note(Table::BareRead, 1);
         return Step::Done(command.ask_what(rules, scene));
     }
     let oyster = rules.thing(Named::Oyster);
     if scene.state.closing.is_closed && is_in_hand(rules, scene.state, oyster) {
+        scene.note(Table::BareRead, 2);
         return Step::GoOn(Verb::Read, oyster);
     }
     let paper = only(papers(rules, &command, scene).as_slice());
     if !paper.is_none() {
+        scene.note(Table::BareRead, 3);
         return Step::GoOn(Verb::Read, paper);
     }
+    scene.note(Table::BareRead, 4);
     Step::Done(command.ask_what(rules, scene))
 }
 
 /// READ an object.
 #[tactic(auto, unfolding(crate::specs::Reading::read_rows))]
-pub fn read(rules: &Rules<'_>, command: Command, scene: &mut Scene<'_>) -> Next
+pub fn read<N: RowNotes>(rules: &Rules<'_>, command: Command, scene: &mut Scene<'_, N>) -> Next
     requires { HasRoom parts_of_row scene.old }
-    ensures row { DoneByRows read_rows rules.now command scene.old scene.new result }
+    ensures row { DoneByRows N.rows (noted table.Read read_rows) rules.now command scene.old
+        scene.new result }
 {
     let x = command.object;
     if scene.state.dark(rules.cave, rules.thing(Named::Lamp)) {
+        scene.note(Table::Read, 1);
         scene.tell(Part::Word(WordLine::NotSeen, command.word));
         return Next::Stay;
     }
     let is_oyster_held = rules.is(x, Named::Oyster) && is_in_hand(rules, scene.state, x);
-    let role = if rules.is(x, Named::Magazine) {
-        Role::ReadMagazine
+    let (row, role) = if rules.is(x, Named::Magazine) {
+        (2, Role::ReadMagazine)
     } else if rules.is(x, Named::Tablet) {
-        Role::ReadTablet
+        (3, Role::ReadTablet)
     } else if rules.is(x, Named::Message) {
-        Role::ReadMessage
+        (4, Role::ReadMessage)
     } else if is_oyster_held && scene.state.is_hint_taken(HintNumber::new(CLUE_HINT)) {
-        Role::ReadOyster
+        (5, Role::ReadOyster)
     } else if is_oyster_held && scene.state.closing.is_closed {
+        scene.note(Table::Read, 6);
         return Next::Ask(Question::Oyster);
     } else {
+        scene.note(Table::Read, 7);
         return command.say_default(rules, scene);
     };
+    scene.note(Table::Read, row);
     Next::say(role, scene)
 }

@@ -6,13 +6,15 @@ ghost use Rattle.verb_commands.specs.turn_scene.Scene.{cave_of};
 ghost use Rattle.verb_commands.specs.turn_things.Reach.{is_dwarf_at, is_dwarf_here};
 ghost use Rattle.verb_commands.specs.turn_things.Effects.{put_here};
 ghost use Rattle.verb_commands.specs.declared.next.Next.TheVariants.{Arrive};
+ghost use Rattle.verb_commands.specs.turn_rules.Rows.{noted, noted_from};
+ghost use Rattle.verb_commands.specs.rule_rows.declared.tables.Table.TheVariants as table;
 ghost use Rattle.cave_verbs.specs.Ranks.{rank_of, throw_rank};
 ghost use Rattle.cave_verbs.specs.Throwing.{with_one_killed, axe_rows, throw_rows};
 
 use verb_commands::{
     AXE_BY_BEAR, Anchor, BEAR_WILD, Command, DRAGON_ALIVE, Dwarf, Named, Next, Object, PIRATE,
-    Place, Prop, Role, Rules, Scene, State, Step, Verb, has_prop, is_dwarf_here, is_in_hand,
-    is_near, is_treasure, remove_troll,
+    Place, Prop, Role, RowNotes, Rules, Scene, State, Step, Table, Verb, has_prop, is_dwarf_here,
+    is_in_hand, is_near, is_treasure, remove_troll,
 };
 
 fn first_at(place: Place, dwarves: &[Dwarf]) -> Option<usize>
@@ -48,29 +50,38 @@ fn put_here(axe: Object, state: &mut State) -> Next
 
 /// The axe is thrown at a dwarf: one number of three is drawn, and 0 is a miss.
 #[tactic(auto, unfolding(crate::specs::Throwing::axe_rows, verb_commands::specs::is_dwarf_here))]
-fn throw_axe_at_dwarf(rules: &Rules<'_>, command: Command, scene: &mut Scene<'_>) -> Next
+fn throw_axe_at_dwarf<N: RowNotes>(
+    rules: &Rules<'_>,
+    command: Command,
+    scene: &mut Scene<'_, N>,
+) -> Next
     requires room { HasRoom parts_of_row scene.old }
     requires dwarf { IsTrue (is_dwarf_here scene.old.state.now) }
-    ensures row { DoneByRows axe_rows rules.now command scene.old scene.new result }
+    ensures row { DoneByRows N.rows (noted_from table.Throw 6 axe_rows) rules.now command scene.old
+        scene.new result }
 {
     if scene.state.stream.draw(3) == 0 {
+        scene.note(Table::Throw, 6);
         scene.say(Role::AxeMiss);
         return put_here(command.object, scene.state);
     }
     if scene.state.dwarves.kills.number() == 0 {
+        scene.note(Table::Throw, 7);
         kill_one(scene.state);
         scene.say(Role::AxeFirst);
         return put_here(command.object, scene.state);
     }
+    scene.note(Table::Throw, 8);
     kill_one(scene.state);
     scene.say(Role::AxeKill);
     put_here(command.object, scene.state)
 }
 
 #[tactic(auto, unfolding(crate::specs::Throwing::axe_rows))]
-fn throw_axe(rules: &Rules<'_>, command: Command, scene: &mut Scene<'_>) -> Step
+fn throw_axe<N: RowNotes>(rules: &Rules<'_>, command: Command, scene: &mut Scene<'_, N>) -> Step
     requires { HasRoom parts_of_row scene.old }
-    ensures row { ByRows axe_rows rules.now command scene.old scene.new result }
+    ensures row { ByRows N.rows (noted_from table.Throw 6 axe_rows) rules.now command scene.old
+        scene.new result }
     ensures ranks { rank_of (cave_of rules.now) result ≤ 2 }
 {
     if is_dwarf_here(scene.state) {
@@ -80,14 +91,17 @@ fn throw_axe(rules: &Rules<'_>, command: Command, scene: &mut Scene<'_>) -> Step
     let dragon = rules.thing(Named::Dragon);
     let bear = rules.thing(Named::Bear);
     if scene.state.at(dragon) && has_prop(scene.state, dragon, DRAGON_ALIVE) {
+        scene.note(Table::Throw, 9);
         scene.say(Role::AxeDragon);
         return Step::Done(put_here(x, scene.state));
     }
     if scene.state.at(rules.thing(Named::Troll)) {
+        scene.note(Table::Throw, 10);
         scene.say(Role::AxeTroll);
         return Step::Done(put_here(x, scene.state));
     }
     if is_near(rules, scene.state, bear) && has_prop(scene.state, bear, BEAR_WILD) {
+        scene.note(Table::Throw, 11);
         let here = scene.state.trail.here;
         scene.state.move_to(x, here);
         scene.state.objects.anchor_to(x, Anchor::Fixed);
@@ -95,14 +109,16 @@ fn throw_axe(rules: &Rules<'_>, command: Command, scene: &mut Scene<'_>) -> Step
         scene.state.objects.juggle(bear);
         return Step::Done(Next::say(Role::AxeBear, scene));
     }
+    scene.note(Table::Throw, 12);
     Step::GoOn(Verb::Kill, Object::none())
 }
 
 /// THROW an object.
 #[tactic(auto, unfolding(crate::specs::Throwing::throw_rows))]
-pub fn throw(rules: &Rules<'_>, command: Command, scene: &mut Scene<'_>) -> Step
+pub fn throw<N: RowNotes>(rules: &Rules<'_>, command: Command, scene: &mut Scene<'_, N>) -> Step
     requires { HasRoom parts_of_row scene.old }
-    ensures row { ByRows throw_rows rules.now command scene.old scene.new result }
+    ensures row { ByRows N.rows (noted table.Throw throw_rows) rules.now command scene.old scene.new
+        result }
     ensures ranks { let cave = cave_of rules.now in
         rank_of cave result ≤ throw_rank cave command.object }
 {
@@ -111,19 +127,24 @@ pub fn throw(rules: &Rules<'_>, command: Command, scene: &mut Scene<'_>) -> Step
     if !is_in_hand(rules, scene.state, x) {
         let second_rod = rules.thing(Named::SecondRod);
         if rules.is(x, Named::Rod) && is_in_hand(rules, scene.state, second_rod) {
+            scene.note(Table::Throw, 1);
             return Step::GoOn(Verb::Throw, second_rod);
         }
+        scene.note(Table::Throw, 2);
         return Step::Done(command.say_default(rules, scene));
     }
     if is_treasure(x) && scene.state.at(rules.thing(Named::Troll)) {
+        scene.note(Table::Throw, 3);
         scene.state.destroy(x);
         remove_troll(rules, scene.state);
         return Step::Done(Next::say(Role::TrollPaid, scene));
     }
     if rules.is(x, Named::Food) && is_near(rules, scene.state, bear) {
+        scene.note(Table::Throw, 4);
         return Step::GoOn(Verb::Feed, bear);
     }
     if !rules.is(x, Named::Axe) {
+        scene.note(Table::Throw, 5);
         return Step::GoOn(Verb::Drop, x);
     }
     throw_axe(rules, command, scene)

@@ -1,9 +1,11 @@
 ghost use Rattle.std.specs.Prelude.{◌≡◌, ◌-ℤ◌, pos};
 ghost use Rattle.verb_commands.specs.turn_scene.Bounds.{HasRoom, parts_of_row};
-ghost use Rattle.cave_verbs.specs.Waving.{wave_rows, rub_rows};
 ghost use Rattle.verb_commands.specs.Rows.{DoneByRows};
+ghost use Rattle.verb_commands.specs.turn_rules.Rows.{noted};
+ghost use Rattle.verb_commands.specs.rule_rows.declared.tables.Table.TheVariants as table;
+ghost use Rattle.cave_verbs.specs.Waving.{wave_rows, rub_rows};
 
-use verb_commands::{Command, Named, Next, Prop, Role, Rules, Scene, is_in_hand};
+use verb_commands::{Command, Named, Next, Prop, Role, RowNotes, Rules, Scene, Table, is_in_hand};
 
 fn flipped(prop: Prop) -> Prop
     ensures { result ≡ pos 1 -ℤ prop }
@@ -19,15 +21,17 @@ fn text_of_flipped(prop: Prop) -> i8
 
 /// WAVE an object.
 #[tactic(auto, unfolding(crate::specs::Waving::wave_rows))]
-pub fn wave(rules: &Rules<'_>, command: Command, scene: &mut Scene<'_>) -> Next
+pub fn wave<N: RowNotes>(rules: &Rules<'_>, command: Command, scene: &mut Scene<'_, N>) -> Next
     requires { HasRoom parts_of_row scene.old }
-    ensures row { DoneByRows wave_rows rules.now command scene.old scene.new result }
+    ensures row { DoneByRows N.rows (noted table.Wave wave_rows) rules.now command scene.old
+        scene.new result }
 {
     let x = command.object;
     let is_rod = rules.is(x, Named::Rod);
     if !is_in_hand(rules, scene.state, x)
         && !(is_rod && is_in_hand(rules, scene.state, rules.thing(Named::SecondRod)))
     {
+        scene.note(Table::Wave, 1);
         return Next::say(Role::NotHeld, scene);
     }
     let fissure = rules.thing(Named::Fissure);
@@ -36,23 +40,28 @@ pub fn wave(rules: &Rules<'_>, command: Command, scene: &mut Scene<'_>) -> Next
         && is_in_hand(rules, scene.state, rules.thing(Named::Rod))
         && !scene.state.closing.is_closing
     {
+        scene.note(Table::Wave, 2);
         let was = scene.state.objects.prop(fissure);
         scene.state.objects.set_prop(fissure, flipped(was));
         let prop = scene.state.objects.prop(fissure);
         scene.look(fissure, text_of_flipped(prop));
         return Next::Stay;
     }
+    scene.note(Table::Wave, 3);
     command.say_default(rules, scene)
 }
 
 /// RUB an object.
 #[tactic(auto, unfolding(crate::specs::Waving::rub_rows))]
-pub fn rub(rules: &Rules<'_>, command: Command, scene: &mut Scene<'_>) -> Next
+pub fn rub<N: RowNotes>(rules: &Rules<'_>, command: Command, scene: &mut Scene<'_, N>) -> Next
     requires { HasRoom parts_of_row scene.old }
-    ensures row { DoneByRows rub_rows rules.now command scene.old scene.new result }
+    ensures row { DoneByRows N.rows (noted table.Rub rub_rows) rules.now command scene.old scene.new
+        result }
 {
     if rules.is(command.object, Named::Lamp) {
+        scene.note(Table::Rub, 1);
         return command.say_default(rules, scene);
     }
+    scene.note(Table::Rub, 2);
     Next::say(Role::RubOdd, scene)
 }

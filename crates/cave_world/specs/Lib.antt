@@ -10,4 +10,5 @@ pub use Rattle.cave_words.specs.cave_data as cave_data
 pub use Rattle.cave_words.specs as cave_words
 pub use Rattle.world_objects.specs.data_numbers as data_numbers
 pub use Rattle.cave_words.specs.data_rows as data_rows
+pub use Rattle.rule_rows.specs as rule_rows
 pub use Rattle.world_objects.specs as world_objects

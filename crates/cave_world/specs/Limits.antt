@@ -26,6 +26,16 @@ dwarf_count = 6
 abbrev pub PIRATE : ℕ
 PIRATE = 5
 
+-- how angry dwarves are who sleep, who stir, and who are awake
+abbrev pub ASLEEP : ℕ
+ASLEEP = 0
+
+abbrev pub STIRRING : ℕ
+STIRRING = 1
+
+abbrev pub AWAKE : ℕ
+AWAKE = 2
+
 -- how angry dwarves are at most
 abbrev pub MAX_ANGER : ℕ
 MAX_ANGER = 13

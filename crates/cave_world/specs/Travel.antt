@@ -1,6 +1,6 @@
--- When a row of a place holds, and which row a motion takes.
-use Rattle.std.specs.Prelude.{ℕ, pos, Bool, true, ◌==◌, ◌||◌, not, if◌then◌else◌, List, [], ◌∷◌}
-use Rattle.std.specs.Prelude.{length, Option, None, Some}
+-- When a row of a place holds, which rows a motion tries, and which one it takes.
+use Rattle.std.specs.Prelude.{ℕ, ◌+◌, pos, Bool, true, false, ◌==◌, ◌||◌, not, List, []}
+use Rattle.std.specs.Prelude.{◌∷◌, if◌then◌else◌, length, Option, None, Some, is_some}
 use Rattle.std.specs.Ordering.{int_eq}
 use Rattle.std.specs.List.{list_any}
 use Rattle.cave_words.specs.data_rows.Rows.{Going}
@@ -16,6 +16,8 @@ use Rattle.cave_world.specs.declared.state.State.{State}
 use Rattle.cave_world.specs.declared.travel_rows.Outcome.{Outcome}
 use Rattle.cave_world.specs.declared.travel_rows.Outcome.TheVariants.{Go, Special, Say, NoMotion}
 use Rattle.cave_world.specs.declared.travel_rows.Outcome.TheVariants.{NoWay}
+use Rattle.rule_rows.specs.declared.tables.RuleRow.{RuleRow}
+use Rattle.rule_rows.specs.declared.tables.RuleRow.TheVariants.{OfPlace}
 use Rattle.world_objects.specs.Objects.{is_carried, is_object_at, prop_of, after_move_to}
 
 -- a state, and where a motion leads
@@ -105,6 +107,37 @@ travel_by_rows emerald motion s ways =
     let listed = from_listed motion ways in
     if length listed == 0 then record { state = s; outcome = NoMotion }
     else first_way emerald s (rows_to_try listed)
+
+-- how many rows stand before the first that lists the motion
+abbrev pub count_unlisted : ℕ → List Going → ℕ
+count_unlisted motion [] = 0
+count_unlisted motion (row ∷ rows) =
+    if lists_motion motion row then 0 else count_unlisted motion rows + 1
+
+-- the row has the target of the one before it that failed
+abbrev pub is_passed : Option ℕ → Going → Bool
+is_passed None row = false
+is_passed (Some target) row = row.target == target
+
+-- the rows of the player's place that are tried, up to the first that leads somewhere, of those from
+-- a number on; where one fails, its neighbours with the same target are passed
+abbrev pub rows_tried : ℕ → State → Option ℕ → ℕ → List Going → List RuleRow
+rows_tried emerald s failed number [] = []
+rows_tried emerald s failed number (row ∷ rows) =
+    if is_passed failed row then rows_tried emerald s failed (number + 1) rows
+    else OfPlace s.trail.here number (holds (row_condition row) s)
+    ∷ (if is_some (row_outcome s row) then []
+    else rows_tried emerald (after_row emerald s row) (Some row.target) (number + 1) rows)
+
+-- the rows that a motion tries, of those of a place
+unfoldable pub rows_tried_by : ℕ → ℕ → State → List Going → List RuleRow
+rows_tried_by emerald motion s ways =
+    rows_tried emerald s None (count_unlisted motion ways) (from_listed motion ways)
+
+-- the rows that a motion tries where the player is, in order, each with whether it applied
+unfoldable pub rows_tried_from : CaveView → ℕ → ℕ → State → List RuleRow
+rows_tried_from cave emerald motion s =
+    rows_tried_by emerald motion s (ways_from cave s.trail.here)
 
 -- where a motion leads from where the player is
 unfoldable pub travel : CaveView → ℕ → ℕ → State → TravelResult

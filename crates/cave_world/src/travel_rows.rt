@@ -1,13 +1,16 @@
-ghost use Rattle.std.specs.Prelude.{◌≡◌, map, []};
+ghost use Rattle.std.specs.Prelude.{◌≡◌, ◌≤◌, ◌++◌, ◌∷◌, [], None, drop, length, map};
 ghost use Rattle.cave_words.specs.data_rows.RowViews.{going};
 ghost use Rattle.cave_words.specs.data_rows.Targets.{IsConditionWithin, EndsWithin};
 ghost use Rattle.cave_world.specs.Travel.{lists_motion, holds, after_condition, outcome_at};
 ghost use Rattle.cave_world.specs.Travel.{after_go, row_outcome, after_row, rows_to_try, first_way};
-ghost use Rattle.cave_world.specs.Travel.{from_listed, travel_by_rows, travel};
+ghost use Rattle.cave_world.specs.Travel.{from_listed, travel_by_rows, travel, row_condition};
+ghost use Rattle.cave_world.specs.Travel.{is_passed, count_unlisted, rows_tried, rows_tried_by, rows_tried_from};
+ghost use Rattle.rule_rows.specs.declared.tables.RuleRow.TheVariants as rule_row;
 
 use crate::motion::Motion;
 use crate::state::State;
 use cave_words::{Cave, Condition, Destination, Row, Special};
+use rule_rows::{RowNotes, RuleRow, Unnoted};
 use world_objects::{Object, Place};
 
 /// Where a motion leads.
@@ -27,13 +30,29 @@ pub enum Outcome {
 
 /// Where a motion leads from where the player is, by the rows of the place. A row may
 /// move the emerald here on the way.
-#[tactic(auto, unfolding(crate::specs::Travel::travel))]
 pub fn travel(cave: &Cave, emerald: Object, state: &mut State, motion: u16) -> Outcome
     ensures { record { state = state.new; outcome = result }
         ≡ travel cave.now emerald motion state.old }
 {
+    note_travel(cave, emerald, state, motion, &mut Unnoted::new())
+}
+
+/// The same, and each row that is tried is noted.
+#[tactic(auto, unfolding(crate::specs::Travel::travel, crate::specs::Travel::rows_tried_from))]
+pub fn note_travel<N: RowNotes>(
+    cave: &Cave,
+    emerald: Object,
+    state: &mut State,
+    motion: u16,
+    notes: &mut N,
+) -> Outcome
+    ensures leads { record { state = state.new; outcome = result }
+        ≡ travel cave.now emerald motion state.old }
+    ensures tries { N.rows notes.new
+        ≡ N.rows notes.old ++ rows_tried_from cave.now emerald motion state.old }
+{
     let here = state.trail.here;
-    travel_by_rows(cave.travel(here.number()), emerald, state, motion)
+    travel_by_rows(cave.travel(here.number()), emerald, state, motion, notes)
 }
 
 fn lists(row: &Row, motion: u16) -> bool
@@ -83,30 +102,63 @@ impl State {
         }
     }
 
-    /// Tries a row: where it leads, unless it fails.
+    /// Tries a row of the place, and notes it: where it leads, unless it fails.
     #[tactic(auto, unfolding(crate::specs::Travel::row_outcome, crate::specs::Travel::after_row))]
-    fn try_row(&mut self, emerald: Object, row: &Row) -> Option<Outcome>
+    fn try_row<N: RowNotes>(
+        &mut self,
+        emerald: Object,
+        row: &Row,
+        number: usize,
+        notes: &mut N,
+    ) -> Option<Outcome>
         ensures value { result ≡ row_outcome self.old (going row.now) }
         ensures after { self.new ≡ after_row emerald self.old (going row.now) }
+        ensures noted { N.rows notes.new ≡ N.rows notes.old
+            ++ rule_row.OfPlace self.old.trail.here number
+            (holds (row_condition (going row.now)) self.old) ∷ [] }
     {
-        if !self.holds(row.condition()) {
+        let place = self.trail.here.number();
+        let applies = self.holds(row.condition());
+        notes.note(RuleRow::OfPlace(place, number, applies));
+        if !applies {
             return None;
         }
         self.go(emerald, row.destination())
     }
 }
 
+/// Whether a row has the target of the one before it that failed.
+fn is_passed(failed: Option<u32>, row: &Row) -> bool
+    ensures { result ≡ is_passed failed (going row.now) }
+{
+    match failed {
+        Some(target) => row.target == target,
+        None => false,
+    }
+}
+
+/// The way of the first row that leads somewhere, from that with a number on.
 #[tactic(auto, using(crate::proofs::Ways::passing))]
-fn first_way(rows: &[Row], emerald: Object, state: &mut State) -> Outcome
-    ensures { record { state = state.new; outcome = result }
-        ≡ first_way emerald state.old (rows_to_try (map going rows.now)) }
+fn first_way<N: RowNotes>(
+    rows: &[Row],
+    first: usize,
+    emerald: Object,
+    state: &mut State,
+    notes: &mut N,
+) -> Outcome
+    requires { first ≤ length rows.now }
+    ensures leads { record { state = state.new; outcome = result }
+        ≡ first_way emerald state.old (rows_to_try (map going (drop first rows.now))) }
+    ensures tries { N.rows notes.new ≡ N.rows notes.old
+        ++ rows_tried emerald state.old None first (map going (drop first rows.now)) }
 {
     let mut failed = None;
-    for row in rows {
-        if failed == Some(row.target) {
+    for number in first..rows.len() {
+        let row = &rows[number];
+        if is_passed(failed, row) {
             continue;
         }
-        if let Some(outcome) = state.try_row(emerald, row) {
+        if let Some(outcome) = state.try_row(emerald, row, number, notes) {
             return outcome;
         }
         failed = Some(row.target);
@@ -114,26 +166,37 @@ fn first_way(rows: &[Row], emerald: Object, state: &mut State) -> Outcome
     Outcome::NoWay
 }
 
-fn from_listed(rows: &[Row], motion: u16) -> &[Row]
-    ensures { map going result.now ≡ from_listed motion (map going rows.now) }
+/// How many rows stand before the first that lists the motion.
+fn count_unlisted(rows: &[Row], motion: u16) -> usize
+    ensures value { result ≡ count_unlisted motion (map going rows.now) }
+    ensures within { result ≤ length rows.now }
+    ensures listed { map going (drop result rows.now) ≡ from_listed motion (map going rows.now) }
 {
     for (i, row) in rows.iter().enumerate() {
         if lists(row, motion) {
-            return &rows[i..];
+            return i;
         }
     }
-    &[]
+    rows.len()
 }
 
 /// Where a motion leads by the rows of a place, in the order of the file.
-#[tactic(auto, unfolding(crate::specs::Travel::travel_by_rows))]
-fn travel_by_rows(rows: &[Row], emerald: Object, state: &mut State, motion: u16) -> Outcome
-    ensures { record { state = state.new; outcome = result }
+#[tactic(auto, unfolding(crate::specs::Travel::travel_by_rows, crate::specs::Travel::rows_tried_by))]
+fn travel_by_rows<N: RowNotes>(
+    rows: &[Row],
+    emerald: Object,
+    state: &mut State,
+    motion: u16,
+    notes: &mut N,
+) -> Outcome
+    ensures leads { record { state = state.new; outcome = result }
         ≡ travel_by_rows emerald motion state.old (map going rows.now) }
+    ensures tries { N.rows notes.new ≡ N.rows notes.old
+        ++ rows_tried_by emerald motion state.old (map going rows.now) }
 {
-    let listed = from_listed(rows, motion);
-    if listed.is_empty() {
+    let first = count_unlisted(rows, motion);
+    if first == rows.len() {
         return Outcome::NoMotion;
     }
-    first_way(listed, emerald, state)
+    first_way(rows, first, emerald, state, notes)
 }

@@ -21,7 +21,7 @@ use Rattle.world_objects.proofs.Places.{halves_at-put_first}
 use Rattle.turn_things.specs.Homes.{home, hold_of}
 use Rattle.turn_begin.specs.Begin.{all_objects, start_prop, start_order, start_halves, start_list}
 use Rattle.turn_begin.specs.Begin.{both_halves, place_of_half, lists_of_halves, starting_objects}
-use Rattle.turn_begin.specs.Begin.{after_placing, after_placing_all, after_hiding_all}
+use Rattle.turn_begin.specs.Placing.{after_placing, after_placing_all, after_hiding_all}
 use Rattle.turn_things.specs.Treasures.{treasures, known_treasures}
 use Rattle.turn_begin.proofs.Orders.{IsOrder, order_kept, start_is_order, each_in_order, sets}
 use Rattle.turn_begin.proofs.Orders.{get-set, each_is, all_set}

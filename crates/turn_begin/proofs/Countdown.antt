@@ -6,8 +6,9 @@ use Rattle.std.specs.List.{filter, range_with_len}
 use Rattle.turn_things.specs.cave_data.CaveView.{CaveView, name_of}
 use Rattle.turn_things.specs.world_objects.Objects.{Layout, with_prop}
 use Rattle.turn_things.specs.Homes.{hold_of}
-use Rattle.turn_begin.specs.Begin.{is_placed_now, all_objects, objects_due, after_placing}
-use Rattle.turn_begin.specs.Begin.{after_placing_all, after_hiding_all}
+use Rattle.turn_begin.specs.Begin.{is_placed_now, all_objects, objects_due}
+use Rattle.turn_begin.specs.Placing.{after_placing}
+use Rattle.turn_begin.specs.Placing.{after_placing_all, after_hiding_all}
 use Rattle.turn_things.specs.Treasures.{treasures, known_treasures}
 
 -- of some objects those that are due

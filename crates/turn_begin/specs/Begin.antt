@@ -6,7 +6,7 @@ use Rattle.turn_things.specs.cave_data.CaveView.{CaveView}
 use Rattle.turn_things.specs.data_rows.declared.place_role.PlaceRole.{PlaceRole}
 use Rattle.turn_things.specs.data_rows.declared.place_role.PlaceRole.TheVariants as place
 use Rattle.turn_things.specs.world_objects.Objects.{Layout, spot_at, place_of_spot, place_of_anchor}
-use Rattle.turn_things.specs.world_objects.Objects.{is_place, after_move_to, with_anchor, with_prop}
+use Rattle.turn_things.specs.world_objects.Objects.{is_place}
 use Rattle.turn_things.specs.world_objects.Lists.{with_half}
 use Rattle.turn_things.specs.cave_world.State.{starting_state}
 use Rattle.turn_things.specs.cave_world.declared.dwarves.Dwarf.{Dwarf}
@@ -21,20 +21,6 @@ use Rattle.turn_things.specs.Places.{place_named, start_place}
 use Rattle.turn_things.specs.Treasures.{known_treasures}
 use Rattle.turn_things.specs.Props.{UNSEEN}
 use Rattle.turn_things.specs.data_numbers.Numbers.{LAST_OBJECT}
-
--- an object is put where it is as the game begins, its second half first
-unfoldable pub after_placing : CaveView → ℕ → Layout → Layout
-after_placing cave x o = after_move_to (with_anchor o x (hold_of cave x)) x (home cave x)
-
--- the objects of a list are, the last one first
-abbrev pub after_placing_all : CaveView → List ℕ → Layout → Layout
-after_placing_all cave [] o = o
-after_placing_all cave (x ∷ xs) o = after_placing cave x (after_placing_all cave xs o)
-
--- the objects of a list weren't seen yet
-abbrev pub after_hiding_all : List ℕ → Layout → Layout
-after_hiding_all [] o = o
-after_hiding_all (x ∷ xs) o = after_hiding_all xs (with_prop o x UNSEEN)
 
 -- the objects by their numbers
 unfoldable pub all_objects : List ℕ

@@ -5,7 +5,7 @@ ghost use Rattle.turn_things.specs.world_objects.Objects.{unplaced_objects};
 ghost use Rattle.turn_things.specs.Homes.{anchor_by};
 ghost use Rattle.turn_begin.specs.Begin.{is_placed_now, objects_due, starting_objects};
 ghost use Rattle.turn_begin.specs.Begin.{dwarf_by_role, starting_dwarves, start_list, begun_state};
-ghost use Rattle.turn_begin.specs.Begin.{after_placing_all, after_hiding_all};
+ghost use Rattle.turn_begin.specs.Placing.{after_placing_all, after_hiding_all};
 ghost use Rattle.turn_things.specs.Treasures.{known_treasures};
 ghost use Rattle.turn_things.specs.data_numbers.Numbers.{LAST_PLACE};
 
@@ -41,7 +41,7 @@ fn place_object(object: Object, home: u16, second: i16, objects: &mut Objects)
 }
 
 /// Places the objects that have two places, or the others, from the last down.
-#[tactic(auto, using(crate::proofs::Countdown::placing), unfolding(crate::specs::Begin::after_placing))]
+#[tactic(auto, using(crate::proofs::Countdown::placing), unfolding(crate::specs::Placing::after_placing))]
 fn place_down(cave: &Cave, twice: bool, objects: &mut Objects)
     ensures { objects.new ≡ after_placing_all cave.now (objects_due cave.now twice) objects.old }
 {

@@ -8,6 +8,7 @@ pub use turn_things::props::{
     DRAGON_DEAD, DRAGON_DYING, LAMP_OFF, OYSTER_WRITTEN_ON, PLANT_SMALL, RUG_FREE, UNSEEN,
 };
 pub use turn_things::{
-    Rules, Scene, building_place, has_other_prop, home, is_dwarf_here, is_in_hand, is_liquid,
-    is_near, lake, liquid, or_no_object, second_home, start_place,
+    RowNotes, RuleRow, Rules, Scene, Table, Unnoted, building_place, has_other_prop, home,
+    is_dwarf_here, is_in_hand, is_liquid, is_near, lake, liquid, or_no_object, second_home,
+    start_place,
 };

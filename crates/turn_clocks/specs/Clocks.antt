@@ -4,9 +4,10 @@ use Rattle.turn_rules.specs.data_rows.declared.place_role.PlaceRole.TheVariants 
 use Rattle.turn_rules.specs.cave_data.CaveView.{CaveView}
 use Rattle.turn_rules.specs.turn_scene.Scene.{Scene, here_of}
 use Rattle.turn_rules.specs.Rows.{Deed, Act, Row, deed, row_then, first_fitting_or, nothing_but}
-use Rattle.turn_rules.specs.Rows.{always, act_of}
+use Rattle.turn_rules.specs.Rows.{always, act_of, noted}
 use Rattle.turn_rules.specs.Tests.{no, cave_closed, is_bound}
 use Rattle.turn_rules.specs.Effects.{change}
+use Rattle.turn_rules.specs.rule_rows.declared.tables.Table.TheVariants as table
 use Rattle.turn_clocks.specs.declared.clocks.Clocks.{Clocks}
 use Rattle.turn_clocks.specs.declared.clocks.Clocks.TheVariants.{Closed}
 use Rattle.turn_clocks.specs.FirstClock.{first_clock_goes, first_clock_runs_out}
@@ -29,7 +30,7 @@ clock_rows =
 
 -- one of the clocks goes on by a turn, if one goes
 unfoldable pub tick_clocks : Deed (Unit {0}) → Act Bool
-tick_clocks d = first_fitting_or clock_rows (nothing_but (always false)) d
+tick_clocks d = first_fitting_or (noted table.Clocks clock_rows) (nothing_but (always false)) d
 
 -- the clocks go on, and then the lamp, which is passed over where the cave was closed just now
 unfoldable pub run_clocks : CaveView → Scene → Act Clocks

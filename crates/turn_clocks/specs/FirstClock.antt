@@ -8,7 +8,7 @@ use Rattle.turn_rules.specs.cave_world.declared.dwarves.Dwarf.{Dwarf}
 use Rattle.turn_rules.specs.cave_world.declared.state.State.{State}
 use Rattle.turn_rules.specs.turn_things.Props.{AXE_FREE, BEAR_DEAD, CHAIN_UNLOCKED, FISSURE_OPEN}
 use Rattle.turn_rules.specs.turn_things.Props.{GRATE_LOCKED}
-use Rattle.turn_rules.specs.turn_things.Effects.{with_dwarves}
+use Rattle.turn_rules.specs.turn_things.Effects.{with_closing, with_dwarves}
 use Rattle.turn_rules.specs.Rows.{Test, Effect, all_hold}
 use Rattle.turn_rules.specs.Tests.{the, no, prop, player_at, in_the_depths}
 use Rattle.turn_rules.specs.Effects.{change, unless, say, destroy, loosen, set_prop, troll_goes}
@@ -32,7 +32,7 @@ first_clock_runs_out d = int_eq (d.scene.state.closing.first_clock -ℤ pos 1) (
 -- a turn less is left until the cave begins to close
 abbrev pub with_first_clock_down : State → State
 with_first_clock_down s = let closing = s.closing in
-    record s { closing = record closing { first_clock = closing.first_clock -ℤ pos 1 } }
+    with_closing (record closing { first_clock = closing.first_clock -ℤ pos 1 }) s
 
 -- a dwarf is nowhere and hasn't seen the player; where it was before is kept
 abbrev pub dismissed_dwarf : Dwarf → Dwarf
@@ -46,7 +46,7 @@ without_dwarves s =
 -- the first clock stops for good, and the cave is closing
 abbrev pub with_closing_begun : State → State
 with_closing_begun s = let closing = s.closing in
-    record s { closing = record closing { first_clock = negsuc 0; is_closing = true } }
+    with_closing (record closing { first_clock = negsuc 0; is_closing = true }) s
 
 -- the cave begins to close
 unfoldable pub begin_closing : List (Effect (Unit {0}))

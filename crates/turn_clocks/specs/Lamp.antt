@@ -10,9 +10,10 @@ use Rattle.turn_rules.specs.cave_world.Limits.{LOW_CHARGE, MAX_LAMP_TURNS}
 use Rattle.turn_rules.specs.turn_things.Props.{BATTERIES_FRESH, BATTERIES_USED, LAMP_OFF}
 use Rattle.turn_rules.specs.turn_things.Effects.{with_lamp}
 use Rattle.turn_rules.specs.Rows.{Deed, Act, Test, Effect, Row, row_then, plain_row, by_table}
-use Rattle.turn_rules.specs.Rows.{first_fitting_or, nothing_but, always, otherwise}
+use Rattle.turn_rules.specs.Rows.{first_fitting_or, nothing_but, always, otherwise, noted}
 use Rattle.turn_rules.specs.Tests.{the, no, near, prop, nowhere, here, outside, lamp_dead}
 use Rattle.turn_rules.specs.Effects.{with_charge, change, when, say, lay_down, set_prop, set_charge}
+use Rattle.turn_rules.specs.rule_rows.declared.tables.Table.TheVariants as table
 use Rattle.turn_clocks.specs.declared.clocks.Clocks.{Clocks}
 use Rattle.turn_clocks.specs.declared.clocks.Clocks.TheVariants.{GoOn, GaveUp}
 
@@ -79,7 +80,7 @@ warning_rows =
     ∷ otherwise (say role.LampLow ∷ [])
 
 unfoldable pub warn : List (Effect (Unit {0}))
-warn = change with_warning ∷ by_table warning_rows ∷ []
+warn = change with_warning ∷ by_table table.LampWarning warning_rows ∷ []
 
 -- what follows is that the command is read, or that the player gives up
 unfoldable pub lamp_rows : List (Row (Unit {0}) Clocks)
@@ -93,7 +94,7 @@ lamp_rows =
 
 -- what comes of the lamp once it has burnt
 unfoldable pub care_for_lamp : Deed (Unit {0}) → Act Clocks
-care_for_lamp d = first_fitting_or lamp_rows (nothing_but (always GoOn)) d
+care_for_lamp d = first_fitting_or (noted table.Lamp lamp_rows) (nothing_but (always GoOn)) d
 
 -- the lamp burns a turn, if it is lit, and what comes of it
 abbrev pub lamp : Deed (Unit {0}) → Act Clocks

@@ -1,5 +1,5 @@
 -- The second clock, and the repository into which the cave is closed where it runs out.
-use Rattle.std.specs.Prelude.{ℕ, ℤ, pos, negsuc, ◌-ℤ◌, int_le, true, ◌&&◌, List, [], ◌∷◌, fold}
+use Rattle.std.specs.Prelude.{ℕ, ℤ, pos, negsuc, ◌-ℤ◌, int_le, true, ◌&&◌, List, [], ◌∷◌}
 use Rattle.std.specs.Ordering.{int_eq}
 use Rattle.turn_rules.specs.data_rows.declared.place_role.PlaceRole.{PlaceRole}
 use Rattle.turn_rules.specs.data_rows.declared.place_role.PlaceRole.TheVariants as place
@@ -15,6 +15,7 @@ use Rattle.turn_rules.specs.turn_things.Props.{PLANT_SMALL, SEEN, SNAKE_GONE, UN
 use Rattle.turn_rules.specs.Rows.{Test, Effect, after_all}
 use Rattle.turn_rules.specs.Tests.{the, place_of}
 use Rattle.turn_rules.specs.Effects.{in_scene, change, move, put_player, say, set_prop, attach}
+use Rattle.turn_rules.specs.Effects.{for_each}
 
 -- the clock goes once the first has run out, down to -1
 abbrev pub second_clock_goes : Test (Unit {0})
@@ -29,7 +30,7 @@ second_clock_runs_out d = int_eq (d.scene.state.closing.second_clock -ℤ pos 1)
 -- a turn less is left until the cave is closed
 abbrev pub with_second_clock_down : State → State
 with_second_clock_down s = let closing = s.closing in
-    record s { closing = record closing { second_clock = closing.second_clock -ℤ pos 1 } }
+    with_closing (record closing { second_clock = closing.second_clock -ℤ pos 1 }) s
 
 -- the object of a name is put at the place of a role, with a prop for when it was carried; until
 -- then it is unseen, and its prop is -1 less that one
@@ -49,7 +50,8 @@ northeast_things =
 -- the mirror is at the one end, and its second half at the other
 abbrev pub hang_mirror : Effect (Unit {0})
 hang_mirror d =
-    attach (the name.Mirror) (λ e. anchor_at (place_of place.Sw e)) (store place.Ne name.Mirror SEEN d)
+    attach (the name.Mirror) (λ e. anchor_at (place_of place.Sw e))
+    (store place.Ne name.Mirror SEEN d)
 
 unfoldable pub southwest_things : List (Effect (Unit {0}))
 southwest_things =
@@ -68,7 +70,7 @@ all_of things d = in_scene (after_all things d).scene d
 
 -- objects are nowhere from now on
 abbrev pub without_all : List ℕ → Layout → Layout
-without_all xs o = fold (λ p x. after_move_to p x 0) o xs
+without_all xs o = for_each xs (λ x p. after_move_to p x 0) o
 
 -- the player carries nothing any more
 unfoldable pub with_empty_hands : State → State

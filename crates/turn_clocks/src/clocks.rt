@@ -7,7 +7,7 @@ ghost use Rattle.turn_clocks.specs.Clocks.{tick_clocks, run_clocks};
 use crate::first_clock::{begin_closing, first_clock_goes};
 use crate::lamp::run_lamp;
 use crate::repository::close_cave;
-use turn_rules::{Place, PlaceRole, Rules, Scene, place_named};
+use turn_rules::{Place, PlaceRole, RowNotes, Rules, Scene, Table, place_named};
 
 /// What follows once the clocks and the lamp have gone on by a turn.
 #[derive(Clone, Copy, Debug, PartialEq, Eq)]
@@ -22,10 +22,10 @@ pub enum Clocks {
 
 /// The clocks and the lamp go on by a turn. Returns what follows.
 #[tactic(auto, unfolding(crate::specs::Clocks::run_clocks))]
-pub fn run_clocks(rules: &Rules<'_>, scene: &mut Scene<'_>) -> Clocks
+pub fn run_clocks<N: RowNotes>(rules: &Rules<'_>, scene: &mut Scene<'_, N>) -> Clocks
     requires { HasRoom parts_of_clocks scene.old }
-    ensures clocks { act_of (scene_of scene.new) result
-        ≡ run_clocks (cave_of rules.now) (scene_of scene.old) }
+    ensures clocks { act_of (scene_of N.rows scene.new) result
+        ≡ run_clocks (cave_of rules.now) (scene_of N.rows scene.old) }
     ensures says { GoesOnSaying parts_of_clocks scene.old scene.new }
 {
     if tick_clocks(rules, scene) {
@@ -36,15 +36,17 @@ pub fn run_clocks(rules: &Rules<'_>, scene: &mut Scene<'_>) -> Clocks
 
 /// One of the clocks goes on by a turn, if one goes. Returns whether that closed the cave.
 #[tactic(auto, unfolding(crate::specs::Clocks::tick_clocks, crate::specs::Clocks::clock_rows))]
-fn tick_clocks(rules: &Rules<'_>, scene: &mut Scene<'_>) -> bool
+fn tick_clocks<N: RowNotes>(rules: &Rules<'_>, scene: &mut Scene<'_, N>) -> bool
     requires { HasRoom 1 scene.old }
-    ensures clock { PlaysBy tick_clocks 1 rules.now tt scene.old scene.new result }
+    ensures clock { PlaysBy N.rows tick_clocks 1 rules.now tt scene.old scene.new result }
 {
     if first_clock_goes(rules, scene) {
         if scene.state.closing.first_clock - 1 == 0 {
+            scene.note(Table::Clocks, 1);
             begin_closing(rules, scene);
             return false;
         }
+        scene.note(Table::Clocks, 2);
         scene.state.closing.first_clock -= 1;
         return false;
     }
@@ -53,14 +55,18 @@ fn tick_clocks(rules: &Rules<'_>, scene: &mut Scene<'_>) -> bool
     }
     scene.state.closing.second_clock -= 1;
     if scene.state.closing.second_clock != 0 || scene.state.closing.is_closed {
+        scene.note(Table::Clocks, 4);
         return false;
     }
     let Some(northeast) = place_named(rules.cave, PlaceRole::Ne) else {
+        scene.note(Table::Clocks, 4);
         return false;
     };
     let Some(southwest) = place_named(rules.cave, PlaceRole::Sw) else {
+        scene.note(Table::Clocks, 4);
         return false;
     };
+    scene.note(Table::Clocks, 3);
     close_cave(rules, northeast, southwest, scene);
     true
 }

@@ -6,13 +6,15 @@ ghost use Rattle.turn_clocks.specs.FirstClock.{first_clock_goes, dismissed_dwarf
 
 use turn_rules::{
     AXE_FREE, Anchor, BEAR_DEAD, CHAIN_UNLOCKED, Dwarf, FISSURE_OPEN, GRATE_LOCKED, Named, Place,
-    PlaceRole, Prop, Role, Rules, Scene, deep_place, has_prop, is_place, place_named, remove_troll,
+    PlaceRole, Prop, Role, RowNotes, Rules, Scene, deep_place, has_prop, is_place, place_named,
+    remove_troll,
 };
 
 /// Whether the first clock goes. It doesn't go at y2.
 #[tactic(auto, unfolding(crate::specs::FirstClock::first_clock_goes))]
-pub fn first_clock_goes(rules: &Rules<'_>, scene: &Scene<'_>) -> bool
-    ensures value { result ≡ first_clock_goes (deed (cave_of rules.now) tt (scene_of scene.now)) }
+pub fn first_clock_goes<N: RowNotes>(rules: &Rules<'_>, scene: &Scene<'_, N>) -> bool
+    ensures value { result
+        ≡ first_clock_goes (deed (cave_of rules.now) tt (scene_of N.rows scene.now)) }
     ensures left { IsTrue result → pos 1 ≤ℤ scene.now.state.now.closing.first_clock }
 {
     let state = &*scene.state;
@@ -40,9 +42,9 @@ fn dismiss_all(dwarves: &mut [Dwarf])
 
 /// The ways are barred, dwarves, troll and bear are gone, and nothing holds the chain and the axe.
 #[tactic(auto, unfolding(crate::specs::FirstClock::begin_closing))]
-pub fn begin_closing(rules: &Rules<'_>, scene: &mut Scene<'_>)
+pub fn begin_closing<N: RowNotes>(rules: &Rules<'_>, scene: &mut Scene<'_, N>)
     requires { HasRoom 1 scene.old }
-    ensures scene { Does begin_closing 1 rules.now tt scene.old scene.new }
+    ensures scene { Does N.rows begin_closing 1 rules.now tt scene.old scene.new }
 {
     let bear = rules.thing(Named::Bear);
     let chain = rules.thing(Named::Chain);

@@ -12,14 +12,14 @@ ghost use Rattle.turn_clocks.specs.Lamp.{care_for_lamp, lamp};
 use crate::clocks::Clocks;
 use turn_rules::{
     BATTERIES_FRESH, BATTERIES_USED, Charge, LAMP_OFF, LAMP_ON, LOW_CHARGE, Named, Prop, Role,
-    Rules, Scene, State, has_prop, is_near, let_go, outside_place,
+    RowNotes, Rules, Scene, State, Table, has_prop, is_near, let_go, outside_place,
 };
 
 const BATTERY_TURNS: i32 = 2500;
 
 /// A lamp that is lit burns a turn.
-fn burn(rules: &Rules<'_>, scene: &mut Scene<'_>)
-    ensures rows { Does (burn ∷ []) 0 rules.now tt scene.old scene.new }
+fn burn<N: RowNotes>(rules: &Rules<'_>, scene: &mut Scene<'_, N>)
+    ensures rows { Does N.rows (burn ∷ []) 0 rules.now tt scene.old scene.new }
 {
     if has_prop(scene.state, rules.thing(Named::Lamp), LAMP_ON) {
         let turns = scene.state.lamp.charge.turns();
@@ -36,9 +36,9 @@ fn renew_charge(state: &mut State)
 }
 
 /// Whether the lamp is low, and both it and new batteries are at hand.
-fn can_change_batteries(rules: &Rules<'_>, scene: &Scene<'_>) -> bool
+fn can_change_batteries<N: RowNotes>(rules: &Rules<'_>, scene: &Scene<'_, N>) -> bool
     ensures { result
-        ≡ all_hold can_change_batteries (deed (cave_of rules.now) tt (scene_of scene.now)) }
+        ≡ all_hold can_change_batteries (deed (cave_of rules.now) tt (scene_of N.rows scene.now)) }
 {
     let batteries = rules.thing(Named::Batteries);
     scene.state.lamp.charge.turns() <= LOW_CHARGE
@@ -48,9 +48,9 @@ fn can_change_batteries(rules: &Rules<'_>, scene: &Scene<'_>) -> bool
 }
 
 #[tactic(auto, unfolding(crate::specs::Lamp::change_batteries))]
-fn change_batteries(rules: &Rules<'_>, scene: &mut Scene<'_>)
+fn change_batteries<N: RowNotes>(rules: &Rules<'_>, scene: &mut Scene<'_, N>)
     requires { HasRoom 1 scene.old }
-    ensures scene { Does change_batteries 1 rules.now tt scene.old scene.new }
+    ensures scene { Does N.rows change_batteries 1 rules.now tt scene.old scene.new }
 {
     let batteries = rules.thing(Named::Batteries);
     scene.say(Role::Replaced);
@@ -63,9 +63,9 @@ fn change_batteries(rules: &Rules<'_>, scene: &mut Scene<'_>)
 }
 
 #[tactic(auto, unfolding(crate::specs::Lamp::go_out))]
-fn go_out(rules: &Rules<'_>, scene: &mut Scene<'_>)
+fn go_out<N: RowNotes>(rules: &Rules<'_>, scene: &mut Scene<'_, N>)
     requires { HasRoom 1 scene.old }
-    ensures scene { Does go_out 1 rules.now tt scene.old scene.new }
+    ensures scene { Does N.rows go_out 1 rules.now tt scene.old scene.new }
 {
     let lamp = rules.thing(Named::Lamp);
     scene.state.lamp.charge = Charge::new(-1);
@@ -76,19 +76,19 @@ fn go_out(rules: &Rules<'_>, scene: &mut Scene<'_>)
 }
 
 /// Whether the lamp has gone out, and the player is outside the cave.
-fn is_stranded(rules: &Rules<'_>, scene: &Scene<'_>) -> bool
+fn is_stranded<N: RowNotes>(rules: &Rules<'_>, scene: &Scene<'_, N>) -> bool
     ensures { result ≡ all_hold (lamp_dead ∷ outside here ∷ [])
-        (deed (cave_of rules.now) (tt {0}) (scene_of scene.now)) }
+        (deed (cave_of rules.now) (tt {0}) (scene_of N.rows scene.now)) }
 {
     scene.state.lamp.charge.turns() < 0
         && scene.state.trail.here.number() <= outside_place(rules.cave).number()
 }
 
 /// Whether the lamp is low and at hand, and the player wasn't warned.
-fn is_warning_due(rules: &Rules<'_>, scene: &Scene<'_>) -> bool
+fn is_warning_due<N: RowNotes>(rules: &Rules<'_>, scene: &Scene<'_, N>) -> bool
     ensures { result ≡ all_hold
         (turns_left_up_to (pos defined.LOW_CHARGE) ∷ no is_warned ∷ near (the name.Lamp) ∷ [])
-        (deed (cave_of rules.now) tt (scene_of scene.now)) }
+        (deed (cave_of rules.now) tt (scene_of N.rows scene.now)) }
 {
     scene.state.lamp.charge.turns() <= LOW_CHARGE
         && !scene.state.lamp.is_warned
@@ -97,40 +97,47 @@ fn is_warning_due(rules: &Rules<'_>, scene: &Scene<'_>) -> bool
 
 /// The player is warned, by where new batteries could come from.
 #[tactic(auto, unfolding(crate::specs::Lamp::warn, crate::specs::Lamp::warning_rows))]
-fn warn(rules: &Rules<'_>, scene: &mut Scene<'_>)
+fn warn<N: RowNotes>(rules: &Rules<'_>, scene: &mut Scene<'_, N>)
     requires { HasRoom 1 scene.old }
-    ensures scene { Does warn 1 rules.now tt scene.old scene.new }
+    ensures scene { Does N.rows warn 1 rules.now tt scene.old scene.new }
 {
     let batteries = rules.thing(Named::Batteries);
     scene.state.lamp.is_warned = true;
     if has_prop(scene.state, batteries, BATTERIES_USED) {
+        scene.note(Table::LampWarning, 1);
         scene.say(Role::LampLowUsed);
     } else if scene.state.is_gone(batteries) {
+        scene.note(Table::LampWarning, 2);
         scene.say(Role::LampLowFind);
     } else {
+        scene.note(Table::LampWarning, 3);
         scene.say(Role::LampLow);
     }
 }
 
 /// What comes of the lamp once it has burnt.
 #[tactic(auto, unfolding(crate::specs::Lamp::care_for_lamp, crate::specs::Lamp::lamp_rows))]
-fn care_for_lamp(rules: &Rules<'_>, scene: &mut Scene<'_>) -> Clocks
+fn care_for_lamp<N: RowNotes>(rules: &Rules<'_>, scene: &mut Scene<'_, N>) -> Clocks
     requires { HasRoom 1 scene.old }
-    ensures row { PlaysBy care_for_lamp 1 rules.now tt scene.old scene.new result }
+    ensures row { PlaysBy N.rows care_for_lamp 1 rules.now tt scene.old scene.new result }
 {
     if can_change_batteries(rules, scene) {
+        scene.note(Table::Lamp, 1);
         change_batteries(rules, scene);
         return Clocks::GoOn;
     }
     if scene.state.lamp.charge.turns() == 0 {
+        scene.note(Table::Lamp, 2);
         go_out(rules, scene);
         return Clocks::GoOn;
     }
     if is_stranded(rules, scene) {
+        scene.note(Table::Lamp, 3);
         scene.say(Role::GiveUp);
         return Clocks::GaveUp;
     }
     if is_warning_due(rules, scene) {
+        scene.note(Table::Lamp, 4);
         warn(rules, scene);
         return Clocks::GoOn;
     }
@@ -138,9 +145,9 @@ fn care_for_lamp(rules: &Rules<'_>, scene: &mut Scene<'_>) -> Clocks
 }
 
 /// The lamp burns a turn, if it is lit, and what comes of it.
-pub fn run_lamp(rules: &Rules<'_>, scene: &mut Scene<'_>) -> Clocks
+pub fn run_lamp<N: RowNotes>(rules: &Rules<'_>, scene: &mut Scene<'_, N>) -> Clocks
     requires { HasRoom 1 scene.old }
-    ensures row { PlaysBy lamp 1 rules.now tt scene.old scene.new result }
+    ensures row { PlaysBy N.rows lamp 1 rules.now tt scene.old scene.new result }
 {
     burn(rules, scene);
     care_for_lamp(rules, scene)

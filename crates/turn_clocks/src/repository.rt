@@ -9,8 +9,8 @@ ghost use Rattle.turn_clocks.specs.Repository.{hang_mirror, northeast_things, so
 ghost use Rattle.turn_clocks.specs.Repository.{without_all, with_empty_hands, close_cave};
 
 use turn_rules::{
-    Anchor, BIRD_CAGED, BOTTLE_EMPTY, Named, Object, Objects, Place, Prop, Role, Rules, SNAKE_GONE,
-    Scene, State, UNSEEN,
+    Anchor, BIRD_CAGED, BOTTLE_EMPTY, Named, Object, Objects, Place, Prop, Role, RowNotes, Rules,
+    SNAKE_GONE, Scene, State, UNSEEN,
 };
 
 /// A thing is put at a place, with its prop.
@@ -25,9 +25,9 @@ fn put_in(rules: &Rules<'_>, name: Named, prop: Prop, place: Place, objects: &mu
 
 /// What belongs at the northeast end is put there.
 #[tactic(auto, unfolding(crate::specs::Repository::northeast_things))]
-fn put_northeast_things(rules: &Rules<'_>, place: Place, scene: &mut Scene<'_>)
+fn put_northeast_things<N: RowNotes>(rules: &Rules<'_>, place: Place, scene: &mut Scene<'_, N>)
     requires { place_named (cave_of rules.now) role.Ne ≡ Some place }
-    ensures things { Does northeast_things 0 rules.now tt scene.old scene.new }
+    ensures things { Does N.rows northeast_things 0 rules.now tt scene.old scene.new }
 {
     let empty = Prop::new(UNSEEN - BOTTLE_EMPTY);
     let unseen = Prop::new(UNSEEN);
@@ -41,10 +41,15 @@ fn put_northeast_things(rules: &Rules<'_>, place: Place, scene: &mut Scene<'_>)
 }
 
 /// The mirror is hung at the northeast end, and its second half is at the southwest end.
-fn hang_mirror(rules: &Rules<'_>, northeast: Place, southwest: Place, scene: &mut Scene<'_>)
+fn hang_mirror<N: RowNotes>(
+    rules: &Rules<'_>,
+    northeast: Place,
+    southwest: Place,
+    scene: &mut Scene<'_, N>,
+)
     requires northeast { place_named (cave_of rules.now) role.Ne ≡ Some northeast }
     requires southwest { place_named (cave_of rules.now) role.Sw ≡ Some southwest }
-    ensures mirror { Does (hang_mirror ∷ []) 0 rules.now tt scene.old scene.new }
+    ensures mirror { Does N.rows (hang_mirror ∷ []) 0 rules.now tt scene.old scene.new }
 {
     let objects = &mut scene.state.objects;
     put_in(rules, Named::Mirror, Prop::new(UNSEEN), northeast, objects);
@@ -53,15 +58,15 @@ fn hang_mirror(rules: &Rules<'_>, northeast: Place, southwest: Place, scene: &mu
 
 /// What belongs at the southwest end is put there, and the mirror is hung.
 #[tactic(auto, unfolding(crate::specs::Repository::southwest_things))]
-fn put_southwest_things(
+fn put_southwest_things<N: RowNotes>(
     rules: &Rules<'_>,
     northeast: Place,
     southwest: Place,
-    scene: &mut Scene<'_>,
+    scene: &mut Scene<'_, N>,
 )
     requires northeast { place_named (cave_of rules.now) role.Ne ≡ Some northeast }
     requires southwest { place_named (cave_of rules.now) role.Sw ≡ Some southwest }
-    ensures things { Does southwest_things 0 rules.now tt scene.old scene.new }
+    ensures things { Does N.rows southwest_things 0 rules.now tt scene.old scene.new }
 {
     let gone = Prop::new(UNSEEN - SNAKE_GONE);
     let caged = Prop::new(UNSEEN - BIRD_CAGED);
@@ -95,11 +100,16 @@ fn empty_hands(state: &mut State)
 
 /// The cave is closed, and the player is at the northeast end of the repository.
 #[tactic(auto, unfolding(crate::specs::Repository::close_cave))]
-pub fn close_cave(rules: &Rules<'_>, northeast: Place, southwest: Place, scene: &mut Scene<'_>)
+pub fn close_cave<N: RowNotes>(
+    rules: &Rules<'_>,
+    northeast: Place,
+    southwest: Place,
+    scene: &mut Scene<'_, N>,
+)
     requires room { HasRoom 1 scene.old }
     requires northeast { place_named (cave_of rules.now) role.Ne ≡ Some northeast }
     requires southwest { place_named (cave_of rules.now) role.Sw ≡ Some southwest }
-    ensures scene { Does close_cave 1 rules.now tt scene.old scene.new }
+    ensures scene { Does N.rows close_cave 1 rules.now tt scene.old scene.new }
 {
     put_northeast_things(rules, northeast, scene);
     scene.state.put_player_from(northeast);

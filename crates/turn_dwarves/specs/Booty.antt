@@ -1,5 +1,5 @@
 -- What the pirate does to the treasures.
-use Rattle.std.specs.Prelude.{ℕ, Bool, List, [], ◌∷◌, Option, unwrap_or, false, fold}
+use Rattle.std.specs.Prelude.{ℕ, Bool, List, [], ◌∷◌, Option, unwrap_or, false}
 use Rattle.std.specs.List.{list_any}
 use Rattle.turn_rules.specs.data_rows.declared.place_role.PlaceRole.TheVariants as place
 use Rattle.turn_rules.specs.data_rows.declared.role.Role.TheVariants as role
@@ -12,10 +12,10 @@ use Rattle.turn_rules.specs.turn_scene.Scene.{Scene}
 use Rattle.turn_rules.specs.turn_things.Places.{place_named}
 use Rattle.turn_rules.specs.turn_things.Reach.{is_near}
 use Rattle.turn_rules.specs.turn_things.Treasures.{treasures}
-use Rattle.turn_rules.specs.Rows.{Test, Effect, Row, deed, plain_row, by_table, all_hold}
+use Rattle.turn_rules.specs.Rows.{Test, Effect, Row, deed, plain_row, by_rows, all_hold}
 use Rattle.turn_rules.specs.Tests.{the, no, either, both, it, is_it, in_hand, is_here, immovable}
 use Rattle.turn_rules.specs.Tests.{nowhere, player_at_home}
-use Rattle.turn_rules.specs.Effects.{in_state, follow, say, send, when}
+use Rattle.turn_rules.specs.Effects.{in_state, follow, for_each, say, send, when}
 use Rattle.turn_dwarves.specs.Band.{dwarf_of, with_dwarf}
 
 -- all treasures are fair to the pirate, but not the pyramid where it or the emerald is at home
@@ -43,11 +43,11 @@ steal_rows =
     ∷ []
 
 unfoldable pub steal : CaveView → ℕ → Scene → Scene
-steal cave x p = (by_table steal_rows (deed cave x p)).scene
+steal cave x p = (by_rows steal_rows (deed cave x p)).scene
 
 -- the treasures of a list are stolen one after another
 abbrev pub after_thefts : CaveView → List ℕ → Scene → Scene
-after_thefts cave xs p = fold (λ q x. steal cave x q) p xs
+after_thefts cave xs p = for_each xs (steal cave) p
 
 -- all treasures are
 abbrev pub steal_all : Effect (Unit {0})

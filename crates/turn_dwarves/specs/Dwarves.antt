@@ -2,10 +2,12 @@
 use Rattle.std.specs.Prelude.{Bool, false, not, ◌==◌, List, [], ◌∷◌}
 use Rattle.turn_rules.specs.cave_data.CaveView.{CaveView}
 use Rattle.turn_rules.specs.turn_scene.Scene.{Scene}
+use Rattle.turn_rules.specs.cave_world.Limits.{ASLEEP, STIRRING}
 use Rattle.turn_rules.specs.Rows.{Deed, Act, Effect, Row, deed, row_then, by_table}
-use Rattle.turn_rules.specs.Rows.{first_fitting_or, nothing_but, always, otherwise_then}
+use Rattle.turn_rules.specs.Rows.{first_fitting_or, nothing_but, always, otherwise_then, noted}
 use Rattle.turn_rules.specs.Tests.{in_the_depths, anger}
 use Rattle.turn_rules.specs.Effects.{change, follow, when}
+use Rattle.turn_rules.specs.rule_rows.declared.tables.Table.TheVariants as table
 use Rattle.turn_dwarves.specs.Band.{with_anger}
 use Rattle.turn_dwarves.specs.Knives.{no_attack, raid}
 use Rattle.turn_dwarves.specs.Lines.{tell_attack}
@@ -24,11 +26,12 @@ awake = raid ∷ follow after_pirate ∷ tell_attack
 -- by their anger the dwarves sleep, stir, or are awake
 unfoldable pub anger_rows : List (Row Attack Bool)
 anger_rows =
-    row_then (anger 0 ∷ []) (when in_the_depths (change (with_anger 1)) ∷ []) (always false)
-    ∷ row_then (anger 1 ∷ []) (by_table waking_rows ∷ []) (always false)
+    row_then (anger ASLEEP ∷ []) (when in_the_depths (change (with_anger STIRRING)) ∷ []) (always false)
+    ∷ row_then (anger STIRRING ∷ []) (by_table table.Waking waking_rows ∷ []) (always false)
     ∷ otherwise_then awake is_struck
 
 -- what follows is whether a knife hit the player
 unfoldable pub encounter_dwarves : CaveView → Scene → Act Bool
 encounter_dwarves cave p =
-    first_fitting_or anger_rows (nothing_but (always false)) (deed cave no_attack p)
+    first_fitting_or (noted table.Anger anger_rows) (nothing_but (always false))
+    (deed cave no_attack p)

@@ -1,18 +1,18 @@
 -- What the five dwarves do, one after another.
-use Rattle.std.specs.Prelude.{ℕ, zero, suc, ◌+◌, ◌-◌, ◌*◌, ◌==◌, nat_lt, List, [], ◌∷◌}
-use Rattle.turn_rules.specs.cave_data.CaveView.{CaveView}
+use Rattle.std.specs.Prelude.{ℕ, ◌+◌, ◌-◌, ◌*◌, ◌==◌, nat_lt, List, [], ◌∷◌}
 use Rattle.turn_rules.specs.cave_words.Stream.{number_drawn}
 use Rattle.turn_rules.specs.cave_world.declared.dwarves.Dwarf.{Dwarf}
 use Rattle.turn_rules.specs.cave_world.declared.dwarves.Knife.{Knife}
 use Rattle.turn_rules.specs.cave_world.declared.dwarves.Knife.TheVariants as knife
 use Rattle.turn_rules.specs.cave_world.declared.state.State.{State}
-use Rattle.turn_rules.specs.turn_scene.Scene.{Scene}
+use Rattle.turn_rules.specs.cave_world.Limits.{AWAKE, PIRATE}
 use Rattle.turn_rules.specs.turn_things.Effects.{with_dwarves}
-use Rattle.turn_rules.specs.Rows.{Deed, Act, Test, Effect, Row, deed, act_of, answer_row}
+use Rattle.turn_rules.specs.Rows.{Deed, Act, Test, Effect, Row, deed, answer_row}
 use Rattle.turn_rules.specs.Rows.{row_by_draw, first_fitting_or, nothing_but, always}
-use Rattle.turn_rules.specs.Rows.{otherwise_then}
+use Rattle.turn_rules.specs.Rows.{otherwise_then, noted}
 use Rattle.turn_rules.specs.Tests.{no}
-use Rattle.turn_rules.specs.Effects.{change}
+use Rattle.turn_rules.specs.Effects.{change, for_each_from}
+use Rattle.turn_rules.specs.rule_rows.declared.tables.Table.TheVariants as table
 use Rattle.turn_dwarves.specs.Band.{dwarf_of}
 use Rattle.turn_dwarves.specs.Moving.{dwarf_moved, sees_player, was_with_player}
 use Rattle.turn_dwarves.specs.declared.knives.Threat.{Threat}
@@ -20,19 +20,27 @@ use Rattle.turn_dwarves.specs.declared.knives.Threat.TheVariants as threat
 use Rattle.turn_dwarves.specs.declared.knives.Attack.{Attack}
 
 -- the knife once one was thrown here; one that vanished stays so
-abbrev pub fallen_knife : ℕ → Knife → Knife
-fallen_knife here knife.Vanished = knife.Vanished
-fallen_knife here _ = knife.At here
+abbrev pub thrown_knife : ℕ → Knife → Knife
+thrown_knife here knife.Vanished = knife.Vanished
+thrown_knife here _ = knife.At here
 
 -- a knife was thrown here
 unfoldable pub with_knife_here : State → State
 with_knife_here s =
-    with_dwarves (record (s.dwarves) { knife = fallen_knife s.trail.here s.dwarves.knife }) s
+    with_dwarves (record (s.dwarves) { knife = thrown_knife s.trail.here s.dwarves.knife }) s
 
--- a draw: one of 1000 numbers is below 95 for each degree of anger over 2
+-- of so many cases a knife hits in so many for each degree of anger over that of
+-- dwarves that are just awake
+abbrev pub KNIFE_CASES : ℕ
+KNIFE_CASES = 1000
+
+abbrev pub HITS_A_DEGREE : ℕ
+HITS_A_DEGREE = 95
+
+-- a draw: the knife hits
 abbrev pub knife_hits : Test Dwarf
 knife_hits d = let s = d.scene.state in
-    nat_lt (number_drawn 1000 s.stream) (95 * (s.dwarves.anger - 2))
+    nat_lt (number_drawn KNIFE_CASES s.stream) (HITS_A_DEGREE * (s.dwarves.anger - AWAKE))
 
 -- what a dwarf does once it moved: one that was with the player before throws a knife
 unfoldable pub threat_rows : List (Row Dwarf Threat)
@@ -43,7 +51,8 @@ threat_rows =
     ∷ otherwise_then (change with_knife_here ∷ []) (always threat.Misses)
 
 unfoldable pub threaten : Deed Dwarf → Act Threat
-threaten d = first_fitting_or threat_rows (nothing_but (always threat.Nothing)) d
+threaten d =
+    first_fitting_or (noted table.Threats threat_rows) (nothing_but (always threat.Nothing)) d
 
 -- the dwarf of the number is nowhere
 abbrev pub dwarf_gone : Test ℕ
@@ -72,13 +81,12 @@ with_threat threat.Hits a =
 abbrev pub no_attack : Attack
 no_attack = record { dwarves = 0; knives = 0; hits = 0 }
 
--- so many dwarves act, one after another, and what they do is counted
-unfoldable pub raid_of : CaveView → ℕ → Scene → Act Attack
-raid_of cave zero p = act_of p no_attack
-raid_of cave (suc number) p =
-    let before = raid_of cave number p in let one = dwarf_turn (deed cave number before.scene) in
-    act_of one.scene (with_threat one.step before.step)
+-- a dwarf acts, and what it does is counted
+abbrev pub let_dwarf_act : ℕ → Effect Attack
+let_dwarf_act number d =
+    let one = dwarf_turn (deed d.cave number d.scene) in
+    record d { about = with_threat one.step d.about; scene = one.scene }
 
--- the five act
+-- each of the five before the pirate acts
 abbrev pub raid : Effect Attack
-raid d = let r = raid_of d.cave 5 d.scene in record d { about = r.step; scene = r.scene }
+raid d = for_each_from 0 PIRATE let_dwarf_act d

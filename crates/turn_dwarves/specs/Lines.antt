@@ -3,9 +3,11 @@ use Rattle.std.specs.Prelude.{ℕ, ◌==◌, List, [], ◌∷◌}
 use Rattle.turn_rules.specs.data_rows.declared.role.Role.TheVariants as role
 use Rattle.turn_rules.specs.cave_world.declared.part.NumberLine.TheVariants as line
 use Rattle.turn_rules.specs.cave_world.declared.part.Part.TheVariants as part
-use Rattle.turn_rules.specs.Rows.{Test, Effect, Row, plain_row, by_table, otherwise}
+use Rattle.turn_rules.specs.cave_world.Limits.{AWAKE}
+use Rattle.turn_rules.specs.Rows.{Test, Effect, Row, plain_row, otherwise, by_table}
 use Rattle.turn_rules.specs.Tests.{no, both, anger}
 use Rattle.turn_rules.specs.Effects.{change, say, tell, when}
+use Rattle.turn_rules.specs.rule_rows.declared.tables.Table.TheVariants as table
 use Rattle.turn_dwarves.specs.Band.{with_anger}
 use Rattle.turn_dwarves.specs.declared.knives.Attack.{Attack}
 
@@ -52,7 +54,7 @@ knife_rows =
 -- then on
 unfoldable pub tell_attack : List (Effect Attack)
 tell_attack =
-    by_table dwarf_rows
-    ∷ when (both (no (knives 0)) (anger 2)) (change (with_anger 3))
-    ∷ by_table knife_rows
+    by_table table.DwarvesHere dwarf_rows
+    ∷ when (both (no (knives 0)) (anger AWAKE)) (change (with_anger 3))
+    ∷ by_table table.Knives knife_rows
     ∷ []

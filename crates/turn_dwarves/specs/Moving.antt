@@ -5,8 +5,9 @@ use Rattle.turn_rules.specs.cave_words.Stream.{number_drawn}
 use Rattle.turn_rules.specs.cave_world.Limits.{PIRATE}
 use Rattle.turn_rules.specs.cave_world.declared.dwarves.Dwarf.{Dwarf}
 use Rattle.turn_rules.specs.turn_scene.Scene.{Scene, with_state, after_draw}
-use Rattle.turn_rules.specs.Rows.{Deed, Test, deed, answer_row, answer_by_rows, otherwise_row}
+use Rattle.turn_rules.specs.Rows.{Deed, Test, deed, answer_row, otherwise_row, Act, act_by_table}
 use Rattle.turn_rules.specs.Tests.{here, in_the_depths}
+use Rattle.turn_rules.specs.rule_rows.declared.tables.Table.TheVariants as table
 use Rattle.turn_dwarves.specs.Band.{dwarf_of, with_dwarf}
 use Rattle.turn_dwarves.specs.Ahead.{ways_of_dwarf}
 
@@ -36,8 +37,8 @@ abbrev pub loses_sight : Deed Dwarf → Dwarf
 loses_sight d = record d.about { has_seen = false }
 
 -- what becomes of a dwarf once it has gone to another place
-unfoldable pub dwarf_in_sight : Deed Dwarf → Dwarf
-dwarf_in_sight d = answer_by_rows
+unfoldable pub dwarf_in_sight : Deed Dwarf → Act Dwarf
+dwarf_in_sight d = act_by_table table.DwarfSight
     (answer_row (sees_player ∷ in_the_depths ∷ []) comes
     ∷ answer_row (is_with_player ∷ []) comes
     ∷ answer_row (was_with_player ∷ []) comes ∷ [])
@@ -53,4 +54,5 @@ dwarf_moved cave number p =
     let dwarf = dwarf_of p.state number in let q = after_draw p in
     let way = chosen_way cave (number == PIRATE) dwarf p.state.stream in
     let moved = dwarf_in_sight (deed cave (dwarf_on_way way dwarf) q) in
-    deed cave moved (with_state (with_dwarf number moved q.state) q)
+    let after = with_dwarf number moved.step moved.scene.state in
+    deed cave moved.step (with_state after moved.scene)

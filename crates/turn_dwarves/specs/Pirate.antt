@@ -7,9 +7,10 @@ use Rattle.turn_rules.specs.cave_words.declared.named.Named.TheVariants as name
 use Rattle.turn_rules.specs.cave_world.Limits.{PIRATE}
 use Rattle.turn_rules.specs.cave_world.Sight.{LAMP_ON}
 use Rattle.turn_rules.specs.turn_scene.Scene.{Scene}
-use Rattle.turn_rules.specs.Rows.{Test, Effect, Row, deed, plain_row, chance_row, by_table}
+use Rattle.turn_rules.specs.Rows.{Test, Effect, Row, deed, plain_row, chance_row, by_rows, by_table}
 use Rattle.turn_rules.specs.Tests.{the, no, near, prop, prop_from, nowhere, player_at, percent}
 use Rattle.turn_rules.specs.Effects.{in_scene, say}
+use Rattle.turn_rules.specs.rule_rows.declared.tables.Table.TheVariants as table
 use Rattle.turn_dwarves.specs.Band.{dwarf_of}
 use Rattle.turn_dwarves.specs.Booty.{carries_booty, treasure_near, rob, hide_chest}
 use Rattle.turn_dwarves.specs.Moving.{dwarf_moved}
@@ -43,7 +44,7 @@ pirate_rows =
 unfoldable pub chase_rows : List (Row (Unit {0}) (Unit {0}))
 chase_rows =
     plain_row (pirate_sees ∷ no (player_at place.Chest) ∷ no (prop_from (the name.Chest) (pos 0))
-    ∷ []) (by_table pirate_rows ∷ [])
+    ∷ []) (by_table table.Pirate pirate_rows ∷ [])
     ∷ []
 
 abbrev pub move_pirate : Effect (Unit {0})
@@ -51,7 +52,7 @@ move_pirate d = in_scene (dwarf_moved d.cave PIRATE d.scene).scene d
 
 -- a pirate who isn't gone moves like a dwarf, and may be after the player then
 unfoldable pub move_rows : List (Row (Unit {0}) (Unit {0}))
-move_rows = plain_row (no pirate_gone ∷ []) (move_pirate ∷ by_table chase_rows ∷ []) ∷ []
+move_rows = plain_row (no pirate_gone ∷ []) (move_pirate ∷ by_rows chase_rows ∷ []) ∷ []
 
 unfoldable pub after_pirate : CaveView → Scene → Scene
-after_pirate cave p = (by_table move_rows (deed cave tt p)).scene
+after_pirate cave p = (by_rows move_rows (deed cave tt p)).scene

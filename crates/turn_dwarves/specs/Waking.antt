@@ -1,5 +1,5 @@
 -- How the dwarves wake.
-use Rattle.std.specs.Prelude.{ℕ, zero, suc, ◌==◌, if◌then◌else◌, unwrap_or, List, [], ◌∷◌}
+use Rattle.std.specs.Prelude.{ℕ, ◌==◌, if◌then◌else◌, unwrap_or, List, [], ◌∷◌}
 use Rattle.turn_rules.specs.data_rows.declared.place_role.PlaceRole.TheVariants as landmark
 use Rattle.turn_rules.specs.data_rows.declared.role.Role.TheVariants as role
 use Rattle.turn_rules.specs.cave_data.CaveView.{CaveView}
@@ -7,11 +7,12 @@ use Rattle.turn_rules.specs.cave_words.Stream.{number_drawn}
 use Rattle.turn_rules.specs.cave_words.declared.named.Named.TheVariants as name
 use Rattle.turn_rules.specs.cave_world.declared.dwarves.Dwarf.{Dwarf}
 use Rattle.turn_rules.specs.cave_world.declared.state.State.{State}
+use Rattle.turn_rules.specs.cave_world.Limits.{AWAKE, PIRATE}
 use Rattle.turn_rules.specs.turn_things.Places.{place_named}
-use Rattle.turn_rules.specs.Rows.{Effect, Row, plain_row, chance_row, by_table_about, after_drawing}
+use Rattle.turn_rules.specs.Rows.{Effect, Row, plain_row, chance_row, by_rows_about, after_drawing}
 use Rattle.turn_rules.specs.Rows.{otherwise}
 use Rattle.turn_rules.specs.Tests.{the, no, in_the_depths, percent}
-use Rattle.turn_rules.specs.Effects.{in_state, change, say, bring}
+use Rattle.turn_rules.specs.Effects.{in_state, change, say, bring, for_each_from}
 use Rattle.turn_dwarves.specs.Band.{dwarf_of, with_dwarf, with_anger}
 use Rattle.turn_dwarves.specs.declared.knives.Attack.{Attack}
 
@@ -30,7 +31,7 @@ leaving_rows = chance_row [] (percent 50) (remove ∷ []) ∷ []
 -- it is drawn which
 abbrev pub let_one_leave : Effect Attack
 let_one_leave d =
-    by_table_about (λ e. number_drawn 5 d.scene.state.stream) leaving_rows (after_drawing d)
+    by_rows_about (λ e. number_drawn PIRATE d.scene.state.stream) leaving_rows (after_drawing d)
 
 -- a dwarf that is where the player is goes to another place, if one is named for it
 abbrev pub place_apart : CaveView → ℕ → ℕ → ℕ
@@ -42,21 +43,19 @@ unfoldable pub dwarf_apart : CaveView → ℕ → Dwarf → Dwarf
 dwarf_apart cave here dwarf =
     let place = place_apart cave here dwarf.place in record dwarf { place = place; last = place }
 
--- so many dwarves are kept apart from the player
-unfoldable pub with_dwarves_apart : CaveView → ℕ → State → State
-with_dwarves_apart cave zero s = s
-with_dwarves_apart cave (suc number) s =
-    let before = with_dwarves_apart cave number s in
-    with_dwarf number (dwarf_apart cave before.trail.here (dwarf_of before number)) before
+-- a dwarf is kept apart from the player
+abbrev pub with_dwarf_apart : CaveView → ℕ → State → State
+with_dwarf_apart cave number s =
+    with_dwarf number (dwarf_apart cave s.trail.here (dwarf_of s number)) s
 
--- the five are
+-- each of the five before the pirate is
 abbrev pub keep_apart : Effect Attack
-keep_apart d = in_state (with_dwarves_apart d.cave 5 d.scene.state) d
+keep_apart d = in_state (for_each_from 0 PIRATE (with_dwarf_apart d.cave) d.scene.state) d
 
 -- the dwarves are awake, two of them may be gone, and one throws its axe, which stays here
 unfoldable pub wake : List (Effect Attack)
 wake =
-    change (with_anger 2)
+    change (with_anger AWAKE)
     ∷ let_one_leave
     ∷ let_one_leave
     ∷ keep_apart

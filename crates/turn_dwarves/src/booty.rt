@@ -10,13 +10,12 @@ ghost use Rattle.turn_rules.specs.turn_things.Treasures.{treasures};
 ghost use Rattle.turn_rules.specs.Effects.{after_sending};
 ghost use Rattle.turn_rules.specs.Rows.{Does, deed};
 ghost use Rattle.turn_dwarves.specs.Booty.{fair, is_carried_booty, carries_booty, treasure_near};
-ghost use Rattle.turn_dwarves.specs.Booty.{steal, after_thefts};
-ghost use Rattle.turn_dwarves.specs.Booty.{with_pirate_home, rob, hide_chest};
+ghost use Rattle.turn_dwarves.specs.Booty.{steal, after_thefts, with_pirate_home, rob, hide_chest};
 
 use crate::band::{dwarf_of, set_dwarf};
 use turn_things::treasures::{FIRST_TREASURE, LAST_TREASURE};
 use turn_things::{
-    Dwarf, Named, Object, PIRATE, Place, PlaceRole, Role, Rules, Scene, State, is_fixed,
+    Dwarf, Named, Object, PIRATE, Place, PlaceRole, Role, RowNotes, Rules, Scene, State, is_fixed,
     is_home_here, is_in_hand, is_near, place_named,
 };
 
@@ -31,8 +30,8 @@ fn send(object: Object, place: Option<Place>, state: &mut State)
 
 /// Whether a treasure is fair: any but the pyramid where it or the emerald is at home.
 #[tactic(auto, unfolding(crate::specs::Booty::fair))]
-fn is_fair(rules: &Rules<'_>, object: Object, scene: &Scene<'_>) -> bool
-    ensures { result ≡ fair (deed (cave_of rules.now) object (scene_of scene.now)) }
+fn is_fair<N: RowNotes>(rules: &Rules<'_>, object: Object, scene: &Scene<'_, N>) -> bool
+    ensures { result ≡ fair (deed (cave_of rules.now) object (scene_of N.rows scene.now)) }
 {
     !(rules.is(object, Named::Pyramid)
         && (is_home_here(rules, scene.state, rules.thing(Named::Pyramid))
@@ -41,16 +40,16 @@ fn is_fair(rules: &Rules<'_>, object: Object, scene: &Scene<'_>) -> bool
 
 /// Whether the player carries a treasure that is fair.
 #[tactic(auto, unfolding(crate::specs::Booty::is_carried_booty))]
-fn is_carried_booty(rules: &Rules<'_>, object: Object, scene: &Scene<'_>) -> bool
-    ensures { result ≡ is_carried_booty (cave_of rules.now) (scene_of scene.now) object }
+fn is_carried_booty<N: RowNotes>(rules: &Rules<'_>, object: Object, scene: &Scene<'_, N>) -> bool
+    ensures { result ≡ is_carried_booty (cave_of rules.now) (scene_of N.rows scene.now) object }
 {
     is_fair(rules, object, scene) && is_in_hand(rules, scene.state, object)
 }
 
 /// Whether the player carries something that the pirate takes.
 #[tactic(auto, using(crate::proofs::Treasures::walking), unfolding(crate::specs::Booty::carries_booty))]
-pub fn carries_booty(rules: &Rules<'_>, scene: &Scene<'_>) -> bool
-    ensures { result ≡ carries_booty (deed (cave_of rules.now) tt (scene_of scene.now)) }
+pub fn carries_booty<N: RowNotes>(rules: &Rules<'_>, scene: &Scene<'_, N>) -> bool
+    ensures { result ≡ carries_booty (deed (cave_of rules.now) tt (scene_of N.rows scene.now)) }
 {
     for number in FIRST_TREASURE..LAST_TREASURE + 1 {
         if is_carried_booty(rules, Object::new(number), scene) {
@@ -62,8 +61,8 @@ pub fn carries_booty(rules: &Rules<'_>, scene: &Scene<'_>) -> bool
 
 /// Whether a treasure is at hand.
 #[tactic(auto, using(crate::proofs::Treasures::walking), unfolding(crate::specs::Booty::treasure_near))]
-pub fn is_treasure_near(rules: &Rules<'_>, scene: &Scene<'_>) -> bool
-    ensures { result ≡ treasure_near (deed (cave_of rules.now) tt (scene_of scene.now)) }
+pub fn is_treasure_near<N: RowNotes>(rules: &Rules<'_>, scene: &Scene<'_, N>) -> bool
+    ensures { result ≡ treasure_near (deed (cave_of rules.now) tt (scene_of N.rows scene.now)) }
 {
     for number in FIRST_TREASURE..LAST_TREASURE + 1 {
         if is_near(rules, scene.state, Object::new(number)) {
@@ -75,9 +74,9 @@ pub fn is_treasure_near(rules: &Rules<'_>, scene: &Scene<'_>) -> bool
 
 /// A fair treasure that is carried, or is here and loose, is brought to the pirate's chest.
 #[tactic(auto, unfolding(crate::specs::Booty::steal, crate::specs::Booty::steal_rows))]
-fn steal(rules: &Rules<'_>, object: Object, scene: &mut Scene<'_>)
-    ensures scene { scene_of scene.new
-        ≡ steal (cave_of rules.now) object (scene_of scene.old) }
+fn steal<N: RowNotes>(rules: &Rules<'_>, object: Object, scene: &mut Scene<'_, N>)
+    ensures scene { scene_of N.rows scene.new
+        ≡ steal (cave_of rules.now) object (scene_of N.rows scene.old) }
     ensures says { GoesOnSaying 0 scene.old scene.new }
 {
     if is_fair(rules, object, scene)
@@ -91,9 +90,9 @@ fn steal(rules: &Rules<'_>, object: Object, scene: &mut Scene<'_>)
 
 /// The pirate takes all that it can get, one treasure after another.
 #[tactic(auto, using(crate::proofs::Treasures::walking))]
-fn steal_all(rules: &Rules<'_>, scene: &mut Scene<'_>)
-    ensures scene { scene_of scene.new
-        ≡ after_thefts (cave_of rules.now) treasures (scene_of scene.old) }
+fn steal_all<N: RowNotes>(rules: &Rules<'_>, scene: &mut Scene<'_, N>)
+    ensures scene { scene_of N.rows scene.new
+        ≡ after_thefts (cave_of rules.now) treasures (scene_of N.rows scene.old) }
     ensures says { GoesOnSaying 0 scene.old scene.new }
 {
     for number in FIRST_TREASURE..LAST_TREASURE + 1 {
@@ -133,9 +132,9 @@ fn send_pirate_home(rules: &Rules<'_>, state: &mut State)
 
 /// The pirate robs the player, and goes home with what it took.
 #[tactic(auto, unfolding(crate::specs::Booty::rob))]
-pub fn rob(rules: &Rules<'_>, scene: &mut Scene<'_>)
+pub fn rob<N: RowNotes>(rules: &Rules<'_>, scene: &mut Scene<'_, N>)
     requires { HasRoom 1 scene.old }
-    ensures effects { Does rob 1 rules.now tt scene.old scene.new }
+    ensures effects { Does N.rows rob 1 rules.now tt scene.old scene.new }
 {
     scene.say(Role::Booty);
     if scene.state.is_gone(rules.thing(Named::Message)) {
@@ -148,9 +147,9 @@ pub fn rob(rules: &Rules<'_>, scene: &mut Scene<'_>)
 
 /// The pirate hides its chest, and goes home.
 #[tactic(auto, unfolding(crate::specs::Booty::hide_chest))]
-pub fn hide_chest(rules: &Rules<'_>, scene: &mut Scene<'_>)
+pub fn hide_chest<N: RowNotes>(rules: &Rules<'_>, scene: &mut Scene<'_, N>)
     requires { HasRoom 1 scene.old }
-    ensures effects { Does hide_chest 1 rules.now tt scene.old scene.new }
+    ensures effects { Does N.rows hide_chest 1 rules.now tt scene.old scene.new }
 {
     scene.say(Role::ChestHid);
     put_chest(rules, scene.state);

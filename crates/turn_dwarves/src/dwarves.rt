@@ -9,40 +9,45 @@ use crate::knives::raid;
 use crate::lines::tell_attack;
 use crate::pirate::send_pirate;
 use crate::waking::{is_in_depths, set_anger, try_waking};
-use turn_things::{Rules, Scene};
+use turn_things::{RowNotes, Rules, Scene, Table};
 
 /// The dwarves sleep, stir, or are awake, where the player arrives. Returns whether a knife hit the
 /// player.
 #[tactic(auto, unfolding(crate::specs::Dwarves::encounter_dwarves, crate::specs::Dwarves::anger_rows))]
-pub fn encounter_dwarves(rules: &Rules<'_>, scene: &mut Scene<'_>) -> bool
+pub fn encounter_dwarves<N: RowNotes>(rules: &Rules<'_>, scene: &mut Scene<'_, N>) -> bool
     requires { HasRoom parts_of_dwarves scene.old }
-    ensures moves { act_of (scene_of scene.new) result
-        ≡ encounter_dwarves (cave_of rules.now) (scene_of scene.old) }
+    ensures moves { act_of (scene_of N.rows scene.new) result
+        ≡ encounter_dwarves (cave_of rules.now) (scene_of N.rows scene.old) }
     ensures says { GoesOnSaying parts_of_dwarves scene.old scene.new }
 {
     match scene.state.dwarves.anger.number() {
         0 => {
+            scene.note(Table::Anger, 1);
             if is_in_depths(rules, scene.state) {
                 set_anger(1, scene.state);
             }
             false
         }
         1 => {
+            scene.note(Table::Anger, 2);
             try_waking(rules, scene);
             false
         }
-        _ => encounter_awake(rules, scene),
+        _ => {
+            scene.note(Table::Anger, 3);
+            encounter_awake(rules, scene)
+        }
     }
 }
 
 /// The five act, and then the pirate, and it is said what the five did. Returns whether a knife hit
 /// the player.
 #[tactic(auto, unfolding(crate::specs::Dwarves::awake, crate::specs::Lines::tell_attack))]
-fn encounter_awake(rules: &Rules<'_>, scene: &mut Scene<'_>) -> bool
+fn encounter_awake<N: RowNotes>(rules: &Rules<'_>, scene: &mut Scene<'_, N>) -> bool
     requires { HasRoom parts_of_dwarves scene.old }
-    ensures acts { act_of (scene_of scene.new) result
+    ensures acts { act_of (scene_of N.rows scene.new) result
         ≡ nothing_but is_struck
-        (after_all awake (deed (cave_of rules.now) no_attack (scene_of scene.old))) }
+        (after_all awake (deed (cave_of rules.now) no_attack (scene_of N.rows scene.old))) }
     ensures says { GoesOnSaying parts_of_dwarves scene.old scene.new }
 {
     let attack = raid(rules, scene);

@@ -20,7 +20,7 @@ pub use turn_things::props::{
 };
 pub use turn_things::{
     Anchor, Charge, Destination, Dwarf, Half, MAX_DETAILS, Motion, Named, Object, Outcome, PIRATE,
-    Part, Place, PlaceCondition, PlaceRole, Prop, Role, Row, Rules, Scene, Special, State, forced,
-    has_condition_of, has_prop, has_prop_up_to, hold, home, is_in_hand, lose_one, second_home,
-    start_panic, travel,
+    Part, Place, PlaceCondition, PlaceRole, Prop, Role, Row, RowNotes, Rules, Scene, Special,
+    State, Table, forced, has_condition_of, has_prop, has_prop_up_to, hold, home, is_in_hand,
+    lose_one, note_travel, second_home, start_panic,
 };

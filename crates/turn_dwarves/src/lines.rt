@@ -4,17 +4,18 @@ ghost use Rattle.turn_rules.specs.turn_scene.Bounds.{parts_of_throws};
 ghost use Rattle.turn_rules.specs.turn_scene.Scene.{after_telling, scene_of};
 ghost use Rattle.turn_rules.specs.cave_world.declared.part.Part.TheVariants as part;
 ghost use Rattle.turn_rules.specs.Rows.{Does, by_table};
+ghost use Rattle.turn_rules.specs.rule_rows.declared.tables.Table.TheVariants as table;
 ghost use Rattle.turn_dwarves.specs.Lines.{dwarf_rows, knife_rows, tell_attack};
 
 use crate::knives::Attack;
 use crate::waking::set_anger;
-use turn_things::{NumberLine, Part, Role, Rules, Scene};
+use turn_things::{NumberLine, Part, Role, RowNotes, Rules, Scene, Table};
 
 /// A line of the game's own with a number is printed.
-fn tell_number(line: NumberLine, number: u32, scene: &mut Scene<'_>)
+fn tell_number<N: RowNotes>(line: NumberLine, number: u32, scene: &mut Scene<'_, N>)
     requires { HasRoom 1 scene.old }
-    ensures scene { scene_of scene.new
-        ≡ after_telling (part.Number line number 0) (scene_of scene.old) }
+    ensures scene { scene_of N.rows scene.new
+        ≡ after_telling (part.Number line number 0) (scene_of N.rows scene.old) }
     ensures says { GoesOnSaying 1 scene.old scene.new }
 {
     scene.tell(Part::Number(line, number, 0));
@@ -22,50 +23,70 @@ fn tell_number(line: NumberLine, number: u32, scene: &mut Scene<'_>)
 
 /// How many dwarves are here is printed.
 #[tactic(auto, unfolding(crate::specs::Lines::dwarf_rows))]
-fn tell_dwarf_lines(rules: &Rules<'_>, attack: Attack, scene: &mut Scene<'_>)
+fn tell_dwarf_lines<N: RowNotes>(rules: &Rules<'_>, attack: Attack, scene: &mut Scene<'_, N>)
     requires { HasRoom 1 scene.old }
-    ensures rows { Does (by_table dwarf_rows ∷ []) 1 rules.now attack scene.old scene.new }
+    ensures rows { Does N.rows (by_table table.DwarvesHere dwarf_rows ∷ []) 1 rules.now
+        attack scene.old scene.new }
 {
     match attack.dwarves {
-        0 => (),
-        1 => scene.say(Role::DwarfOne),
-        dwarves => tell_number(NumberLine::DwarvesHere, dwarves, scene),
+        0 => scene.note(Table::DwarvesHere, 1),
+        1 => {
+            scene.note(Table::DwarvesHere, 2);
+            scene.say(Role::DwarfOne);
+        }
+        dwarves => {
+            scene.note(Table::DwarvesHere, 3);
+            tell_number(NumberLine::DwarvesHere, dwarves, scene);
+        }
     }
 }
 
 /// The lines of the knives are printed, if any were thrown.
 #[tactic(auto, unfolding(crate::specs::Lines::knife_rows))]
-fn tell_knife_lines(rules: &Rules<'_>, attack: Attack, scene: &mut Scene<'_>)
+fn tell_knife_lines<N: RowNotes>(rules: &Rules<'_>, attack: Attack, scene: &mut Scene<'_, N>)
     requires { HasRoom parts_of_throws scene.old }
-    ensures rows { Does (by_table knife_rows ∷ []) parts_of_throws rules.now attack
-        scene.old scene.new }
+    ensures rows { Does N.rows (by_table table.Knives knife_rows ∷ []) parts_of_throws
+        rules.now attack scene.old scene.new }
 {
     if attack.knives == 0 {
+        scene.note(Table::Knives, 1);
         return;
     }
     if attack.knives == 1 {
-        scene.say(Role::KnifeOne);
         if attack.hits == 0 {
+            scene.note(Table::Knives, 3);
+            scene.say(Role::KnifeOne);
             scene.say(Role::MissOne);
             return;
         }
+        scene.note(Table::Knives, 2);
+        scene.say(Role::KnifeOne);
         scene.say(Role::HitOne);
         return;
     }
     tell_number(NumberLine::KnivesThrown, attack.knives, scene);
     match attack.hits {
-        0 => scene.say(Role::MissAll),
-        1 => scene.say(Role::HitMany),
-        hits => tell_number(NumberLine::KnivesHit, hits, scene),
+        0 => {
+            scene.note(Table::Knives, 4);
+            scene.say(Role::MissAll);
+        }
+        1 => {
+            scene.note(Table::Knives, 5);
+            scene.say(Role::HitMany);
+        }
+        hits => {
+            scene.note(Table::Knives, 6);
+            tell_number(NumberLine::KnivesHit, hits, scene);
+        }
     }
 }
 
 /// The line of the dwarves is printed, and then those of their knives. Dwarves that threw some for
 /// the first time are angrier from then on.
 #[tactic(auto, unfolding(crate::specs::Lines::tell_attack))]
-pub fn tell_attack(rules: &Rules<'_>, attack: Attack, scene: &mut Scene<'_>)
+pub fn tell_attack<N: RowNotes>(rules: &Rules<'_>, attack: Attack, scene: &mut Scene<'_, N>)
     requires { HasRoom parts_of_attack scene.old }
-    ensures lines { Does tell_attack parts_of_attack rules.now attack scene.old scene.new }
+    ensures lines { Does N.rows tell_attack parts_of_attack rules.now attack scene.old scene.new }
 {
     tell_dwarf_lines(rules, attack, scene);
     if attack.knives != 0 && scene.state.dwarves.anger.number() == 2 {

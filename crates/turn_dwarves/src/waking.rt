@@ -5,15 +5,17 @@ ghost use Rattle.turn_rules.specs.turn_things.Places.{deep_place};
 ghost use Rattle.turn_rules.specs.cave_world.Limits.{MAX_ANGER};
 ghost use Rattle.turn_rules.specs.cave_world.Limits as defined;
 ghost use Rattle.turn_rules.specs.Rows.{Does, by_table};
+ghost use Rattle.turn_rules.specs.rule_rows.declared.tables.Table.TheVariants as table;
 ghost use Rattle.turn_dwarves.specs.Band.{with_anger};
 ghost use Rattle.turn_dwarves.specs.Knives.{no_attack};
-ghost use Rattle.turn_dwarves.specs.Waking.{without_dwarf, let_one_leave, place_apart};
-ghost use Rattle.turn_dwarves.specs.Waking.{dwarf_apart, with_dwarves_apart, wake, waking_rows};
+ghost use Rattle.turn_dwarves.specs.Waking.{without_dwarf, let_one_leave, place_apart, dwarf_apart};
+ghost use Rattle.turn_rules.specs.Effects.{for_each_from};
+ghost use Rattle.turn_dwarves.specs.Waking.{with_dwarf_apart, wake, waking_rows};
 
 use crate::band::{dwarf_of, set_dwarf};
 use turn_things::{
-    Count, Dwarf, Named, PIRATE, Place, PlaceRole, Role, Rules, Scene, State, deep_place,
-    place_named,
+    Count, Dwarf, Named, PIRATE, Place, PlaceRole, Role, RowNotes, Rules, Scene, State, Table,
+    deep_place, place_named,
 };
 
 /// The dwarves are so angry from now on.
@@ -48,8 +50,8 @@ fn remove_dwarf(number: usize, state: &mut State)
 
 /// One of those before the pirate is drawn, and in half of the cases it is gone.
 #[tactic(auto, unfolding(crate::specs::Waking::leaving_rows))]
-fn let_one_leave(rules: &Rules<'_>, scene: &mut Scene<'_>)
-    ensures rows { Does (let_one_leave ∷ []) 0 rules.now no_attack scene.old scene.new }
+fn let_one_leave<N: RowNotes>(rules: &Rules<'_>, scene: &mut Scene<'_, N>)
+    ensures rows { Does N.rows (let_one_leave ∷ []) 0 rules.now no_attack scene.old scene.new }
 {
     let number = scene.state.stream.draw(PIRATE as u32);
     if scene.happens(50) {
@@ -82,7 +84,8 @@ fn dwarf_apart(rules: &Rules<'_>, here: Place, dwarf: &Dwarf) -> Dwarf
 
 /// The dwarves before the pirate are kept apart from the player, and forget where they came from.
 fn keep_apart(rules: &Rules<'_>, state: &mut State)
-    ensures { state.new ≡ with_dwarves_apart (cave_of rules.now) defined.PIRATE state.old }
+    ensures { state.new
+        ≡ for_each_from 0 defined.PIRATE (with_dwarf_apart (cave_of rules.now)) state.old }
 {
     for number in 0..PIRATE {
         let dwarf = dwarf_of(state, number);
@@ -93,9 +96,9 @@ fn keep_apart(rules: &Rules<'_>, state: &mut State)
 
 /// The dwarves wake, and one throws its axe, which stays at the player's place.
 #[tactic(auto, unfolding(crate::specs::Waking::wake))]
-fn wake(rules: &Rules<'_>, scene: &mut Scene<'_>)
+fn wake<N: RowNotes>(rules: &Rules<'_>, scene: &mut Scene<'_, N>)
     requires { HasRoom 1 scene.old }
-    ensures scene { Does wake 1 rules.now no_attack scene.old scene.new }
+    ensures scene { Does N.rows wake 1 rules.now no_attack scene.old scene.new }
 {
     set_anger(2, scene.state);
     let_one_leave(rules, scene);
@@ -108,15 +111,19 @@ fn wake(rules: &Rules<'_>, scene: &mut Scene<'_>)
 
 /// In the depths, dwarves that stir may wake.
 #[tactic(auto, unfolding(crate::specs::Waking::waking_rows))]
-pub fn try_waking(rules: &Rules<'_>, scene: &mut Scene<'_>)
+pub fn try_waking<N: RowNotes>(rules: &Rules<'_>, scene: &mut Scene<'_, N>)
     requires { HasRoom 1 scene.old }
-    ensures rows { Does (by_table waking_rows ∷ []) 1 rules.now no_attack scene.old scene.new }
+    ensures rows { Does N.rows (by_table table.Waking waking_rows ∷ []) 1 rules.now
+        no_attack scene.old scene.new }
 {
     if !is_in_depths(rules, scene.state) {
+        scene.note(Table::Waking, 1);
         return;
     }
     if scene.happens(95) {
+        scene.note(Table::Waking, 2);
         return;
     }
+    scene.note(Table::Waking, 3);
     wake(rules, scene);
 }

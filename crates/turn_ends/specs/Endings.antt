@@ -8,14 +8,16 @@ use Rattle.turn_score.specs.cave_world.declared.ending.Ending.TheVariants as end
 use Rattle.turn_score.specs.cave_world.declared.ending.Question.TheVariants as question
 use Rattle.turn_score.specs.cave_world.declared.part.NumberLine.TheVariants as line
 use Rattle.turn_score.specs.cave_world.declared.part.Part.TheVariants as part
+use Rattle.turn_score.specs.cave_world.State.{LIVES}
 use Rattle.turn_score.specs.cave_world.declared.state.State.{State}
 use Rattle.turn_score.specs.turn_scene.Scene.{Scene, with_state}
 use Rattle.turn_score.specs.turn_things.Effects.{with_tallies}
 use Rattle.turn_score.specs.Score.{score_of, max_score_of}
-use Rattle.turn_rules.specs.Rows.{Deed, Test, Effect, Row, deed, plain_row, by_table, after_all}
+use Rattle.turn_score.specs.rule_rows.declared.tables.Table.TheVariants as table
+use Rattle.turn_rules.specs.Rows.{Deed, Test, Effect, Row, deed, plain_row, after_all, by_table}
 use Rattle.turn_rules.specs.Rows.{otherwise}
 use Rattle.turn_rules.specs.Tests.{cave_closing}
-use Rattle.turn_rules.specs.Effects.{in_scene, change, say, tell}
+use Rattle.turn_rules.specs.Effects.{in_scene, change, follow, say, tell}
 use Rattle.turn_ends.specs.Questions.{ask}
 
 abbrev pub score_now : Deed (Unit {0}) → ℕ
@@ -55,7 +57,7 @@ class_rows =
     ∷ otherwise (say role.OffScale ∷ [])
 
 unfoldable pub tell_score : List (Effect (Unit {0}))
-tell_score = tell_turns ∷ by_table class_rows ∷ []
+tell_score = tell_turns ∷ by_table table.Classes class_rows ∷ []
 
 abbrev pub with_ending : Ending → State → State
 with_ending how s = record s { ending = Some how }
@@ -65,9 +67,9 @@ unfoldable pub after_end : CaveView → Ending → Scene → Scene
 after_end cave how p =
     (after_all tell_score (deed cave tt (with_state (with_ending how p.state) p))).scene
 
--- one death more, up to 3
+-- one death more, up to the last
 abbrev pub with_one_death : State → State
-with_one_death s = with_tallies (record (s.tallies) { deaths = min (s.tallies.deaths + 1) 3 }) s
+with_one_death s = with_tallies (record (s.tallies) { deaths = min (s.tallies.deaths + 1) LIVES }) s
 
 module _ {C : Type 0} where
   abbrev pub end_as : Ending → Effect C
@@ -85,4 +87,8 @@ death_rows =
 
 -- the player dies
 unfoldable pub after_die : CaveView → Scene → Scene
-after_die cave p = (by_table death_rows (deed cave tt p)).scene
+after_die cave p = (by_table table.Death death_rows (deed cave tt p)).scene
+
+module _ {C : Type 0} where
+  abbrev pub die : Effect C
+  die d = follow after_die d

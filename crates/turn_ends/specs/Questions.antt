@@ -11,7 +11,9 @@ use Rattle.turn_score.specs.cave_world.declared.part.Part.TheVariants as part
 use Rattle.turn_score.specs.cave_world.declared.state.State.{State}
 use Rattle.turn_score.specs.turn_scene.Scene.{Scene, after_telling}
 use Rattle.turn_score.specs.Score.{score_of, max_score_of}
-use Rattle.turn_rules.specs.Rows.{Effect, Row, deed, plain_row, by_table, after_all, otherwise}
+use Rattle.turn_score.specs.rule_rows.declared.tables.Table.TheVariants as table
+use Rattle.turn_rules.specs.Rows.{Effect, Row, deed, plain_row, after_all, otherwise, by_table}
+use Rattle.turn_rules.specs.Rows.{note_row}
 use Rattle.turn_rules.specs.Tests.{deaths}
 use Rattle.turn_rules.specs.Effects.{change, in_scene, when, say, tell}
 
@@ -43,15 +45,29 @@ abbrev pub tell_question : Question → Effect Question
 tell_question question.Welcome = say role.Welcome
 tell_question question.Quit = say role.Quit
 tell_question question.ScoreQuit = say role.ScoreQuit
-tell_question question.Die = by_table die_rows
+tell_question question.Die = by_table table.Die die_rows
 tell_question (question.Hint h) = tell_offer h
 tell_question (question.Take h) = say role.HintTake
 tell_question question.Oyster = say role.OysterAsk
 tell_question question.Dragon = say role.WithWhat
 
+-- the row of a question in the tables of questions and of answers
+abbrev pub question_row : Question → ℕ
+question_row question.Welcome = 1
+question_row question.Quit = 2
+question_row question.ScoreQuit = 3
+question_row question.Die = 4
+question_row (question.Hint h) = 5
+question_row (question.Take h) = 6
+question_row question.Oyster = 7
+question_row question.Dragon = 8
+
 -- the message of a question is said
+abbrev pub pose : Question → Effect Question
+pose asked d = tell_question asked (note_row table.Questions (question_row asked) d)
+
 abbrev pub after_question : CaveView → Question → Scene → Scene
-after_question cave asked p = (tell_question asked (deed cave asked p)).scene
+after_question cave asked p = (pose asked (deed cave asked p)).scene
 
 -- the score up to now, and the greatest that there is
 abbrev pub tell_score_now : Effect Question
@@ -65,7 +81,7 @@ with_question asked s = record s { question = Some asked }
 -- the score comes before the question that is about it
 unfoldable pub ask_question : Question → List (Effect Question)
 ask_question asked =
-    when (λ d. is_score_quit d.about) tell_score_now ∷ tell_question asked
+    when (λ d. is_score_quit d.about) tell_score_now ∷ pose asked
     ∷ change (with_question asked) ∷ []
 
 -- a question is asked

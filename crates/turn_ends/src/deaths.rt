@@ -6,7 +6,7 @@ ghost use Rattle.turn_ends.specs.Endings.{with_one_death, after_die};
 
 use crate::endings::end;
 use crate::questions::ask;
-use turn_score::{Ending, Question, Role, Rules, Scene, State};
+use turn_score::{Ending, Question, Role, RowNotes, Rules, Scene, State, Table};
 
 /// One death more is counted.
 pub fn count_death(state: &mut State)
@@ -17,17 +17,20 @@ pub fn count_death(state: &mut State)
 
 /// The player dies, and is asked whether to come back unless the cave is closing.
 #[tactic(auto, unfolding(crate::specs::Endings::after_die, crate::specs::Endings::death_rows))]
-pub fn die(rules: &Rules<'_>, scene: &mut Scene<'_>)
+pub fn die<N: RowNotes>(rules: &Rules<'_>, scene: &mut Scene<'_, N>)
     requires { HasRoom parts_of_death scene.old }
-    ensures scene { scene_of scene.new ≡ after_die (cave_of rules.now) (scene_of scene.old) }
+    ensures scene { scene_of N.rows scene.new
+        ≡ after_die (cave_of rules.now) (scene_of N.rows scene.old) }
     ensures says { GoesOnSaying parts_of_death scene.old scene.new }
     ensures over { IsTrue (takes_no_command scene.new.state.now) }
 {
     if scene.state.closing.is_closing {
+        scene.note(Table::Death, 1);
         scene.say(Role::KilledClosing);
         count_death(scene.state);
         end(rules, Ending::Killed, scene);
         return;
     }
+    scene.note(Table::Death, 2);
     ask(rules, &Question::Die, scene);
 }

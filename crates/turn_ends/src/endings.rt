@@ -4,18 +4,20 @@ ghost use Rattle.turn_score.specs.cave_world.State.{takes_no_command};
 ghost use Rattle.turn_score.specs.turn_scene.Bounds.{GoesOnSaying, HasRoom, parts_of_end};
 ghost use Rattle.turn_score.specs.turn_scene.Scene.{scene_of, cave_of};
 ghost use Rattle.turn_score.specs.Score.{score_of};
+ghost use Rattle.turn_score.specs.rule_rows.declared.tables.Table.TheVariants as table;
 ghost use Rattle.turn_rules.specs.Rows.{Does, by_table};
 ghost use Rattle.turn_ends.specs.Endings.{points_wanted, class_rows, tell_score, with_ending};
 ghost use Rattle.turn_ends.specs.Endings.{after_end};
 
 use turn_score::scores::{max_score, score};
-use turn_score::{Ending, NumberLine, Part, Rating, Role, Rules, Scene, State};
+use turn_score::{Ending, NumberLine, Part, Rating, Role, RowNotes, Rules, Scene, State, Table};
 
 /// The game ends, and its score is printed.
 #[tactic(auto, unfolding(crate::specs::Endings::after_end))]
-pub fn end(rules: &Rules<'_>, ending: Ending, scene: &mut Scene<'_>)
+pub fn end<N: RowNotes>(rules: &Rules<'_>, ending: Ending, scene: &mut Scene<'_, N>)
     requires { HasRoom parts_of_end scene.old }
-    ensures scene { scene_of scene.new ≡ after_end (cave_of rules.now) ending (scene_of scene.old) }
+    ensures scene { scene_of N.rows scene.new
+        ≡ after_end (cave_of rules.now) ending (scene_of N.rows scene.old) }
     ensures says { GoesOnSaying parts_of_end scene.old scene.new }
     ensures over { IsTrue (takes_no_command scene.new.state.now) }
 {
@@ -25,9 +27,9 @@ pub fn end(rules: &Rules<'_>, ending: Ending, scene: &mut Scene<'_>)
 
 /// Prints the score.
 #[tactic(auto, unfolding(crate::specs::Endings::tell_score))]
-fn tell_score(rules: &Rules<'_>, scene: &mut Scene<'_>)
+fn tell_score<N: RowNotes>(rules: &Rules<'_>, scene: &mut Scene<'_, N>)
     requires { HasRoom parts_of_end scene.old }
-    ensures scene { Does tell_score parts_of_end rules.now tt scene.old scene.new }
+    ensures scene { Does N.rows tell_score parts_of_end rules.now tt scene.old scene.new }
     ensures state { scene.new.state.now ≡ scene.old.state.now }
 {
     let score = score(rules, scene.state);
@@ -37,23 +39,30 @@ fn tell_score(rules: &Rules<'_>, scene: &mut Scene<'_>)
 
 /// Prints the class of a score, and how many points are missing for the next one.
 #[tactic(auto, using(crate::proofs::Reach::classes), unfolding(crate::specs::Endings::class_rows))]
-fn tell_class(rules: &Rules<'_>, score: u32, scene: &mut Scene<'_>)
+fn tell_class<N: RowNotes>(rules: &Rules<'_>, score: u32, scene: &mut Scene<'_, N>)
     requires room { HasRoom 2 scene.old }
     requires score { score ≡ score_of (cave_of rules.now) scene.old.state.now }
-    ensures rows { Does (by_table class_rows ∷ []) 2 rules.now tt scene.old scene.new }
+    ensures rows { Does N.rows (by_table table.Classes class_rows ∷ []) 2 rules.now tt
+        scene.old scene.new }
     ensures state { scene.new.state.now ≡ scene.old.state.now }
 {
     match rules.cave.class_of(score) {
         Some(class) => {
-            scene.tell(Part::Class(score));
             if class.is_followed {
+                scene.note(Table::Classes, 1);
+                scene.tell(Part::Class(score));
                 let wanted = points_wanted(score, &class);
                 scene.tell(Part::Number(NumberLine::PointsWanted, wanted, 0));
                 return;
             }
+            scene.note(Table::Classes, 2);
+            scene.tell(Part::Class(score));
             scene.say(Role::TopClass);
         }
-        None => scene.say(Role::OffScale),
+        None => {
+            scene.note(Table::Classes, 3);
+            scene.say(Role::OffScale);
+        }
     }
 }
 

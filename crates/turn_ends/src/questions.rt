@@ -4,21 +4,23 @@ ghost use Rattle.turn_score.specs.cave_world.State.{takes_no_command};
 ghost use Rattle.turn_score.specs.cave_world.declared.ending.Question.TheVariants as question_is;
 ghost use Rattle.turn_score.specs.turn_scene.Bounds.{GoesOnSaying, HasRoom, parts_of_question};
 ghost use Rattle.turn_score.specs.turn_scene.Scene.{scene_of, cave_of};
+ghost use Rattle.turn_score.specs.rule_rows.declared.tables.Table.TheVariants as table;
 ghost use Rattle.turn_rules.specs.Rows.{Does, by_table};
 ghost use Rattle.turn_rules.specs.Effects.{when};
-ghost use Rattle.turn_ends.specs.Questions.{is_score_quit, die_rows, after_offer};
-ghost use Rattle.turn_ends.specs.Questions.{after_question, tell_score_now, with_question};
-ghost use Rattle.turn_ends.specs.Questions.{after_ask};
+ghost use Rattle.turn_ends.specs.Questions.{is_score_quit, die_rows, after_offer, after_question};
+ghost use Rattle.turn_ends.specs.Questions.{tell_score_now, with_question, after_ask, question_row};
 
 use turn_score::scores::{max_score, score};
-use turn_score::{Cave, HintNumber, NumberLine, Part, Question, Role, Rules, Scene, State};
+use turn_score::{
+    Cave, HintNumber, NumberLine, Part, Question, Role, RowNotes, Rules, Scene, State, Table,
+};
 
 /// A question is asked, and the next line answers it.
 #[tactic(auto, unfolding(crate::specs::Questions::after_ask, crate::specs::Questions::ask_question, turn_score::specs::takes_no_command))]
-pub fn ask(rules: &Rules<'_>, question: &Question, scene: &mut Scene<'_>)
+pub fn ask<N: RowNotes>(rules: &Rules<'_>, question: &Question, scene: &mut Scene<'_, N>)
     requires { HasRoom parts_of_question scene.old }
-    ensures scene { scene_of scene.new
-        ≡ after_ask (cave_of rules.now) question.now (scene_of scene.old) }
+    ensures scene { scene_of N.rows scene.new
+        ≡ after_ask (cave_of rules.now) question.now (scene_of N.rows scene.old) }
     ensures says { GoesOnSaying parts_of_question scene.old scene.new }
     ensures over { IsTrue (takes_no_command scene.new.state.now) }
 {
@@ -29,21 +31,31 @@ pub fn ask(rules: &Rules<'_>, question: &Question, scene: &mut Scene<'_>)
 
 /// A player who has died is asked whether to come back.
 #[tactic(auto, unfolding(crate::specs::Questions::die_rows))]
-fn tell_die(rules: &Rules<'_>, scene: &mut Scene<'_>)
+fn tell_die<N: RowNotes>(rules: &Rules<'_>, scene: &mut Scene<'_, N>)
     requires { HasRoom 1 scene.old }
-    ensures rows { Does (by_table die_rows ∷ []) 1 rules.now question_is.Die scene.old scene.new }
+    ensures rows { Does N.rows (by_table table.Die die_rows ∷ []) 1
+        rules.now question_is.Die scene.old scene.new }
 {
     match scene.state.tallies.deaths.number() {
-        0 => scene.say(Role::Die1),
-        1 => scene.say(Role::Die2),
-        _ => scene.say(Role::Die3),
+        0 => {
+            scene.note(Table::Die, 1);
+            scene.say(Role::Die1);
+        }
+        1 => {
+            scene.note(Table::Die, 2);
+            scene.say(Role::Die2);
+        }
+        _ => {
+            scene.note(Table::Die, 3);
+            scene.say(Role::Die3);
+        }
     }
 }
 
-fn offer_hint(cave: &Cave, hint: HintNumber, scene: &mut Scene<'_>)
+fn offer_hint<N: RowNotes>(cave: &Cave, hint: HintNumber, scene: &mut Scene<'_, N>)
     requires { HasRoom 1 scene.old }
-    ensures scene { scene_of scene.new
-        ≡ after_offer (get cave.now.hints hint) (scene_of scene.old) }
+    ensures scene { scene_of N.rows scene.new
+        ≡ after_offer (get cave.now.hints hint) (scene_of N.rows scene.old) }
     ensures says { GoesOnSaying 1 scene.old scene.new }
 {
     if let Some(row) = cave.hint(u16::from(hint.number())) {
@@ -51,13 +63,30 @@ fn offer_hint(cave: &Cave, hint: HintNumber, scene: &mut Scene<'_>)
     }
 }
 
+/// The row of a question in the tables of questions and of answers.
+pub fn question_row(question: &Question) -> u8
+    ensures { result ≡ question_row question.now }
+{
+    match question {
+        Question::Welcome => 1,
+        Question::Quit => 2,
+        Question::ScoreQuit => 3,
+        Question::Die => 4,
+        Question::Hint(_) => 5,
+        Question::Take(_) => 6,
+        Question::Oyster => 7,
+        Question::Dragon => 8,
+    }
+}
+
 /// The message of a question is printed.
-pub fn tell_question(rules: &Rules<'_>, question: &Question, scene: &mut Scene<'_>)
+pub fn tell_question<N: RowNotes>(rules: &Rules<'_>, question: &Question, scene: &mut Scene<'_, N>)
     requires { HasRoom 1 scene.old }
-    ensures scene { scene_of scene.new
-        ≡ after_question (cave_of rules.now) question.now (scene_of scene.old) }
+    ensures scene { scene_of N.rows scene.new
+        ≡ after_question (cave_of rules.now) question.now (scene_of N.rows scene.old) }
     ensures says { GoesOnSaying 1 scene.old scene.new }
 {
+    scene.note(Table::Questions, question_row(question));
     match question {
         Question::Welcome => scene.say(Role::Welcome),
         Question::Quit => scene.say(Role::Quit),
@@ -71,9 +100,9 @@ pub fn tell_question(rules: &Rules<'_>, question: &Question, scene: &mut Scene<'
 }
 
 /// Before the question that is about the score, the score is printed.
-fn tell_preface(rules: &Rules<'_>, question: &Question, scene: &mut Scene<'_>)
+fn tell_preface<N: RowNotes>(rules: &Rules<'_>, question: &Question, scene: &mut Scene<'_, N>)
     requires { HasRoom 1 scene.old }
-    ensures score { Does (when (λ d. is_score_quit d.about) tell_score_now ∷ []) 1
+    ensures score { Does N.rows (when (λ d. is_score_quit d.about) tell_score_now ∷ []) 1
         rules.now question.now scene.old scene.new }
 {
     if let Question::ScoreQuit = question {

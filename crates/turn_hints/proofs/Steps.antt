@@ -8,17 +8,17 @@ use Rattle.turn_ends.specs.cave_data.CaveView.{CaveView}
 use Rattle.turn_ends.specs.cave_data.Tables.{IsAbove}
 use Rattle.turn_ends.specs.turn_rules.Rows.{Act, deed, act_of, after_all, by_table}
 use Rattle.turn_ends.specs.turn_rules.Tests.{has_hint, it, no}
-use Rattle.turn_hints.specs.Hints.{in_cave, in_area, restart, count_turn, offer_rows}
-use Rattle.turn_hints.specs.Hints.{hint_rows, after_consider}
-use Rattle.turn_hints.specs.Hints.{after_hints_up_to, FIRST_HINT, OFFERED_HINTS}
+use Rattle.turn_ends.specs.turn_rules.Effects.{for_each_from}
 use Rattle.turn_ends.specs.turn_scene.Scene.{Scene}
+use Rattle.turn_ends.specs.rule_rows.declared.tables.Table.TheVariants as table
+use Rattle.turn_hints.specs.Hints.{cave_has_it, in_area, restart, count_turn, offer_rows, hint_rows}
+use Rattle.turn_hints.specs.Hints.{after_consider, after_hints, FIRST_HINT, OFFERED_HINTS}
 
--- the next hint comes after those so far
-pub after_consider-more : (cave : CaveView) (n : ℕ) (p : Scene)
-    → after_hints_up_to cave (n + 1) p
-    ≡ after_consider cave (n + FIRST_HINT) (after_hints_up_to cave n p)
-unfolding after_hints_up_to
-after_consider-more cave n p = let next : n + 1 ≡ suc n = omega arith in rw next refl
+-- the next one comes after those so far
+pub one_more : {S : Type 0} (first n : ℕ) (what : ℕ → S → S) (s : S)
+    → for_each_from first (n + 1) what s ≡ what (first + n) (for_each_from first n what s)
+unfolding for_each_from
+one_more first n what s = let next : n + 1 ≡ suc n = omega arith in rw next refl
 
 -- no row fits whose first test fails
 no_row : (a b c : Bool) (x y z : Act (Unit {0})) → a ≡ false
@@ -33,21 +33,25 @@ unfolding after_consider hint_rows
 after_consider-none cave h p none =
     let d = deed cave h p in
     let waits : Act (Unit {0}) =
-    act_of (after_all (count_turn ∷ by_table offer_rows ∷ []) d).scene tt in
+    act_of (after_all (count_turn ∷ by_table table.Offers offer_rows ∷ []) d).scene tt in
     ap (λ (act : Act (Unit {0})). act.scene)
-    (no_row (in_cave d) (no (has_hint it) d) (in_area d) (act_of (restart d).scene tt) waits
+    (no_row (cave_has_it d) (no (has_hint it) d) (in_area d) (act_of (restart d).scene tt) waits
     (act_of p tt) (ap (λ hint. is_some hint) none))
+
+-- so many hints from the first on
+abbrev pub hints_up_to : CaveView → ℕ → Scene → Scene
+hints_up_to cave n p = for_each_from FIRST_HINT n (after_consider cave) p
 
 after_hints-later : (cave : CaveView) (count more : ℕ) (p : Scene)
     → IsAbove (count + FIRST_HINT) cave.hints
-    → after_hints_up_to cave (more + count) p ≡ after_hints_up_to cave count p
-unfolding after_hints_up_to
+    → hints_up_to cave (more + count) p ≡ hints_up_to cave count p
+unfolding for_each_from
 after_hints-later cave count zero p above =
-    let same : zero + count ≡ count = omega arith in ap (λ n. after_hints_up_to cave n p) same
+    let same : zero + count ≡ count = omega arith in ap (λ n. hints_up_to cave n p) same
 after_hints-later cave count (suc more) p above =
     let next : suc more + count ≡ suc (more + count) = omega arith in
-    ap (λ n. after_hints_up_to cave n p) next
-    ∙ after_consider-none cave (more + count + FIRST_HINT) _ (above _ (omega arith))
+    ap (λ n. hints_up_to cave n p) next
+    ∙ after_consider-none cave (FIRST_HINT + (more + count)) _ (above _ (omega arith))
     ∙ after_hints-later cave count more p above
 
 -- either no hint of the cave comes after the first few, or they are all that are offered
@@ -63,12 +67,12 @@ few_hints cave end few above least = at (cases_eq few OFFERED_HINTS) where
 -- hints above those of the cave change nothing
 pub after_hints-all : (cave : CaveView) (count : ℕ) (p : Scene) → count ≤ OFFERED_HINTS
     → IsAbove (count + FIRST_HINT) cave.hints ⊎ (count ≡ OFFERED_HINTS)
-    → after_hints_up_to cave count p ≡ after_hints_up_to cave OFFERED_HINTS p
+    → hints_up_to cave count p ≡ after_hints cave p
 after_hints-all cave count p few (inl above) =
     let all : OFFERED_HINTS - count + count ≡ OFFERED_HINTS = omega arith in
     sym (after_hints-later cave count (OFFERED_HINTS - count) p above)
-    ∙ ap (λ n. after_hints_up_to cave n p) all
-after_hints-all cave count p few (inr all) = ap (λ n. after_hints_up_to cave n p) all
+    ∙ ap (λ n. hints_up_to cave n p) all
+after_hints-all cave count p few (inr all) = ap (λ n. hints_up_to cave n p) all
 
 -- one question is said at most: after one no other is asked
 pub few-asked : (over : Bool) (start before after : ℕ) → before ≤ start + 2

@@ -4,8 +4,9 @@ use Rattle.std.specs.FinMap as map
 use Rattle.turn_ends.specs.cave_data.CaveView.{CaveView}
 use Rattle.turn_ends.specs.Questions.{after_offer, ask_question, after_ask}
 use Rattle.turn_ends.specs.data_rows.declared.rows.Hint.{Hint}
-use Rattle.turn_ends.specs.turn_scene.Scene.{Scene}
+use Rattle.turn_ends.specs.turn_scene.Scene.{Scene, after_row}
 use Rattle.turn_ends.specs.cave_world.declared.ending.Question.TheVariants as question
+use Rattle.turn_ends.specs.rule_rows.declared.tables.Table.TheVariants as table
 
 state_offered : (hint : Option Hint) (p : Scene) → (after_offer hint p).state ≡ p.state
 state_offered None p = refl
@@ -14,4 +15,6 @@ state_offered (Some hint) p = refl
 pub trail_asked : (cave : CaveView) (hint : ℕ) (p : Scene)
     → (after_ask cave (question.Hint hint) p).state.trail ≡ p.state.trail
 unfolding after_ask ask_question
-trail_asked cave hint p = ap (λ s. s.trail) (state_offered (map.get cave.hints hint) p)
+trail_asked cave hint p =
+    ap (λ s. s.trail)
+    (state_offered (map.get cave.hints hint) (after_row table.Questions 5 p))

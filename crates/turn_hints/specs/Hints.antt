@@ -1,14 +1,12 @@
 -- Hints: one is offered to a player who stays for long where it helps, and who needs it.
 use Rattle.std.specs.Prelude.{ℕ, ℤ, pos, ◌+◌, ◌-◌, ◌*◌, ◌+ℤ◌, Bool, true, ◌==◌, nat_le, nat_lt}
 use Rattle.std.specs.Prelude.{int_lt, min, length, List, [], ◌∷◌, is_some, unwrap_or, slice_set}
-use Rattle.std.specs.Prelude.{suc, zero}
 use Rattle.std.specs.FinMap as map
 use Rattle.std.specs.Int.{int_min}
 use Rattle.turn_ends.specs.data_rows.declared.rows.Hint.{Hint}
 use Rattle.turn_ends.specs.cave_data.CaveView.{CaveView}
 use Rattle.turn_ends.specs.cave_words.declared.named.Named.TheVariants as name
 use Rattle.turn_ends.specs.world_objects.Lists.{halves_at}
-use Rattle.turn_ends.specs.world_objects.Objects.{carried_objects}
 use Rattle.turn_ends.specs.cave_world.Limits.{LOW_CHARGE, MAX_LAMP_TURNS}
 use Rattle.turn_ends.specs.cave_world.Sight.{has_condition}
 use Rattle.turn_ends.specs.cave_world.State.{turns_in_area, MAX_TURNS_IN_AREA}
@@ -19,13 +17,14 @@ use Rattle.turn_ends.specs.cave_world.declared.state.State.{State}
 use Rattle.turn_ends.specs.turn_scene.Scene.{Scene}
 use Rattle.turn_ends.specs.turn_things.Props.{GRATE_LOCKED, UNSEEN}
 use Rattle.turn_ends.specs.turn_rules.Rows.{Deed, Test, Effect, Row, deed, plain_row, answer_row}
-use Rattle.turn_ends.specs.turn_rules.Rows.{all_hold, by_table, answer_by_rows, always}
+use Rattle.turn_ends.specs.turn_rules.Rows.{all_hold, by_rows, answer_by_rows, always, by_table}
 use Rattle.turn_ends.specs.turn_rules.Rows.{otherwise_row}
 use Rattle.turn_ends.specs.turn_rules.Tests.{the, no, in_hand, near, prop, other_prop, over}
-use Rattle.turn_ends.specs.turn_rules.Tests.{last_object, here, old, older, has_hint, it}
+use Rattle.turn_ends.specs.turn_rules.Tests.{last_object, held, here, old, older, has_hint, it}
 use Rattle.turn_ends.specs.turn_rules.Effects.{in_state, when, tell, tell_message, take_hint}
-use Rattle.turn_ends.specs.turn_rules.Effects.{set_charge}
+use Rattle.turn_ends.specs.turn_rules.Effects.{set_charge, for_each_from}
 use Rattle.turn_ends.specs.Questions.{ask}
+use Rattle.turn_ends.specs.rule_rows.declared.tables.Table.TheVariants as table
 
 -- the hints that are offered begin with this one
 abbrev pub FIRST_HINT : ℕ
@@ -58,12 +57,12 @@ hint_is h d = d.about == h
 abbrev pub no_hint : Hint
 no_hint = record { turns = 0; points = 0; question = 0; text = 0 }
 
--- the row of a hint
-abbrev pub row_of : Deed ℕ → Hint
-row_of d = unwrap_or (map.get d.cave.hints d.about) no_hint
+-- the hint of the number, as the cave has it
+abbrev pub hint_of : Deed ℕ → Hint
+hint_of d = unwrap_or (map.get d.cave.hints d.about) no_hint
 
-abbrev pub in_cave : Test ℕ
-in_cave d = is_some (map.get d.cave.hints d.about)
+abbrev pub cave_has_it : Test ℕ
+cave_has_it d = is_some (map.get d.cave.hints d.about)
 
 -- a place is in the area of a hint by the bit of the hint's number
 abbrev pub in_area : Test ℕ
@@ -71,14 +70,14 @@ in_area d = has_condition d.cave (here d) d.about
 
 -- the player has stayed for as long as the row of the hint says
 abbrev pub has_stayed : Test ℕ
-has_stayed d = nat_le (row_of d).turns (turns_in_area d.scene.state d.about)
+has_stayed d = nat_le (hint_of d).turns (turns_in_area d.scene.state d.about)
 
 -- nothing is at a place
 abbrev pub nothing_at : (Deed ℕ → ℕ) → Test ℕ
 nothing_at place d = length (halves_at (place d) d.scene.state.objects.lists) == 0
 
 abbrev pub two_in_hand : Test ℕ
-two_in_hand d = nat_lt 1 (length (carried_objects d.scene.state.objects))
+two_in_hand d = nat_lt 1 (held d)
 
 -- what the guard of a hint asks
 abbrev pub guard_row : ℕ → List (Test ℕ) → Row ℕ Bool
@@ -125,37 +124,32 @@ offer_rows =
 -- is offered
 unfoldable pub hint_rows : List (Row ℕ (Unit {0}))
 hint_rows =
-    plain_row (in_cave ∷ no (has_hint it) ∷ no in_area ∷ []) (restart ∷ [])
-    ∷ plain_row (in_cave ∷ no (has_hint it) ∷ []) (count_turn ∷ by_table offer_rows ∷ [])
+    plain_row (cave_has_it ∷ no (has_hint it) ∷ no in_area ∷ []) (restart ∷ [])
+    ∷ plain_row (cave_has_it ∷ no (has_hint it) ∷ [])
+    (count_turn ∷ by_table table.Offers offer_rows ∷ [])
     ∷ []
 
 -- what a turn makes of a hint
 unfoldable pub after_consider : CaveView → ℕ → Scene → Scene
-after_consider cave h p = (by_table hint_rows (deed cave h p)).scene
+after_consider cave h p = (by_rows hint_rows (deed cave h p)).scene
 
--- so many hints from the fourth on are considered, one after another
-unfoldable pub after_hints_up_to : CaveView → ℕ → Scene → Scene
-after_hints_up_to cave zero p = p
-after_hints_up_to cave (suc n) p =
-    after_consider cave (n + FIRST_HINT) (after_hints_up_to cave n p)
-
--- the hints from 4 to 20
+-- each hint from 4 to 20 is considered
 abbrev pub after_hints : CaveView → Scene → Scene
-after_hints cave p = after_hints_up_to cave OFFERED_HINTS p
+after_hints cave p = for_each_from FIRST_HINT OFFERED_HINTS (after_consider cave) p
 
 abbrev pub tell_price : Effect ℕ
-tell_price d = tell (part.Number HintCosts (row_of d).points 0) d
+tell_price d = tell (part.Number HintCosts (hint_of d).points 0) d
 
 abbrev pub ask_take : Effect ℕ
 ask_take d = ask (question.Take d.about) d
 
 -- what a hint costs, and whether it is worth that
 unfoldable pub price_rows : List (Row ℕ (Unit {0}))
-price_rows = plain_row (in_cave ∷ []) (tell_price ∷ ask_take ∷ []) ∷ []
+price_rows = plain_row (cave_has_it ∷ []) (tell_price ∷ ask_take ∷ []) ∷ []
 
 -- the text of the hint's row
 abbrev pub hint_text : Deed ℕ → ℕ
-hint_text d = (row_of d).text
+hint_text d = (hint_of d).text
 
 -- the lamp isn't low
 abbrev pub bright : Test ℕ
@@ -170,9 +164,9 @@ longer_charge points charge = int_min (charge +ℤ pos (TURNS_A_POINT * points))
 
 -- the lamp burns longer by what the hint costs
 abbrev pub prolong : Effect ℕ
-prolong d = set_charge (longer_charge (row_of d).points d.scene.state.lamp.charge) d
+prolong d = set_charge (longer_charge (hint_of d).points d.scene.state.lamp.charge) d
 
 -- what a player gets who takes a hint
 unfoldable pub give_rows : List (Row ℕ (Unit {0}))
 give_rows =
-    plain_row (in_cave ∷ []) (tell_message hint_text ∷ take_hint it ∷ when bright prolong ∷ []) ∷ []
+    plain_row (cave_has_it ∷ []) (tell_message hint_text ∷ take_hint it ∷ when bright prolong ∷ []) ∷ []

@@ -1,7 +1,7 @@
 //! Hints: one is offered to a player who stays for long where it helps, and who needs it.
 
-ghost use Rattle.std.specs.Prelude.{◌≡◌, ◌<◌, ◌≤◌, ◌+◌, ◌*◌, ◌⊎◌, ℕ, IsTrue, false, true};
-ghost use Rattle.std.specs.Prelude.{[], ◌∷◌, Some, min};
+ghost use Rattle.std.specs.Prelude.{◌≡◌, ◌<◌, ◌≤◌, ◌+◌, ◌*◌, ◌⊎◌, ℕ, IsTrue, false, true, [], ◌∷◌};
+ghost use Rattle.std.specs.Prelude.{Some, min};
 ghost use Rattle.std.specs.FinMap.{get};
 ghost use Rattle.turn_ends.specs.cave_data.CaveView.{CaveView, cond_of};
 ghost use Rattle.turn_ends.specs.cave_data.Tables.{IsAbove};
@@ -13,20 +13,20 @@ ghost use Rattle.turn_ends.specs.turn_scene.Bounds.{GoesOnSaying, HasRoom, SaysU
 ghost use Rattle.turn_ends.specs.turn_scene.Bounds.{parts_of_question};
 ghost use Rattle.turn_ends.specs.turn_scene.Scene.{scene_of, cave_of};
 ghost use Rattle.turn_ends.specs.turn_things.Props as defined_props;
-ghost use Rattle.turn_ends.specs.turn_rules.Rows.{Does, all_hold, by_table, deed};
-ghost use Rattle.turn_ends.specs.turn_rules.Tests.{the, no, in_hand, near, prop, other_prop};
-ghost use Rattle.turn_ends.specs.turn_rules.Tests.{over, last_object, here, old, older};
+ghost use Rattle.turn_ends.specs.turn_rules.Rows.{Does, all_hold, deed, by_table};
+ghost use Rattle.turn_ends.specs.turn_rules.Tests.{the, no, in_hand, near, prop, other_prop, over};
+ghost use Rattle.turn_ends.specs.turn_rules.Tests.{last_object, here, old, older};
 ghost use Rattle.turn_ends.specs.turn_rules.Effects.{with_charge};
+ghost use Rattle.turn_ends.specs.rule_rows.declared.tables.Table.TheVariants as table;
 ghost use Rattle.turn_hints.specs.Hints as defined;
 ghost use Rattle.turn_hints.specs.Hints.{has_stayed, nothing_at, two_in_hand, helpful};
 ghost use Rattle.turn_hints.specs.Hints.{longer_charge, with_turns_in_area, offer_rows};
-ghost use Rattle.turn_hints.specs.Hints.{after_consider};
-ghost use Rattle.turn_hints.specs.Hints.{after_hints, price_rows, give_rows};
+ghost use Rattle.turn_hints.specs.Hints.{after_consider, after_hints, price_rows, give_rows};
 
 use turn_ends::{
     Cave, Charge, Count, GRATE_LOCKED, Hint, HintNumber, LOW_CHARGE, MAX_TURNS_IN_AREA, Named,
-    NumberLine, Part, Question, Rules, Scene, State, UNSEEN, ask, has_other_prop, has_prop,
-    is_in_hand, is_near,
+    NumberLine, Part, Question, RowNotes, Rules, Scene, State, Table, UNSEEN, ask, has_other_prop,
+    has_prop, is_in_hand, is_near,
 };
 
 /// The hints that are offered begin with this one.
@@ -54,9 +54,10 @@ const PYRAMID_HINT: u8 = 8;
 const TURNS_A_POINT: i32 = 30;
 
 /// The hints are considered, one after another.
-pub fn consider_all(rules: &Rules<'_>, scene: &mut Scene<'_>)
+pub fn consider_all<N: RowNotes>(rules: &Rules<'_>, scene: &mut Scene<'_, N>)
     requires { HasRoom (2 * parts_of_question) scene.old }
-    ensures scene { scene_of scene.new ≡ after_hints (cave_of rules.now) (scene_of scene.old) }
+    ensures scene { scene_of N.rows scene.new
+        ≡ after_hints (cave_of rules.now) (scene_of N.rows scene.old) }
     ensures says { GoesOnSaying parts_of_question scene.old scene.new }
 {
     // A hint moves nobody, so the conditions of the place are looked up once.
@@ -89,7 +90,7 @@ fn count_hints(cave: &Cave) -> u8
 /// How many turns the player has stayed in the area of the hint that is offered after so many.
 fn turns_after(before: usize, state: &State) -> Count<MAX_TURNS_IN_AREA>
     requires { before < defined.OFFERED_HINTS }
-    ensures { result ≡ turns_in_area state.now (before + defined.FIRST_HINT) }
+    ensures { result ≡ turns_in_area state.now (defined.FIRST_HINT + before) }
 {
     state.hints.turns[before + usize::from(FIRST_HINT) - 1]
 }
@@ -98,7 +99,7 @@ fn turns_after(before: usize, state: &State) -> Count<MAX_TURNS_IN_AREA>
 fn counts_no_turn(count: u8, state: &State) -> bool
     requires { count ≤ defined.OFFERED_HINTS }
     ensures { IsTrue result → (n : ℕ) → n < count
-        → turns_in_area state.now (n + defined.FIRST_HINT) ≡ 0 }
+        → turns_in_area state.now (defined.FIRST_HINT + n) ≡ 0 }
 {
     for before in 0..usize::from(count) {
         if turns_after(before, state).number() != 0 {
@@ -110,12 +111,13 @@ fn counts_no_turn(count: u8, state: &State) -> bool
 
 /// What a hint costs is said, and whether it is worth that is asked.
 #[tactic(auto, unfolding(crate::specs::Hints::price_rows))]
-pub fn price(rules: &Rules<'_>, number: HintNumber, scene: &mut Scene<'_>)
+pub fn price<N: RowNotes>(rules: &Rules<'_>, number: HintNumber, scene: &mut Scene<'_, N>)
     requires { HasRoom (1 + parts_of_question) scene.old }
-    ensures rows { Does (by_table price_rows ∷ []) (1 + parts_of_question) rules.now number
-        scene.old scene.new }
+    ensures rows { Does N.rows (by_table table.HintPrice price_rows ∷ []) (1 +
+        parts_of_question) rules.now number scene.old scene.new }
 {
     if let Some(hint) = rules.cave.hint(u16::from(number.number())) {
+        scene.note(Table::HintPrice, 1);
         let points = u32::from(hint.points);
         scene.tell(Part::Number(NumberLine::HintCosts, points, 0));
         ask(rules, &Question::Take(number), scene);
@@ -124,11 +126,13 @@ pub fn price(rules: &Rules<'_>, number: HintNumber, scene: &mut Scene<'_>)
 
 /// A hint is given. It lets a lamp that isn't low burn for longer.
 #[tactic(auto, unfolding(crate::specs::Hints::give_rows))]
-pub fn give_hint(rules: &Rules<'_>, number: HintNumber, scene: &mut Scene<'_>)
+pub fn give_hint<N: RowNotes>(rules: &Rules<'_>, number: HintNumber, scene: &mut Scene<'_, N>)
     requires { HasRoom 1 scene.old }
-    ensures rows { Does (by_table give_rows ∷ []) 1 rules.now number scene.old scene.new }
+    ensures rows { Does N.rows (by_table table.HintGiven give_rows ∷ []) 1 rules.now number
+        scene.old scene.new }
 {
     if let Some(hint) = rules.cave.hint(u16::from(number.number())) {
+        scene.note(Table::HintGiven, 1);
         scene.tell(Part::Message(hint.text));
         scene.state.take_hint(number);
         if LOW_CHARGE < scene.state.lamp.charge.turns() {
@@ -192,19 +196,24 @@ fn restart(hint: HintNumber, state: &mut State)
 }
 
 /// Whether the player has stayed for long enough, and no question is open.
-fn is_due(rules: &Rules<'_>, number: HintNumber, hint: &Hint, scene: &Scene<'_>) -> bool
+fn is_due<N: RowNotes>(
+    rules: &Rules<'_>,
+    number: HintNumber,
+    hint: &Hint,
+    scene: &Scene<'_, N>,
+) -> bool
     requires { get (cave_of rules.now).hints number ≡ Some hint.now }
     ensures { result ≡ all_hold (has_stayed ∷ no over ∷ [])
-        (deed (cave_of rules.now) number (scene_of scene.now)) }
+        (deed (cave_of rules.now) number (scene_of N.rows scene.now)) }
 {
     hint.turns <= turns_in_area(number, scene.state).number() && !scene.state.takes_no_command()
 }
 
 /// The grate is locked, and the keys aren't at hand.
-fn is_locked_out(rules: &Rules<'_>, number: HintNumber, scene: &Scene<'_>) -> bool
+fn is_locked_out<N: RowNotes>(rules: &Rules<'_>, number: HintNumber, scene: &Scene<'_, N>) -> bool
     ensures { result ≡ all_hold
         (prop (the name.Grate) defined_props.GRATE_LOCKED ∷ no (near (the name.Keys)) ∷ [])
-        (deed (cave_of rules.now) number (scene_of scene.now)) }
+        (deed (cave_of rules.now) number (scene_of N.rows scene.now)) }
 {
     has_prop(scene.state, rules.thing(Named::Grate), GRATE_LOCKED)
         && !is_near(rules, scene.state, rules.thing(Named::Keys))
@@ -212,29 +221,33 @@ fn is_locked_out(rules: &Rules<'_>, number: HintNumber, scene: &Scene<'_>) -> bo
 
 /// The bird is at hand, which flees from the rod that the player carries, and it was the last
 /// object.
-fn is_after_bird(rules: &Rules<'_>, number: HintNumber, scene: &Scene<'_>) -> bool
+fn is_after_bird<N: RowNotes>(rules: &Rules<'_>, number: HintNumber, scene: &Scene<'_, N>) -> bool
     ensures { result ≡ all_hold
         (near (the name.Bird) ∷ in_hand (the name.Rod) ∷ last_object name.Bird ∷ [])
-        (deed (cave_of rules.now) number (scene_of scene.now)) }
+        (deed (cave_of rules.now) number (scene_of N.rows scene.now)) }
 {
     is_near(rules, scene.state, rules.thing(Named::Bird))
         && is_in_hand(rules, scene.state, rules.thing(Named::Rod))
         && rules.is(scene.state.talk.last, Named::Bird)
 }
 
-fn is_held_by_snake(rules: &Rules<'_>, number: HintNumber, scene: &Scene<'_>) -> bool
+fn is_held_by_snake<N: RowNotes>(
+    rules: &Rules<'_>,
+    number: HintNumber,
+    scene: &Scene<'_, N>,
+) -> bool
     ensures { result ≡ all_hold (near (the name.Snake) ∷ no (near (the name.Bird)) ∷ [])
-        (deed (cave_of rules.now) number (scene_of scene.now)) }
+        (deed (cave_of rules.now) number (scene_of N.rows scene.now)) }
 {
     is_near(rules, scene.state, rules.thing(Named::Snake))
         && !is_near(rules, scene.state, rules.thing(Named::Bird))
 }
 
 /// Nothing marks the last three places, and the player has what could mark them.
-fn is_lost_in_maze(rules: &Rules<'_>, number: HintNumber, scene: &Scene<'_>) -> bool
+fn is_lost_in_maze<N: RowNotes>(rules: &Rules<'_>, number: HintNumber, scene: &Scene<'_, N>) -> bool
     ensures { result ≡ all_hold
         (nothing_at here ∷ nothing_at old ∷ nothing_at older ∷ two_in_hand ∷ [])
-        (deed (cave_of rules.now) number (scene_of scene.now)) }
+        (deed (cave_of rules.now) number (scene_of N.rows scene.now)) }
 {
     let state = &*scene.state;
     state.is_bare(state.trail.here)
@@ -244,11 +257,15 @@ fn is_lost_in_maze(rules: &Rules<'_>, number: HintNumber, scene: &Scene<'_>) -> 
 }
 
 /// The emerald was found, and the pyramid wasn't.
-fn is_short_of_pyramid(rules: &Rules<'_>, number: HintNumber, scene: &Scene<'_>) -> bool
+fn is_short_of_pyramid<N: RowNotes>(
+    rules: &Rules<'_>,
+    number: HintNumber,
+    scene: &Scene<'_, N>,
+) -> bool
     ensures { result ≡ all_hold
         (other_prop (the name.Emerald) defined_props.UNSEEN
         ∷ prop (the name.Pyramid) defined_props.UNSEEN ∷ [])
-        (deed (cave_of rules.now) number (scene_of scene.now)) }
+        (deed (cave_of rules.now) number (scene_of N.rows scene.now)) }
 {
     has_other_prop(scene.state, rules.thing(Named::Emerald), UNSEEN)
         && has_prop(scene.state, rules.thing(Named::Pyramid), UNSEEN)
@@ -256,8 +273,8 @@ fn is_short_of_pyramid(rules: &Rules<'_>, number: HintNumber, scene: &Scene<'_>)
 
 /// Whether the guard of a hint holds. Five hints have one.
 #[tactic(auto, unfolding(crate::specs::Hints::helpful))]
-fn is_helpful(rules: &Rules<'_>, hint: HintNumber, scene: &Scene<'_>) -> bool
-    ensures { result ≡ helpful (deed (cave_of rules.now) hint (scene_of scene.now)) }
+fn is_helpful<N: RowNotes>(rules: &Rules<'_>, hint: HintNumber, scene: &Scene<'_, N>) -> bool
+    ensures { result ≡ helpful (deed (cave_of rules.now) hint (scene_of N.rows scene.now)) }
 {
     match hint.number() {
         GRATE_HINT => is_locked_out(rules, hint, scene),
@@ -271,11 +288,11 @@ fn is_helpful(rules: &Rules<'_>, hint: HintNumber, scene: &Scene<'_>) -> bool
 
 /// A hint that is due is offered to a player whom it helps, and is put off else.
 #[tactic(auto, using(crate::proofs::Trails::trail_asked), unfolding(crate::specs::Hints::offer_rows))]
-fn offer(rules: &Rules<'_>, number: HintNumber, hint: &Hint, scene: &mut Scene<'_>)
+fn offer<N: RowNotes>(rules: &Rules<'_>, number: HintNumber, hint: &Hint, scene: &mut Scene<'_, N>)
     requires room { HasRoom parts_of_question scene.old }
     requires hint { get (cave_of rules.now).hints number ≡ Some hint.now }
-    ensures rows { Does (by_table offer_rows ∷ []) parts_of_question rules.now number
-        scene.old scene.new }
+    ensures rows { Does N.rows (by_table table.Offers offer_rows ∷ []) parts_of_question
+        rules.now number scene.old scene.new }
     ensures here { scene.new.state.now.trail ≡ scene.old.state.now.trail }
     ensures few_on { takes_no_command scene.new.state.now ≡ false → SaysUpTo 0 scene.old scene.new }
     ensures few_over { takes_no_command scene.old.state.now
@@ -287,6 +304,7 @@ fn offer(rules: &Rules<'_>, number: HintNumber, hint: &Hint, scene: &mut Scene<'
         return;
     }
     if is_helpful(rules, number, scene) {
+        scene.note(Table::Offers, 1);
         restart(number, scene.state);
         ask(rules, &Question::Hint(number), scene);
         return;
@@ -294,16 +312,22 @@ fn offer(rules: &Rules<'_>, number: HintNumber, hint: &Hint, scene: &mut Scene<'
     if number.number() == BIRD_HINT {
         return;
     }
+    scene.note(Table::Offers, 2);
     restart(number, scene.state);
 }
 
 /// A hint that the cave has and that wasn't taken counts its turns, and is offered.
 #[tactic(auto, unfolding(crate::specs::Hints::after_consider, crate::specs::Hints::hint_rows))]
-fn consider(rules: &Rules<'_>, number: HintNumber, conditions: u32, scene: &mut Scene<'_>)
+fn consider<N: RowNotes>(
+    rules: &Rules<'_>,
+    number: HintNumber,
+    conditions: u32,
+    scene: &mut Scene<'_, N>,
+)
     requires room { HasRoom parts_of_question scene.old }
     requires here { conditions ≡ cond_of (cave_of rules.now) scene.old.state.now.trail.here }
-    ensures scene { scene_of scene.new
-        ≡ after_consider (cave_of rules.now) number (scene_of scene.old) }
+    ensures scene { scene_of N.rows scene.new
+        ≡ after_consider (cave_of rules.now) number (scene_of N.rows scene.old) }
     ensures says { GoesOnSaying parts_of_question scene.old scene.new }
     ensures here { scene.new.state.now.trail ≡ scene.old.state.now.trail }
     ensures few_on { takes_no_command scene.new.state.now ≡ false → SaysUpTo 0 scene.old scene.new }

@@ -10,15 +10,17 @@ use Rattle.turn_dwarves.specs.cave_world.declared.dwarves.Dwarf.{Dwarf}
 use Rattle.turn_dwarves.specs.turn_scene.Scene.{Scene, after_saying, with_left, scene_at_place}
 use Rattle.turn_dwarves.specs.turn_things.declared.conditions.PlaceCondition.TheVariants.{NoPirate}
 use Rattle.turn_dwarves.specs.Dwarves.{encounter_dwarves}
+use Rattle.turn_dwarves.specs.rule_rows.declared.tables.Table.TheVariants as table
 use Rattle.turn_ends.specs.turn_rules.Rows.{Deed, Act, Test, Row, deed, row_then, answer_row}
 use Rattle.turn_ends.specs.turn_rules.Rows.{first_fitting_or, nothing_but, always, otherwise_then}
+use Rattle.turn_ends.specs.turn_rules.Rows.{noted}
 use Rattle.turn_ends.specs.turn_rules.Tests.{no, same, here, outside, cave_closing, forced_at}
 use Rattle.turn_ends.specs.turn_rules.Tests.{place_has, over, there_is}
-use Rattle.turn_ends.specs.turn_rules.Effects.{say, follow, panic}
-use Rattle.turn_ends.specs.Endings.{after_die}
-use Rattle.turn_moves.specs.Description.{tell_place, after_describe, stop_here}
+use Rattle.turn_ends.specs.turn_rules.Effects.{say, panic}
+use Rattle.turn_ends.specs.Endings.{die}
+use Rattle.turn_moves.specs.Description.{tell_place, describe_place, stop_here}
 use Rattle.turn_moves.specs.Journeys.{set_forth}
-use Rattle.turn_moves.specs.Ways.{fall}
+use Rattle.turn_moves.specs.Ways.{die_at}
 
 -- the place where the player is about to arrive
 abbrev pub new : Deed ℕ → ℕ
@@ -43,7 +45,7 @@ blocking_rows =
 
 -- where the player arrives
 unfoldable pub block : Deed ℕ → Act ℕ
-block d = first_fitting_or blocking_rows (nothing_but new) d
+block d = first_fitting_or (noted table.Blocking blocking_rows) (nothing_but new) d
 
 -- the player is nowhere
 abbrev pub at_no_place : Test (Unit {0})
@@ -53,26 +55,28 @@ at_no_place d = here d == 0
 -- the pirate doesn't come
 unfoldable pub place_rows : List (Row (Unit {0}) Bool)
 place_rows =
-    row_then (at_no_place ∷ []) (follow after_die ∷ []) (always false)
+    row_then (at_no_place ∷ []) (die ∷ []) (always false)
     ∷ row_then (forced_at here ∷ []) tell_place (always true)
-    ∷ row_then (place_has NoPirate here ∷ []) (follow after_describe ∷ []) (always false)
+    ∷ row_then (place_has NoPirate here ∷ []) (describe_place ∷ []) (always false)
     ∷ []
 
 -- what dwarves leave: a knife kills, and else the place is described
 unfoldable pub hit_rows : List (Row Bool Bool)
 hit_rows =
-    row_then ((λ d. d.about) ∷ []) (fall here ∷ []) (always false)
-    ∷ otherwise_then (follow after_describe ∷ []) (always false)
+    row_then ((λ d. d.about) ∷ []) (die_at here ∷ []) (always false)
+    ∷ otherwise_then (describe_place ∷ []) (always false)
 
 -- the dwarves move, and the place is described
 unfoldable pub meet : Deed (Unit {0}) → Act Bool
 meet d =
     let met = encounter_dwarves d.cave d.scene in
-    first_fitting_or hit_rows (nothing_but (always false)) (deed d.cave met.step met.scene)
+    first_fitting_or (noted table.Hits hit_rows) (nothing_but (always false))
+    (deed d.cave met.step met.scene)
 
 -- the player comes to a place
 unfoldable pub come_to : CaveView → ℕ → Scene → Act Bool
-come_to cave place p = first_fitting_or place_rows meet (deed cave tt (scene_at_place place p))
+come_to cave place p =
+    first_fitting_or (noted table.Arrival place_rows) meet (deed cave tt (scene_at_place place p))
 
 -- after a death on the way no one arrives
 unfoldable pub over_rows : List (Row ℕ Bool)
@@ -85,13 +89,17 @@ come_on d = let held = block d in come_to d.cave held.step held.scene
 unfoldable pub stop_at : CaveView → ℕ → Scene → Act Bool
 stop_at cave place p = first_fitting_or over_rows come_on (deed cave place p)
 
--- a player who is moved on by a forced motion sets out by any motion and is shown the next place,
--- while forced motions are left
+-- a player who is moved on sets out by any motion, and is shown the next place; so many forced
+-- motions are left then
+abbrev pub moved_on : ℕ → CaveView → Scene → Act Bool
+moved_on left cave p =
+    let j = set_forth cave any_motion (with_left left p) in stop_at cave j.step j.scene
+
+-- so it goes on, while the player is where a forced motion moves the player on and some are left
 unfoldable pub after_forced_motions : ℕ → CaveView → Act Bool → Scene
 after_forced_motions zero cave s = if s.step then after_saying role.ForcedLimit s.scene else s.scene
 after_forced_motions (suc left) cave s =
-    let j = set_forth cave any_motion (with_left left s.scene) in
-    if s.step then after_forced_motions left cave (stop_at cave j.step j.scene) else s.scene
+    if s.step then after_forced_motions left cave (moved_on left cave s.scene) else s.scene
 
 -- the player arrives at a place; the forced motions that are left are those of the whole turn
 abbrev pub after_arrival : CaveView → ℕ → Scene → Scene

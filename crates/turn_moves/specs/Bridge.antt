@@ -6,13 +6,15 @@ use Rattle.turn_dwarves.specs.turn_scene.Scene.{thing}
 use Rattle.turn_dwarves.specs.turn_things.Homes.{hold_of}
 use Rattle.turn_dwarves.specs.turn_things.Props.{BEAR_DEAD, CHASM_UNBRIDGED, TROLL_CALM, TROLL_FLED}
 use Rattle.turn_dwarves.specs.turn_things.Props.{TROLL_RETURNING, UNSEEN}
+use Rattle.turn_dwarves.specs.rule_rows.declared.tables.Table.TheVariants as table
 use Rattle.turn_ends.specs.turn_rules.Rows.{Deed, Act, Effect, Row, deed, row_then}
-use Rattle.turn_ends.specs.turn_rules.Rows.{first_fitting_or, nothing_but, otherwise_then}
+use Rattle.turn_ends.specs.turn_rules.Rows.{first_fitting_or, nothing_but, otherwise_then, noted}
+use Rattle.turn_ends.specs.turn_rules.Rows.{noted_from}
 use Rattle.turn_ends.specs.turn_rules.Tests.{the, no, in_hand, prop, prop_up_to, here, home_of}
 use Rattle.turn_ends.specs.turn_rules.Tests.{second_home_of, there_is}
 use Rattle.turn_ends.specs.turn_rules.Effects.{say, look, move, destroy, fix, loosen, juggle}
 use Rattle.turn_ends.specs.turn_rules.Effects.{set_prop, lose_one, when, attach}
-use Rattle.turn_moves.specs.Ways.{Passage, other_end, passable, end_of, fall}
+use Rattle.turn_moves.specs.Ways.{Passage, other_end, passable, end_of, die_at}
 
 -- an end of a bridge is a place of the cave, and 0 is none
 abbrev pub bridgehead : ℕ → Option ℕ
@@ -56,7 +58,7 @@ break_bridge =
     ∷ fix (the name.Bear)
     ∷ set_prop (the name.Bear) BEAR_DEAD
     ∷ when (prop_up_to (the name.Spices) UNSEEN) lose_one
-    ∷ fall far_end
+    ∷ die_at far_end
     ∷ []
 
 -- no way, or the troll, holds the player back
@@ -74,9 +76,10 @@ cross_rows =
 
 -- a player whom the troll lets pass crosses
 unfoldable pub cross : Deed ℕ → Act ℕ
-cross d = first_fitting_or cross_rows (nothing_but here) (pass_troll d)
+cross d = first_fitting_or (noted_from table.Bridge 3 cross_rows) (nothing_but here) (pass_troll d)
 
 -- where the bridge leads
 unfoldable pub cross_bridge : Deed (Unit {0}) → Act ℕ
 cross_bridge d =
-    first_fitting_or bridge_rows (λ e. cross (deed e.cave (end_of bridge e) e.scene)) d
+    first_fitting_or (noted table.Bridge bridge_rows)
+    (λ e. cross (deed e.cave (end_of bridge e) e.scene)) d

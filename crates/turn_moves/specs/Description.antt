@@ -1,5 +1,5 @@
 -- How the player's place is described.
-use Rattle.std.specs.Prelude.{◌%◌, Bool, true, false, ◌==◌, List, [], ◌∷◌, is_some}
+use Rattle.std.specs.Prelude.{◌%◌, Bool, true, false, ◌==◌, List, [], ◌∷◌, ◌++◌, is_some}
 use Rattle.std.specs.FinMap as map
 use Rattle.turn_dwarves.specs.data_rows.declared.place_role.PlaceRole.TheVariants as place
 use Rattle.turn_dwarves.specs.data_rows.declared.role.Role.TheVariants as role
@@ -10,14 +10,15 @@ use Rattle.turn_dwarves.specs.cave_world.State.{visits_of, with_visit}
 use Rattle.turn_dwarves.specs.cave_world.declared.part.Part.TheVariants as part
 use Rattle.turn_dwarves.specs.cave_world.declared.state.State.{State}
 use Rattle.turn_dwarves.specs.turn_scene.Scene.{Scene}
+use Rattle.turn_dwarves.specs.rule_rows.declared.tables.Table.TheVariants as table
 use Rattle.turn_ends.specs.turn_rules.Rows.{Deed, Act, Test, Effect, Row, deed, row_then, plain_row}
-use Rattle.turn_ends.specs.turn_rules.Rows.{chance_row, by_table, first_fitting_or, nothing_but}
-use Rattle.turn_ends.specs.turn_rules.Rows.{always, otherwise, otherwise_then}
+use Rattle.turn_ends.specs.turn_rules.Rows.{chance_row, by_rows, first_fitting_or, nothing_but, by_table}
+use Rattle.turn_ends.specs.turn_rules.Rows.{always, otherwise, otherwise_then, noted}
 use Rattle.turn_ends.specs.turn_rules.Tests.{the, no, carries, percent, player_at, cave_closing}
 use Rattle.turn_ends.specs.turn_rules.Tests.{here, forced_at, in_the_dark, was_dark}
 use Rattle.turn_ends.specs.turn_rules.Effects.{say, tell, change, follow}
 use Rattle.turn_moves.specs.Objects.{after_objects}
-use Rattle.turn_moves.specs.Ways.{fall}
+use Rattle.turn_moves.specs.Ways.{die_at}
 
 -- a bear that is carried is mentioned before the text
 unfoldable pub bear_rows : List (Row (Unit {0}) (Unit {0}))
@@ -26,10 +27,11 @@ bear_rows = plain_row (carries (the name.Bear) ∷ []) (say role.BearFollows ∷
 abbrev pub brief : Test (Unit {0})
 brief d = d.scene.state.talk.is_brief
 
--- the visits of the place are 0, or a multiple of 5
+-- the place has no visits yet
 abbrev pub first_visit : Test (Unit {0})
 first_visit d = visits_of d.scene.state (here d) == 0
 
+-- its visits are a multiple of 5
 abbrev pub fifth_visit : Test (Unit {0})
 fifth_visit d = visits_of d.scene.state (here d) % 5 == 0
 
@@ -65,37 +67,37 @@ after_objects_here cave p =
 
 -- of a place of forced motion the text alone is printed
 unfoldable pub tell_place : List (Effect (Unit {0}))
-tell_place = by_table bear_rows ∷ by_table text_rows ∷ []
+tell_place = by_rows bear_rows ∷ by_table table.PlaceText text_rows ∷ []
 
 -- any other place is described, with the objects there
 unfoldable pub see_place : List (Effect (Unit {0}))
 see_place =
-    by_table bear_rows
-    ∷ by_table text_rows
-    ∷ by_table hollow_rows
-    ∷ change with_visit_here
-    ∷ follow after_objects_here
-    ∷ []
+    tell_place
+    ++ by_rows hollow_rows ∷ change with_visit_here ∷ follow after_objects_here ∷ []
 
 unfoldable pub feel_place : List (Effect (Unit {0}))
-feel_place = by_table bear_rows ∷ say role.Dark ∷ by_table hollow_rows ∷ []
+feel_place = by_rows bear_rows ∷ say role.Dark ∷ by_rows hollow_rows ∷ []
 
 -- a player who goes on in the dark may fall into a pit
 unfoldable pub description_rows : List (Row (Unit {0}) (Unit {0}))
 description_rows =
     plain_row (no in_the_dark ∷ []) see_place
-    ∷ chance_row (was_dark ∷ []) (percent 35) (say role.Pit ∷ fall here ∷ [])
+    ∷ chance_row (was_dark ∷ []) (percent 35) (say role.Pit ∷ die_at here ∷ [])
     ∷ otherwise feel_place
 
 -- a place without forced motion is described
 unfoldable pub after_describe : CaveView → Scene → Scene
-after_describe cave p = (by_table description_rows (deed cave tt p)).scene
+after_describe cave p = (by_table table.Description description_rows (deed cave tt p)).scene
+
+module _ {C : Type 0} where
+  abbrev pub describe_place : Effect C
+  describe_place d = follow after_describe d
 
 -- what is seen where the player is; what follows is whether a forced motion moves the player on
 unfoldable pub stop_rows : List (Row (Unit {0}) Bool)
 stop_rows =
     row_then (forced_at here ∷ []) tell_place (always true)
-    ∷ otherwise_then (follow after_describe ∷ []) (always false)
+    ∷ otherwise_then (describe_place ∷ []) (always false)
 
 unfoldable pub stop_here : Deed (Unit {0}) → Act Bool
-stop_here d = first_fitting_or stop_rows (nothing_but (always false)) d
+stop_here d = first_fitting_or (noted table.Stops stop_rows) (nothing_but (always false)) d

@@ -10,19 +10,20 @@ use Rattle.turn_dwarves.specs.cave_world.Motions.{motion_number}
 use Rattle.turn_dwarves.specs.cave_world.declared.motion.Motion.{Motion}
 use Rattle.turn_dwarves.specs.cave_world.declared.motion.Motion.TheVariants as motion
 use Rattle.turn_dwarves.specs.cave_world.State.{without_visits}
-use Rattle.turn_dwarves.specs.cave_world.Travel.{travel}
+use Rattle.turn_dwarves.specs.cave_world.Travel.{rows_tried_from, travel}
 use Rattle.turn_dwarves.specs.cave_world.declared.part.Part.TheVariants as part
 use Rattle.turn_dwarves.specs.cave_world.declared.state.State.{State}
 use Rattle.turn_dwarves.specs.cave_world.declared.travel_rows.Outcome.{Outcome}
 use Rattle.turn_dwarves.specs.cave_world.declared.travel_rows.Outcome.TheVariants as outcome
 use Rattle.turn_dwarves.specs.turn_scene.Scene.{Scene, thing, with_state, after_telling}
-use Rattle.turn_dwarves.specs.turn_scene.Scene.{after_saying, after_setting_out}
+use Rattle.turn_dwarves.specs.turn_scene.Scene.{after_rows, after_saying, after_setting_out}
 use Rattle.turn_dwarves.specs.turn_things.Places.{outside_place}
 use Rattle.turn_dwarves.specs.turn_things.Effects.{with_talk}
+use Rattle.turn_dwarves.specs.rule_rows.declared.tables.Table.TheVariants as table
 use Rattle.turn_ends.specs.turn_rules.Rows.{Deed, Act, Test, Effect, Row, deed, act_of, row_then}
-use Rattle.turn_ends.specs.turn_rules.Rows.{plain_row, by_table, first_fitting_or, nothing_but}
-use Rattle.turn_ends.specs.turn_rules.Rows.{always, otherwise, otherwise_then}
-use Rattle.turn_ends.specs.turn_rules.Tests.{here, same}
+use Rattle.turn_ends.specs.turn_rules.Rows.{plain_row, by_rows, first_fitting_or, nothing_but, by_table}
+use Rattle.turn_ends.specs.turn_rules.Rows.{always, otherwise, otherwise_then, noted}
+use Rattle.turn_ends.specs.turn_rules.Tests.{here, same, MAX_DETAILS}
 use Rattle.turn_ends.specs.turn_rules.Effects.{in_scene, say, change, set_out}
 use Rattle.turn_moves.specs.Back.{back_place, motion_between}
 use Rattle.turn_moves.specs.Bridge.{cross_bridge}
@@ -37,9 +38,9 @@ is_motion m d = d.about == motion_number m
 abbrev pub is_motion_of : List Motion → Test ℕ
 is_motion_of motions d = list_any (λ m. motion_number m == d.about) motions
 
--- it was said less than three times that there are no more details
+-- it may be said once more that there are no more details
 abbrev pub details_left : Test ℕ
-details_left d = nat_lt d.scene.state.talk.details 3
+details_left d = nat_lt d.scene.state.talk.details MAX_DETAILS
 
 abbrev pub with_one_detail : State → State
 with_one_detail s = with_talk (record (s.talk) { details = s.talk.details + 1 }) s
@@ -57,9 +58,9 @@ forget_darkness d = let p = d.scene in in_scene (record p { was_dark = false }) 
 -- the place will be described at length
 unfoldable pub look_round : List (Effect ℕ)
 look_round =
-    by_table enough_rows ∷ forget_darkness ∷ change without_visits_here ∷ []
+    by_rows enough_rows ∷ forget_darkness ∷ change without_visits_here ∷ []
 
--- the player is before the last place outside the cave
+-- the player is at a place before the last one outside the cave
 abbrev pub before_cave : Test ℕ
 before_cave d = nat_lt (here d) (outside_place d.cave)
 
@@ -77,15 +78,6 @@ motion_back d = motion_between d.cave (here d) (place_back d)
 abbrev pub is_way_back : Test ℕ
 is_way_back d = is_some (motion_back d)
 
--- the motions with rules of their own
-unfoldable pub own_motion_rows : List (Row ℕ (Option ℕ))
-own_motion_rows =
-    row_then (is_motion motion.Nowhere ∷ []) [] (always None)
-    ∷ row_then (is_motion motion.Look ∷ []) look_round (always None)
-    ∷ row_then (is_motion motion.Cave ∷ before_cave ∷ []) (say role.CaveOut ∷ []) (always None)
-    ∷ row_then (is_motion motion.Cave ∷ []) (say role.CaveIn ∷ []) (always None)
-    ∷ []
-
 -- the motion back, and any other
 unfoldable pub back_rows : List (Row ℕ (Option ℕ))
 back_rows =
@@ -95,12 +87,19 @@ back_rows =
     ∷ row_then (is_motion motion.Back ∷ []) (set_out ∷ say role.BackNo ∷ []) (always None)
     ∷ otherwise_then [] that_motion
 
-unfoldable pub go_back : Deed ℕ → Act (Option ℕ)
-go_back d = first_fitting_or back_rows (nothing_but that_motion) d
+-- the motions with rules of their own, and any other
+unfoldable pub own_motion_rows : List (Row ℕ (Option ℕ))
+own_motion_rows =
+    row_then (is_motion motion.Nowhere ∷ []) [] (always None)
+    ∷ row_then (is_motion motion.Look ∷ []) look_round (always None)
+    ∷ row_then (is_motion motion.Cave ∷ before_cave ∷ []) (say role.CaveOut ∷ []) (always None)
+    ∷ row_then (is_motion motion.Cave ∷ []) (say role.CaveIn ∷ []) (always None)
+    ∷ back_rows
 
 -- what a motion comes to that the player asks for
 unfoldable pub own_motion : Deed ℕ → Act (Option ℕ)
-own_motion d = first_fitting_or own_motion_rows go_back d
+own_motion d =
+    first_fitting_or (noted table.OwnMotions own_motion_rows) (nothing_but that_motion) d
 
 -- how many parts are said of it at most: one where the player doesn't travel
 abbrev pub parts_of_own_motion : Option ℕ → ℕ
@@ -124,7 +123,7 @@ refusal_rows =
     ∷ otherwise (say role.NoMotion ∷ [])
 
 abbrev pub after_refusal : CaveView → ℕ → Scene → Scene
-after_refusal cave number p = (by_table refusal_rows (deed cave number p)).scene
+after_refusal cave number p = (by_table table.NoWay refusal_rows (deed cave number p)).scene
 
 -- where the outcome of a motion leads
 abbrev pub journey_of_outcome : CaveView → ℕ → Outcome → Scene → Act ℕ
@@ -139,8 +138,10 @@ journey_of_outcome cave motion outcome.NoMotion p = staying (after_refusal cave 
 -- where the rows of the place lead by a motion
 unfoldable pub journey_by_rows : CaveView → ℕ → Scene → Act ℕ
 journey_by_rows cave motion p =
-    let j = travel cave (thing cave name.Emerald) motion p.state in
-    journey_of_outcome cave motion j.outcome (with_state j.state p)
+    let emerald = thing cave name.Emerald in
+    let tried = rows_tried_from cave emerald motion p.state in
+    let j = travel cave emerald motion p.state in
+    journey_of_outcome cave motion j.outcome (after_rows tried (with_state j.state p))
 
 -- the player sets out, and travels by a motion
 unfoldable pub set_forth : CaveView → ℕ → Scene → Act ℕ

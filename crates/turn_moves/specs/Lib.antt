@@ -1,4 +1,4 @@
-pub mod Falling
+pub mod Dying
 pub mod Objects
 pub mod Description
 pub mod Ways

@@ -1,5 +1,5 @@
 -- How the objects at a place are described.
-use Rattle.std.specs.Prelude.{ℕ, ℤ, pos, ◌-◌, ◌==◌, ◌&&◌, not, int_lt, List, [], ◌∷◌, fold}
+use Rattle.std.specs.Prelude.{ℕ, ℤ, pos, ◌-◌, ◌==◌, ◌&&◌, not, int_lt, List, [], ◌∷◌}
 use Rattle.std.specs.Int.{int_min}
 use Rattle.turn_dwarves.specs.cave_data.CaveView.{CaveView}
 use Rattle.turn_dwarves.specs.cave_words.declared.named.Named.TheVariants as name
@@ -11,9 +11,10 @@ use Rattle.turn_dwarves.specs.cave_world.declared.state.State.{State}
 use Rattle.turn_dwarves.specs.turn_scene.Scene.{Scene}
 use Rattle.turn_dwarves.specs.turn_things.Props.{SEEN, SEEN_FASTENED, STEPS_FROM_ABOVE}
 use Rattle.turn_dwarves.specs.turn_things.Effects.{with_tallies}
-use Rattle.turn_ends.specs.turn_rules.Rows.{Test, Effect, Row, deed, plain_row, by_table, otherwise}
+use Rattle.turn_dwarves.specs.rule_rows.declared.tables.Table.TheVariants as table
+use Rattle.turn_ends.specs.turn_rules.Rows.{Test, Effect, Row, deed, plain_row, otherwise, by_table}
 use Rattle.turn_ends.specs.turn_rules.Tests.{the, either, it, same, carries, cave_closed, here}
-use Rattle.turn_ends.specs.turn_rules.Effects.{tell, set_prop, change, when, with_charge}
+use Rattle.turn_ends.specs.turn_rules.Effects.{tell, set_prop, change, when, with_charge, for_each}
 
 -- an object with a prop below 0 counts as unseen
 abbrev pub unseen : Test ℕ
@@ -60,7 +61,7 @@ find_treasure v =
     set_prop it v
     ∷ change with_one_less_unseen
     ∷ when is_rest_lost (change with_short_lamp)
-    ∷ by_table object_text_rows
+    ∷ by_table table.ObjectText object_text_rows
     ∷ []
 
 -- the steps aren't described to a player who carries the gold, nor is a treasure that a closed cave
@@ -72,12 +73,12 @@ object_rows =
     ∷ plain_row (unseen ∷ either (same it (the name.Rug)) (same it (the name.Chain)) ∷ [])
     (find_treasure SEEN_FASTENED)
     ∷ plain_row (unseen ∷ []) (find_treasure SEEN)
-    ∷ otherwise (by_table object_text_rows ∷ [])
+    ∷ otherwise (by_table table.ObjectText object_text_rows ∷ [])
 
 -- an object is described
 unfoldable pub after_object : CaveView → ℕ → Scene → Scene
-after_object cave x p = (by_table object_rows (deed cave x p)).scene
+after_object cave x p = (by_table table.ObjectHere object_rows (deed cave x p)).scene
 
 -- the objects of a list are described one after another
 abbrev pub after_objects : CaveView → List Half → Scene → Scene
-after_objects cave halves p = fold (λ q half. after_object cave (object_of half) q) p halves
+after_objects cave halves p = for_each halves (λ half. after_object cave (object_of half)) p

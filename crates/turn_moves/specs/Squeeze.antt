@@ -1,13 +1,13 @@
 -- The narrow passage.
-use Rattle.std.specs.Prelude.{ℕ, ◌==◌, length, List, [], ◌∷◌}
+use Rattle.std.specs.Prelude.{ℕ, ◌==◌, List, [], ◌∷◌}
 use Rattle.turn_dwarves.specs.data_rows.declared.place_role.PlaceRole.TheVariants as place
 use Rattle.turn_dwarves.specs.data_rows.declared.role.Role.TheVariants as role
 use Rattle.turn_dwarves.specs.cave_words.declared.named.Named.TheVariants as name
-use Rattle.turn_dwarves.specs.world_objects.Objects.{carried_objects}
 use Rattle.turn_dwarves.specs.turn_things.Places.{place_named}
+use Rattle.turn_dwarves.specs.rule_rows.declared.tables.Table.TheVariants as table
 use Rattle.turn_ends.specs.turn_rules.Rows.{Deed, Act, Test, Row, row_then, first_fitting_or}
-use Rattle.turn_ends.specs.turn_rules.Rows.{nothing_but, otherwise_then}
-use Rattle.turn_ends.specs.turn_rules.Tests.{the, no, either, both, carries, here}
+use Rattle.turn_ends.specs.turn_rules.Rows.{nothing_but, otherwise_then, noted}
+use Rattle.turn_ends.specs.turn_rules.Tests.{the, no, either, both, carries, held, here}
 use Rattle.turn_ends.specs.turn_rules.Effects.{say}
 use Rattle.turn_moves.specs.Ways.{Passage, other_end, passable, end_of}
 
@@ -17,7 +17,7 @@ squeeze d =
 
 -- so many objects are carried
 abbrev pub has_load : ℕ → Test (Unit {0})
-has_load n d = length (carried_objects d.scene.state.objects) == n
+has_load n d = held d == n
 
 -- nothing is carried, or the emerald alone
 abbrev pub slim : Test (Unit {0})
@@ -31,4 +31,4 @@ squeeze_rows =
 
 -- where the narrow passage leads
 unfoldable pub squeeze_through : Deed (Unit {0}) → Act ℕ
-squeeze_through d = first_fitting_or squeeze_rows (nothing_but here) d
+squeeze_through d = first_fitting_or (noted table.Squeeze squeeze_rows) (nothing_but here) d

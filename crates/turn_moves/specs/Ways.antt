@@ -3,9 +3,9 @@ use Rattle.std.specs.Prelude.{ℕ, ◌==◌, if◌then◌else◌, Option, Some, 
 use Rattle.turn_ends.specs.turn_rules.Rows.{Deed, Act, Test, Effect, act_of}
 use Rattle.turn_ends.specs.turn_rules.Effects.{in_scene}
 use Rattle.turn_dwarves.specs.turn_scene.Scene.{Scene, here_of}
-use Rattle.turn_moves.specs.Falling.{fall_at}
+use Rattle.turn_moves.specs.Dying.{after_die_at}
 
--- a passage by the other of its two ends, if the player is at one of them
+-- where a passage leads from here: to the other of its ends, if the player is at one
 abbrev pub Passage : Type 0 → Type 0
 Passage C = Deed C → Option ℕ
 
@@ -28,5 +28,5 @@ module _ {C : Type 0} where
   end_of passage d = unwrap_or (passage d) 0
 
   -- the player dies, and what is carried will be at a place
-  abbrev pub fall : (Deed C → ℕ) → Effect C
-  fall place d = in_scene (fall_at d.cave (place d) d.scene) d
+  abbrev pub die_at : (Deed C → ℕ) → Effect C
+  die_at place d = in_scene (after_die_at d.cave (place d) d.scene) d

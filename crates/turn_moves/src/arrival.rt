@@ -3,34 +3,34 @@ ghost use Rattle.std.specs.List.{list_any};
 ghost use Rattle.turn_dwarves.specs.turn_scene.Scene.{cave_of, scene_of};
 ghost use Rattle.turn_dwarves.specs.cave_world.State.{takes_no_command};
 ghost use Rattle.turn_dwarves.specs.turn_things.declared.conditions.PlaceCondition.TheVariants.{NoPirate};
-ghost use Rattle.turn_ends.specs.turn_rules.Rows.{PlaysBy, act_of, all_hold, deed};
-ghost use Rattle.turn_ends.specs.turn_rules.Tests.{no, same, here, outside, there_is, cave_closing};
-ghost use Rattle.turn_ends.specs.turn_rules.Tests.{forced_at, place_has};
-ghost use Rattle.turn_moves.specs.Arrival.{new, comes_from, dwarf_from, block, meet};
-ghost use Rattle.turn_moves.specs.Arrival.{come_to, stop_at, after_forced_motions, after_arrival};
-ghost use Rattle.turn_moves.specs.Arrival.{description_anew};
 ghost use Rattle.turn_dwarves.specs.turn_scene.Bounds.{GoesOnSaying, HasRoom, MovesOnSaying};
 ghost use Rattle.turn_dwarves.specs.turn_scene.Bounds.{SaysUpTo, parts_of_dwarves, parts_of_place};
 ghost use Rattle.turn_dwarves.specs.turn_scene.Bounds.{parts_of_passing, parts_of_stop};
 ghost use Rattle.turn_dwarves.specs.turn_scene.Bounds.{parts_of_text, parts_of_forced_motions};
 ghost use Rattle.turn_dwarves.specs.turn_scene.Bounds.{parts_of_arrival};
+ghost use Rattle.turn_ends.specs.turn_rules.Rows.{PlaysBy, act_of, all_hold, deed};
+ghost use Rattle.turn_ends.specs.turn_rules.Tests.{no, same, here, outside, there_is, cave_closing};
+ghost use Rattle.turn_ends.specs.turn_rules.Tests.{forced_at, place_has};
+ghost use Rattle.turn_moves.specs.Arrival.{new, comes_from, dwarf_from, block, meet, come_to};
+ghost use Rattle.turn_moves.specs.Arrival.{stop_at, after_forced_motions, after_arrival};
+ghost use Rattle.turn_moves.specs.Arrival.{description_anew};
 
 use crate::description::{describe, stop_here, tell_place};
-use crate::falling::fall_at;
+use crate::dying::die_at;
 use crate::journeys::set_forth;
 use crate::ways::stay;
 use turn_dwarves::{
-    Dwarf, Motion, PIRATE, Place, PlaceCondition, Role, Rules, Scene, encounter_dwarves, forced,
-    has_condition_of, outside_place, start_panic,
+    Dwarf, Motion, PIRATE, Place, PlaceCondition, Role, RowNotes, Rules, Scene, Table,
+    encounter_dwarves, forced, has_condition_of, outside_place, start_panic,
 };
 use turn_ends::die;
 
 /// The player arrives at a place, and is moved on from there while forced motions are left.
 #[tactic(auto, unfolding(crate::specs::Arrival::after_forced_motions))]
-pub fn arrive(rules: &Rules<'_>, place: Place, scene: &mut Scene<'_>)
+pub fn arrive<N: RowNotes>(rules: &Rules<'_>, place: Place, scene: &mut Scene<'_, N>)
     requires { HasRoom (parts_of_arrival scene.old.left) scene.old }
-    ensures scene { scene_of scene.new
-        ≡ after_arrival (cave_of rules.now) place (scene_of scene.old) }
+    ensures scene { scene_of N.rows scene.new
+        ≡ after_arrival (cave_of rules.now) place (scene_of N.rows scene.old) }
     ensures says { MovesOnSaying (parts_of_arrival scene.old.left) scene.old scene.new }
 {
     if stop_at(rules, place, scene) {
@@ -39,9 +39,9 @@ pub fn arrive(rules: &Rules<'_>, place: Place, scene: &mut Scene<'_>)
 }
 
 /// Whether a cave that is closing keeps the player from a place.
-fn is_shut(rules: &Rules<'_>, place: Place, scene: &Scene<'_>) -> bool
+fn is_shut<N: RowNotes>(rules: &Rules<'_>, place: Place, scene: &Scene<'_, N>) -> bool
     ensures { result ≡ all_hold (cave_closing ∷ there_is new ∷ outside new ∷ [])
-        (deed (cave_of rules.now) place (scene_of scene.now)) }
+        (deed (cave_of rules.now) place (scene_of N.rows scene.now)) }
 {
     scene.state.closing.is_closing
         && place.number() != 0
@@ -61,10 +61,10 @@ fn some_comes_from(place: Place, dwarves: &[Dwarf]) -> bool
 }
 
 /// Whether a dwarf bars the way to a place.
-fn is_barred(rules: &Rules<'_>, place: Place, scene: &Scene<'_>) -> bool
+fn is_barred<N: RowNotes>(rules: &Rules<'_>, place: Place, scene: &Scene<'_, N>) -> bool
     ensures { result ≡ all_hold (no (same new here) ∷ no (forced_at here)
         ∷ no (place_has NoPirate here) ∷ dwarf_from new ∷ [])
-        (deed (cave_of rules.now) place (scene_of scene.now)) }
+        (deed (cave_of rules.now) place (scene_of N.rows scene.now)) }
 {
     let here = scene.state.trail.here;
     place != here
@@ -75,16 +75,18 @@ fn is_barred(rules: &Rules<'_>, place: Place, scene: &Scene<'_>) -> bool
 
 /// Where the player arrives: a closing cave and a dwarf block the way.
 #[tactic(auto, unfolding(crate::specs::Arrival::block, crate::specs::Arrival::blocking_rows))]
-fn block(rules: &Rules<'_>, place: Place, scene: &mut Scene<'_>) -> Place
+fn block<N: RowNotes>(rules: &Rules<'_>, place: Place, scene: &mut Scene<'_, N>) -> Place
     requires { HasRoom 1 scene.old }
-    ensures row { PlaysBy block 1 rules.now place scene.old scene.new result }
+    ensures row { PlaysBy N.rows block 1 rules.now place scene.old scene.new result }
 {
     if is_shut(rules, place, scene) {
+        scene.note(Table::Blocking, 1);
         scene.say(Role::ClosingExit);
         start_panic(scene.state);
         return scene.state.trail.here;
     }
     if is_barred(rules, place, scene) {
+        scene.note(Table::Blocking, 2);
         return stay(scene, Role::Blocked);
     }
     place
@@ -92,41 +94,46 @@ fn block(rules: &Rules<'_>, place: Place, scene: &mut Scene<'_>) -> Place
 
 /// The dwarves move, and a player who survives them sees the place.
 #[tactic(auto, unfolding(crate::specs::Arrival::meet, crate::specs::Arrival::hit_rows))]
-fn meet(rules: &Rules<'_>, scene: &mut Scene<'_>) -> bool
+fn meet<N: RowNotes>(rules: &Rules<'_>, scene: &mut Scene<'_, N>) -> bool
     requires { HasRoom (parts_of_dwarves + parts_of_place) scene.old }
-    ensures row { PlaysBy meet (parts_of_dwarves + parts_of_place) rules.now tt scene.old scene.new
-        result }
+    ensures row { PlaysBy N.rows meet (parts_of_dwarves + parts_of_place) rules.now tt scene.old
+        scene.new result }
     ensures still { result ≡ false }
 {
     if encounter_dwarves(rules, scene) {
+        scene.note(Table::Hits, 1);
         let here = scene.state.trail.here;
-        fall_at(rules, here, scene);
+        die_at(rules, here, scene);
         return false;
     }
+    scene.note(Table::Hits, 2);
     describe(rules, scene);
     false
 }
 
 /// The player comes to a place. Returns whether a forced motion moves the player on from there.
 #[tactic(auto, unfolding(crate::specs::Arrival::come_to, crate::specs::Arrival::place_rows))]
-fn come_to(rules: &Rules<'_>, place: Place, scene: &mut Scene<'_>) -> bool
+fn come_to<N: RowNotes>(rules: &Rules<'_>, place: Place, scene: &mut Scene<'_, N>) -> bool
     requires { HasRoom (parts_of_dwarves + parts_of_place) scene.old }
-    ensures stop { act_of (scene_of scene.new) result
-        ≡ come_to (cave_of rules.now) place (scene_of scene.old) }
+    ensures stop { act_of (scene_of N.rows scene.new) result
+        ≡ come_to (cave_of rules.now) place (scene_of N.rows scene.old) }
     ensures says { GoesOnSaying (parts_of_dwarves + parts_of_place) scene.old scene.new }
     ensures few_on { IsTrue result → SaysUpTo parts_of_text scene.old scene.new }
 {
     scene.put_player_at(place);
     let here = scene.state.trail.here;
     if here.number() == 0 {
+        scene.note(Table::Arrival, 1);
         die(rules, scene);
         return false;
     }
     if forced(rules.cave, here) {
+        scene.note(Table::Arrival, 2);
         tell_place(rules, scene);
         return true;
     }
     if has_condition_of(rules, here, PlaceCondition::NoPirate) {
+        scene.note(Table::Arrival, 3);
         describe(rules, scene);
         return false;
     }
@@ -136,10 +143,10 @@ fn come_to(rules: &Rules<'_>, place: Place, scene: &mut Scene<'_>) -> bool
 /// The player arrives at a place, if nothing is in the way. Returns whether a forced motion moves
 /// the player on.
 #[tactic(auto, unfolding(crate::specs::Arrival::stop_at, crate::specs::Arrival::over_rows))]
-fn stop_at(rules: &Rules<'_>, place: Place, scene: &mut Scene<'_>) -> bool
+fn stop_at<N: RowNotes>(rules: &Rules<'_>, place: Place, scene: &mut Scene<'_, N>) -> bool
     requires { HasRoom parts_of_stop scene.old }
-    ensures stop { act_of (scene_of scene.new) result
-        ≡ stop_at (cave_of rules.now) place (scene_of scene.old) }
+    ensures stop { act_of (scene_of N.rows scene.new) result
+        ≡ stop_at (cave_of rules.now) place (scene_of N.rows scene.old) }
     ensures says { GoesOnSaying parts_of_stop scene.old scene.new }
     ensures few_on { IsTrue result → SaysUpTo parts_of_passing scene.old scene.new }
     ensures alive { IsTrue result → takes_no_command scene.old.state.now ≡ false }
@@ -153,10 +160,11 @@ fn stop_at(rules: &Rules<'_>, place: Place, scene: &mut Scene<'_>) -> bool
 
 /// Forced motions move the player on, while any are left.
 #[tactic(auto, unfolding(crate::specs::Arrival::after_forced_motions))]
-fn follow_forced_motions(rules: &Rules<'_>, scene: &mut Scene<'_>)
+fn follow_forced_motions<N: RowNotes>(rules: &Rules<'_>, scene: &mut Scene<'_, N>)
     requires { HasRoom (parts_of_forced_motions scene.old.left) scene.old }
-    ensures scene { scene_of scene.new ≡ after_forced_motions scene.old.left (cave_of rules.now)
-        (act_of (scene_of scene.old) true) }
+    ensures scene { scene_of N.rows scene.new
+        ≡ after_forced_motions scene.old.left (cave_of rules.now)
+        (act_of (scene_of N.rows scene.old) true) }
     ensures says { MovesOnSaying (parts_of_forced_motions scene.old.left) scene.old scene.new }
 {
     if scene.left == 0 {
@@ -172,9 +180,10 @@ fn follow_forced_motions(rules: &Rules<'_>, scene: &mut Scene<'_>)
 
 /// The player's place is described anew, and forced motions move the player on in the same way.
 #[tactic(auto, unfolding(crate::specs::Arrival::after_forced_motions))]
-pub fn describe_here(rules: &Rules<'_>, scene: &mut Scene<'_>)
+pub fn describe_here<N: RowNotes>(rules: &Rules<'_>, scene: &mut Scene<'_, N>)
     requires { HasRoom (parts_of_arrival scene.old.left) scene.old }
-    ensures scene { scene_of scene.new ≡ description_anew (cave_of rules.now) (scene_of scene.old) }
+    ensures scene { scene_of N.rows scene.new
+        ≡ description_anew (cave_of rules.now) (scene_of N.rows scene.old) }
     ensures says { MovesOnSaying (parts_of_arrival scene.old.left) scene.old scene.new }
 {
     if stop_here(rules, scene) {

@@ -1,13 +1,17 @@
 ghost use Rattle.std.specs.Prelude.{◌≡◌, map, option_map};
+ghost use Rattle.std.specs.List.{find};
 ghost use Rattle.turn_dwarves.specs.data_rows.RowViews.{going};
 ghost use Rattle.turn_dwarves.specs.turn_scene.Scene.{cave_of};
-ghost use Rattle.turn_ends.specs.turn_rules.Rows.{PlaysBy};
-ghost use Rattle.turn_moves.specs.Back.{back_place, leads_through, direct_row, indirect_row};
-ghost use Rattle.turn_moves.specs.Back.{row_back, leads_at_once, motion_between};
-ghost use Rattle.turn_moves.specs.Journeys.{go_back, parts_of_own_motion};
 ghost use Rattle.turn_dwarves.specs.turn_scene.Bounds.{HasRoom};
+ghost use Rattle.turn_ends.specs.turn_rules.Rows.{PlaysBy, first_fitting_or, noted_from, nothing_but};
+ghost use Rattle.turn_dwarves.specs.rule_rows.declared.tables.Table.TheVariants as table;
+ghost use Rattle.turn_moves.specs.Back.{back_place, leads_through, leads_to, indirect_row};
+ghost use Rattle.turn_moves.specs.Back.{row_back, leads_at_once, motion_between};
+ghost use Rattle.turn_moves.specs.Journeys.{back_rows, parts_of_own_motion, that_motion};
 
-use turn_dwarves::{Destination, Motion, Place, Role, Row, Rules, Scene, State, forced};
+use turn_dwarves::{
+    Destination, Motion, Place, Role, Row, RowNotes, Rules, Scene, State, Table, forced,
+};
 
 /// Where a player who goes back goes.
 fn back_place(rules: &Rules<'_>, state: &State) -> Place
@@ -41,8 +45,10 @@ fn leads_at_once(sought: Place, rows: &[Row]) -> bool
     }
 }
 
+/// The first row that leads to the place that is sought.
 fn direct_row(sought: Place, rows: &[Row]) -> Option<&Row>
-    ensures { option_map (λ row. going row.now) result ≡ direct_row sought (map going rows.now) }
+    ensures { option_map (λ row. going row.now) result
+        ≡ find (leads_to sought) (map going rows.now) }
 {
     for row in rows {
         if row.destination().leads_to_place(sought.number()) {
@@ -52,6 +58,7 @@ fn direct_row(sought: Place, rows: &[Row]) -> Option<&Row>
     None
 }
 
+/// The last row that leads there through a place of forced motion.
 fn indirect_row<'a>(rules: &Rules<'_>, sought: Place, rows: &'a [Row]) -> Option<&'a Row>
     ensures { option_map (λ row. going row.now) result
         ≡ indirect_row (cave_of rules.now) sought (map going rows.now) }
@@ -87,25 +94,32 @@ fn motion_between(rules: &Rules<'_>, here: Place, sought: Place) -> Option<u16>
 }
 
 /// The motion by which the player travels who goes back, or by any other motion.
-#[tactic(auto, unfolding(crate::specs::Journeys::go_back, crate::specs::Journeys::back_rows))]
-pub fn go_back(rules: &Rules<'_>, motion: u16, scene: &mut Scene<'_>) -> Option<u16>
+#[tactic(auto, unfolding(crate::specs::Journeys::back_rows))]
+pub fn go_back<N: RowNotes>(rules: &Rules<'_>, motion: u16, scene: &mut Scene<'_, N>) -> Option<u16>
     requires { HasRoom 1 scene.old }
-    ensures row { PlaysBy go_back (parts_of_own_motion result) rules.now motion scene.old scene.new
-        result }
+    ensures row { PlaysBy N.rows
+        (first_fitting_or (noted_from table.OwnMotions 5 back_rows) (nothing_but that_motion))
+        (parts_of_own_motion result) rules.now motion scene.old scene.new result }
 {
     if motion != Motion::Back.number() {
+        scene.note(Table::OwnMotions, 8);
         return Some(motion);
     }
     let sought = back_place(rules, scene.state);
     let here = scene.state.trail.here;
     if sought == here {
+        scene.note(Table::OwnMotions, 5);
         scene.set_out();
         scene.say(Role::BackNone);
         return None;
     }
     match motion_between(rules, here, sought) {
-        Some(back) => Some(back),
+        Some(back) => {
+            scene.note(Table::OwnMotions, 6);
+            Some(back)
+        }
         None => {
+            scene.note(Table::OwnMotions, 7);
             scene.set_out();
             scene.say(Role::BackNo);
             None

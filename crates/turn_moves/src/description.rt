@@ -3,20 +3,23 @@ ghost use Rattle.turn_dwarves.specs.turn_scene.Scene.{cave_of, scene_of};
 ghost use Rattle.turn_dwarves.specs.turn_scene.Bounds.{GoesOnSaying, HasRoom, SaysUpTo};
 ghost use Rattle.turn_dwarves.specs.turn_scene.Bounds.{parts_of_place, parts_of_text};
 ghost use Rattle.turn_dwarves.specs.turn_scene.Bounds.{parts_of_darkness};
-ghost use Rattle.turn_ends.specs.turn_rules.Rows.{Does, PlaysBy, all_hold, by_table, deed};
-ghost use Rattle.turn_ends.specs.turn_rules.Tests.{player_at, no, cave_closing};
 ghost use Rattle.turn_dwarves.specs.data_rows.declared.place_role.PlaceRole.TheVariants as role_place;
+ghost use Rattle.turn_dwarves.specs.rule_rows.declared.tables.Table.TheVariants as table;
+ghost use Rattle.turn_ends.specs.turn_rules.Rows.{Does, PlaysBy, all_hold, by_rows, deed, by_table};
+ghost use Rattle.turn_ends.specs.turn_rules.Tests.{player_at, no, cave_closing};
 ghost use Rattle.turn_moves.specs.Description.{bear_rows, text_rows, hollow_rows, tell_place};
 ghost use Rattle.turn_moves.specs.Description.{see_place, feel_place, after_describe, stop_here};
 
-use crate::falling::fall_at;
+use crate::dying::die_at;
 use crate::objects::tell_objects;
-use turn_dwarves::{Named, Part, PlaceRole, Role, Rules, Scene, forced, is_place, place_named};
+use turn_dwarves::{
+    Named, Part, PlaceRole, Role, RowNotes, Rules, Scene, Table, forced, is_place, place_named,
+};
 
 #[tactic(auto, unfolding(crate::specs::Description::bear_rows))]
-fn tell_bear(rules: &Rules<'_>, scene: &mut Scene<'_>)
+fn tell_bear<N: RowNotes>(rules: &Rules<'_>, scene: &mut Scene<'_, N>)
     requires { HasRoom 1 scene.old }
-    ensures rows { Does (by_table bear_rows ∷ []) 1 rules.now tt scene.old scene.new }
+    ensures rows { Does N.rows (by_rows bear_rows ∷ []) 1 rules.now tt scene.old scene.new }
 {
     if scene.state.toting(rules.thing(Named::Bear)) {
         scene.say(Role::BearFollows);
@@ -25,27 +28,36 @@ fn tell_bear(rules: &Rules<'_>, scene: &mut Scene<'_>)
 
 /// The text of the player's place is printed, long or short.
 #[tactic(auto, unfolding(crate::specs::Description::text_rows))]
-fn tell_text(rules: &Rules<'_>, scene: &mut Scene<'_>)
+fn tell_text<N: RowNotes>(rules: &Rules<'_>, scene: &mut Scene<'_, N>)
     requires { HasRoom 1 scene.old }
-    ensures rows { Does (by_table text_rows ∷ []) 1 rules.now tt scene.old scene.new }
+    ensures rows { Does N.rows (by_table table.PlaceText text_rows ∷ []) 1 rules.now tt
+        scene.old scene.new }
 {
     let here = scene.state.trail.here;
     let visits = scene.state.visits(here).number();
-    let is_turn = if scene.state.talk.is_brief {
-        visits == 0
-    } else {
-        visits % 5 == 0
-    };
-    if is_turn || rules.cave.short(here.number()).is_none() {
+    let is_brief = scene.state.talk.is_brief;
+    if is_brief && visits == 0 {
+        scene.note(Table::PlaceText, 1);
         scene.tell(Part::Long(here.number()));
         return;
     }
+    if !is_brief && visits % 5 == 0 {
+        scene.note(Table::PlaceText, 2);
+        scene.tell(Part::Long(here.number()));
+        return;
+    }
+    if rules.cave.short(here.number()).is_none() {
+        scene.note(Table::PlaceText, 3);
+        scene.tell(Part::Long(here.number()));
+        return;
+    }
+    scene.note(Table::PlaceText, 4);
     scene.tell(Part::Short(here.number()));
 }
 
-fn is_hollow(rules: &Rules<'_>, scene: &Scene<'_>) -> bool
+fn is_hollow<N: RowNotes>(rules: &Rules<'_>, scene: &Scene<'_, N>) -> bool
     ensures { result ≡ all_hold (player_at role_place.Y2 ∷ no cave_closing ∷ [])
-        (deed (cave_of rules.now) (tt {0}) (scene_of scene.now)) }
+        (deed (cave_of rules.now) (tt {0}) (scene_of N.rows scene.now)) }
 {
     is_place(
         scene.state.trail.here,
@@ -55,9 +67,9 @@ fn is_hollow(rules: &Rules<'_>, scene: &Scene<'_>) -> bool
 
 /// Something hollow may be heard.
 #[tactic(auto, unfolding(crate::specs::Description::hollow_rows))]
-fn tell_hollow(rules: &Rules<'_>, scene: &mut Scene<'_>)
+fn tell_hollow<N: RowNotes>(rules: &Rules<'_>, scene: &mut Scene<'_, N>)
     requires { HasRoom 1 scene.old }
-    ensures rows { Does (by_table hollow_rows ∷ []) 1 rules.now tt scene.old scene.new }
+    ensures rows { Does N.rows (by_rows hollow_rows ∷ []) 1 rules.now tt scene.old scene.new }
 {
     if !is_hollow(rules, scene) {
         return;
@@ -70,19 +82,19 @@ fn tell_hollow(rules: &Rules<'_>, scene: &mut Scene<'_>)
 
 /// The text of the player's place is printed, after the bear.
 #[tactic(auto, unfolding(crate::specs::Description::tell_place))]
-pub fn tell_place(rules: &Rules<'_>, scene: &mut Scene<'_>)
+pub fn tell_place<N: RowNotes>(rules: &Rules<'_>, scene: &mut Scene<'_, N>)
     requires { HasRoom parts_of_text scene.old }
-    ensures does { Does tell_place parts_of_text rules.now tt scene.old scene.new }
+    ensures does { Does N.rows tell_place parts_of_text rules.now tt scene.old scene.new }
 {
     tell_bear(rules, scene);
     tell_text(rules, scene);
 }
 
 /// A place that the player sees is described.
-#[tactic(auto, unfolding(crate::specs::Description::see_place))]
-fn see_place(rules: &Rules<'_>, scene: &mut Scene<'_>)
+#[tactic(auto, unfolding(crate::specs::Description::see_place, crate::specs::Description::tell_place))]
+fn see_place<N: RowNotes>(rules: &Rules<'_>, scene: &mut Scene<'_, N>)
     requires { HasRoom parts_of_place scene.old }
-    ensures does { Does see_place parts_of_place rules.now tt scene.old scene.new }
+    ensures does { Does N.rows see_place parts_of_place rules.now tt scene.old scene.new }
 {
     tell_bear(rules, scene);
     tell_text(rules, scene);
@@ -94,9 +106,9 @@ fn see_place(rules: &Rules<'_>, scene: &mut Scene<'_>)
 
 /// A place is described where the player sees nothing.
 #[tactic(auto, unfolding(crate::specs::Description::feel_place))]
-fn feel_place(rules: &Rules<'_>, scene: &mut Scene<'_>)
+fn feel_place<N: RowNotes>(rules: &Rules<'_>, scene: &mut Scene<'_, N>)
     requires { HasRoom parts_of_darkness scene.old }
-    ensures does { Does feel_place parts_of_darkness rules.now tt scene.old scene.new }
+    ensures does { Does N.rows feel_place parts_of_darkness rules.now tt scene.old scene.new }
 {
     tell_bear(rules, scene);
     scene.say(Role::Dark);
@@ -106,40 +118,47 @@ fn feel_place(rules: &Rules<'_>, scene: &mut Scene<'_>)
 /// Describes the player's place, which has no forced motion. A player who goes on in the dark may
 /// fall into a pit.
 #[tactic(auto, unfolding(crate::specs::Description::after_describe, crate::specs::Description::description_rows))]
-pub fn describe(rules: &Rules<'_>, scene: &mut Scene<'_>)
+pub fn describe<N: RowNotes>(rules: &Rules<'_>, scene: &mut Scene<'_, N>)
     requires { HasRoom parts_of_place scene.old }
-    ensures scene { scene_of scene.new ≡ after_describe (cave_of rules.now) (scene_of scene.old) }
+    ensures scene { scene_of N.rows scene.new
+        ≡ after_describe (cave_of rules.now) (scene_of N.rows scene.old) }
     ensures says { GoesOnSaying parts_of_place scene.old scene.new }
 {
     if !scene.state.dark(rules.cave, rules.thing(Named::Lamp)) {
+        scene.note(Table::Description, 1);
         see_place(rules, scene);
         return;
     }
     if !scene.was_dark {
+        scene.note(Table::Description, 3);
         feel_place(rules, scene);
         return;
     }
     if scene.happens(35) {
+        scene.note(Table::Description, 2);
         scene.say(Role::Pit);
         let here = scene.state.trail.here;
-        fall_at(rules, here, scene);
+        die_at(rules, here, scene);
         return;
     }
+    scene.note(Table::Description, 3);
     feel_place(rules, scene);
 }
 
 /// Prints what is seen at the player's place. Returns whether a forced motion moves the player on
 /// from there.
 #[tactic(auto, unfolding(crate::specs::Description::stop_here, crate::specs::Description::stop_rows))]
-pub fn stop_here(rules: &Rules<'_>, scene: &mut Scene<'_>) -> bool
+pub fn stop_here<N: RowNotes>(rules: &Rules<'_>, scene: &mut Scene<'_, N>) -> bool
     requires { HasRoom parts_of_place scene.old }
-    ensures row { PlaysBy stop_here parts_of_place rules.now tt scene.old scene.new result }
+    ensures row { PlaysBy N.rows stop_here parts_of_place rules.now tt scene.old scene.new result }
     ensures few_on { IsTrue result → SaysUpTo parts_of_text scene.old scene.new }
 {
     if forced(rules.cave, scene.state.trail.here) {
+        scene.note(Table::Stops, 1);
         tell_place(rules, scene);
         return true;
     }
+    scene.note(Table::Stops, 2);
     describe(rules, scene);
     false
 }

@@ -5,10 +5,9 @@ ghost use Rattle.turn_dwarves.specs.cave_world.Motions.{motion_number};
 ghost use Rattle.turn_dwarves.specs.cave_world.State.{takes_no_command};
 ghost use Rattle.turn_dwarves.specs.turn_scene.Bounds.{GoesOnSaying, HasRoom, SaysUpTo};
 ghost use Rattle.turn_dwarves.specs.turn_scene.Bounds.{parts_of_journey};
-ghost use Rattle.turn_ends.specs.turn_rules.Rows.{Does, PlaysBy, act_of, by_table};
-ghost use Rattle.turn_moves.specs.Journeys.{after_refusal};
-ghost use Rattle.turn_moves.specs.Journeys.{journey_of_outcome, journey_by_rows, set_forth};
-ghost use Rattle.turn_moves.specs.Journeys.{enough_rows, look_round, own_motion};
+ghost use Rattle.turn_ends.specs.turn_rules.Rows.{Does, PlaysBy, act_of, by_rows};
+ghost use Rattle.turn_moves.specs.Journeys.{after_refusal, journey_of_outcome, journey_by_rows};
+ghost use Rattle.turn_moves.specs.Journeys.{set_forth, enough_rows, look_round, own_motion};
 ghost use Rattle.turn_moves.specs.Journeys.{parts_of_own_motion, journey_by_request};
 
 use crate::back::go_back;
@@ -16,16 +15,20 @@ use crate::bridge::cross_bridge;
 use crate::squeeze::squeeze_through;
 use crate::ways::stay;
 use turn_dwarves::{
-    MAX_DETAILS, Motion, Named, Outcome, Part, Place, Role, Rules, Scene, Special, outside_place,
-    travel,
+    MAX_DETAILS, Motion, Named, Outcome, Part, Place, Role, RowNotes, Rules, Scene, Special, Table,
+    note_travel, outside_place,
 };
 
 /// Where a motion that the player asks for leads.
 #[tactic(auto, unfolding(crate::specs::Journeys::journey_by_request))]
-pub fn journey_by_request(rules: &Rules<'_>, motion: u16, scene: &mut Scene<'_>) -> Place
+pub fn journey_by_request<N: RowNotes>(
+    rules: &Rules<'_>,
+    motion: u16,
+    scene: &mut Scene<'_, N>,
+) -> Place
     requires { HasRoom parts_of_journey scene.old }
-    ensures journey { act_of (scene_of scene.new) result
-        ≡ journey_by_request (cave_of rules.now) motion (scene_of scene.old) }
+    ensures journey { act_of (scene_of N.rows scene.new) result
+        ≡ journey_by_request (cave_of rules.now) motion (scene_of N.rows scene.old) }
     ensures says { GoesOnSaying parts_of_journey scene.old scene.new }
     ensures few_on { takes_no_command scene.new.state.now ≡ false → SaysUpTo 1 scene.old scene.new }
 {
@@ -39,23 +42,27 @@ pub fn journey_by_request(rules: &Rules<'_>, motion: u16, scene: &mut Scene<'_>)
 /// What a motion comes to that the player asks for. Returns the motion by which the player travels,
 /// if by any.
 #[tactic(auto, unfolding(crate::specs::Journeys::own_motion, crate::specs::Journeys::own_motion_rows))]
-fn own_motion(rules: &Rules<'_>, motion: u16, scene: &mut Scene<'_>) -> Option<u16>
+fn own_motion<N: RowNotes>(rules: &Rules<'_>, motion: u16, scene: &mut Scene<'_, N>) -> Option<u16>
     requires { HasRoom 1 scene.old }
-    ensures row { PlaysBy own_motion (parts_of_own_motion result) rules.now motion scene.old
+    ensures row { PlaysBy N.rows own_motion (parts_of_own_motion result) rules.now motion scene.old
         scene.new result }
 {
     if motion == Motion::Nowhere.number() {
+        scene.note(Table::OwnMotions, 1);
         return None;
     }
     if motion == Motion::Look.number() {
+        scene.note(Table::OwnMotions, 2);
         look_round(rules, motion, scene);
         return None;
     }
     if motion == Motion::Cave.number() {
         if scene.state.trail.here.number() < outside_place(rules.cave).number() {
+            scene.note(Table::OwnMotions, 3);
             scene.say(Role::CaveOut);
             return None;
         }
+        scene.note(Table::OwnMotions, 4);
         scene.say(Role::CaveIn);
         return None;
     }
@@ -63,9 +70,9 @@ fn own_motion(rules: &Rules<'_>, motion: u16, scene: &mut Scene<'_>) -> Option<u
 }
 
 #[tactic(auto, unfolding(crate::specs::Journeys::enough_rows))]
-fn say_enough(rules: &Rules<'_>, motion: u16, scene: &mut Scene<'_>)
+fn say_enough<N: RowNotes>(rules: &Rules<'_>, motion: u16, scene: &mut Scene<'_, N>)
     requires { HasRoom 1 scene.old }
-    ensures rows { Does (by_table enough_rows ∷ []) 1 rules.now motion scene.old scene.new }
+    ensures rows { Does N.rows (by_rows enough_rows ∷ []) 1 rules.now motion scene.old scene.new }
 {
     if scene.state.talk.details.number() < MAX_DETAILS {
         scene.say(Role::Enough);
@@ -75,9 +82,9 @@ fn say_enough(rules: &Rules<'_>, motion: u16, scene: &mut Scene<'_>)
 
 /// The player looks round, and the place will be described at length.
 #[tactic(auto, unfolding(crate::specs::Journeys::look_round))]
-fn look_round(rules: &Rules<'_>, motion: u16, scene: &mut Scene<'_>)
+fn look_round<N: RowNotes>(rules: &Rules<'_>, motion: u16, scene: &mut Scene<'_, N>)
     requires { HasRoom 1 scene.old }
-    ensures does { Does look_round 1 rules.now motion scene.old scene.new }
+    ensures does { Does N.rows look_round 1 rules.now motion scene.old scene.new }
 {
     say_enough(rules, motion, scene);
     scene.was_dark = false;
@@ -94,10 +101,10 @@ fn is_among(motions: &[Motion], number: u16) -> bool
 
 /// What is said of a motion that no row lists.
 #[tactic(auto, unfolding(crate::specs::Journeys::refusal_rows))]
-fn refuse(rules: &Rules<'_>, motion: u16, scene: &mut Scene<'_>)
+fn refuse<N: RowNotes>(rules: &Rules<'_>, motion: u16, scene: &mut Scene<'_, N>)
     requires { HasRoom 1 scene.old }
-    ensures scene { scene_of scene.new
-        ≡ after_refusal (cave_of rules.now) motion (scene_of scene.old) }
+    ensures scene { scene_of N.rows scene.new
+        ≡ after_refusal (cave_of rules.now) motion (scene_of N.rows scene.old) }
     ensures says { GoesOnSaying 1 scene.old scene.new }
 {
     let directions = [
@@ -113,38 +120,44 @@ fn refuse(rules: &Rules<'_>, motion: u16, scene: &mut Scene<'_>)
         Motion::Northwest,
     ];
     if is_among(&directions, motion) {
+        scene.note(Table::NoWay, 1);
         scene.say(Role::NoDir);
         return;
     }
     if is_among(&[Motion::Forward, Motion::Left, Motion::Right], motion) {
+        scene.note(Table::NoWay, 2);
         scene.say(Role::Facing);
         return;
     }
     if is_among(&[Motion::Out, Motion::Inside], motion) {
+        scene.note(Table::NoWay, 3);
         scene.say(Role::Inout);
         return;
     }
     if is_among(&[Motion::Xyzzy, Motion::Plugh], motion) {
+        scene.note(Table::NoWay, 4);
         scene.say(Role::Magic);
         return;
     }
     if motion == Motion::Crawl.number() {
+        scene.note(Table::NoWay, 5);
         scene.say(Role::Crawl);
         return;
     }
+    scene.note(Table::NoWay, 6);
     scene.say(Role::NoMotion);
 }
 
 /// Where the outcome of a motion leads.
-fn journey_of_outcome(
+fn journey_of_outcome<N: RowNotes>(
     rules: &Rules<'_>,
     motion: u16,
     outcome: Outcome,
-    scene: &mut Scene<'_>,
+    scene: &mut Scene<'_, N>,
 ) -> Place
     requires { HasRoom parts_of_journey scene.old }
-    ensures journey { act_of (scene_of scene.new) result
-        ≡ journey_of_outcome (cave_of rules.now) motion outcome (scene_of scene.old) }
+    ensures journey { act_of (scene_of N.rows scene.new) result
+        ≡ journey_of_outcome (cave_of rules.now) motion outcome (scene_of N.rows scene.old) }
     ensures says { GoesOnSaying parts_of_journey scene.old scene.new }
     ensures few_on { takes_no_command scene.new.state.now ≡ false → SaysUpTo 1 scene.old scene.new }
 {
@@ -168,23 +181,24 @@ fn journey_of_outcome(
 
 /// Where the rows of the place lead by a motion.
 #[tactic(auto, unfolding(crate::specs::Journeys::journey_by_rows))]
-fn journey_by_rows(rules: &Rules<'_>, motion: u16, scene: &mut Scene<'_>) -> Place
+fn journey_by_rows<N: RowNotes>(rules: &Rules<'_>, motion: u16, scene: &mut Scene<'_, N>) -> Place
     requires { HasRoom parts_of_journey scene.old }
-    ensures journey { act_of (scene_of scene.new) result
-        ≡ journey_by_rows (cave_of rules.now) motion (scene_of scene.old) }
+    ensures journey { act_of (scene_of N.rows scene.new) result
+        ≡ journey_by_rows (cave_of rules.now) motion (scene_of N.rows scene.old) }
     ensures says { GoesOnSaying parts_of_journey scene.old scene.new }
     ensures few_on { takes_no_command scene.new.state.now ≡ false → SaysUpTo 1 scene.old scene.new }
 {
-    let outcome = travel(rules.cave, rules.thing(Named::Emerald), scene.state, motion);
+    let emerald = rules.thing(Named::Emerald);
+    let outcome = note_travel(rules.cave, emerald, scene.state, motion, scene.notes);
     journey_of_outcome(rules, motion, outcome, scene)
 }
 
 /// The player sets out by a motion.
 #[tactic(auto, unfolding(crate::specs::Journeys::set_forth))]
-pub fn set_forth(rules: &Rules<'_>, motion: u16, scene: &mut Scene<'_>) -> Place
+pub fn set_forth<N: RowNotes>(rules: &Rules<'_>, motion: u16, scene: &mut Scene<'_, N>) -> Place
     requires { HasRoom parts_of_journey scene.old }
-    ensures journey { act_of (scene_of scene.new) result
-        ≡ set_forth (cave_of rules.now) motion (scene_of scene.old) }
+    ensures journey { act_of (scene_of N.rows scene.new) result
+        ≡ set_forth (cave_of rules.now) motion (scene_of N.rows scene.old) }
     ensures says { GoesOnSaying parts_of_journey scene.old scene.new }
     ensures few_on { takes_no_command scene.new.state.now ≡ false → SaysUpTo 1 scene.old scene.new }
 {

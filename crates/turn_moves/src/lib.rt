@@ -5,7 +5,7 @@ pub mod arrival;
 pub mod back;
 pub mod bridge;
 pub mod description;
-pub mod falling;
+pub mod dying;
 pub mod journeys;
 pub mod objects;
 pub mod squeeze;
@@ -13,4 +13,4 @@ pub mod ways;
 
 pub use arrival::{arrive, describe_here};
 pub use journeys::journey_by_request;
-pub use turn_ends::{ask, count_death, end, max_score, score, tell_question};
+pub use turn_ends::{ask, count_death, end, max_score, question_row, score, tell_question};

@@ -2,21 +2,22 @@ ghost use Rattle.std.specs.Prelude.{◌≡◌, [], ◌∷◌, length};
 ghost use Rattle.turn_dwarves.specs.world_objects.Lists.{halves_at, last_half};
 ghost use Rattle.turn_dwarves.specs.turn_scene.Scene.{cave_of, scene_of};
 ghost use Rattle.turn_dwarves.specs.turn_scene.Bounds.{GoesOnSaying, HasRoom};
-ghost use Rattle.turn_ends.specs.turn_rules.Rows.{Does, by_table, deed};
+ghost use Rattle.turn_dwarves.specs.rule_rows.declared.tables.Table.TheVariants as table;
+ghost use Rattle.turn_ends.specs.turn_rules.Rows.{Does, deed, by_table};
 ghost use Rattle.turn_moves.specs.Objects.{unseen, is_second_here, with_one_less_unseen};
 ghost use Rattle.turn_moves.specs.Objects.{is_rest_lost, with_short_lamp, object_text_rows};
 ghost use Rattle.turn_moves.specs.Objects.{find_treasure, after_object, after_objects};
 
 use turn_dwarves::{
-    Charge, Half, Named, Object, Part, Prop, Rules, SEEN, SEEN_FASTENED, STEPS_FROM_ABOVE, Scene,
-    State,
+    Charge, Half, Named, Object, Part, Prop, RowNotes, Rules, SEEN, SEEN_FASTENED,
+    STEPS_FROM_ABOVE, Scene, State, Table,
 };
 
 /// The most turns for which the lamp burns once as many treasures count as lost as count as unseen.
 const SHORT_LAMP: i32 = 35;
 
-fn is_unseen(rules: &Rules<'_>, object: Object, scene: &Scene<'_>) -> bool
-    ensures { result ≡ unseen (deed (cave_of rules.now) object (scene_of scene.now)) }
+fn is_unseen<N: RowNotes>(rules: &Rules<'_>, object: Object, scene: &Scene<'_, N>) -> bool
+    ensures { result ≡ unseen (deed (cave_of rules.now) object (scene_of N.rows scene.now)) }
 {
     scene.state.objects.prop(object).value() < 0
 }
@@ -36,15 +37,16 @@ fn shorten_lamp(state: &mut State)
 }
 
 /// Whether as many treasures count as lost as count as unseen, and some do.
-fn is_rest_lost(rules: &Rules<'_>, object: Object, scene: &Scene<'_>) -> bool
-    ensures { result ≡ is_rest_lost (deed (cave_of rules.now) object (scene_of scene.now)) }
+fn is_rest_lost<N: RowNotes>(rules: &Rules<'_>, object: Object, scene: &Scene<'_, N>) -> bool
+    ensures { result ≡ is_rest_lost (deed (cave_of rules.now) object (scene_of N.rows scene.now)) }
 {
     let tallies = &scene.state.tallies;
     tallies.unseen.number() == tallies.lost.number() && tallies.unseen.number() != 0
 }
 
-fn is_second_here(rules: &Rules<'_>, object: Object, scene: &Scene<'_>) -> bool
-    ensures { result ≡ is_second_here (deed (cave_of rules.now) object (scene_of scene.now)) }
+fn is_second_here<N: RowNotes>(rules: &Rules<'_>, object: Object, scene: &Scene<'_, N>) -> bool
+    ensures { result
+        ≡ is_second_here (deed (cave_of rules.now) object (scene_of N.rows scene.now)) }
 {
     match scene.state.objects.anchor(object).place() {
         Some(place) => place == scene.state.trail.here,
@@ -54,23 +56,31 @@ fn is_second_here(rules: &Rules<'_>, object: Object, scene: &Scene<'_>) -> bool
 
 /// The text of an object is printed.
 #[tactic(auto, unfolding(crate::specs::Objects::object_text_rows))]
-fn tell_object_text(rules: &Rules<'_>, object: Object, scene: &mut Scene<'_>)
+fn tell_object_text<N: RowNotes>(rules: &Rules<'_>, object: Object, scene: &mut Scene<'_, N>)
     requires { HasRoom 1 scene.old }
-    ensures rows { Does (by_table object_text_rows ∷ []) 1 rules.now object scene.old scene.new }
+    ensures rows { Does N.rows (by_table table.ObjectText object_text_rows ∷ []) 1 rules.now
+        object scene.old scene.new }
 {
     if object == rules.thing(Named::Steps) && is_second_here(rules, object, scene) {
+        scene.note(Table::ObjectText, 1);
         scene.tell(Part::Object(object, STEPS_FROM_ABOVE));
         return;
     }
+    scene.note(Table::ObjectText, 2);
     let prop = scene.state.objects.prop(object);
     scene.tell(Part::Object(object, prop.value()));
 }
 
 /// A treasure is seen for the first time.
 #[tactic(auto, unfolding(crate::specs::Objects::find_treasure))]
-fn find_treasure(rules: &Rules<'_>, object: Object, prop: Prop, scene: &mut Scene<'_>)
+fn find_treasure<N: RowNotes>(
+    rules: &Rules<'_>,
+    object: Object,
+    prop: Prop,
+    scene: &mut Scene<'_, N>,
+)
     requires { HasRoom 1 scene.old }
-    ensures does { Does (find_treasure prop) 1 rules.now object scene.old scene.new }
+    ensures does { Does N.rows (find_treasure prop) 1 rules.now object scene.old scene.new }
 {
     scene.state.objects.set_prop(object, prop);
     count_one_less(scene.state);
@@ -82,33 +92,38 @@ fn find_treasure(rules: &Rules<'_>, object: Object, prop: Prop, scene: &mut Scen
 
 /// An object is described, and is found if it wasn't seen before.
 #[tactic(auto, unfolding(crate::specs::Objects::after_object, crate::specs::Objects::object_rows))]
-fn tell_object(rules: &Rules<'_>, object: Object, scene: &mut Scene<'_>)
+fn tell_object<N: RowNotes>(rules: &Rules<'_>, object: Object, scene: &mut Scene<'_, N>)
     requires { HasRoom 1 scene.old }
-    ensures scene { scene_of scene.new
-        ≡ after_object (cave_of rules.now) object (scene_of scene.old) }
+    ensures scene { scene_of N.rows scene.new
+        ≡ after_object (cave_of rules.now) object (scene_of N.rows scene.old) }
     ensures says { GoesOnSaying 1 scene.old scene.new }
 {
     if object == rules.thing(Named::Steps) && scene.state.toting(rules.thing(Named::Gold)) {
+        scene.note(Table::ObjectHere, 1);
         return;
     }
     if !is_unseen(rules, object, scene) {
+        scene.note(Table::ObjectHere, 5);
         tell_object_text(rules, object, scene);
         return;
     }
     if scene.state.closing.is_closed {
+        scene.note(Table::ObjectHere, 2);
         return;
     }
     if object == rules.thing(Named::Rug) || object == rules.thing(Named::Chain) {
+        scene.note(Table::ObjectHere, 3);
         find_treasure(rules, object, Prop::new(SEEN_FASTENED), scene);
         return;
     }
+    scene.note(Table::ObjectHere, 4);
     find_treasure(rules, object, Prop::new(SEEN), scene);
 }
 
-fn tell_all(rules: &Rules<'_>, halves: &[Half], scene: &mut Scene<'_>)
+fn tell_all<N: RowNotes>(rules: &Rules<'_>, halves: &[Half], scene: &mut Scene<'_, N>)
     requires { HasRoom (length halves.now) scene.old }
-    ensures scene { scene_of scene.new
-        ≡ after_objects (cave_of rules.now) halves.now (scene_of scene.old) }
+    ensures scene { scene_of N.rows scene.new
+        ≡ after_objects (cave_of rules.now) halves.now (scene_of N.rows scene.old) }
     ensures says { GoesOnSaying (length halves.now) scene.old scene.new }
 {
     for half in halves {
@@ -117,11 +132,12 @@ fn tell_all(rules: &Rules<'_>, halves: &[Half], scene: &mut Scene<'_>)
 }
 
 /// The objects at the player's place are described, latest first.
-pub fn tell_objects(rules: &Rules<'_>, scene: &mut Scene<'_>)
+pub fn tell_objects<N: RowNotes>(rules: &Rules<'_>, scene: &mut Scene<'_, N>)
     requires { HasRoom last_half scene.old }
     ensures scene { let state = scene.old.state.now in
         let halves = halves_at state.trail.here state.objects.lists in
-        scene_of scene.new ≡ after_objects (cave_of rules.now) halves (scene_of scene.old) }
+        scene_of N.rows scene.new
+        ≡ after_objects (cave_of rules.now) halves (scene_of N.rows scene.old) }
     ensures says { GoesOnSaying last_half scene.old scene.new }
 {
     let here = scene.state.trail.here;

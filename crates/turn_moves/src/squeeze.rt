@@ -7,12 +7,12 @@ ghost use Rattle.turn_dwarves.specs.turn_scene.Bounds.{HasRoom};
 ghost use Rattle.turn_dwarves.specs.turn_scene.Scene.{scene_of, cave_of};
 
 use crate::ways::{other_end, stay};
-use turn_dwarves::{Named, Place, PlaceRole, Role, Rules, Scene, place_named};
+use turn_dwarves::{Named, Place, PlaceRole, Role, RowNotes, Rules, Scene, Table, place_named};
 
 /// The other end of the narrow passage, where the player is at one end.
 #[tactic(auto, unfolding(crate::specs::Squeeze::squeeze))]
-fn squeeze(rules: &Rules<'_>, scene: &Scene<'_>) -> Option<Place>
-    ensures { result ≡ squeeze (deed (cave_of rules.now) tt (scene_of scene.now)) }
+fn squeeze<N: RowNotes>(rules: &Rules<'_>, scene: &Scene<'_, N>) -> Option<Place>
+    ensures { result ≡ squeeze (deed (cave_of rules.now) tt (scene_of N.rows scene.now)) }
 {
     let alcove = place_named(rules.cave, PlaceRole::Alcove);
     let plover = place_named(rules.cave, PlaceRole::Plover);
@@ -20,25 +20,31 @@ fn squeeze(rules: &Rules<'_>, scene: &Scene<'_>) -> Option<Place>
 }
 
 /// Whether nothing is carried, or the emerald alone.
-fn is_slim(rules: &Rules<'_>, scene: &Scene<'_>) -> bool
-    ensures { result ≡ all_hold (slim ∷ []) (deed (cave_of rules.now) tt (scene_of scene.now)) }
+fn is_slim<N: RowNotes>(rules: &Rules<'_>, scene: &Scene<'_, N>) -> bool
+    ensures { result
+        ≡ all_hold (slim ∷ []) (deed (cave_of rules.now) tt (scene_of N.rows scene.now)) }
 {
     let carried = scene.state.holding();
     carried == 0 || (carried == 1 && scene.state.toting(rules.thing(Named::Emerald)))
 }
 
 /// Through the narrow passage, in which nothing but the emerald may be carried.
-#[tactic(auto, unfolding(crate::specs::Squeeze::squeeze_through, crate::specs::Squeeze::squeeze_rows))]
-pub fn squeeze_through(rules: &Rules<'_>, scene: &mut Scene<'_>) -> Place
+#[tactic(auto, unfolding(crate::specs::Squeeze::squeeze, crate::specs::Squeeze::squeeze_through, crate::specs::Squeeze::squeeze_rows))]
+pub fn squeeze_through<N: RowNotes>(rules: &Rules<'_>, scene: &mut Scene<'_, N>) -> Place
     requires { HasRoom 1 scene.old }
-    ensures row { PlaysBy squeeze_through 1 rules.now tt scene.old scene.new result }
+    ensures row { PlaysBy N.rows squeeze_through 1 rules.now tt scene.old scene.new result }
 {
     match squeeze(rules, scene) {
-        None => stay(scene, Role::NoWay),
+        None => {
+            scene.note(Table::Squeeze, 1);
+            stay(scene, Role::NoWay)
+        }
         Some(end) => {
             if is_slim(rules, scene) {
+                scene.note(Table::Squeeze, 2);
                 return end;
             }
+            scene.note(Table::Squeeze, 3);
             stay(scene, Role::TooTight)
         }
     }

@@ -4,7 +4,7 @@ ghost use Rattle.turn_ends.specs.turn_rules.Rows.{act_of};
 ghost use Rattle.turn_dwarves.specs.turn_scene.Bounds.{GoesOnSaying, HasRoom};
 ghost use Rattle.turn_dwarves.specs.turn_scene.Scene.{after_saying, scene_of};
 
-use turn_dwarves::{Place, Role, Scene};
+use turn_dwarves::{Place, Role, RowNotes, Scene};
 
 /// The other end of a passage between two places, from one of its ends.
 pub fn other_end(here: Place, one: Option<Place>, other: Option<Place>) -> Option<Place>
@@ -19,10 +19,10 @@ pub fn other_end(here: Place, one: Option<Place>, other: Option<Place>) -> Optio
 }
 
 /// The player stays, and a role's message is said.
-pub fn stay(scene: &mut Scene<'_>, role: Role) -> Place
+pub fn stay<N: RowNotes>(scene: &mut Scene<'_, N>, role: Role) -> Place
     requires { HasRoom 1 scene.old }
-    ensures journey { act_of (scene_of scene.new) result
-        ≡ staying (after_saying role (scene_of scene.old)) }
+    ensures journey { act_of (scene_of N.rows scene.new) result
+        ≡ staying (after_saying role (scene_of N.rows scene.old)) }
     ensures says { GoesOnSaying 1 scene.old scene.new }
 {
     scene.say(role);

@@ -1,5 +1,5 @@
 -- What rows do to the scene that they are played in.
-use Rattle.std.specs.Prelude.{ℕ, ℤ, if◌then◌else◌, Option, Some, None}
+use Rattle.std.specs.Prelude.{ℕ, zero, suc, ◌+◌, ℤ, if◌then◌else◌, Option, Some, None, List, fold}
 use Rattle.turn_things.specs.data_rows.declared.place_role.PlaceRole.{PlaceRole}
 use Rattle.turn_things.specs.data_rows.declared.role.Role.{Role}
 use Rattle.turn_things.specs.cave_data.CaveView.{CaveView}
@@ -16,7 +16,7 @@ use Rattle.turn_things.specs.turn_scene.Scene.{after_look_at, after_setting_out}
 use Rattle.turn_things.specs.Effects.{put_down, let_go, without_troll, after_loss_to_snake}
 use Rattle.turn_things.specs.Effects.{with_one_more_lost, with_objects, after_panic, with_lamp}
 use Rattle.turn_things.specs.Places.{place_named}
-use Rattle.turn_rules.specs.Rows.{Deed, Test, Effect, Thing, given}
+use Rattle.turn_rules.specs.Rows.{Deed, Test, Effect, Thing, always}
 
 abbrev pub with_charge : ℤ → State → State
 with_charge turns s = with_lamp (record (s.lamp) { charge = turns }) s
@@ -25,6 +25,20 @@ with_charge turns s = with_lamp (record (s.lamp) { charge = turns }) s
 abbrev pub after_sending : ℕ → Option ℕ → State → State
 after_sending x None s = s
 after_sending x (Some place) s = with_objects (after_move_to s.objects x place) s
+
+-- what is done for so many numbers from the first on, one after another
+unfoldable pub for_each_from : {S : Type 0} → ℕ → ℕ → (ℕ → S → S) → S → S
+for_each_from first zero what s = s
+for_each_from first (suc n) what s = what (first + n) (for_each_from first n what s)
+
+-- what is done for a number and each below it down to 1, one after another
+unfoldable pub for_each_down_from : {S : Type 0} → ℕ → (ℕ → S → S) → S → S
+for_each_down_from zero what s = s
+for_each_down_from (suc n) what s = for_each_down_from n what (what (suc n) s)
+
+-- what is done for each of a list, one after another
+abbrev pub for_each : {X S : Type 0} → List X → (X → S → S) → S → S
+for_each xs what s = fold (λ t x. what x t) s xs
 
 -- what rows do, whatever they are about
 module _ {C : Type 0} where
@@ -70,10 +84,10 @@ module _ {C : Type 0} where
 
   -- an object can't be moved any more, or can be moved again
   abbrev pub fix : Thing C → Effect C
-  fix t = attach t (given anchor.Fixed)
+  fix t = attach t (always anchor.Fixed)
 
   abbrev pub loosen : Thing C → Effect C
-  loosen t = attach t (given anchor.Loose)
+  loosen t = attach t (always anchor.Loose)
 
   abbrev pub juggle : Thing C → Effect C
   juggle t d = in_objects (after_juggle d.scene.state.objects (t d)) d

@@ -1,7 +1,8 @@
 -- Which of several rows applies.
-use Rattle.std.specs.Prelude.{◌≡◌, true, false, List, [], ◌∷◌, ◌++◌}
+use Rattle.std.specs.Prelude.{◌≡◌, ◌+◌, true, false, List, [], ◌∷◌, ◌++◌, length}
 use Rattle.turn_rules.specs.Rows.{Row, Deed, Act, all_hold, fits, after_trying, act_of_row}
-use Rattle.turn_rules.specs.Rows.{first_fitting_or}
+use Rattle.turn_rules.specs.Rows.{first_fitting_or, note_row, noted}
+use Rattle.turn_things.specs.rule_rows.declared.tables.Table.{Table}
 
 -- none of the rows fits, as they are tried one after another
 abbrev pub NoneFits : {C F : Type 0} → List (Row C F) → Deed C → Type 0
@@ -20,6 +21,15 @@ FirstFittingApplies C F =
     (d : Deed C) → NoneFits before d → fits r (after_trying_all before d) ≡ true
     → first_fitting_or (before ++ r ∷ after) otherwise d
     ≡ act_of_row r (after_trying r (after_trying_all before d))
+
+-- and of a table whose rows are noted it is noted by its number, before its effects
+abbrev pub NotedByNumber : Type 0 → Type 0 → Type 0
+NotedByNumber C F =
+    (table : Table) (before after : List (Row C F)) (r : Row C F) (otherwise : Deed C → Act F)
+    (d : Deed C) → NoneFits before d → fits r (after_trying_all before d) ≡ true
+    → first_fitting_or (noted table (before ++ r ∷ after)) otherwise d
+    ≡ act_of_row r (note_row table (1 + length before)
+    (after_trying r (after_trying_all before d)))
 
 -- where no row fits, nothing is done but what is done then
 abbrev pub NoneFittingDoesNothing : Type 0 → Type 0 → Type 0

@@ -1,11 +1,13 @@
 -- Rules as rows: the first row that fits applies, and its effects follow one another.
-use Rattle.std.specs.Prelude.{◌≡◌, ℕ, Bool, true, ◌&&◌, if◌then◌else◌, List, [], ◌∷◌, Option, Some}
-use Rattle.std.specs.Prelude.{None}
+use Rattle.std.specs.Prelude.{◌≡◌, ℕ, ◌+◌, Bool, true, ◌&&◌, if◌then◌else◌, List, [], ◌∷◌, Option}
+use Rattle.std.specs.Prelude.{Some, None, length}
 use Rattle.turn_things.specs.cave_data.CaveView.{CaveView}
 use Rattle.turn_things.specs.turn_scene.declared.scene.Scene.{Scene as OpenScene}
 use Rattle.turn_things.specs.turn_scene.Bounds.{GoesOnSaying}
-use Rattle.turn_things.specs.turn_scene.Scene.{Scene, scene_of, cave_of, after_draw}
+use Rattle.turn_things.specs.turn_scene.Scene.{Scene, scene_of, cave_of, after_draw, after_row}
 use Rattle.turn_things.specs.turn_scene.declared.rules.Rules.{Rules}
+use Rattle.turn_things.specs.rule_rows.declared.tables.RuleRow.{RuleRow}
+use Rattle.turn_things.specs.rule_rows.declared.tables.Table.{Table}
 
 -- what a rule is about, as a command, in the scene that it is played in
 pub record Deed (C : Type 0) : Type 0 where
@@ -59,13 +61,9 @@ otherwise_row effects end = row_then [] effects end
 abbrev pub otherwise_then : {C F : Type 0} → List (Effect C) → (Deed C → F) → List (Row C F)
 otherwise_then effects end = otherwise_row effects end ∷ []
 
--- what follows is always the same
+-- what follows, an object or a hint is always the same, whatever the deed
 abbrev pub always : {C F : Type 0} → F → Deed C → F
 always step d = step
-
--- an object, a hint or what else is given, whatever the deed
-abbrev pub given : {C F : Type 0} → F → Deed C → F
-given value d = value
 
 -- tests are made from the left, and none after one that fails
 abbrev pub all_hold : {C : Type 0} → List (Test C) → Test C
@@ -99,6 +97,23 @@ after_all (effect ∷ effects) d = after_all effects (effect d)
 abbrev pub act_of_row : {C F : Type 0} → Row C F → Deed C → Act F
 act_of_row r d = let e = after_all r.effects d in act_of e.scene (r.end e)
 
+-- it is noted that a row of a table applies
+abbrev pub note_row : {C : Type 0} → Table → ℕ → Effect C
+note_row table number d = record d { scene = after_row table number d.scene }
+
+-- a row of a table that notes that it applies, before its effects
+abbrev pub noted_row : {C F : Type 0} → Table → ℕ → Row C F → Row C F
+noted_row table number r = record r { effects = note_row table number ∷ r.effects }
+
+-- the rows of a table from a number on, each of which notes that it applies
+abbrev pub noted_from : {C F : Type 0} → Table → ℕ → List (Row C F) → List (Row C F)
+noted_from table number [] = []
+noted_from table number (r ∷ rows) =
+    noted_row table number r ∷ noted_from table (number + 1) rows
+
+abbrev pub noted : {C F : Type 0} → Table → List (Row C F) → List (Row C F)
+noted table rows = noted_from table 1 rows
+
 -- what the first row that fits does, or what is done if none does
 abbrev pub first_fitting_or : {C F : Type 0} → List (Row C F) → (Deed C → Act F) → Deed C → Act F
 first_fitting_or [] or_else d = or_else d
@@ -118,6 +133,16 @@ answer_row tests end = row_then tests [] end
 abbrev pub answer_by_rows : {C F : Type 0} → List (Row C F) → Row C F → Deed C → F
 answer_by_rows rows last d = (first_fitting_or rows (act_of_row last) d).step
 
+-- what the first row of a table that fits does, or the last one, and it is noted which it was
+abbrev pub act_by_table : {C F : Type 0} → Table → List (Row C F) → Row C F → Deed C → Act F
+act_by_table table rows last d =
+    first_fitting_or (noted table rows) (act_of_row (noted_row table (length rows + 1) last)) d
+
+-- the same, where what follows is an act of its own
+abbrev pub answer_by_table : {C F : Type 0} → Table → List (Row C (Act F)) → Row C (Act F)
+    → Deed C → Act F
+answer_by_table table rows last d = (act_by_table table rows last d).step
+
 -- a row of effects alone
 abbrev pub plain_row : {C : Type 0} → List (Test C) → List (Effect C) → Row C (Unit {0})
 plain_row tests effects = row_then tests effects (always tt)
@@ -131,25 +156,32 @@ chance_row tests draw effects = row_by_draw tests draw effects (always tt)
 abbrev pub otherwise : {C : Type 0} → List (Effect C) → List (Row C (Unit {0}))
 otherwise effects = otherwise_then effects (always tt)
 
--- a table of effects as one effect
-abbrev pub by_table : {C : Type 0} → List (Row C (Unit {0})) → Effect C
-by_table rows d = record d { scene = (first_fitting_or rows (nothing_but (always tt)) d).scene }
+-- rows of effects as one effect
+abbrev pub by_rows : {C : Type 0} → List (Row C (Unit {0})) → Effect C
+by_rows rows d = record d { scene = (first_fitting_or rows (nothing_but (always tt)) d).scene }
 
--- a table about something else as one effect
-abbrev pub by_table_about : {C D : Type 0} → (Deed C → D) → List (Row D (Unit {0})) → Effect C
-by_table_about what rows d =
-    record d { scene = (by_table rows (deed d.cave (what d) d.scene)).scene }
+-- so the rows of a table, and it is noted which row applies
+abbrev pub by_table : {C : Type 0} → Table → List (Row C (Unit {0})) → Effect C
+by_table table rows = by_rows (noted table rows)
+
+-- rows about something else as one effect
+abbrev pub by_rows_about : {C D : Type 0} → (Deed C → D) → List (Row D (Unit {0})) → Effect C
+by_rows_about what rows d =
+    record d { scene = (by_rows rows (deed d.cave (what d) d.scene)).scene }
 
 -- the same turn has come to what a rule says, and so has what follows; it said so many parts at
 -- most
-abbrev pub PlaysBy : {C F : Type 0} → (Deed C → Act F) → ℕ → Rules → C → OpenScene → OpenScene → F
-    → Type 0
-PlaysBy f parts rules about old new step =
-    (act_of (scene_of new) step ≡ f (deed (cave_of rules) about (scene_of old)))
+abbrev pub PlaysBy : {C F N : Type 0} → (N → List RuleRow) → (Deed C → Act F) → ℕ → Rules → C
+    → OpenScene N → OpenScene N → F → Type 0
+PlaysBy noted_rows f parts rules about old new step =
+    (act_of (scene_of noted_rows new) step
+    ≡ f (deed (cave_of rules) about (scene_of noted_rows old)))
     × GoesOnSaying parts old new
 
 -- effects are had one after another, and nothing follows
-abbrev pub Does : {C : Type 0} → List (Effect C) → ℕ → Rules → C → OpenScene → OpenScene → Type 0
-Does effects parts rules about old new =
-    (scene_of new ≡ (after_all effects (deed (cave_of rules) about (scene_of old))).scene)
+abbrev pub Does : {C N : Type 0} → (N → List RuleRow) → List (Effect C) → ℕ → Rules → C
+    → OpenScene N → OpenScene N → Type 0
+Does noted_rows effects parts rules about old new =
+    (scene_of noted_rows new
+    ≡ (after_all effects (deed (cave_of rules) about (scene_of noted_rows old))).scene)
     × GoesOnSaying parts old new

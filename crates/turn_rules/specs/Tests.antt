@@ -21,6 +21,14 @@ use Rattle.turn_things.specs.Liquids.{liquid_of, lake_of, is_liquid}
 use Rattle.turn_things.specs.Treasures.{is_treasure}
 use Rattle.turn_rules.specs.Rows.{Deed, Test, Thing}
 
+-- who carries so many things takes no more
+abbrev pub MAX_TAKEN : ℕ
+MAX_TAKEN = 7
+
+-- how often it is said that there are no more details
+abbrev pub MAX_DETAILS : ℕ
+MAX_DETAILS = 3
+
 -- what rows ask, whatever they are about
 module _ {C : Type 0} where
   -- the object of a name
@@ -100,9 +108,12 @@ module _ {C : Type 0} where
   abbrev pub lake : Test C
   lake d = is_some (lake_of d.cave d.scene.state)
 
-  -- the player carries seven things or more
+  -- how many things the player carries
+  abbrev pub held : Deed C → ℕ
+  held d = length (carried_objects d.scene.state.objects)
+
   abbrev pub full_hands : Test C
-  full_hands d = nat_le 7 (length (carried_objects d.scene.state.objects))
+  full_hands d = nat_le MAX_TAKEN (held d)
 
   abbrev pub treasure : Thing C → Test C
   treasure t d = is_treasure (t d)

@@ -14,9 +14,9 @@ pub use turn_things::props::{
 pub use turn_things::{
     Anchor, CLUE_HINT, Cave, Charge, Count, Dwarf, Ending, Half, HintNumber, LAMP_ON, LOW_CHARGE,
     Lexicon, MAX_DETAILS, Magic, Named, OBJECTS, Object, Objects, Out, PIRATE, Part, Place,
-    PlaceRole, Prop, Question, Role, Rules, Scene, State, Word, WordLine, deep_place,
-    has_other_prop, has_prop, has_prop_up_to, home, is_at_home, is_dwarf_here, is_fixed,
-    is_home_elsewhere, is_home_here, is_in_hand, is_liquid, is_near, is_place, is_treasure, lake,
-    let_go, liquid, lose_one, lose_to_snake, outside_place, place_named, put_down, remove_troll,
-    special, start_panic,
+    PlaceRole, Prop, Question, Role, RowNotes, Rules, Scene, State, Table, Word, WordLine,
+    deep_place, has_other_prop, has_prop, has_prop_up_to, home, is_at_home, is_dwarf_here,
+    is_fixed, is_home_elsewhere, is_home_here, is_in_hand, is_liquid, is_near, is_place,
+    is_treasure, lake, let_go, liquid, lose_one, lose_to_snake, outside_place, place_named,
+    put_down, remove_troll, special, start_panic,
 };

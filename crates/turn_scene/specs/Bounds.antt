@@ -5,19 +5,19 @@ use Rattle.turn_scene.specs.Scene.{GoesOn, IsSameScene, MAX_FORCED_MOTIONS}
 use Rattle.turn_scene.specs.declared.scene.Scene.{Scene as OpenScene}
 
 -- so many parts more can be said: a turn has room for 512
-abbrev pub HasRoom : ℕ → OpenScene → Type 0
+abbrev pub HasRoom : {N : Type 0} → ℕ → OpenScene N → Type 0
 HasRoom parts scene = array_vec_len scene.out.now + parts ≤ 512
 
 -- so many parts were said at most
-abbrev pub SaysUpTo : ℕ → OpenScene → OpenScene → Type 0
+abbrev pub SaysUpTo : {N : Type 0} → ℕ → OpenScene N → OpenScene N → Type 0
 SaysUpTo parts old new = array_vec_len new.out.now ≤ array_vec_len old.out.now + parts
 
 -- the same turn goes on, no forced motion was counted, and so many parts were said at most
-abbrev pub GoesOnSaying : ℕ → OpenScene → OpenScene → Type 0
+abbrev pub GoesOnSaying : {N : Type 0} → ℕ → OpenScene N → OpenScene N → Type 0
 GoesOnSaying parts old new = GoesOn old new × SaysUpTo parts old new
 
 -- the same turn goes on, whatever forced motions were counted, and so many parts were said at most
-abbrev pub MovesOnSaying : ℕ → OpenScene → OpenScene → Type 0
+abbrev pub MovesOnSaying : {N : Type 0} → ℕ → OpenScene N → OpenScene N → Type 0
 MovesOnSaying parts old new = IsSameScene old new × SaysUpTo parts old new
 
 -- an end: the score, its class, and what is missing for the next class

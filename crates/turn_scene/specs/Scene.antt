@@ -1,20 +1,23 @@
 -- A turn while it is played, and the objects that its rules name.
 use Rattle.std.specs.Prelude.{◌≡◌, ℕ, ℤ, Bool, ◌==◌, if◌then◌else◌, List, [], ◌∷◌, ◌++◌, true}
 use Rattle.std.specs.Prelude.{false, ◌&&◌, not, nat_le, Option, Some, None}
+use Rattle.std.specs.List.{list_any}
 use Rattle.cave_world.specs.data_rows.declared.role.Role.{Role}
 use Rattle.cave_world.specs.cave_words.Stream.{next, pct}
 use Rattle.cave_world.specs.State.{state_with_player_at, state_after_set_out}
 use Rattle.cave_world.specs.declared.part.Part.{Part}
 use Rattle.cave_world.specs.declared.part.Part.TheVariants as part
 use Rattle.cave_world.specs.declared.state.State.{State}
-use Rattle.turn_scene.specs.declared.scene.Scene.{Scene as OpenScene}
-use Rattle.std.specs.List.{list_any}
+use Rattle.cave_world.specs.rule_rows.declared.tables.RuleRow.{RuleRow}
+use Rattle.cave_world.specs.rule_rows.declared.tables.RuleRow.TheVariants as rule_row
+use Rattle.cave_world.specs.rule_rows.declared.tables.Table.{Table}
 use Rattle.cave_world.specs.cave_data.CaveView.{CaveView}
 use Rattle.cave_world.specs.cave_words.Named.{object_named}
 use Rattle.cave_world.specs.cave_words.declared.named.Named.{Named}
 use Rattle.cave_world.specs.cave_words.declared.named.Named.TheVariants as named
-use Rattle.turn_scene.specs.declared.rules.Rules.{Rules}
 use Rattle.cave_world.specs.data_numbers.Numbers.{LAST_OBJECT}
+use Rattle.turn_scene.specs.declared.scene.Scene.{Scene as OpenScene}
+use Rattle.turn_scene.specs.declared.rules.Rules.{Rules}
 
 abbrev pub or_no_object : Option ℕ → ℕ
 or_no_object None = 0
@@ -47,31 +50,34 @@ is_called cave x n = not (x == 0) && thing cave n == x
 abbrev pub is_one_of : CaveView → ℕ → List Named → Bool
 is_one_of cave x names = list_any (is_called cave x) names
 
--- the state, what was said, whether it was dark as the turn began, and the forced motions that are
--- left in it
+-- the state, what was said, which rows of the rules applied, whether it was dark as the turn began,
+-- and the forced motions that are left in it
 pub record Scene : Type 0 where
   pub state : State
   pub parts : List Part
+  pub rows : List RuleRow
   pub was_dark : Bool
   pub left : ℕ
 
--- the scene of a turn while it is played
-abbrev pub scene_of : OpenScene → Scene
-scene_of scene =
+-- the scene of a turn while it is played, of whose notes one reads which rows applied
+abbrev pub scene_of : {N : Type 0} → (N → List RuleRow) → OpenScene N → Scene
+scene_of rows scene =
     record {
       state = scene.state.now;
       parts = scene.out.now.items;
+      rows = rows scene.notes.now;
       was_dark = scene.was_dark;
       left = scene.left;
     }
 
--- it is the same state and the same parts that change
-abbrev pub IsSameScene : OpenScene → OpenScene → Type 0
+-- it is the same state, the same parts and the same notes that change
+abbrev pub IsSameScene : {N : Type 0} → OpenScene N → OpenScene N → Type 0
 IsSameScene old new =
     (new.state.ghost_name ≡ old.state.ghost_name) × (new.out.ghost_name ≡ old.out.ghost_name)
+    × (new.notes.ghost_name ≡ old.notes.ghost_name)
 
 -- the same ones change, and no forced motion was counted
-abbrev pub GoesOn : OpenScene → OpenScene → Type 0
+abbrev pub GoesOn : {N : Type 0} → OpenScene N → OpenScene N → Type 0
 GoesOn old new = IsSameScene old new × (new.left ≡ old.left)
 
 abbrev pub MAX_FORCED_MOTIONS : ℕ
@@ -80,13 +86,22 @@ MAX_FORCED_MOTIONS = 20
 -- a turn begins with nothing said, and with all its forced motions
 abbrev pub scene_at_start : Bool → State → Scene
 scene_at_start was_dark s =
-    record { state = s; parts = []; was_dark = was_dark; left = MAX_FORCED_MOTIONS }
+    record { state = s; parts = []; rows = []; was_dark = was_dark; left = MAX_FORCED_MOTIONS }
 
 abbrev pub with_state : State → Scene → Scene
 with_state s p = record p { state = s }
 
 abbrev pub after_telling : Part → Scene → Scene
 after_telling told p = record p { parts = p.parts ++ told ∷ [] }
+
+-- rows are noted
+abbrev pub after_rows : List RuleRow → Scene → Scene
+after_rows rows p = record p { rows = p.rows ++ rows }
+
+-- a row of a table applies
+abbrev pub after_row : Table → ℕ → Scene → Scene
+after_row table number p =
+    after_rows (rule_row.OfTable table number ∷ []) p
 
 -- a role's message is said
 abbrev pub after_saying : Role → Scene → Scene

@@ -12,8 +12,8 @@ pub use cave_world::{
     DEFAULT_OUTSIDE, DEFAULT_START, DWARVES, Destination, Dwarf, Ending, Half, Hint, HintNumber,
     Knife, LAMP_ON, LIVES, LOW_CHARGE, Lexicon, MAX_DETAILS, MAX_TREASURES, MAX_TURNS_IN_AREA,
     Magic, Meaning, Motion, Named, NumberLine, OBJECTS, Object, Objects, Out, Outcome, PIRATE,
-    Part, Place, PlaceRole, Prop, Question, Rating, Role, Row, Special, Spot, State, Stream, Word,
-    WordLine, forced, has_condition, travel,
+    Part, Place, PlaceRole, Prop, Question, Rating, Role, Row, RowNotes, RuleRow, Special, Spot,
+    State, Stream, Table, Unnoted, Word, WordLine, forced, has_condition, note_travel,
 };
 pub use objects::or_no_object;
 pub use rules::Rules;

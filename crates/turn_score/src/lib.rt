@@ -9,6 +9,6 @@ pub use scores::max_score;
 pub use turn_things::props::{GRATE_LOCKED, UNSEEN};
 pub use turn_things::{
     Cave, Charge, Count, Ending, Hint, HintNumber, LOW_CHARGE, MAX_TURNS_IN_AREA, Named,
-    NumberLine, Part, Question, Rating, Role, Rules, Scene, State, has_other_prop, has_prop,
-    is_in_hand, is_near,
+    NumberLine, Part, Question, Rating, Role, RowNotes, Rules, Scene, State, Table, has_other_prop,
+    has_prop, is_in_hand, is_near,
 };

@@ -12,7 +12,7 @@ use Rattle.turn_scene.specs.world_objects.declared.spot.Anchor.TheVariants as an
 use Rattle.turn_scene.specs.cave_world.declared.dwarves.Dwarf.{Dwarf}
 use Rattle.turn_scene.specs.cave_world.declared.state.State.{State}
 use Rattle.turn_scene.specs.Scene.{is_called, thing}
-use Rattle.turn_scene.specs.cave_world.Limits.{PIRATE}
+use Rattle.turn_scene.specs.cave_world.Limits.{AWAKE, PIRATE}
 use Rattle.turn_things.specs.Liquids.{is_liquid, liquid_of}
 
 -- an object is carried: a liquid where the bottle is carried and has it
@@ -42,7 +42,8 @@ is_dwarf_at place dwarf = dwarf.place == place
 -- one of the dwarves before the pirate, once they are angry, is where the player is
 unfoldable pub is_dwarf_here : State → Bool
 is_dwarf_here s =
-    nat_le 2 s.dwarves.anger && list_any (is_dwarf_at s.trail.here) (take PIRATE s.dwarves.each)
+    nat_le AWAKE s.dwarves.anger
+    && list_any (is_dwarf_at s.trail.here) (take PIRATE s.dwarves.each)
 
 abbrev pub is_anchored : Anchor → Bool
 is_anchored anchor.Loose = false

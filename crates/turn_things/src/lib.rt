@@ -28,6 +28,7 @@ pub use turn_scene::{
     Anchor, CLUE_HINT, Cave, Charge, Condition, Count, DWARVES, Destination, Dwarf, Ending, HINTS,
     Half, Hint, HintNumber, Knife, LAMP_ON, LIVES, LOW_CHARGE, Lexicon, MAX_DETAILS, MAX_TREASURES,
     MAX_TURNS_IN_AREA, Magic, Motion, Named, NumberLine, OBJECTS, Object, Objects, Out, Outcome,
-    PIRATE, Part, Place, PlaceRole, Prop, Question, Rating, Role, Row, Rules, Scene, Special,
-    State, Stream, Word, WordLine, forced, or_no_object, travel,
+    PIRATE, Part, Place, PlaceRole, Prop, Question, Rating, Role, Row, RowNotes, RuleRow, Rules,
+    Scene, Special, State, Stream, Table, Unnoted, Word, WordLine, forced, note_travel,
+    or_no_object,
 };

@@ -6,6 +6,7 @@ use Rattle.turn_rules.specs.turn_scene.declared.scene.Scene.{Scene as OpenScene}
 use Rattle.turn_rules.specs.turn_scene.declared.rules.Rules.{Rules}
 use Rattle.turn_rules.specs.Rows.{Deed, Act, Test, Effect, Thing, Row, row_then, act_of_row}
 use Rattle.turn_rules.specs.Rows.{first_fitting_or, nothing_but, PlaysBy}
+use Rattle.turn_rules.specs.rule_rows.declared.tables.RuleRow.{RuleRow}
 use Rattle.verb_commands.specs.Room.{parts_by}
 use Rattle.verb_commands.specs.declared.next.Next.{Next}
 use Rattle.verb_commands.specs.declared.next.Next.TheVariants as next_is
@@ -60,16 +61,23 @@ abbrev pub first_fitting : List VerbRow → Deed Command → Act Step
 first_fitting rows d = first_fitting_or rows (nothing_but stays) d
 
 -- the same turn has come to what a rule says of a command, and so has what follows
-abbrev pub ActsBy : (Deed Command → Act Step) → Rules → Command → OpenScene → OpenScene → Step
-    → Type 0
-ActsBy f rules command old new step = PlaysBy f (parts_by step) rules command old new step
+abbrev pub ActsBy : {N : Type 0} → (N → List RuleRow) → (Deed Command → Act Step) → Rules
+    → Command → OpenScene N → OpenScene N → Step → Type 0
+ActsBy noted_rows f rules command old new step =
+    PlaysBy noted_rows f (parts_by step) rules command old new step
 
-abbrev pub ByRows : List VerbRow → Rules → Command → OpenScene → OpenScene → Step → Type 0
-ByRows rows rules command old new step = ActsBy (first_fitting rows) rules command old new step
+abbrev pub ByRows : {N : Type 0} → (N → List RuleRow) → List VerbRow → Rules → Command
+    → OpenScene N → OpenScene N → Step → Type 0
+ByRows noted_rows rows rules command old new step =
+    ActsBy noted_rows (first_fitting rows) rules command old new step
 
 -- nothing is gone on with
-abbrev pub DoneByRow : VerbRow → Rules → Command → OpenScene → OpenScene → Next → Type 0
-DoneByRow r rules command old new next = ActsBy (act_of_row r) rules command old new (Done next)
+abbrev pub DoneByRow : {N : Type 0} → (N → List RuleRow) → VerbRow → Rules → Command
+    → OpenScene N → OpenScene N → Next → Type 0
+DoneByRow noted_rows r rules command old new next =
+    ActsBy noted_rows (act_of_row r) rules command old new (Done next)
 
-abbrev pub DoneByRows : List VerbRow → Rules → Command → OpenScene → OpenScene → Next → Type 0
-DoneByRows rows rules command old new next = ByRows rows rules command old new (Done next)
+abbrev pub DoneByRows : {N : Type 0} → (N → List RuleRow) → List VerbRow → Rules → Command
+    → OpenScene N → OpenScene N → Next → Type 0
+DoneByRows noted_rows rows rules command old new next =
+    ByRows noted_rows rows rules command old new (Done next)

@@ -1,13 +1,13 @@
 ghost use Rattle.std.specs.Prelude.{◌≡◌, [], ◌∷◌};
 ghost use Rattle.turn_rules.specs.turn_scene.Bounds.{GoesOnSaying, HasRoom};
 ghost use Rattle.turn_rules.specs.turn_scene.Scene.{scene_of, cave_of};
-ghost use Rattle.verb_commands.specs.Effects.{after_default, default, ask_what};
 ghost use Rattle.turn_rules.specs.Rows.{row_then};
+ghost use Rattle.verb_commands.specs.Effects.{after_default, default, ask_what};
 ghost use Rattle.verb_commands.specs.Rows.{DoneByRow, keeps, row};
 
 use crate::next::Next;
 use crate::verb::Verb;
-use turn_rules::{Object, Part, Rules, Scene, Word, WordLine};
+use turn_rules::{Object, Part, RowNotes, Rules, Scene, Word, WordLine};
 
 /// What a verb is to do: what the player commands, or what a row goes on with.
 #[derive(Clone, Copy, Debug, PartialEq, Eq)]
@@ -22,10 +22,10 @@ pub struct Command {
 }
 
 /// The message that the cave gives an action is said, if there is one.
-pub fn tell_default(rules: &Rules<'_>, number: u16, scene: &mut Scene<'_>)
+pub fn tell_default<N: RowNotes>(rules: &Rules<'_>, number: u16, scene: &mut Scene<'_, N>)
     requires { HasRoom 1 scene.old }
-    ensures scene { scene_of scene.new
-        ≡ after_default (cave_of rules.now) number (scene_of scene.old) }
+    ensures scene { scene_of N.rows scene.new
+        ≡ after_default (cave_of rules.now) number (scene_of N.rows scene.old) }
     ensures says { GoesOnSaying 1 scene.old scene.new }
 {
     let message = rules.cave.default_of(number);
@@ -50,18 +50,19 @@ impl Command {
     }
 
     /// The message that the cave gives the verb is said, if there is one.
-    pub fn say_default(self, rules: &Rules<'_>, scene: &mut Scene<'_>) -> Next
+    pub fn say_default<N: RowNotes>(self, rules: &Rules<'_>, scene: &mut Scene<'_, N>) -> Next
         requires { HasRoom 1 scene.old }
-        ensures row { DoneByRow (row [] (default ∷ [])) rules.now self scene.old scene.new result }
+        ensures row { DoneByRow N.rows (row [] (default ∷ [])) rules.now self scene.old scene.new
+            result }
     {
         tell_default(rules, self.verb.number(), scene);
         Next::Stay
     }
 
     /// The word that was just read is asked back, and the verb is kept for the next line.
-    pub fn ask_what(self, rules: &Rules<'_>, scene: &mut Scene<'_>) -> Next
+    pub fn ask_what<N: RowNotes>(self, rules: &Rules<'_>, scene: &mut Scene<'_, N>) -> Next
         requires { HasRoom 1 scene.old }
-        ensures row { DoneByRow (row_then [] (ask_what ∷ []) keeps) rules.now self scene.old
+        ensures row { DoneByRow N.rows (row_then [] (ask_what ∷ []) keeps) rules.now self scene.old
             scene.new result }
     {
         scene.tell(Part::Word(WordLine::What, self.word));

@@ -5,7 +5,7 @@ ghost use Rattle.turn_rules.specs.turn_scene.Scene.{scene_of, after_saying};
 ghost use Rattle.turn_rules.specs.cave_world.declared.ending.Ending.TheVariants.{Killed};
 
 use crate::verb::Verb;
-use turn_rules::{Ending, Object, Place, Question, Role, Scene};
+use turn_rules::{Ending, Object, Place, Question, Role, RowNotes, Scene};
 
 /// What follows what a verb did.
 #[derive(Clone, Copy, Debug, PartialEq, Eq)]
@@ -37,9 +37,9 @@ impl Next {
     ghost use Rattle.verb_commands.specs.declared.next.Next.TheVariants.{Stay, End};
 
     /// The message of a role is said, and nothing follows.
-    pub fn say(role: Role, scene: &mut Scene<'_>) -> Next
+    pub fn say<N: RowNotes>(role: Role, scene: &mut Scene<'_, N>) -> Next
         requires { HasRoom 1 scene.old }
-        ensures scene { scene_of scene.new ≡ after_saying role (scene_of scene.old) }
+        ensures scene { scene_of N.rows scene.new ≡ after_saying role (scene_of N.rows scene.old) }
         ensures says { GoesOnSaying 1 scene.old scene.new }
         ensures next { result ≡ Stay }
     {
@@ -48,9 +48,10 @@ impl Next {
     }
 
     /// The dwarves wake, and the game ends.
-    pub fn disturb(scene: &mut Scene<'_>) -> Next
+    pub fn disturb<N: RowNotes>(scene: &mut Scene<'_, N>) -> Next
         requires { HasRoom 1 scene.old }
-        ensures scene { scene_of scene.new ≡ after_saying Disturbed (scene_of scene.old) }
+        ensures scene { scene_of N.rows scene.new
+            ≡ after_saying Disturbed (scene_of N.rows scene.old) }
         ensures says { GoesOnSaying 1 scene.old scene.new }
         ensures next { result ≡ End Killed }
     {

@@ -1,18 +1,20 @@
 use Rattle.std.proofs.Common.{rules, arith, ap, ◌∙◌}
 use Rattle.turn_begin.specs.turn_scene.Scene.{cave_of}
 use Rattle.cave_turn.specs.Dragon.{after_gathering}
+use Rattle.cave_verbs.specs.verb_commands.turn_rules.Effects.{for_each_from}
 use Rattle.cave_turn.proofs.dragon.gather.Goals as goal
 
 pub loop-before-init : goal.loop-before-init
-unfolding after_gathering
+unfolding for_each_from
 loop-before-init c = search rules
 
 pub loop-before-preserved : goal.loop-before-preserved
-unfolding after_gathering
+unfolding for_each_from
 loop-before-preserved c = search rules
 
 pub returns : goal.returns
 returns c =
     c.loop-before.invariant
-    ∙ ap (λ n. after_gathering (cave_of c.args.rules.now) c.args.place n c.args.objects.now)
+    ∙ ap (λ n. for_each_from 1 n (after_gathering (cave_of c.args.rules.now) c.args.place)
+    c.args.objects.now)
     (omega arith)

@@ -1,13 +1,13 @@
 use Rattle.std.proofs.Common.{◌≡◌, ℕ, ◌<◌, ◌≤◌, ◌-◌, suc, zero, arith, sym, ◌∙◌, ap, subst}
 use Rattle.verb_commands.specs.turn_scene.Scene.{scene_of, cave_of}
-use Rattle.cave_verbs.specs.Acting.{act_within, act_once}
 use Rattle.verb_commands.specs.Rows.{going_on}
 use Rattle.verb_commands.specs.turn_rules.Rows.{Deed, Act, deed, act_of}
 use Rattle.verb_commands.specs.declared.next.Step.TheVariants.{Done, GoOn}
 use Rattle.verb_commands.specs.declared.verb.Verb.{Verb}
-use Rattle.cave_verbs.proofs.acting.+act_within.Goals as goal
 use Rattle.verb_commands.specs.declared.command.Command.{Command}
 use Rattle.verb_commands.specs.declared.next.Step.{Step}
+use Rattle.cave_verbs.specs.Acting.{act_within, act_once}
+use Rattle.cave_verbs.proofs.acting.+act_within.Goals as goal
 
 -- what a greater rank doesn't exceed isn't 0
 above : (low high left : ℕ) → suc low ≤ high → high ≤ left → 0 < left
@@ -23,13 +23,15 @@ going_within zero d v x some is = grind (arith, some)
 going_within (suc left) d v x some is = grind (arith, is)
 
 pub returns-in-GoOn-clause-rules : goal.returns-in-GoOn-clause-rules
-returns-in-GoOn-clause-rules t c =
-    let deed_now = deed (cave_of c.args.rules.now) c.args.command (scene_of c.args.scene.now) in
+returns-in-GoOn-clause-rules g t c =
+    let deed_now = deed (cave_of c.args.rules.now) c.args.command
+    (scene_of g.N.RowNotes.rows c.args.scene.now) in
     let once = c.act_once.ensures.rules.0 in
     let some = above _ _ c.args.left c.in-GoOn.ensures.ranks c.requires.rank in
     let step = sym (ap (λ (a : Act Step). a.step) once) ∙ c.in-GoOn.is in
     let here =
-    λ (a : Act Step). act_of (scene_of c.act_within.new.scene) (Done c.act_within.result)
+    λ (a : Act Step). act_of (scene_of g.N.RowNotes.rows c.act_within.new.scene)
+    (Done c.act_within.result)
     ≡ act_within (c.args.left - 1)
     (deed (cave_of c.args.rules.now)
     (going_on c.args.command c.in-GoOn.verb c.in-GoOn.object) a.scene) in

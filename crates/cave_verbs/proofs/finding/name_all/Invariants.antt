@@ -6,7 +6,8 @@ use Rattle.cave_verbs.proofs.finding.name_all.Given as goal
 
 -- the objects before here are named
 abbrev pub invariant-loop-object : goal.invariant-loop-object
-invariant-loop-object l =
-    (scene_of l.scene ≡ after_naming (take l.object-index l.objects) (scene_of l.initial.scene))
+invariant-loop-object g l =
+    (scene_of g.N.RowNotes.rows l.scene ≡ after_naming (take l.object-index l.objects)
+    (scene_of g.N.RowNotes.rows l.initial.scene))
     × GoesOn l.initial.scene l.scene
     × (array_vec_len l.scene.out.now ≤ array_vec_len l.initial.scene.out.now + l.object-index)

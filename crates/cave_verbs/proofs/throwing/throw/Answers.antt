@@ -12,6 +12,6 @@ throw-falls : (cave : CaveView) (x : ℕ) → is_called cave x name.Rod ≡ true
 throw-falls cave x rod = let other = second-rod cave in grind (arith, rod, other)
 
 pub returns-then-is_in_hand-clause-ranks : goal.returns-then-is_in_hand-clause-ranks
-returns-then-is_in_hand-clause-ranks c =
+returns-then-is_in_hand-clause-ranks g c =
     rw c.thing-second_rod.ensures
     (throw-falls (cave_of c.args.rules.now) c.args.command.object (search rules))

@@ -1,5 +1,5 @@
 use Rattle.std.proofs.Common.{length, sym, ap, ◌∙◌, arith}
-use Rattle.turn_begin.specs.Begin.{after_hiding_all}
+use Rattle.turn_begin.specs.Placing.{after_hiding_all}
 use Rattle.turn_begin.proofs.Countdown.{known_all, known_none}
 use Rattle.turn_begin.proofs.begin.hide_treasures.Goals as goal
 

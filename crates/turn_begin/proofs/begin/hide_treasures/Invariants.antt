@@ -1,6 +1,6 @@
 use Rattle.std.proofs.Common.{◌≡◌, ◌+◌, ◌-◌, ◌≤◌, length}
 use Rattle.turn_things.specs.Treasures.{known_treasures}
-use Rattle.turn_begin.specs.Begin.{after_hiding_all}
+use Rattle.turn_begin.specs.Placing.{after_hiding_all}
 use Rattle.turn_begin.proofs.Countdown.{known_from}
 use Rattle.turn_begin.proofs.begin.hide_treasures.Given as goal
 

@@ -1,5 +1,6 @@
 use Rattle.std.proofs.Common.{true, false, sym, ap, ◌∙◌}
-use Rattle.turn_begin.specs.Begin.{objects_due, start_order, after_placing_all, after_hiding_all}
+use Rattle.turn_begin.specs.Begin.{objects_due, start_order}
+use Rattle.turn_begin.specs.Placing.{after_placing_all, after_hiding_all}
 use Rattle.turn_things.specs.Treasures.{known_treasures}
 use Rattle.turn_begin.proofs.Begun.{after_placing_all-append, begun_is}
 use Rattle.turn_begin.proofs.begin.place_all.Goals as goal

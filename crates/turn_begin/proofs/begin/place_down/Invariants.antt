@@ -1,5 +1,5 @@
 use Rattle.std.proofs.Common.{◌≡◌, ◌-◌}
-use Rattle.turn_begin.specs.Begin.{after_placing_all}
+use Rattle.turn_begin.specs.Placing.{after_placing_all}
 use Rattle.turn_begin.proofs.Countdown.{due_from}
 use Rattle.turn_begin.proofs.begin.place_down.Given as goal
 

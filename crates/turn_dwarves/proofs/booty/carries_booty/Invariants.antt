@@ -8,6 +8,7 @@ use Rattle.turn_dwarves.proofs.booty.carries_booty.Given as goal
 
 -- none of the treasures before this one is carried booty
 abbrev pub invariant-loop-number : goal.invariant-loop-number
-invariant-loop-number l =
-    list_any (is_carried_booty (cave_of l.rules) (scene_of l.scene)) (treasures_from l.number)
-    ≡ list_any (is_carried_booty (cave_of l.rules) (scene_of l.scene)) treasures
+invariant-loop-number g l =
+    list_any (is_carried_booty (cave_of l.rules) (scene_of g.N.RowNotes.rows l.scene))
+    (treasures_from l.number)
+    ≡ list_any (is_carried_booty (cave_of l.rules) (scene_of g.N.RowNotes.rows l.scene)) treasures

@@ -8,6 +8,7 @@ use Rattle.turn_dwarves.proofs.booty.is_treasure_near.Given as goal
 
 -- none of the treasures before this one is at hand
 abbrev pub invariant-loop-number : goal.invariant-loop-number
-invariant-loop-number l =
-    list_any (is_near (cave_of l.rules) (scene_of l.scene).state) (treasures_from l.number)
-    ≡ list_any (is_near (cave_of l.rules) (scene_of l.scene).state) treasures
+invariant-loop-number g l =
+    list_any (is_near (cave_of l.rules) (scene_of g.N.RowNotes.rows l.scene).state)
+    (treasures_from l.number)
+    ≡ list_any (is_near (cave_of l.rules) (scene_of g.N.RowNotes.rows l.scene).state) treasures

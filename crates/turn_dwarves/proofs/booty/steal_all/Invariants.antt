@@ -8,7 +8,7 @@ use Rattle.turn_dwarves.proofs.booty.steal_all.Given as goal
 
 -- stealing the treasures that are left is stealing all
 abbrev pub invariant-loop-number : goal.invariant-loop-number
-invariant-loop-number l =
-    (after_thefts (cave_of l.rules) (treasures_from l.number) (scene_of l.scene)
-    ≡ after_thefts (cave_of l.rules) treasures (scene_of l.initial.scene))
+invariant-loop-number g l =
+    (after_thefts (cave_of l.rules) (treasures_from l.number) (scene_of g.N.RowNotes.rows l.scene)
+    ≡ after_thefts (cave_of l.rules) treasures (scene_of g.N.RowNotes.rows l.initial.scene))
     × GoesOnSaying 0 l.initial.scene l.scene

@@ -1,10 +1,10 @@
 use Rattle.std.proofs.Common.{rules, arith}
-use Rattle.turn_dwarves.specs.Knives.{raid_of}
+use Rattle.turn_rules.specs.Effects.{for_each_from}
 use Rattle.turn_dwarves.proofs.knives.raid.Goals as goal
 
 pub loop-number-init : goal.loop-number-init
-unfolding raid_of
-loop-number-init c = record {
+unfolding for_each_from
+loop-number-init g c = record {
   raid = search rules;
   says = search rules;
   dwarves = search rules;
@@ -13,8 +13,8 @@ loop-number-init c = record {
 }
 
 pub loop-number-preserved : goal.loop-number-preserved
-unfolding raid_of
-loop-number-preserved c = record {
+unfolding for_each_from
+loop-number-preserved g c = record {
   raid = search rules;
   says = search rules;
   dwarves = omega (arith, c.loop-number.invariant.dwarves, c.with-attack.ensures.dwarf);

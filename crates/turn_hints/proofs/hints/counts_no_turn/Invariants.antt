@@ -5,4 +5,4 @@ use Rattle.turn_hints.specs.Hints.{FIRST_HINT}
 use Rattle.turn_ends.specs.cave_world.State.{turns_in_area}
 
 abbrev pub invariant-loop-before : goal.invariant-loop-before
-invariant-loop-before l = (n : ℕ) → n < l.before → turns_in_area l.state (n + FIRST_HINT) ≡ 0
+invariant-loop-before l = (n : ℕ) → n < l.before → turns_in_area l.state (FIRST_HINT + n) ≡ 0

@@ -6,8 +6,9 @@ use Rattle.turn_moves.proofs.objects.tell_all.Given as goal
 
 -- describing the rest from here is describing all, and there is room for it
 abbrev pub invariant-loop-half : goal.invariant-loop-half
-invariant-loop-half l =
-    (after_objects (cave_of l.rules) (drop l.half-index l.halves) (scene_of l.scene)
-    ≡ after_objects (cave_of l.rules) l.halves (scene_of l.initial.scene))
+invariant-loop-half g l =
+    (after_objects (cave_of l.rules) (drop l.half-index l.halves)
+    (scene_of g.N.RowNotes.rows l.scene)
+    ≡ after_objects (cave_of l.rules) l.halves (scene_of g.N.RowNotes.rows l.initial.scene))
     × (array_vec_len l.scene.out.now ≤ array_vec_len l.initial.scene.out.now + l.half-index)
     × GoesOn l.initial.scene l.scene
