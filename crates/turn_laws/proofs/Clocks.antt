@@ -2,16 +2,16 @@
 use Rattle.std.proofs.Common.{◌++◌}
 use Rattle.cave_turn.specs.cave_world.Sight.{LAMP_ON}
 use Rattle.cave_turn.specs.turn_clocks.Clocks.{clock_rows, run_clocks, tick_clocks}
-use Rattle.cave_turn.specs.turn_clocks.FirstClock.{begin_closing, first_clock_goes, without_dwarves}
-use Rattle.cave_turn.specs.turn_clocks.FirstClock.{with_first_clock_down}
+use Rattle.cave_turn.specs.turn_clocks.FirstClock.{begin_closing, first_clock_goes}
+use Rattle.cave_turn.specs.turn_clocks.FirstClock.{with_first_clock_down, without_dwarves}
 use Rattle.cave_turn.specs.turn_clocks.Lamp.{burn, can_change_batteries, care_for_lamp}
 use Rattle.cave_turn.specs.turn_clocks.Lamp.{change_batteries, go_out, lamp, lamp_rows, turns_left}
 use Rattle.cave_turn.specs.turn_clocks.Lamp.{warn, warning_rows, with_new_charge, with_turn_burnt}
 use Rattle.cave_turn.specs.turn_clocks.Lamp.{with_warning}
-use Rattle.cave_turn.specs.turn_clocks.Repository.{all_of, close_cave}
-use Rattle.cave_turn.specs.turn_clocks.Repository.{northeast_things, second_clock_goes}
-use Rattle.cave_turn.specs.turn_clocks.Repository.{southwest_things, with_empty_hands}
-use Rattle.cave_turn.specs.turn_clocks.Repository.{with_second_clock_down, without_all}
+use Rattle.cave_turn.specs.turn_clocks.Repository.{all_of, close_cave, northeast_things}
+use Rattle.cave_turn.specs.turn_clocks.Repository.{second_clock_goes, southwest_things}
+use Rattle.cave_turn.specs.turn_clocks.Repository.{with_empty_hands, with_second_clock_down}
+use Rattle.cave_turn.specs.turn_clocks.Repository.{without_all}
 use Rattle.cave_turn.specs.turn_rules.Effects.{destroy, put_player, set_charge, troll_goes}
 use Rattle.cave_turn.specs.turn_rules.Rows.{act_of}
 use Rattle.cave_turn.specs.turn_rules.Tests.{near, place_of, prop}
@@ -26,21 +26,24 @@ use Rattle.cave_turn.specs.data_rows.declared.place_role.PlaceRole.TheVariants a
 use Rattle.cave_turn.specs.cave_words.declared.named.Named.TheVariants as name
 use Rattle.cave_turn.specs.turn_clocks.declared.clocks.Clocks.TheVariants as clocks
 use Rattle.cave_turn.specs.data_rows.declared.role.Role.TheVariants as role
+use Rattle.cave_turn.specs.rule_rows.declared.tables.Table.TheVariants as table
+use Rattle.cave_turn.specs.rule_rows.declared.tables.RuleRow.{RuleRow}
 use Rattle.turn_laws.specs.Courses.{is_lit}
 use Rattle.turn_laws.specs.Laws.{before_lamp, is_changed, unless_closed}
 use Rattle.turn_laws.proofs.Effects.{deed_chosen, effects, fails_alone, guarded, holds_alone}
 use Rattle.turn_laws.proofs.Effects.{more_charge, moved, moved_all, quiet, tests}
-use Rattle.turn_laws.proofs.View.{Begins, Burns, Change, Claim, Counts, Hold, IsKept}
-use Rattle.turn_laws.proofs.View.{IsMoved, Juggle, Leaves, Line, On, Place, Prop, Ready, Shifts}
-use Rattle.turn_laws.proofs.View.{Shuts, Somewhere, There, Ticks, View, after, burnt, choose, led}
-use Rattle.turn_laws.proofs.View.{left_of, view}
+use Rattle.turn_laws.proofs.View.{Begins, Burns, Change, Claim, Counts, Hold, IsKept, IsMoved}
+use Rattle.turn_laws.proofs.View.{Juggle, Leaves, Line, On, Place, Prop, Ready, Shifts, Shuts}
+use Rattle.turn_laws.proofs.View.{Somewhere, There, Ticks, View, after, burnt, choose, led, left_of}
+use Rattle.turn_laws.proofs.View.{view}
 use Rattle.turn_laws.proofs.Words.{Act, BEAR_DEAD, Bool, CaveView, Clocks, Deed, LAMP_OFF, List}
 use Rattle.turn_laws.proofs.Words.{MAX_LAMP_TURNS, None, Option, Scene, Some, State, UNSEEN, []}
 use Rattle.turn_laws.proofs.Words.{after_all, all_hold, always, carried_objects, change, deed}
 use Rattle.turn_laws.proofs.Words.{false, has_prop, home, if◌then◌else◌, inl, inr, int_eq, int_min}
-use Rattle.turn_laws.proofs.Words.{is_in_hand, is_some, negsuc, nothing_but, place_named, pos, refl}
-use Rattle.turn_laws.proofs.Words.{say, set_prop, subst, sym, the, thing, true, true≢false}
-use Rattle.turn_laws.proofs.Words.{unwrap_or, with_charge, ℕ, ℤ, ◌&&◌, ◌+ℤ◌, ◌-ℤ◌, ◌∙◌, ◌∷◌, ◌≡◌}
+use Rattle.turn_laws.proofs.Words.{is_in_hand, is_some, negsuc, noted, nothing_but, place_named}
+use Rattle.turn_laws.proofs.Words.{pos, refl, say, set_prop, subst, sym, the, thing, true}
+use Rattle.turn_laws.proofs.Words.{true≢false, unwrap_or, with_charge, ℕ, ℤ, ◌&&◌, ◌+ℤ◌, ◌-ℤ◌, ◌∙◌}
+use Rattle.turn_laws.proofs.Words.{◌∷◌, ◌≡◌}
 
 -- an object is put at a place, with a prop for when it was carried
 abbrev stored : ℕ → ℕ → ℤ → List Change
@@ -119,14 +122,15 @@ module _ {game : CaveView} {l : Line} {Q P : Claim} (k : IsKept game l Q P) wher
   emptied_kept (x ∷ xs) v h = emptied_kept xs _ (moves v (Place x 0) h)
 
   -- the cave is closed where both ends of a repository are known: the player is elsewhere
-  closed_kept : (d : Deed (Unit {0})) (a b c : Bool)
+  closed_kept : (d : Deed (Unit {0})) (notes : List RuleRow) (a b c : Bool)
       → (second_clock_goes d
       && (a && (b && (is_some (place_named d.cave landmark.Ne) && c)))) ≡ true
       → On Early d.scene.state
       → AfterClosure Early d.cave d.scene.state.trail.here
-      (after_all (change with_second_clock_down ∷ close_cave) d).scene.state
+      (after_all (change with_second_clock_down ∷ close_cave)
+      (record d { scene = record d.scene { rows = notes } })).scene.state
   unfolding close_cave with_empty_hands northeast_things southwest_things
-  closed_kept d a b c fit h =
+  closed_kept d notes a b c fit h =
       let cave = d.cave in let v = view d.scene.state in
       let ne = place_of landmark.Ne d in let sw = place_of landmark.Sw d in
       let gone = ticked d _ fit h in
@@ -145,7 +149,8 @@ module _ {game : CaveView} {l : Line} {Q P : Claim} (k : IsKept game l Q P) wher
       ++ Hold (thing cave name.Mirror) (anchor_at sw) ∷ []
       ) _ shut in
       let e = all_of southwest_things (put_player (place_of landmark.Ne)
-      (all_of northeast_things (change with_second_clock_down d))) in
+      (all_of northeast_things (change with_second_clock_down
+      (record d { scene = record d.scene { rows = notes } })))) in
       let held = emptied_kept (carried_objects e.scene.state.objects) _ hung in
       record { holds = held; place = there _ (search tests) }
 
@@ -157,7 +162,7 @@ module _ {game : CaveView} {l : Line} {Q P : Claim} (k : IsKept game l Q P) wher
   both_kept cave p h =
       let d : Deed (Unit {0}) = deed cave tt p in
       guarded (λ (a : Act Bool). AfterClocks Early cave p.state.trail.here a.step a.scene.state)
-      (nothing_but (always false)) d clock_rows
+      (nothing_but (always false)) d (noted table.Clocks clock_rows)
       (search (effects, start_kept, counted d, ticked d, closed_kept d) parts 20)
 
 -- what the lamp leaves of a charge
@@ -215,12 +220,11 @@ module _ {cave : CaveView} {l : Line} {Q P : Claim} (k : IsKept cave l Q P) wher
   dims_moved : IsMoved Dims
   dims_moved v change h c is = moved k (record v { charge = c }) change (h c is)
 
-  replaced_kept : (p : Scene) → IsLampOf cave l (Some p)
-      → all_hold can_change_batteries (lit p) ≡ true → On Dims (lit p).scene.state
-      → On R (after_all change_batteries (lit p)).scene.state
+  replaced_kept : (d : Deed (Unit {0})) → l.is_changed ≡ true → On Dims d.scene.state
+      → On R (after_all change_batteries d).scene.state
   unfolding change_batteries let_go
-  replaced_kept p of can h =
-      let d = lit p in let x = thing d.cave name.Batteries in
+  replaced_kept d changed h =
+      let x = thing d.cave name.Batteries in
       let used = (set_prop (the name.Batteries) BATTERIES_USED d).scene.state in
       let got : On Dims used = dims_moved (view d.scene.state) (Prop x BATTERIES_USED) h in
       choose (λ (s : State). On R (with_new_charge s)) (is_in_hand d.cave used x)
@@ -230,7 +234,7 @@ module _ {cave : CaveView} {l : Line} {Q P : Claim} (k : IsKept cave l Q P) wher
     where
       renewed : (v : View) → Dims v
           → R (record v { charge = int_min (v.charge +ℤ pos 2500) (pos MAX_LAMP_TURNS) })
-      renewed v h = h _ (inl (sym of.changed ∙ can, more_charge v.charge 2500))
+      renewed v h = h _ (inl (changed, more_charge v.charge 2500))
 
   -- the lamp goes out, which may be said
   going_out_kept : (d : Deed (Unit {0})) → (turns_left (pos 0) d && true) ≡ true
@@ -252,7 +256,8 @@ module _ {cave : CaveView} {l : Line} {Q P : Claim} (k : IsKept cave l Q P) wher
 
   warned_kept : (d : Deed (Unit {0})) → On R d.scene.state → On R (after_all warn d).scene.state
   unfolding warn warning_rows
-  warned_kept d h = quiet R warning_rows (search parts 20) (change with_warning d) h
+  warned_kept d h =
+      quiet R (noted table.LampWarning warning_rows) (search parts 20) (change with_warning d) h
 
   -- the lamp goes on, or the player gives up
   lamp_kept : (before : ℕ) (p : Scene) → IsLampOf cave l (Some p)
@@ -260,16 +265,14 @@ module _ {cave : CaveView} {l : Line} {Q P : Claim} (k : IsKept cave l Q P) wher
       → (let a = lamp (deed cave tt p) in After R cave before a.step a.scene.state)
   unfolding care_for_lamp lamp_rows
   lamp_kept before p of h =
+      let dims = burnt_kept p of.lit h in let stays = lasts (lit p) in
       guarded (λ (a : Act Clocks). After R cave before a.step a.scene.state)
-      (nothing_but (always clocks.GoOn)) (lit p) lamp_rows
-      (search (
-        effects,
-        replaced_kept p of,
-        going_out_kept,
-        lasts (lit p),
-        burnt_kept p of.lit h,
-        warned_kept,
-      ) parts 20 depth 9)
+      (nothing_but (always clocks.GoOn)) (lit p) (noted table.Lamp lamp_rows)
+      (search (effects, replaced_kept, changes, going_out_kept, stays, dims, warned_kept)
+      parts 20 depth 9)
+    where
+      changes : all_hold can_change_batteries (lit p) ≡ true → l.is_changed ≡ true
+      changes can = sym of.changed ∙ can
 
   -- the lamp is reached, or is passed over
   passed_kept : (before : ℕ) (closed : Bool) (p : Scene) → IsLampOf cave l (unless_closed closed p)

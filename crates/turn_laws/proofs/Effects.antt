@@ -1,35 +1,84 @@
 -- What rows make of a claim, by what their effects make of it: of one that is kept by what happens
 -- while the player stays.
-use Rattle.cave_turn.specs.turn_rules.Effects.{after_sending}
-use Rattle.cave_turn.specs.turn_rules.Rows.{Row, Test, act_of_row, after_trying, after_trying_by}
-use Rattle.cave_turn.specs.turn_rules.Rows.{fits}
-use Rattle.cave_turn.specs.turn_things.Effects.{after_loss_to_snake, after_panic, let_go, put_down}
-use Rattle.cave_turn.specs.turn_things.Effects.{without_troll}
+use Rattle.cave_turn.specs.turn_rules.Effects.{after_sending, for_each_down_from, for_each_from}
+use Rattle.turn_laws.proofs.Words.{Act, Anchor, Bool, CaveView, Closing, Deed, Dwarf, Ending}
+use Rattle.turn_laws.proofs.Words.{Layout, List, MAX_LAMP_TURNS, None, Option, Question, Scene}
+use Rattle.turn_laws.proofs.Words.{Some, State, Tallies, [], after_drawing, after_look_at, all_hold}
+use Rattle.turn_laws.proofs.Words.{arith, by_rows, false, first_fitting_or, if◌then◌else◌, inl, inr}
+use Rattle.turn_laws.proofs.Words.{int_min, ints, min, nothing_but, pos, refl, slice_set, suc, true}
+use Rattle.turn_laws.proofs.Words.{zero, ℕ, ℤ, ◌&&◌, ◌+ℤ◌, ◌+◌, ◌||◌, ◌∷◌, ◌≡◌, ◌≤◌, ◌⊎◌}
+use Rattle.cave_turn.specs.turn_rules.Rows.{Row, Test, act_of_row, after_trying_by, fits_by}
+use Rattle.cave_turn.specs.turn_things.Effects.{after_panic}
 use Rattle.cave_turn.specs.verb_commands.Effects.{after_default}
 use Rattle.cave_turn.specs.world_objects.Objects.{after_juggle, after_move_to, with_anchor}
 use Rattle.cave_turn.specs.world_objects.Objects.{with_prop}
 use Rattle.turn_laws.proofs.Counted.{angrier}
-use Rattle.turn_laws.proofs.View.{Band, Bands, Change, Claim, Hold, IsBandAfter, IsKept, IsMoved}
-use Rattle.turn_laws.proofs.View.{Juggle, Line, Loses, Moves, On, Panics, Place, Prop, Ready}
-use Rattle.turn_laws.proofs.View.{Somewhere, View, after_change, choose, view}
-use Rattle.turn_laws.proofs.View.{Hints, IsChargeAfter, Pays}
-use Rattle.turn_laws.proofs.Words.{Act, Anchor, Bool, CaveView, Closing, Deed, Dwarf, Ending}
-use Rattle.turn_laws.proofs.Words.{Layout, List, MAX_LAMP_TURNS, None, Option, Question, Scene}
-use Rattle.turn_laws.proofs.Words.{Some, State, Tallies, [], after_all, after_look_at, all_hold}
-use Rattle.turn_laws.proofs.Words.{arith, by_table, false, first_fitting_or, if◌then◌else◌, inl}
-use Rattle.turn_laws.proofs.Words.{inr, int_min, ints, min, nothing_but, pos, refl, slice_set, true}
-use Rattle.turn_laws.proofs.Words.{ℕ, ℤ, ◌&&◌, ◌+ℤ◌, ◌+◌, ◌||◌, ◌∷◌, ◌≡◌, ◌≤◌, ◌⊎◌}
+use Rattle.turn_laws.proofs.View.{Band, Bands, Change, Claim, Hints, Hold, IsBandAfter}
+use Rattle.turn_laws.proofs.View.{IsChargeAfter, IsKept, IsMoved, Juggle, Line, Loses, Moves, On}
+use Rattle.turn_laws.proofs.View.{Panics, Pays, Place, Prop, Ready, Somewhere, View, after_change}
+use Rattle.turn_laws.proofs.View.{choose, view}
+
+-- what holds before numbers one after another do something holds after it, if it does for each
+pub each_kept : {S : Type 0} (Q : S → Type 0) (first n : ℕ) (what : ℕ → S → S)
+    → ((x : ℕ) (s : S) → Q s → Q (what x s)) → (s : S) → Q s → Q (for_each_from first n what s)
+unfolding for_each_from
+each_kept Q first zero what one s h = h
+each_kept Q first (suc n) what one s h = one (first + n) _ (each_kept Q first n what one s h)
+
+pub each_kept_down : {S : Type 0} (Q : S → Type 0) (n : ℕ) (what : ℕ → S → S)
+    → ((x : ℕ) (s : S) → Q s → Q (what x s)) → (s : S) → Q s → Q (for_each_down_from n what s)
+unfolding for_each_down_from
+each_kept_down Q zero what one s h = h
+each_kept_down Q (suc n) what one s h =
+    each_kept_down Q n what one (what (suc n) s) (one (suc n) s h)
 
 -- a claim holds after an act, and what follows is of some kind
 abbrev pub Left : {F : Type 0} → Claim → (F → Type 0) → Act F → Type 0
 Left P Next a = On P a.scene.state × Next a.step
 
--- from one claim the effects of rows lead to another, and to what follows of some kind
+-- what holds of a deed once a draw decides that a row fits, or doesn't, and where there is no draw
+abbrev pub Drawn : {C : Type 0} → Option (Test C) → Deed C → (Deed C → Type 0)
+    → (Deed C → Type 0) → Type 0
+Drawn None d Fit Unfit = Fit d
+Drawn (Some draw) d Fit Unfit =
+    (draw d ≡ true → Fit (after_drawing d)) × (draw d ≡ false → Unfit (after_drawing d))
+
+-- the same where the row has tests before
+abbrev pub Tried : {C : Type 0} → List (Test C) → Option (Test C) → Deed C → (Deed C → Type 0)
+    → (Deed C → Type 0) → Type 0
+Tried [] draw d Fit Unfit = Drawn draw d Fit Unfit
+Tried (test ∷ tests) draw d Fit Unfit =
+    (all_hold (test ∷ tests) d ≡ true → Drawn draw d Fit Unfit)
+    × (all_hold (test ∷ tests) d ≡ false → Unfit d)
+
+tried : {C F : Type 0} (Q : Act F → Type 0) (Unfit : Deed C → Type 0) (f g : Deed C → Act F)
+    → ((e : Deed C) → Unfit e → Q (g e)) → (tests : List (Test C)) (draw : Option (Test C))
+    (d : Deed C)
+    → Tried tests draw d (λ e. Q (f e)) Unfit
+    → (let e = after_trying_by tests draw d in Q (if fits_by tests draw d then f e else g e))
+tried Q Unfit f g other [] None d each = each
+tried Q Unfit f g other [] (Some draw) d each =
+    choose Q (draw d) _ _ each.0 (λ unfit. other _ (each.1 unfit))
+tried Q Unfit f g other (test ∷ tests) None d each =
+    choose Q (all_hold (test ∷ tests) d) _ _ each.0 (λ unfit. other d (each.1 unfit))
+tried Q Unfit f g other (test ∷ tests) (Some draw) d each =
+    by_tests (all_hold (test ∷ tests) d)
+    (λ all. choose Q (draw d) _ _ (each.0 all).0 (λ unfit. other _ ((each.0 all).1 unfit)))
+    (λ some. other d (each.1 some))
+  where
+    by_tests : (b : Bool)
+        → (b ≡ true → Q (if draw d then f (after_drawing d) else g (after_drawing d)))
+        → (b ≡ false → Q (g d))
+        → (let e = if b then after_drawing d else d in Q (if b && draw d then f e else g e))
+    by_tests true all some = all refl
+    by_tests false all some = some refl
+
+-- from one claim the effects of rows that fit lead to another, and to what follows of some kind
 abbrev pub LeadRows : {C F : Type 0} → Claim → Claim → (F → Type 0) → List (Row C F) → Type 0
 LeadRows Q P Next [] = Unit {0}
 LeadRows {C} Q P Next (r ∷ rows) =
     ((d : Deed C) → On Q d.scene.state
-    → (let e = after_all r.effects d in On P e.scene.state × Next (r.end e)))
+    → Tried r.tests r.draw d (λ e. Left P Next (act_of_row r e)) (λ e. On Q e.scene.state))
     × LeadRows Q P Next rows
 
 -- from one claim an act leads to another
@@ -40,28 +89,14 @@ Leads {C} Q P Next f = (d : Deed C) → On Q d.scene.state → Left P Next (f d)
 abbrev pub Any : {F : Type 0} → F → Type 0
 Any step = Unit {0}
 
--- a row that is tried keeps a claim, whether a draw is made or not
-pub tried_kept : {C F : Type 0} (P : Claim) (r : Row C F) (d : Deed C) → On P d.scene.state
-    → On P (after_trying r d).scene.state
-tried_kept {C} P r d h = by_draw r.tests r.draw
-  where
-    by_draw : (tests : List (Test C)) (draw : Option (Test C))
-        → On P (after_trying_by tests draw d).scene.state
-    by_draw tests None = h
-    by_draw tests (Some draw) =
-        choose (λ (e : Deed C). On P e.scene.state) (all_hold tests d) _ d (λ _. h) (λ _. h)
-
 -- the first row that fits, or what is done if none does
 pub first_leads : {C F : Type 0} (Q P : Claim) (Next : F → Type 0) (rows : List (Row C F))
     (f : Deed C → Act F) → LeadRows Q P Next rows → Leads Q P Next f
     → Leads Q P Next (first_fitting_or rows f)
 first_leads Q P Next [] f k other d h = other d h
-first_leads {C} {F} Q P Next (r ∷ rows) f k other d h =
-    let g = tried_kept Q r d h in
-    choose (Left P Next) (fits r d) (act_of_row r (after_trying r d))
-    (first_fitting_or rows f (after_trying r d))
-    (λ _. k.0 (after_trying r d) g)
-    (λ _. first_leads Q P Next rows f k.1 other (after_trying r d) g)
+first_leads Q P Next (r ∷ rows) f k other d h =
+    tried (Left P Next) (λ e. On Q e.scene.state) (act_of_row r) (first_fitting_or rows f)
+    (λ e g. first_leads Q P Next rows f k.1 other e g) r.tests r.draw d (k.0 d h)
 
 -- a table after which a claim still holds, whatever follows
 pub kept_by : {C F : Type 0} (P : Claim) (rows : List (Row C F)) (end : Deed C → F)
@@ -71,7 +106,7 @@ kept_by P rows end k d h = (first_leads P P Any rows (nothing_but end) k (λ e g
 
 -- the same of a table of effects
 pub quiet : {C : Type 0} (P : Claim) (rows : List (Row C (Unit {0}))) → LeadRows P P Any rows
-    → (d : Deed C) → On P d.scene.state → On P (by_table rows d).scene.state
+    → (d : Deed C) → On P d.scene.state → On P (by_rows rows d).scene.state
 quiet P rows k d h = kept_by P rows (λ e. tt) k d h
 
 -- it holds of each row where it fits and none before it does, and of what is done where none fits
@@ -79,21 +114,19 @@ abbrev pub Guarded : {C F : Type 0} → (Act F → Type 0) → (Deed C → Act F
     → List (Row C F) → Type 0
 Guarded Q otherwise d [] = Q (otherwise d)
 Guarded Q otherwise d (r ∷ rows) =
-    (fits r d ≡ true → Q (act_of_row r (after_trying r d)))
-    × (fits r d ≡ false → Guarded Q otherwise (after_trying r d) rows)
+    Tried r.tests r.draw d (λ e. Q (act_of_row r e)) (λ e. Guarded Q otherwise e rows)
 
 pub guarded : {C F : Type 0} (Q : Act F → Type 0) (otherwise : Deed C → Act F) (d : Deed C)
     (rows : List (Row C F)) → Guarded Q otherwise d rows → Q (first_fitting_or rows otherwise d)
 guarded Q otherwise d [] each = each
 guarded Q otherwise d (r ∷ rows) each =
-    choose Q (fits r d) (act_of_row r (after_trying r d))
-    (first_fitting_or rows otherwise (after_trying r d))
-    each.0 (λ other. guarded Q otherwise (after_trying r d) rows (each.1 other))
+    tried Q (λ e. Guarded Q otherwise e rows) (act_of_row r) (first_fitting_or rows otherwise)
+    (λ e other. guarded Q otherwise e rows other) r.tests r.draw d each
 
 -- the same of a table of effects, and a claim
 pub by_guarded : {C : Type 0} (P : Claim) (d : Deed C) (rows : List (Row C (Unit {0})))
     → Guarded (λ a. On P a.scene.state) (nothing_but (λ e. tt)) d rows
-    → On P (by_table rows d).scene.state
+    → On P (by_rows rows d).scene.state
 by_guarded P d rows each = guarded (λ a. On P a.scene.state) (nothing_but (λ e. tt)) d rows each
 
 -- a test that is the only one of a row holds, or fails, as the row does
@@ -225,28 +258,6 @@ module _ {game : CaveView} {l : Line} {Q P : Claim} {Other : ℕ → Type 0} (k 
     act_chosen b a c h g =
         choose (λ (one : Act _). On (Ready Other P) one.scene.state) b a c (λ _. h) (λ _. g)
 
-    ruleset changes = (placed, held, propped, juggled, lost, state_chosen, scene_chosen)
-
-    pub put : (cave : CaveView) (x : ℕ) (s : State) → On (Ready Other P) s
-        → On (Ready Other P) (put_down cave x s)
-    unfolding put_down
-    put cave x s h = search changes depth 9
-
-    pub lay_down : (cave : CaveView) (x : ℕ) (s : State) → On (Ready Other P) s
-        → On (Ready Other P) (let_go cave x s)
-    unfolding let_go
-    lay_down cave x s h = search changes
-
-    pub troll_goes : (cave : CaveView) (s : State) → On (Ready Other P) s
-        → On (Ready Other P) (without_troll cave s)
-    unfolding without_troll
-    troll_goes cave s h = search changes depth 9
-
-    pub lose_to_snake : (cave : CaveView) (s : State) → On (Ready Other P) s
-        → On (Ready Other P) (after_loss_to_snake cave s)
-    unfolding after_loss_to_snake
-    lose_to_snake cave s h = search changes
-
     pub panic : (s : State) → On (Ready Other P) s → On (Ready Other P) (after_panic s)
     panic s h =
         panicked (On (Ready Other P)) s (λ n how.
@@ -259,11 +270,11 @@ module _ {game : CaveView} {l : Line} {Q P : Claim} {Other : ℕ → Type 0} (k 
 
     pub say_default : (cave : CaveView) (number : ℕ) (p : Scene) → On (Ready Other P) p.state
         → On (Ready Other P) (after_default cave number p).state
-    say_default cave number p h = search changes
+    say_default cave number p h = search scene_chosen
 
     pub look : (x : ℕ) (w : ℤ) (p : Scene) → On (Ready Other P) p.state
         → On (Ready Other P) (after_look_at x w p).state
-    look x w p h = search changes
+    look x w p h = search scene_chosen
 
 module _ {game : CaveView} {l : Line} {Q P : Claim} (k : IsKept game l Q P) where
   pub banded : (v : View) (w : Band) → IsBandAfter v.here v.band w → Ready (Somewhere l) P v
@@ -284,6 +295,4 @@ pub ruleset changes_made = (placed, held, propped, juggled, hinted, lost, angere
 
 pub ruleset choices = (state_chosen, deed_chosen, scene_chosen, act_chosen, say_default, look)
 
-pub ruleset whole_effects = (panic, put, lay_down, troll_goes, lose_to_snake, sent)
-
-pub ruleset effects = (changes_made, choices, whole_effects)
+pub ruleset effects = (changes_made, choices, panic, sent)

@@ -2,6 +2,7 @@ pub mod Words
 pub mod View
 pub mod Counted
 pub mod Effects
+pub mod Reading
 pub mod Verbs
 pub mod Places
 pub mod Dwarves

@@ -13,7 +13,7 @@ use Rattle.cave_turn.specs.base_lines.LogLine.{IsLogLine, IsSeedLine}
 use Rattle.cave_turn.specs.cave_world.State.{state_with_player_at}
 use Rattle.cave_turn.specs.declared.answers.Answer.{Answer}
 use Rattle.cave_turn.specs.declared.answers.Answer.TheVariants.{Neither, No, Yes}
-use Rattle.cave_turn.specs.turn_hints.Hints.{give_rows, price_rows, tell_price}
+use Rattle.cave_turn.specs.turn_hints.Hints.{give_rows, price_rows}
 use Rattle.cave_turn.specs.turn_scene.Scene.{scene_at_start}
 use Rattle.cave_turn.specs.turn_things.Props.{DRAGON_DEAD, RUG_FREE}
 use Rattle.cave_turn.specs.world_objects.declared.spot.Anchor.TheVariants as anchor
@@ -21,35 +21,35 @@ use Rattle.cave_turn.specs.cave_world.declared.ending.Ending.TheVariants as endi
 use Rattle.cave_turn.specs.base_lines.declared.log_line.LogLine.TheVariants as kind
 use Rattle.cave_turn.specs.cave_words.declared.named.Named.TheVariants as name
 use Rattle.cave_turn.specs.cave_world.declared.ending.Question.TheVariants as question
-use Rattle.cave_turn.specs.turn_ends.Questions.{after_ask}
+use Rattle.cave_turn.specs.turn_ends.Questions.{with_question}
 use Rattle.turn_laws.specs.Courses.{is_lit}
 use Rattle.turn_laws.specs.Laws.{HasEnded, IsQuiet, Lasts, before_clocks, before_lamp, is_changed}
 use Rattle.turn_laws.specs.Laws.{is_command, is_input_kind, is_no_answer, is_priced, pays}
-use Rattle.turn_laws.proofs.Effects.{by_guarded, effects, holds_alone, look, moved_all, moved_if}
-use Rattle.turn_laws.proofs.Effects.{paid_by, quiet}
+use Rattle.turn_laws.proofs.Effects.{by_guarded, each_kept, effects, holds_alone, look, moved_all}
+use Rattle.turn_laws.proofs.Effects.{moved_if, paid_by, quiet}
 use Rattle.turn_laws.proofs.Moves.{arriving_kept, arriving_open}
 use Rattle.turn_laws.proofs.Places.{asking_kept, ended_kept, ending_kept, question_kept}
-use Rattle.turn_laws.proofs.Turns.{commanded_kept, finished_kept, reborn_kept}
-use Rattle.turn_laws.proofs.View.{Anywhere, Asks, Buries, Claim, Closes, Hints, Hold, IsChargeAfter}
-use Rattle.turn_laws.proofs.View.{IsKept, IsMoved, Keeps, Line, Moves, On, Passes, Pays, Place}
-use Rattle.turn_laws.proofs.View.{Prop, Puts, Ready, View, choose, is_die, led, line_of, view}
-use Rattle.turn_laws.proofs.Words.{Bool, CaveView, Deed, Ending, List, LogLine, None, Option}
-use Rattle.turn_laws.proofs.Words.{Question, Scene, Some, State, Turn, [], after_all, after_look_at}
-use Rattle.turn_laws.proofs.Words.{answer_in, answers, ap, arith, by_table, deed, false, false≢true}
-use Rattle.turn_laws.proofs.Words.{if◌then◌else◌, inr, ints, is_dragon, is_some, is_yes}
-use Rattle.turn_laws.proofs.Words.{log_line, not, pos, refl, start_place, subst, suc, sym, thing}
-use Rattle.turn_laws.proofs.Words.{true, true≢false, turn_of_input, turn_on_log_line, with_state}
-use Rattle.turn_laws.proofs.Words.{without_question, zero, ℕ, ℤ, ◌&&◌, ◌||◌, ◌∙◌, ◌∷◌, ◌≡◌}
+use Rattle.turn_laws.proofs.Turns.{commanded_kept, finished_kept, mourned, reborn_kept}
+use Rattle.turn_laws.proofs.View.{Anywhere, Asks, Claim, Closes, Hints, Hold, IsChargeAfter, IsKept}
+use Rattle.turn_laws.proofs.View.{IsMoved, Keeps, Line, Moves, On, Passes, Pays, Place, Prop, Puts}
+use Rattle.turn_laws.proofs.View.{Ready, View, choose, is_die, led, line_of, view}
+use Rattle.turn_laws.proofs.Words.{Bool, CaveView, Deed, Ending, Layout, List, LogLine, None}
+use Rattle.turn_laws.proofs.Words.{Option, Question, Scene, Some, State, Turn, [], after_all}
+use Rattle.turn_laws.proofs.Words.{after_look_at, answer_in, answers, ap, arith, by_table, deed}
+use Rattle.turn_laws.proofs.Words.{false, false≢true, if◌then◌else◌, inr, ints, is_dragon, is_some}
+use Rattle.turn_laws.proofs.Words.{is_yes, log_line, not, noted, pos, refl, start_place, subst, sym}
+use Rattle.turn_laws.proofs.Words.{thing, true, true≢false, turn_of_input, turn_on_log_line}
+use Rattle.turn_laws.proofs.Words.{with_state, without_question, ℕ, ℤ, ◌&&◌, ◌||◌, ◌∙◌, ◌∷◌, ◌≡◌}
+use Rattle.cave_turn.specs.rule_rows.declared.tables.Table.TheVariants as table
+use Rattle.cave_turn.specs.turn_rules.Effects.{for_each_from}
 
 -- all that is by the dragon is moved to a place
-gathered_kept : (P : Claim) → IsMoved P → (cave : CaveView) (place m : ℕ) (v : View) → P v
-    → P (record v { objects = after_gathering cave place m v.objects })
-unfolding after_gathering
-gathered_kept P moves cave place zero v h = h
-gathered_kept P moves cave place (suc m) v h =
-    let o = after_gathering cave place m v.objects in
-    moved_if P moves (is_by_dragon cave o (suc m)) (Place (suc m) place)
-    (record v { objects = o }) (gathered_kept P moves cave place m v h)
+gathered_kept : (P : Claim) → IsMoved P → (cave : CaveView) (place : ℕ) (v : View) → P v
+    → P (record v { objects = for_each_from 1 100 (after_gathering cave place) v.objects })
+gathered_kept P moves cave place v h =
+    each_kept (λ (o : Layout). P (record v { objects = o })) 1 100 (after_gathering cave place)
+    (λ x o g. moved_if P moves (is_by_dragon cave o x) (Place x place)
+    (record v { objects = o }) g) v.objects h
 
 -- the charge that the instructions and a hint give
 full_charge : (b : ℤ) → IsChargeAfter b (pos 1000)
@@ -72,22 +72,23 @@ closed_same s none = ap (λ (q : Option Question). record s { question = q }) (s
 module _ {cave : CaveView} {l : Line} {Q P : Claim} (k : IsKept cave l Q P) where
   -- the price of a hint is said
   priced_kept : (i : ℕ) (p : Scene) → On (Ready Anywhere P) p.state
-      → On P (by_table price_rows (deed cave i p)).scene.state
+      → On P (by_table table.HintPrice price_rows (deed cave i p)).scene.state
   unfolding price_rows
   priced_kept i p h =
-      by_guarded P (deed cave i p) price_rows (search (asked, h.holds) parts 20)
+      by_guarded P (deed cave i p) (noted table.HintPrice price_rows)
+      (search (asking_kept P, asked, h.holds) parts 20)
     where
       asked : (is_some (map.get cave.hints i) && true) ≡ true
-          → On P (after_ask cave (question.Take i) (tell_price (deed cave i p)).scene).state
+          → On P (with_question (question.Take i) p.state)
       asked fit =
-          asking_kept P cave (question.Take i) (tell_price (deed cave i p)).scene
-          (k.keeps (Asks (question.Take i)) (view p.state) (refl, h.calm, holds_alone _ fit)
-          h.holds)
+          k.keeps (Asks (question.Take i)) (view p.state) (refl, h.calm, holds_alone _ fit) h.holds
 
   given_kept : l.is_paid ≡ true → (d : Deed ℕ) → On (Ready Anywhere P) d.scene.state
-      → On (Ready Anywhere P) (by_table give_rows d).scene.state
+      → On (Ready Anywhere P) (by_table table.HintGiven give_rows d).scene.state
   unfolding give_rows
-  given_kept paid d h = quiet (Ready Anywhere P) give_rows (search (effects, paid_by) parts 20) d h
+  given_kept paid d h =
+      quiet (Ready Anywhere P) (noted table.HintGiven give_rows)
+      (search (effects, paid_by) parts 20) d h
 
   fought_kept : (p : Scene) → On (Ready Anywhere P) p.state
       → On P (after_all fight (deed cave question.Dragon p)).scene.state
@@ -104,7 +105,7 @@ module _ {cave : CaveView} {l : Line} {Q P : Claim} (k : IsKept cave l Q P) wher
       let s = q.state in let here = s.trail.here in
       let place = lair_from cave here in
       let killed =
-      gathered_kept P moves cave place 100 _
+      gathered_kept P moves cave place _
       (moved_all P moves (changes place) (view s) looks.holds) in
       arriving_open k here place (after_all (first_of 9 fight) d).scene killed looks.calm
       (λ some. k.keeps (Puts place) _ (some, inr refl) killed)
@@ -135,7 +136,8 @@ module _ {cave : CaveView} {l : Line} {Q P : Claim} (k : IsKept cave l Q P) wher
         ending_kept k cave ending_is.Quit _ (free refl)
     agreed_kept question.ScoreQuit p paid asked goes h free =
         ending_kept k cave ending_is.Quit _ (free refl)
-    agreed_kept question.Die p paid asked goes h free = reborn_kept k unlit p asked goes h
+    agreed_kept question.Die p paid asked goes h free =
+        reborn_kept k _ (mourned k unlit p.state asked goes h)
     agreed_kept (question.Hint i) p paid asked goes h free = priced_kept i _ (free refl)
     agreed_kept (question.Take i) p paid asked goes h free =
         (given_kept (paid refl) (deed cave i _) (free refl)).holds
@@ -151,8 +153,7 @@ module _ {cave : CaveView} {l : Line} {Q P : Claim} (k : IsKept cave l Q P) wher
     declined_kept question.Welcome p asked goes h free =
         arriving_kept k (start_place cave) _ (free refl).holds
     declined_kept question.Die p asked goes h free =
-        ended_kept P cave ending_is.Killed _
-        (k.keeps (Buries ending_is.Killed) (view p.state) (asked, goes, unlit) h)
+        ended_kept P cave ending_is.Killed _ (mourned k unlit p.state asked goes h).1
     declined_kept _ p asked goes h free = (free refl).holds
 
     -- an open question is answered, or not

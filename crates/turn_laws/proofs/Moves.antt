@@ -16,7 +16,7 @@ use Rattle.cave_turn.specs.turn_moves.Arrival.{after_arrival, after_forced_motio
 use Rattle.cave_turn.specs.turn_moves.Arrival.{description_anew, stop_at}
 use Rattle.cave_turn.specs.turn_moves.Bridge.{break_bridge, bridge, bridge_rows, cross}
 use Rattle.cave_turn.specs.turn_moves.Bridge.{cross_bridge, cross_rows, demand_toll}
-use Rattle.cave_turn.specs.turn_moves.Journeys.{back_rows, enough_rows, go_back, journey_by}
+use Rattle.cave_turn.specs.turn_moves.Journeys.{back_rows, enough_rows, journey_by}
 use Rattle.cave_turn.specs.turn_moves.Journeys.{journey_by_request, journey_by_rows}
 use Rattle.cave_turn.specs.turn_moves.Journeys.{journey_of_outcome, look_round, own_motion}
 use Rattle.cave_turn.specs.turn_moves.Journeys.{own_motion_rows, refusal_rows, set_forth}
@@ -24,22 +24,21 @@ use Rattle.cave_turn.specs.turn_moves.Journeys.{that_motion}
 use Rattle.cave_turn.specs.turn_moves.Squeeze.{squeeze_rows, squeeze_through}
 use Rattle.cave_turn.specs.turn_moves.Ways.{end_of}
 use Rattle.cave_turn.specs.turn_scene.Scene.{after_setting_out, with_left}
-use Rattle.cave_turn.specs.turn_things.Props.{TROLL_CALM}
-use Rattle.cave_turn.specs.turn_things.Props.{TROLL_RETURNING}
+use Rattle.cave_turn.specs.turn_things.Props.{TROLL_CALM, TROLL_RETURNING}
 use Rattle.cave_turn.specs.cave_words.declared.named.Named.TheVariants as name
 use Rattle.cave_turn.specs.cave_world.declared.travel_rows.Outcome.TheVariants as outcome
 use Rattle.cave_turn.specs.turn_rules.Rows.{act_of}
-use Rattle.turn_laws.proofs.Effects.{Any, effects, first_leads, guarded, kept_by, placed, propped}
-use Rattle.turn_laws.proofs.Effects.{quiet, state_chosen}
+use Rattle.turn_laws.proofs.Effects.{effects, guarded, kept_by, placed, propped, quiet}
+use Rattle.turn_laws.proofs.Effects.{state_chosen}
 use Rattle.turn_laws.proofs.Places.{Reaches, Stopped, falling_kept, seen_kept, shown_kept}
 use Rattle.turn_laws.proofs.Places.{shown_open}
 use Rattle.turn_laws.proofs.View.{Anywhere, Claim, IsCalm, IsKept, Line, On, Ready, There, View}
 use Rattle.turn_laws.proofs.View.{choose, view}
-use Rattle.turn_laws.proofs.Words.{Act, Bool, CaveView, Deed, List, None, Option, Scene}
-use Rattle.turn_laws.proofs.Words.{Some, State, [], after_all, by_table, deed, false}
-use Rattle.turn_laws.proofs.Words.{first_fitting_or, has_prop, here, length, nothing_but}
-use Rattle.turn_laws.proofs.Words.{set_prop, slice_set, suc, the, thing, true, with_state, zero, ℕ}
-use Rattle.turn_laws.proofs.Words.{◌-◌, ◌==◌, ◌∷◌}
+use Rattle.turn_laws.proofs.Words.{Act, Bool, CaveView, Deed, List, None, Option, Scene, Some}
+use Rattle.turn_laws.proofs.Words.{State, [], after_all, by_rows, deed, false, first_fitting_or}
+use Rattle.turn_laws.proofs.Words.{has_prop, here, length, noted, noted_from, nothing_but, set_prop}
+use Rattle.turn_laws.proofs.Words.{slice_set, suc, the, thing, true, zero, ℕ, ◌-◌, ◌==◌, ◌∷◌}
+use Rattle.cave_turn.specs.rule_rows.declared.tables.Table.TheVariants as table
 
 module _ {cave : CaveView} {l : Line} {Q P : Claim} (k : IsKept cave l Q P) where
   abbrev R : Claim
@@ -90,7 +89,7 @@ module _ {cave : CaveView} {l : Line} {Q P : Claim} (k : IsKept cave l Q P) wher
 
   squeezed_kept : (d : Deed (Unit {0})) → On R d.scene.state → On R (squeeze_through d).scene.state
   unfolding squeeze_through squeeze_rows
-  squeezed_kept d h = kept_by R squeeze_rows here (search parts 20) d h
+  squeezed_kept d h = kept_by R (noted table.Squeeze squeeze_rows) here (search parts 20) d h
 
   -- the bridge breaks
   broken_kept : (end : ℕ) (p : Scene) → On R p.state
@@ -100,18 +99,20 @@ module _ {cave : CaveView} {l : Line} {Q P : Claim} (k : IsKept cave l Q P) wher
 
   -- a player whom the troll lets pass crosses
   over_kept : (end : ℕ) (p : Scene) → On R p.state
-      → On P (first_fitting_or cross_rows (nothing_but here) (deed cave end p)).scene.state
+      → On P (first_fitting_or (noted_from table.Bridge 3 cross_rows) (nothing_but here)
+      (deed cave end p)).scene.state
   unfolding cross_rows
   over_kept end p h =
-      guarded (λ (a : Act ℕ). On P a.scene.state) (nothing_but here) (deed cave end p) cross_rows
-      (search (effects, held_still, broken_kept) parts 20)
+      guarded (λ (a : Act ℕ). On P a.scene.state) (nothing_but here) (deed cave end p)
+      (noted_from table.Bridge 3 cross_rows) (search (effects, held_still, broken_kept) parts 20)
 
   crossed_kept : (end : ℕ) (p : Scene) → On R p.state → On P (cross (deed cave end p)).scene.state
   unfolding cross
   crossed_kept end p h =
       let d = deed cave end p in let e = set_prop (the name.Troll) TROLL_RETURNING d in
       choose
-      (λ (f : Deed ℕ). On P (first_fitting_or cross_rows (nothing_but here) f).scene.state)
+      (λ (f : Deed ℕ). On P (first_fitting_or (noted_from table.Bridge 3 cross_rows)
+      (nothing_but here) f).scene.state)
       (has_prop p.state (thing cave name.Troll) TROLL_CALM) e d
       (λ _. over_kept end e.scene (propped k _ _ h)) (λ _. over_kept end p h)
 
@@ -120,8 +121,8 @@ module _ {cave : CaveView} {l : Line} {Q P : Claim} (k : IsKept cave l Q P) wher
   unfolding cross_bridge bridge_rows demand_toll
   bridged_kept p h =
       guarded (λ (a : Act ℕ). On P a.scene.state)
-      (λ e. cross (deed e.cave (end_of bridge e) e.scene)) (deed cave tt p) bridge_rows
-      (search (effects, held_still, crossed_kept) parts 20 depth 12)
+      (λ e. cross (deed e.cave (end_of bridge e) e.scene)) (deed cave tt p)
+      (noted table.Bridge bridge_rows) (search (effects, held_still, crossed_kept) parts 20 depth 12)
 
   led_kept : (motion : ℕ) (o : Outcome) (p : Scene) → On R p.state
       → On P (journey_of_outcome cave motion o p).scene.state
@@ -131,7 +132,7 @@ module _ {cave : CaveView} {l : Line} {Q P : Claim} (k : IsKept cave l Q P) wher
   led_kept motion (outcome.Special Bridge) p h = bridged_kept p h
   led_kept motion (outcome.Say message) p h = h.holds
   led_kept motion outcome.NoMotion p h =
-      quiet P refusal_rows (search parts 20) (deed cave motion p) h.holds
+      quiet P (noted table.NoWay refusal_rows) (search parts 20) (deed cave motion p) h.holds
   led_kept motion outcome.NoWay p h = h.holds
 
   forth_kept : (motion : ℕ) (p : Scene) → On R p.state
@@ -140,7 +141,7 @@ module _ {cave : CaveView} {l : Line} {Q P : Claim} (k : IsKept cave l Q P) wher
   forth_kept motion p h =
       let q = after_setting_out p in
       let j = travel cave (thing cave name.Emerald) motion q.state in
-      led_kept motion j.outcome (with_state j.state q)
+      led_kept motion j.outcome _
       (travelled_kept (thing cave name.Emerald) motion q.state h)
 
   -- the player is moved on by a forced motion
@@ -173,16 +174,16 @@ module _ {cave : CaveView} {l : Line} {Q P : Claim} (k : IsKept cave l Q P) wher
       → On R (after_all look_round d).scene.state
   unfolding look_round enough_rows without_visits
   looking_round_kept d h =
-      let e = by_table enough_rows d in
+      let e = by_rows enough_rows d in
       let s = e.scene.state in let place = s.trail.here in
       let g = quiet R enough_rows (search parts 20) d h in
       state_chosen k (place == 0) s (record s { visits = slice_set s.visits (place - 1) 0 }) g g
 
   own_kept : (d : Deed ℕ) → On R d.scene.state → On R (own_motion d).scene.state
-  unfolding own_motion own_motion_rows go_back back_rows state_after_set_out
+  unfolding own_motion own_motion_rows back_rows state_after_set_out
   own_kept d h =
-      (first_leads R R Any own_motion_rows go_back (search looking_round_kept parts 20)
-      (λ e g. (kept_by R back_rows that_motion (search parts 20) e g, tt)) d h).0
+      kept_by R (noted table.OwnMotions own_motion_rows) that_motion
+      (search looking_round_kept parts 20) d h
 
   -- the player travels by a motion, or arrives again
   gone_by_kept : (o : Option ℕ) (p : Scene) → On R p.state

@@ -7,15 +7,15 @@ use Rattle.cave_turn.specs.turn_dwarves.Dwarves.{encounter_dwarves}
 use Rattle.cave_turn.specs.turn_ends.Endings.{after_die, after_end, class_rows, death_rows}
 use Rattle.cave_turn.specs.turn_ends.Endings.{tell_score, tell_turns}
 use Rattle.cave_turn.specs.turn_ends.Questions.{after_ask, after_offer, after_question}
-use Rattle.cave_turn.specs.turn_ends.Questions.{ask_question, die_rows, is_score_quit}
-use Rattle.cave_turn.specs.turn_ends.Questions.{tell_question, tell_score_now, with_question}
+use Rattle.cave_turn.specs.turn_ends.Questions.{ask_question, die_rows, is_score_quit, pose}
+use Rattle.cave_turn.specs.turn_ends.Questions.{tell_score_now, with_question}
 use Rattle.cave_turn.specs.turn_moves.Arrival.{block, blocking_rows, come_on, come_to, hit_rows}
 use Rattle.cave_turn.specs.turn_moves.Arrival.{meet, new, over_rows, place_rows, stop_at}
 use Rattle.cave_turn.specs.turn_moves.Description.{after_describe, bear_rows, description_rows}
-use Rattle.cave_turn.specs.turn_moves.Description.{feel_place, hollow_rows, see_place}
-use Rattle.cave_turn.specs.turn_moves.Description.{stop_here, stop_rows, tell_place, text_rows}
+use Rattle.cave_turn.specs.turn_moves.Description.{feel_place, hollow_rows, see_place, stop_here}
+use Rattle.cave_turn.specs.turn_moves.Description.{stop_rows, tell_place, text_rows}
 use Rattle.cave_turn.specs.turn_moves.Description.{with_visit_here}
-use Rattle.cave_turn.specs.turn_moves.Falling.{fall_at, with_all_left_at}
+use Rattle.cave_turn.specs.turn_moves.Dying.{after_die_at, with_all_left_at}
 use Rattle.cave_turn.specs.turn_moves.Objects.{after_object, after_objects, find_treasure}
 use Rattle.cave_turn.specs.turn_moves.Objects.{is_rest_lost, object_rows, object_text_rows}
 use Rattle.cave_turn.specs.turn_moves.Objects.{with_one_less_unseen, with_short_lamp}
@@ -34,17 +34,19 @@ use Rattle.turn_laws.proofs.View.{Anywhere, Claim, Comes, Dies, Ends, Finds, IsC
 use Rattle.turn_laws.proofs.View.{Line, On, Panics, Ready, Shortens, Somewhere, There, View}
 use Rattle.turn_laws.proofs.View.{anywhere, choose, from_one, view}
 use Rattle.turn_laws.proofs.Words.{Act, Bool, CaveView, Deed, Ending, List, None, Option, Question}
-use Rattle.turn_laws.proofs.Words.{Scene, Some, State, [], after_all, after_saying, always, arith}
-use Rattle.turn_laws.proofs.Words.{by_table, change, deed, false, inl, inr, is_some, nat_le, not}
-use Rattle.turn_laws.proofs.Words.{nothing_but, outside_place, refl, say, set_prop, sym, true}
-use Rattle.turn_laws.proofs.Words.{true≢false, when, with_ending, with_one_death, with_state, ℕ, ℤ}
-use Rattle.turn_laws.proofs.Words.{◌&&◌, ◌-◌, ◌==◌, ◌||◌, ◌∙◌, ◌∷◌, ◌≡◌, ◌≤◌, ◌⊎◌}
+use Rattle.turn_laws.proofs.Words.{Scene, Some, State, [], after_all, always, arith, by_rows}
+use Rattle.turn_laws.proofs.Words.{by_table, change, deed, false, first_fitting_or, inl, inr}
+use Rattle.turn_laws.proofs.Words.{is_some, nat_le, not, noted, nothing_but, outside_place, refl}
+use Rattle.turn_laws.proofs.Words.{say, set_prop, sym, true, true≢false, when, with_ending}
+use Rattle.turn_laws.proofs.Words.{with_one_death, with_state, ℕ, ℤ, ◌&&◌, ◌-◌, ◌==◌, ◌||◌, ◌∙◌}
+use Rattle.turn_laws.proofs.Words.{◌∷◌, ◌≡◌, ◌≤◌, ◌⊎◌}
+use Rattle.cave_turn.specs.rule_rows.declared.tables.Table.TheVariants as table
 
 pub ended_kept : (P : Claim) (cave : CaveView) (how : Ending) (p : Scene)
     → On P (with_ending how p.state) → On P (after_end cave how p).state
 unfolding after_end tell_score class_rows
 ended_kept P cave how p h =
-    quiet P class_rows (search parts 20)
+    quiet P (noted table.Classes class_rows) (search parts 20)
     (tell_turns (deed cave tt (with_state (with_ending how p.state) p))) h
 
 offer_kept : (P : Claim) (o : Option Hint) (p : Scene) → On P p.state
@@ -53,14 +55,14 @@ offer_kept P None p h = h
 offer_kept P (Some hint) p h = h
 
 die_kept : (P : Claim) (d : Deed Question) → On P d.scene.state
-    → On P (by_table die_rows d).scene.state
+    → On P (by_table table.Die die_rows d).scene.state
 unfolding die_rows
-die_kept P d h = quiet P die_rows (search parts 20) d h
+die_kept P d h = quiet P (noted table.Die die_rows) (search parts 20) d h
 
 pub question_kept : (P : Claim) (cave : CaveView) (q : Question) (p : Scene) → On P p.state
     → On P (after_question cave q p).state
-question_kept P cave question.Die p h = die_kept P (deed cave question.Die p) h
-question_kept P cave (question.Hint i) p h = offer_kept P (map.get cave.hints i) p h
+question_kept P cave question.Die p h = die_kept P _ h
+question_kept P cave (question.Hint i) p h = offer_kept P (map.get cave.hints i) _ h
 question_kept P cave _ p h = h
 
 -- a claim would hold if a question were asked
@@ -73,7 +75,7 @@ pub asking_kept : (P : Claim) (cave : CaveView) (q : Question) (p : Scene)
 unfolding after_ask ask_question
 asking_kept P cave q p h =
     let d = deed cave q p in
-    choose (λ (e : Deed Question). On P (change (with_question q) (tell_question q e)).scene.state)
+    choose (λ (e : Deed Question). On P (change (with_question q) (pose q e)).scene.state)
     (is_score_quit q) (tell_score_now d) d
     (λ _. question_kept (Asked P q) cave q (tell_score_now d).scene h)
     (λ _. question_kept (Asked P q) cave q p h)
@@ -86,28 +88,25 @@ module _ {game : CaveView} {l : Line} {Q P : Claim} (k : IsKept game l Q P)
       → On (There P before) p.state → IsCalm (view p.state) → On P (after_die cave p).state
   unfolding after_die death_rows
   dying_kept before p same h calm =
-      by_guarded P (deed cave tt p) death_rows (search (killed, asked, never) parts 20)
+      by_guarded P (deed cave tt p) (noted table.Death death_rows)
+      (search (ended_kept P, asking_kept P, killed, asked) parts 20)
     where
       killed : (p.state.closing.is_closing && true) ≡ true
-          → On P (after_end cave ending_is.Killed
-          (with_state (with_one_death p.state) (after_saying role.KilledClosing p))).state
+          → On P (with_ending ending_is.Killed (with_one_death p.state))
       killed closing =
-          ended_kept P cave ending_is.Killed _ (k.keeps (Kills ending_is.Killed p.state.trail.here)
-          (record (view p.state) { here = before }) (calm, holds_alone _ closing, same) h)
+          k.keeps (Kills ending_is.Killed p.state.trail.here)
+          (record (view p.state) { here = before }) (calm, holds_alone _ closing, same) h
 
       asked : (p.state.closing.is_closing && true) ≡ false
-          → On P (after_ask cave question.Die p).state
+          → On P (with_question question.Die p.state)
       asked free =
-          asking_kept P cave question.Die p (k.keeps (Dies p.state.trail.here)
-          (record (view p.state) { here = before }) (calm, fails_alone _ free) h)
-
-      never : true ≡ false → On P p.state
-      never e = absurd (true≢false e)
+          k.keeps (Dies p.state.trail.here)
+          (record (view p.state) { here = before }) (calm, fails_alone _ free) h
 
   -- the player dies, and what is carried is put somewhere
   pub falling_kept : (place : ℕ) (p : Scene) → On (Ready Anywhere P) p.state
-      → On P (fall_at cave place p).state
-  unfolding fall_at
+      → On P (after_die_at cave place p).state
+  unfolding after_die_at
   falling_kept place p h =
       dying_kept p.state.trail.here (with_state (with_all_left_at place p.state) p) (inl refl)
       h.holds h.calm
@@ -123,19 +122,20 @@ module _ (P : Claim) where
   told_kept : (d : Deed (Unit {0})) → On P d.scene.state → On P (after_all tell_place d).scene.state
   unfolding tell_place bear_rows text_rows
   told_kept d h =
-      quiet P text_rows (search parts 20) (by_table bear_rows d)
+      quiet P (noted table.PlaceText text_rows) (search parts 20) (by_rows bear_rows d)
       (quiet P bear_rows (search parts 20) d h)
 
   darkness_kept : (d : Deed (Unit {0})) → On P d.scene.state
       → On P (after_all feel_place d).scene.state
   unfolding feel_place bear_rows hollow_rows
   darkness_kept d h =
-      quiet P hollow_rows (search parts 20) (say role.Dark (by_table bear_rows d))
+      quiet P hollow_rows (search parts 20) (say role.Dark (by_rows bear_rows d))
       (quiet P bear_rows (search parts 20) d h)
 
-  text_kept : (d : Deed ℕ) → On P d.scene.state → On P (by_table object_text_rows d).scene.state
+  text_kept : (d : Deed ℕ) → On P d.scene.state
+      → On P (by_table table.ObjectText object_text_rows d).scene.state
   unfolding object_text_rows
-  text_kept d h = quiet P object_text_rows (search parts 20) d h
+  text_kept d h = quiet P (noted table.ObjectText object_text_rows) (search parts 20) d h
 
   visit_kept : (s : State) (place : ℕ) → On P s → On P (with_visit s place)
   unfolding with_visit
@@ -204,7 +204,8 @@ module _ {cave : CaveView} {l : Line} {Q P : Claim} (k : IsKept cave l Q P) wher
   object_kept : (x : ℕ) (p : Scene) → On R p.state → On R (after_object cave x p).state
   unfolding after_object object_rows
   object_kept x p h =
-      quiet R object_rows (search (found_kept, text_kept R) parts 20) (deed cave x p) h
+      quiet R (noted table.ObjectHere object_rows) (search (found_kept, text_kept R) parts 20)
+      (deed cave x p) h
 
   objects_kept : (halves : List Half) (p : Scene) → On R p.state
       → On R (after_objects cave halves p).state
@@ -214,8 +215,8 @@ module _ {cave : CaveView} {l : Line} {Q P : Claim} (k : IsKept cave l Q P) wher
   sight_kept : (p : Scene) → On R p.state → On R (after_all see_place (deed cave tt p)).scene.state
   unfolding see_place tell_place hollow_rows
   sight_kept p h =
-      let d = by_table text_rows (by_table bear_rows (deed cave tt p)) in
-      let q = by_table hollow_rows d in
+      let d = by_table table.PlaceText text_rows (by_rows bear_rows (deed cave tt p)) in
+      let q = by_rows hollow_rows d in
       let r = change with_visit_here q in
       let s = r.scene.state in
       objects_kept (halves_at s.trail.here s.objects.lists) r.scene
@@ -229,37 +230,41 @@ module _ {cave : CaveView} {l : Line} {Q P : Claim} (k : IsKept cave l Q P) wher
   described_kept : (p : Scene) → On R p.state → On P (after_describe cave p).state
   unfolding after_describe description_rows
   described_kept p h =
-      by_guarded P (deed cave tt p) description_rows
+      by_guarded P (deed cave tt p) (noted table.Description description_rows)
       (search (effects, held_still, sight_kept, falling_kept k, darkness_kept P) parts 20 depth 9)
 
   pub seen_kept : (p : Scene) → On R p.state → OnStop P (stop_here (deed cave tt p))
   unfolding stop_here stop_rows
   seen_kept p h =
-      guarded (OnStop P) (nothing_but (always false)) (deed cave tt p) stop_rows
-      (search (effects, held_still, told_kept R, described_kept) parts 20)
+      guarded (OnStop P) (nothing_but (always false)) (deed cave tt p)
+      (noted table.Stops stop_rows) (search (effects, held_still, told_kept R, described_kept) parts 20)
 
   -- the dwarves move and the place is described
   met_kept : (p : Scene) → On (Ready (Somewhere l) P) p.state → OnStop P (meet (deed cave tt p))
   unfolding meet hit_rows
   met_kept p h =
       let r = encounter_dwarves cave p in
-      let met : On R r.scene.state = anywhere (dwarves_kept k cave p h) in
-      guarded (OnStop P) (nothing_but (always false)) (deed cave r.step r.scene) hit_rows
-      (search (met, effects, falling_kept k, described_kept) parts 20)
+      hit r.step r.scene (anywhere (dwarves_kept k cave p h))
+    where
+      hit : (b : Bool) (q : Scene) → On R q.state → OnStop P (first_fitting_or
+          (noted table.Hits hit_rows) (nothing_but (always false)) (deed cave b q))
+      hit b q g =
+          guarded (OnStop P) (nothing_but (always false)) (deed cave b q)
+          (noted table.Hits hit_rows) (search (falling_kept k, described_kept) parts 20)
 
   -- the player comes to a place, and was elsewhere before
   come_kept : (before place : ℕ) (p : Scene) → On (There P before) p.state
       → IsCalm (view p.state) → Reaches P place p.state → OnStop P (come_to cave place p)
   unfolding come_to place_rows state_with_player_at
   come_kept before place p h calm reaches =
-      guarded (OnStop P) meet (deed cave tt (scene_at_place place p)) place_rows
-      (search (nowhere, there, found, effects, held_still, told_kept R, described_kept, met_kept)
-      parts 20)
+      let dies = dying_kept k cave before in
+      guarded (OnStop P) meet (deed cave tt (scene_at_place place p))
+      (noted table.Arrival place_rows)
+      (search (dies, none, there, found, effects, held_still, told_kept R, described_kept, met_kept)
+      parts 20 depth 9)
     where
-      nowhere : (place == 0 && true) ≡ true → On P (after_die cave (scene_at_place place p)).state
-      nowhere none =
-          dying_kept k cave before (scene_at_place place p)
-          (inr (none_of place (holds_alone _ none))) h calm
+      none : (place == 0 && true) ≡ true → (place ≡ before) ⊎ (place ≡ 0)
+      none is = inr (none_of place (holds_alone _ is))
 
       there : (place == 0 && true) ≡ false → On R (scene_at_place place p).state
       there some = record { holds = reaches (fails_alone _ some); calm = calm; at = tt }
@@ -277,19 +282,20 @@ module _ {cave : CaveView} {l : Line} {Q P : Claim} (k : IsKept cave l Q P) wher
   unfolding block blocking_rows
   come_on_kept before place p h calm stays =
       guarded (λ (held : Act ℕ). OnStop P (come_to cave held.step held.scene))
-      (nothing_but new) (deed cave place p) blocking_rows
+      (nothing_but new) (deed cave place p) (noted table.Blocking blocking_rows)
       (search (panics, come_kept before, comes) parts 20)
     where
-      panics : OnStop P (come_to cave (after_panic p.state).trail.here
-          (with_state (after_panic p.state) (after_saying role.ClosingExit p)))
+      panics : (let t = after_panic p.state in
+          On (There P before) t × IsCalm (view t) × Reaches P t.trail.here t)
       panics =
           let s = p.state in
           panicked
-          (λ (t : State). OnStop P
-          (come_to cave t.trail.here (with_state t (after_saying role.ClosingExit p)))) s
-          (λ n how. come_kept before s.trail.here _
-          (k.keeps (Panics n) (record (view s) { here = before }) how h) calm
-          (λ some. k.keeps (Panics n) (view s) how (stays some)))
+          (λ (t : State). On (There P before) t × IsCalm (view t) × Reaches P t.trail.here t) s
+          (λ n how. (
+            k.keeps (Panics n) (record (view s) { here = before }) how h,
+            calm,
+            λ some. k.keeps (Panics n) (view s) how (stays some),
+          ))
 
       comes : (p.state.closing.is_closing
           && (not (place == 0) && (nat_le place (outside_place cave) && true))) ≡ false

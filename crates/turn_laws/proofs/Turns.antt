@@ -1,13 +1,12 @@
 -- What a command makes of a claim.
 use Rattle.cave_turn.specs.Commands.{after_clocks, after_puzzle, after_travel, begin_command}
 use Rattle.cave_turn.specs.Commands.{clocks_scene, command_scene, done_by_action, done_by_request}
-use Rattle.cave_turn.specs.Commands.{done_by_verb, half_command_kept, kept_scene, next_scene}
-use Rattle.cave_turn.specs.Commands.{puzzle_rows, scene_of_understood, scene_of_words}
+use Rattle.cave_turn.specs.Commands.{done_by_verb, kept_scene, next_scene, puzzle_rows}
+use Rattle.cave_turn.specs.Commands.{scene_of_understood, scene_of_words}
 use Rattle.cave_turn.specs.Finish.{end_of_turn, end_rows, hands_rows, is_hidden_in_hand}
-use Rattle.cave_turn.specs.Finish.{layout_with_object_shown, layout_with_shown_up_to}
-use Rattle.cave_turn.specs.Request.{read_words}
-use Rattle.cave_turn.specs.Revival.{come_back, fallen_place, layout_after_fall, layout_after_falls}
-use Rattle.cave_turn.specs.Revival.{reborn_rows, revival_rows, revive, without_belongings}
+use Rattle.cave_turn.specs.Finish.{layout_with_object_shown}
+use Rattle.cave_turn.specs.Revival.{come_back, fallen_place, layout_after_fall, reborn_rows}
+use Rattle.cave_turn.specs.Revival.{revival_rows, revive, without_belongings}
 use Rattle.cave_turn.specs.cave_data.CaveView.{default_message}
 use Rattle.cave_turn.specs.cave_verbs.Acting.{act}
 use Rattle.cave_turn.specs.cave_words.Words.{words_of}
@@ -17,8 +16,7 @@ use Rattle.cave_turn.specs.declared.request.HalfCommand.{HalfCommand}
 use Rattle.cave_turn.specs.declared.request.Request.{Request}
 use Rattle.cave_turn.specs.declared.request.Understood.{Understood}
 use Rattle.cave_turn.specs.turn_clocks.Clocks.{run_clocks}
-use Rattle.cave_turn.specs.turn_hints.Hints.{after_consider, after_hints_up_to}
-use Rattle.cave_turn.specs.turn_hints.Hints.{hint_rows, offer_rows, restart}
+use Rattle.cave_turn.specs.turn_hints.Hints.{after_consider, hint_rows, offer_rows}
 use Rattle.cave_turn.specs.turn_moves.Journeys.{journey_by_request}
 use Rattle.cave_turn.specs.turn_scene.Scene.{after_telling, happens}
 use Rattle.cave_turn.specs.turn_things.Effects.{with_objects}
@@ -27,30 +25,33 @@ use Rattle.cave_turn.specs.verb_commands.Verbs.{verb_of}
 use Rattle.cave_turn.specs.world_objects.Objects.{is_carried, prop_of}
 use Rattle.cave_turn.specs.turn_clocks.declared.clocks.Clocks.TheVariants as clocks
 use Rattle.cave_turn.specs.cave_world.declared.ending.Ending.TheVariants as ending_is
-use Rattle.std.specs.FinMap as map
 use Rattle.cave_turn.specs.cave_words.declared.named.Named.TheVariants as name
 use Rattle.cave_turn.specs.verb_commands.declared.next.Next.TheVariants as next_is
 use Rattle.cave_turn.specs.cave_world.declared.part.Part.TheVariants as part
 use Rattle.cave_turn.specs.cave_world.declared.ending.Question.TheVariants as question
 use Rattle.cave_turn.specs.declared.request.Request.TheVariants as request
-use Rattle.cave_turn.specs.turn_ends.Questions.{after_ask}
 use Rattle.turn_laws.specs.Laws.{before_clocks, before_lamp}
+use Rattle.turn_laws.proofs.Reading.{read_kept}
+use Rattle.cave_turn.specs.turn_ends.Questions.{with_question}
+use Rattle.std.specs.FinMap as map
 use Rattle.turn_laws.proofs.Clocks.{After, IsLampOf, clocks_kept}
-use Rattle.turn_laws.proofs.Effects.{by_guarded, fails_alone, first_holds, guarded, moved_if}
-use Rattle.turn_laws.proofs.Effects.{propped, quiet, second_holds, tests}
+use Rattle.turn_laws.proofs.Effects.{by_guarded, each_kept, each_kept_down, fails_alone}
+use Rattle.turn_laws.proofs.Effects.{first_holds, moved_if, propped, quiet, second_holds, tests}
 use Rattle.turn_laws.proofs.Moves.{arriving_kept, arriving_open, describing_kept, motion_kept}
 use Rattle.turn_laws.proofs.Places.{asking_kept, ended_kept, ending_kept, none_over}
 use Rattle.turn_laws.proofs.Verbs.{acted_kept, is_asking_apart, known}
 use Rattle.turn_laws.proofs.View.{Anywhere, Asks, Buries, Claim, IsKept, IsMoved, Line, Moves, On}
 use Rattle.turn_laws.proofs.View.{Place, Prop, Puts, Ready, Revives, Somewhere, View, anywhere}
-use Rattle.turn_laws.proofs.View.{choose, view}
-use Rattle.turn_laws.proofs.Words.{Act, Bool, CaveView, Clocks, Deed, LAMP_OFF, List, Next, None}
+use Rattle.turn_laws.proofs.View.{choose, view, with_death}
+use Rattle.turn_laws.proofs.Words.{Bool, CaveView, Clocks, Deed, LAMP_OFF, Layout, List, Next, None}
 use Rattle.turn_laws.proofs.Words.{Option, Question, Scene, Some, State, UNSEEN, Verb, after_all}
-use Rattle.turn_laws.proofs.Words.{after_draw, after_look_at, arith, building_place, by_table, deed}
-use Rattle.turn_laws.proofs.Words.{drop, false, inl, is_in_hand, is_some, next_of_step, not}
-use Rattle.turn_laws.proofs.Words.{nothing_but, refl, set_prop, subst, suc, sym, the, thing, true}
-use Rattle.turn_laws.proofs.Words.{true≢false, with_one_death, with_state, without_question, zero}
-use Rattle.turn_laws.proofs.Words.{ℕ, ℤ, ◌&&◌, ◌+◌, ◌-ℤ◌, ◌==◌, ◌||◌, ◌≡◌}
+use Rattle.turn_laws.proofs.Words.{after_draw, after_look_at, arith, building_place, by_table}
+use Rattle.turn_laws.proofs.Words.{change, deed, drop, false, inl, is_some, nat_le, next_of_step}
+use Rattle.turn_laws.proofs.Words.{not, noted, refl, set_prop, sym, the, true, with_one_death}
+use Rattle.turn_laws.proofs.Words.{with_state, without_question, ℕ, ℤ, ◌&&◌, ◌-ℤ◌, ◌==◌, ◌||◌, ◌≡◌}
+use Rattle.cave_turn.specs.rule_rows.declared.tables.Table.TheVariants as table
+use Rattle.cave_turn.specs.turn_rules.Tests.{in_hand}
+use Rattle.cave_turn.specs.turn_rules.Effects.{for_each_from}
 
 -- what doesn't hold not doesn't hold
 not_so : (b : Bool) → not b ≡ true → b ≡ false
@@ -58,29 +59,22 @@ not_so b h = grind (arith, h)
 
 -- objects that are shown, or that fall, one after another
 module _ (P : Claim) (moves : IsMoved P) where
-  pub shown_up_to_kept : (m : ℕ) (v : View) → P v
-      → P (record v { objects = layout_with_shown_up_to m v.objects })
-  unfolding layout_with_shown_up_to layout_with_object_shown
-  shown_up_to_kept zero v h = h
-  shown_up_to_kept (suc m) v h =
-      let o = layout_with_shown_up_to m v.objects in let x = suc m in
-      moved_if P moves (is_hidden_in_hand o x) (Prop x (UNSEEN -ℤ prop_of o x))
-      (record v { objects = o }) (shown_up_to_kept m v h)
+  shown_kept : (v : View) → P v
+      → P (record v { objects = for_each_from 1 100 layout_with_object_shown v.objects })
+  unfolding layout_with_object_shown
+  shown_kept v h =
+      each_kept (λ (o : Layout). P (record v { objects = o })) 1 100 layout_with_object_shown
+      (λ x o g. moved_if P moves (is_hidden_in_hand o x) (Prop x (UNSEEN -ℤ prop_of o x))
+      (record v { objects = o }) g) v.objects h
 
-  fallen_kept : (cave : CaveView) (place m : ℕ) (v : View) → P v
-      → P (record v { objects = layout_after_falls cave place m v.objects })
-  unfolding layout_after_falls layout_after_fall
-  fallen_kept cave place zero v h = h
-  fallen_kept cave place (suc m) v h =
-      let x = suc m in
-      fallen_kept cave place m _
-      (moved_if P moves (is_carried v.objects x) (Place x (fallen_place cave place x)) v h)
-
-  pub left_kept : (cave : CaveView) (s : State) (v : View) → v.objects ≡ s.objects → P v
+  left_kept : (cave : CaveView) (s : State) (v : View) → v.objects ≡ s.objects → P v
       → P (record v { objects = (without_belongings cave s).objects })
-  unfolding without_belongings
+  unfolding without_belongings layout_after_fall
   left_kept cave s v same h =
-      fallen_kept cave s.trail.older 100 (record v { objects = s.objects }) (rw (sym same) h)
+      each_kept_down (λ (o : Layout). P (record v { objects = o })) 100
+      (layout_after_fall cave s.trail.older)
+      (λ x o g. moved_if P moves (is_carried o x) (Place x (fallen_place cave s.trail.older x))
+      (record v { objects = o }) g) s.objects (rw (sym same) h)
 
 -- what is kept of a command for the next one
 settled_kept : (P : Claim) (o : Option HalfCommand) (x : ℕ) (p : Scene) → On P p.state
@@ -98,37 +92,41 @@ module _ {cave : CaveView} {l : Line} {Q P : Claim} (k : IsKept cave l Q P) wher
 
   -- a hint is offered only where nothing is over
   offered_kept : (i : ℕ) (p : Scene) → is_some (map.get cave.hints i) ≡ true → On P p.state
-      → On P (by_table offer_rows (deed cave i p)).scene.state
+      → On P (by_table table.Offers offer_rows (deed cave i p)).scene.state
   unfolding offer_rows takes_no_command
-  offered_kept i p known h = by_guarded P (deed cave i p) offer_rows (search due parts 20)
+  offered_kept i p known h =
+      by_guarded P (deed cave i p) (noted table.Offers offer_rows)
+      (search (asking_kept P, due) parts 20)
     where
       due : (stays more : Bool)
           → (stays && (not (is_some p.state.question || is_some p.state.ending) && more)) ≡ true
-          → On P (after_ask cave (question.Hint i) (restart (deed cave i p)).scene).state
+          → On P (with_question (question.Hint i) p.state)
       due stays more fit =
           let none = not_so _ (first_holds _ more (second_holds stays _ fit)) in
           let calm = none_over p.state.question p.state.ending none in
-          asking_kept P cave (question.Hint i) (restart (deed cave i p)).scene
-          (k.keeps (Asks (question.Hint i)) (view p.state) (refl, calm, known) h)
+          k.keeps (Asks (question.Hint i)) (view p.state) (refl, calm, known) h
 
-  hints_kept : (n : ℕ) (p : Scene) → On P p.state → On P (after_hints_up_to cave n p).state
-  unfolding after_hints_up_to after_consider hint_rows
-  hints_kept zero p h = h
-  hints_kept (suc n) p h =
-      by_guarded P (deed cave (n + 4) (after_hints_up_to cave n p)) hint_rows
-      (search (hints_kept n p h, offered_kept, tests) parts 20)
+  hints_kept : (p : Scene) → On P p.state
+      → On P (for_each_from 4 17 (after_consider cave) p).state
+  unfolding after_consider hint_rows
+  hints_kept p h =
+      each_kept (λ (q : Scene). On P q.state) 4 17 (after_consider cave)
+      (λ i q g. by_guarded P (deed cave i q) hint_rows (search (g, offered_kept, tests) parts 20))
+      p h
 
   -- what is in the hands is shown
-  hands_kept : (d : Deed (Unit {0})) → On P d.scene.state → On P (by_table hands_rows d).scene.state
+  hands_kept : (d : Deed (Unit {0})) → On P d.scene.state
+      → On P (by_table table.Hands hands_rows d).scene.state
   unfolding hands_rows
-  hands_kept d h = quiet P hands_rows (search (looked, all_shown) parts 20) d h
+  hands_kept d h =
+      quiet P (noted table.Hands hands_rows) (search (looked, all_shown) parts 20) d h
     where
       looked : (x : ℕ) (w : ℤ) (p : Scene) → On P p.state → On P (after_look_at x w p).state
       looked x w p h = choose (λ (q : Scene). On P q.state) (x == 0) p _ (λ _. h) (λ _. h)
 
       all_shown : (s : State) → On P s
-          → On P (with_objects (layout_with_shown_up_to 100 s.objects) s)
-      all_shown s h = shown_up_to_kept P moves 100 (view s) h
+          → On P (with_objects (for_each_from 1 100 layout_with_object_shown s.objects) s)
+      all_shown s h = shown_kept P moves (view s) h
 
   pub finished_kept : (p : Scene) → On P p.state → On P (end_of_turn cave p).state
   unfolding end_of_turn end_rows
@@ -163,7 +161,8 @@ module _ {cave : CaveView} {l : Line} {Q P : Claim} (k : IsKept cave l Q P) wher
       → On P (done_by_request cave r p).scene.state
   unfolding after_travel after_puzzle puzzle_rows
   done_kept request.Unknown p h =
-      quiet P puzzle_rows (search parts 20) (deed cave (happens 20 p) (after_draw p)) h.holds
+      quiet P (noted table.UnknownWord puzzle_rows) (search parts 20)
+      (deed cave (happens 20 p) (after_draw p)) h.holds
   done_kept (request.Motion motion) p h =
       let j = journey_by_request cave motion p in
       arriving_kept k j.step j.scene (motion_kept k motion p (anywhere h))
@@ -176,10 +175,7 @@ module _ {cave : CaveView} {l : Line} {Q P : Claim} (k : IsKept cave l Q P) wher
   carried_out_kept : (u : Understood) (p : Scene) → On (Ready Here P) p.state
       → On P (scene_of_understood cave u p).state
   unfolding scene_of_understood
-  carried_out_kept u p h =
-      let done = done_by_request cave u.request p in
-      let kept = half_command_kept u.request done.step u.half in
-      settled_kept P kept u.half.object done.scene (done_kept u.request p h)
+  carried_out_kept u p h = settled_kept P _ _ _ (done_kept u.request p h)
 
   -- the words of a line are done
   done_for_kept : (words : Words) (p : Scene) → On (Ready Here P) p.state
@@ -189,7 +185,7 @@ module _ {cave : CaveView} {l : Line} {Q P : Claim} (k : IsKept cave l Q P) wher
       by_first : (o : Option (List ℕ))
           → On P (scene_of_words cave o words.second p).state
       by_first None = h.holds
-      by_first (Some word) = carried_out_kept (read_words cave word words.second p) p h
+      by_first (Some word) = carried_out_kept _ _ (read_kept k _ h)
 
   -- what the clocks leave of a command
   after_clocks_kept : (words : Words) (before : ℕ) (o : Clocks) (p : Scene)
@@ -215,6 +211,24 @@ module _ {cave : CaveView} {l : Line} {Q P : Claim} (k : IsKept cave l Q P) wher
       finished_kept (clocks_scene cave words p)
       (after_clocks_kept words after.0 t.step t.scene after.1)
 
+  -- a player who died, and whose death was counted, may come back, or is dead for good
+  abbrev pub Mourned : Claim
+  Mourned v =
+      (nat_le 3 v.tallies.deaths ≡ false
+      → Ready Anywhere P (record v { here = building_place cave }))
+      × P (record v { ending = Some ending_is.Killed })
+
+  pub mourned : l.is_lit ≡ false → (s : State) → s.question ≡ Some question.Die
+      → s.ending ≡ None → On Q s → On Mourned (with_one_death (without_question s))
+  mourned unlit s asked goes h = (
+    (λ few. record {
+      holds = k.keeps Revives (view s) (few, asked, goes, unlit) h;
+      calm = (refl, goes);
+      at = tt;
+    }),
+    k.keeps (Buries ending_is.Killed) (view s) (asked, goes, unlit) h,
+  )
+
   -- a player is back, without what was carried
   returned_kept : (p : Scene)
       → On (Ready Anywhere P) (with_player_from (building_place cave) p.state)
@@ -229,45 +243,22 @@ module _ {cave : CaveView} {l : Line} {Q P : Claim} (k : IsKept cave l Q P) wher
         at = tt;
       })
 
-  -- a player who died comes back, or not
-  revived_kept : l.is_lit ≡ false → (p r : Scene) → p.state.question ≡ Some question.Die
-      → p.state.ending ≡ None → On Q p.state
-      → (let e = with_state (with_one_death (without_question p.state)) r in
-      On P (by_table revival_rows (deed cave question.Die e)).scene.state)
-  unfolding revival_rows revive
-  revived_kept unlit p r asked goes h =
-      let e = with_state (with_one_death (without_question p.state)) r in
-      let d = deed cave question.Die e in let lamp = thing cave name.Lamp in
-      by_guarded P d revival_rows (
-        (λ _. ended_kept P cave ending_is.Killed e
-            (k.keeps (Buries ending_is.Killed) (view p.state) (asked, goes, unlit) h)),
-        λ few.
-            let back : On (Ready Anywhere P) (with_player_from (building_place cave) e.state) =
-            record {
-              holds = k.keeps Revives (view p.state) (fails_alone _ few, asked, goes, unlit) h;
-              calm = (refl, goes);
-              at = tt;
-            } in (
-              (λ _. choose (λ (f : Deed Question). On P (after_all (drop 1 revive) f).scene.state)
-                  (is_in_hand cave e.state lamp) (set_prop (the name.Lamp) LAMP_OFF d) d
-                  (λ _. returned_kept _ (propped k lamp LAMP_OFF back))
-                  (λ _. returned_kept e back)),
-              λ never. absurd (true≢false never),
-            ),
-      )
+  revived_kept : (p : Scene) → (nat_le 3 p.state.tallies.deaths && true) ≡ false
+      → On Mourned p.state → On P (after_all revive (deed cave question.Die p)).scene.state
+  unfolding revive
+  revived_kept p few h =
+      let d = deed cave question.Die p in let lamp = the name.Lamp in
+      let back = h.0 (fails_alone _ few) in
+      choose (λ (e : Deed Question). On P (after_all (drop 1 revive) e).scene.state)
+      (in_hand lamp d) (set_prop lamp LAMP_OFF d) d
+      (λ _. returned_kept _ (propped k _ LAMP_OFF back)) (λ _. returned_kept p back)
 
-  pub reborn_kept : l.is_lit ≡ false → (p : Scene) → p.state.question ≡ Some question.Die
-      → p.state.ending ≡ None → On Q p.state
-      → (let q = with_state (without_question p.state) p in
-      On P (after_all come_back (deed cave question.Die q)).scene.state)
-  unfolding come_back reborn_rows
-  reborn_kept unlit p asked goes h =
-      let d = deed cave question.Die (with_state (without_question p.state) p) in
-      let e = by_table reborn_rows d in
-      let same : e.scene.state ≡ d.scene.state =
-      guarded (λ (a : Act (Unit {0})). a.scene.state ≡ d.scene.state) (nothing_but (λ e. tt)) d
-      reborn_rows (search parts 20) in
-      subst
-      (λ (s : State). On P (by_table revival_rows
-      (deed cave question.Die (with_state (with_one_death s) e.scene))).scene.state)
-      (sym same) (revived_kept unlit p e.scene asked goes h)
+  pub reborn_kept : (p : Scene) → On Mourned (with_one_death p.state)
+      → On P (after_all come_back (deed cave question.Die p)).scene.state
+  unfolding come_back reborn_rows revival_rows
+  reborn_kept p h =
+      let e = by_table table.Reborn reborn_rows (deed cave question.Die p) in
+      let told = quiet (λ v. Mourned (record v { tallies = with_death v.tallies }))
+      (noted table.Reborn reborn_rows) (search parts 20) (deed cave question.Die p) h in
+      by_guarded P (change with_one_death e) (noted table.Revival revival_rows)
+      (search (ended_kept P, revived_kept, told) parts 20)

@@ -9,17 +9,16 @@ use Rattle.cave_turn.specs.cave_verbs.Feeding.{bare_eat_rows, eat_rows, feed_row
 use Rattle.cave_turn.specs.cave_verbs.Finding.{bare_inventory_rows, find_rows}
 use Rattle.cave_turn.specs.cave_verbs.Killing.{bare_kill_rows, kill_rows}
 use Rattle.cave_turn.specs.cave_verbs.Light.{off_rows, on_rows}
-use Rattle.cave_turn.specs.cave_verbs.Magic.{bare_foo_rows, send_eggs_home}
+use Rattle.cave_turn.specs.cave_verbs.Magic.{bare_foo_rows, eggs_sight, send_eggs_home}
 use Rattle.cave_turn.specs.cave_verbs.Opening.{bare_open_rows, chain_rows, lock_rows, open_rows}
 use Rattle.cave_turn.specs.cave_verbs.Pouring.{bare_fill_rows, drink_rows, fill_rows, pour_rows}
 use Rattle.cave_turn.specs.cave_verbs.Reading.{bare_read_rows, read_rows}
 use Rattle.cave_turn.specs.cave_verbs.Small.{bare_brief_rows, bare_quit_rows, bare_rows}
 use Rattle.cave_turn.specs.cave_verbs.Small.{bare_score_rows, nothing_rows, other_rows}
 use Rattle.cave_turn.specs.cave_verbs.Taking.{bare_take_rows, take_freely_rows, take_rows}
-use Rattle.cave_turn.specs.cave_verbs.Throwing.{axe_rows, strike, throw_rows}
+use Rattle.cave_turn.specs.cave_verbs.Throwing.{axe_rows, throw_rows, without_first_at}
 use Rattle.cave_turn.specs.cave_verbs.Waving.{rub_rows, wave_rows}
-use Rattle.cave_turn.specs.turn_rules.Tests.{dwarf}
-use Rattle.cave_turn.specs.turn_things.Reach.{is_dwarf_here}
+use Rattle.cave_turn.specs.turn_things.Reach.{is_dwarf_at, is_dwarf_here}
 use Rattle.cave_turn.specs.verb_commands.Rows.{VerbRow, first_fitting, going_on, stays}
 use Rattle.cave_turn.specs.verb_commands.declared.command.Command.{Command}
 use Rattle.cave_turn.specs.verb_commands.declared.next.Next.TheVariants.{Ask}
@@ -28,17 +27,21 @@ use Rattle.cave_turn.specs.verb_commands.declared.next.Step.TheVariants.{Done, G
 use Rattle.cave_turn.specs.world_objects.Objects.{after_carry, with_prop}
 use Rattle.cave_turn.specs.cave_world.declared.ending.Question.TheVariants as question
 use Rattle.cave_turn.specs.verb_commands.declared.verb.Verb.TheVariants as verb
+use Rattle.turn_laws.proofs.Words.{Act, Bool, CaveView, Closing, Deed, Dwarf, Ending, Layout, List}
+use Rattle.turn_laws.proofs.Words.{Next, Option, Question, Scene, Tallies, Verb, [], arith}
+use Rattle.turn_laws.proofs.Words.{carried_objects, deed, drop, false, length, min, nat_le}
+use Rattle.turn_laws.proofs.Words.{next_of_step, noted, nothing_but, refl, suc, true, true≢false}
+use Rattle.turn_laws.proofs.Words.{zero, ℕ, ℤ, ◌&&◌, ◌+◌, ◌-◌, ◌==◌, ◌∷◌, ◌≡◌, ◌≤◌}
+use Rattle.turn_laws.proofs.Effects.{LeadRows, Leads, Left, banded, banded_as, effects, first_holds}
+use Rattle.turn_laws.proofs.Effects.{first_leads, guarded, propped, second_holds, shown}
+use Rattle.std.specs.List.{list_any}
+use Rattle.cave_turn.specs.rule_rows.declared.tables.Table.TheVariants as table
 use Rattle.turn_laws.specs.Reachable.{IsKnown}
 use Rattle.turn_laws.proofs.Counted.{room, room_still, struck}
-use Rattle.turn_laws.proofs.Effects.{LeadRows, Leads, Left, banded, effects, first_holds}
-use Rattle.turn_laws.proofs.Effects.{first_leads, guarded, placed, propped, second_holds, shown}
 use Rattle.turn_laws.proofs.View.{Band, Claim, HasRoom, IsKept, Line, On, Ready, Somewhere, Takes}
-use Rattle.turn_laws.proofs.View.{View, after_taking, choose, is_die, view}
-use Rattle.turn_laws.proofs.Words.{Act, Bool, CaveView, Closing, Deed, Ending, Layout, List, Next}
-use Rattle.turn_laws.proofs.Words.{Option, Question, Scene, Tallies, Verb, [], arith}
-use Rattle.turn_laws.proofs.Words.{carried_objects, deed, drop, false, length, nat_le}
-use Rattle.turn_laws.proofs.Words.{next_of_step, nothing_but, refl, suc, true, true≢false, zero, ℕ}
-use Rattle.turn_laws.proofs.Words.{ℤ, ◌&&◌, ◌==◌, ◌∷◌, ◌≡◌, ◌≤◌}
+use Rattle.turn_laws.proofs.View.{View, after_taking, choose, is_die}
+use Rattle.cave_turn.specs.turn_things.Effects.{after_loss_to_snake, let_go, put_down}
+use Rattle.cave_turn.specs.turn_things.Effects.{without_troll}
 
 -- a question is whether to come back, or about a hint
 abbrev pub is_apart : Question → Bool
@@ -106,60 +109,45 @@ module _ {game : CaveView} {l : Line} {Q P : Claim} (k : IsKept game l Q P) wher
         taken (shown n (with_prop o z w) q c t b h a e) (x ∷ y ∷ []) (omega arith)
         (room_still o z w (room _ free)) (propped k z w r)
 
-  taken_kept : Keep (first_fitting take_rows)
+  -- a dwarf that is here is killed
+  killed : {n : ℕ} {o : Layout} {q : ℤ} {c : Closing} {t : Tallies} {h : List Bool}
+      {a : Option Question} {e : Option Ending} (g m : ℕ) (w : List Dwarf) (rest : Bool)
+      → ((nat_le 2 g && list_any (is_dwarf_at n) (first_of 5 w)) && rest) ≡ true
+      → Ready Here P (shown n o q c t (banded_as g m w) h a e)
+      → Ready Here P
+      (shown n o q c t (banded_as g (min (m + 1) 60000) (without_first_at n w)) h a e)
+  killed {n = n} g m w rest fit r =
+      banded k _ _
+      (struck n (banded_as g m w) (second_holds (nat_le 2 g) _ (first_holds _ rest fit))) r
+
+  -- from the row on that fits full hands it is known that they aren't full
+  taken_kept : Keep (first_fitting (noted table.Take take_rows))
   unfolding take_rows take_freely_rows
   taken_kept d h =
-      first_leads (Ready Here P) (Ready Here P) Spared (first_of 9 take_rows)
-      (first_fitting (drop 9 take_rows)) (search tables parts 60)
-      (λ e g. guarded (Left (Ready Here P) Spared) (nothing_but stays) e (drop 9 take_rows)
+      let rows = noted table.Take take_rows in
+      let before = length take_rows - (length take_freely_rows + 1) in
+      first_leads (Ready Here P) (Ready Here P) Spared (first_of before rows)
+      (first_fitting (drop before rows)) (search tables parts 60)
+      (λ e g. guarded (Left (Ready Here P) Spared) (nothing_but stays) e (drop before rows)
       (search (tables, took, took_both, tamed) depth 30)) d h
-
-  -- a dwarf that is here is struck
-  struck_kept : (d : Deed Command) (rest : Bool) → (dwarf d && rest) ≡ true
-      → On (Ready Here P) d.scene.state → On (Ready Here P) (strike d).scene.state
-  unfolding is_dwarf_here
-  struck_kept d rest fit h =
-      let s = d.scene.state in
-      banded k (view s) _
-      (struck s.trail.here (view s).band
-      (second_holds (nat_le 2 s.dwarves.anger) _ (first_holds (dwarf d) rest fit))) h
-
-  axe_kept : Keep (first_fitting axe_rows)
-  unfolding axe_rows
-  axe_kept d h =
-      first_leads (Ready Here P) (Ready Here P) Spared (first_of 1 axe_rows)
-      (first_fitting (drop 1 axe_rows)) (search tables parts 20)
-      (λ e g. guarded (Left (Ready Here P) Spared) (first_fitting (drop 3 axe_rows)) e
-      (first_of 2 (drop 1 axe_rows)) (
-        (λ fit. (placed k _ _ (struck_kept e _ fit g), refl)),
-        λ _. (
-          (λ fit. (placed k _ _ (struck_kept e _ fit g), refl)),
-          λ _. by_rows (drop 3 axe_rows) (search tables parts 60) e g,
-        ),
-      )) d h
-
-  thrown_kept : Keep (first_fitting throw_rows)
-  unfolding throw_rows
-  thrown_kept d h =
-      first_leads (Ready Here P) (Ready Here P) Spared (first_of 5 throw_rows)
-      (first_fitting axe_rows) (search tables parts 60) axe_kept d h
 
   -- the rows of verbs without an object
   bare_kept : (v : Verb) → KeepRows Here P (rows_of v).0
   unfolding bare_brief_rows bare_eat_rows bare_fill_rows bare_foo_rows bare_inventory_rows
       bare_kill_rows bare_open_rows bare_quit_rows bare_read_rows bare_rows bare_score_rows
       bare_take_rows blast_rows drink_rows nothing_rows off_rows on_rows pour_rows send_eggs_home
+      eggs_sight
   bare_kept verb.Take = search tables parts 60
-  bare_kept _ = search tables parts 60
+  bare_kept _ = search tables parts 60 depth 9
 
   -- what verbs do to an object
   object_kept : (v : Verb) → Keep (first_fitting (rows_of v).1)
   unfolding blast_rows break_rows drink_rows drop_rows eat_rows feed_rows fill_rows find_rows
       kill_rows nothing_rows off_rows on_rows open_rows other_rows pour_rows read_rows rub_rows
-      wake_rows wave_rows lock_rows chain_rows
+      wake_rows wave_rows lock_rows chain_rows throw_rows axe_rows is_dwarf_here after_loss_to_snake
+      let_go put_down without_troll
   object_kept verb.Take d h = taken_kept d h
-  object_kept verb.Throw d h = thrown_kept d h
-  object_kept v d h = by_rows (rows_of v).1 (search tables parts 60) d h
+  object_kept v d h = by_rows (rows_of v).1 (search (tables, killed) parts 60 depth 14 fits 4000) d h
 
   -- a verb by its own rules
   once_kept : Keep act_once

@@ -29,11 +29,11 @@ pub use Rattle.cave_turn.specs.turn_clocks.FirstClock.{dismissed_dwarf}
 pub use Rattle.cave_turn.specs.turn_clocks.declared.clocks.Clocks.{Clocks}
 pub use Rattle.cave_turn.specs.turn_ends.Endings.{with_ending, with_one_death}
 pub use Rattle.cave_turn.specs.turn_ends.Questions.{is_dragon}
-pub use Rattle.cave_turn.specs.turn_moves.Ways.{fall}
+pub use Rattle.cave_turn.specs.turn_moves.Ways.{die_at}
 pub use Rattle.cave_turn.specs.turn_rules.Effects.{change, say, set_prop, when, with_charge}
 pub use Rattle.cave_turn.specs.turn_rules.Rows.{Act, Deed, after_all, after_drawing, all_hold}
-pub use Rattle.cave_turn.specs.turn_rules.Rows.{always}
-pub use Rattle.cave_turn.specs.turn_rules.Rows.{by_table, deed, first_fitting_or, nothing_but}
+pub use Rattle.cave_turn.specs.turn_rules.Rows.{always, by_rows, by_table, deed, first_fitting_or}
+pub use Rattle.cave_turn.specs.turn_rules.Rows.{noted, noted_from, nothing_but}
 pub use Rattle.cave_turn.specs.turn_rules.Tests.{anger, here, in_the_depths, no, nowhere, the}
 pub use Rattle.cave_turn.specs.turn_scene.Scene.{Scene, after_draw, after_look_at, after_saying}
 pub use Rattle.cave_turn.specs.turn_scene.Scene.{thing, with_state}

@@ -7,7 +7,8 @@ use Rattle.std.proofs.lemmas.List.{length-replicate, length-set}
 use Rattle.std.proofs.lemmas.Map.Views.{any-filter_same}
 use Rattle.std.specs.Prelude.{None, Option, Some, if◌then◌else◌, not, ◌&&◌, ◌==◌}
 use Rattle.turn_begin.proofs.Begun.{begun_is}
-use Rattle.turn_begin.specs.Begin.{after_hiding_all, after_placing, after_placing_all, start_order}
+use Rattle.turn_begin.specs.Begin.{start_order}
+use Rattle.turn_begin.specs.Placing.{after_hiding_all, after_placing, after_placing_all}
 use Rattle.turn_begin.specs.turn_things.cave_data.CaveView.{CaveView}
 use Rattle.turn_begin.specs.turn_things.Treasures.{known_treasures}
 use Rattle.world_objects.proofs.Places.{halves_at-after_relist}

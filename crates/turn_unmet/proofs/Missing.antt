@@ -10,7 +10,8 @@ use Rattle.turn_moves.specs.Squeeze.{squeeze_rows, squeeze_through}
 use Rattle.turn_moves.specs.turn_ends.Endings.{class_rows}
 use Rattle.turn_moves.specs.turn_ends.data_rows.declared.place_role.PlaceRole.TheVariants as place
 use Rattle.turn_moves.specs.turn_ends.turn_rules.Rows.{Act, Deed, Row, act_of_row, after_trying}
-use Rattle.turn_moves.specs.turn_ends.turn_rules.Rows.{always, first_fitting_or, fits, nothing_but}
+use Rattle.turn_moves.specs.turn_ends.turn_rules.Rows.{always, first_fitting_or, fits, noted, nothing_but}
+use Rattle.turn_moves.specs.turn_ends.rule_rows.declared.tables.Table.TheVariants as table
 use Rattle.turn_moves.specs.turn_ends.turn_rules.Tests.{cave_closed, is_bound, no}
 use Rattle.turn_unmet.specs.Missing.{ClosesBetweenPlaces, LackedHintsComeToNothing}
 use Rattle.turn_unmet.specs.Missing.{NoClassWantsPoints, NoWayHasAnEnd}
@@ -54,7 +55,7 @@ follows Q or_else d (r ∷ rows) each =
 pub closes_between_places : ClosesBetweenPlaces
 unfolding tick_clocks clock_rows
 closes_between_places d closed =
-    follows Bound (always false) d clock_rows (
+    follows Bound (always false) d (noted table.Clocks clock_rows) (
       (λ _. unbound),
       (
         (λ _. unbound),

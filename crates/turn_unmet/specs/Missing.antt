@@ -11,15 +11,16 @@ use Rattle.turn_moves.specs.turn_ends.cave_data.CaveView.{CaveView}
 use Rattle.turn_moves.specs.turn_ends.data_rows.declared.place_role.PlaceRole.TheVariants as place
 use Rattle.turn_moves.specs.turn_ends.data_rows.declared.role.Role.TheVariants as role
 use Rattle.turn_moves.specs.turn_ends.turn_rules.Effects.{say}
-use Rattle.turn_moves.specs.turn_ends.turn_rules.Rows.{Deed, by_table, deed}
+use Rattle.turn_moves.specs.turn_ends.turn_rules.Rows.{Deed, by_table, deed, note_row}
 use Rattle.turn_moves.specs.turn_ends.turn_rules.Tests.{is_bound}
-use Rattle.turn_moves.specs.turn_ends.turn_scene.Scene.{Scene, after_saying}
+use Rattle.turn_moves.specs.turn_ends.turn_scene.Scene.{Scene, after_row, after_saying}
+use Rattle.turn_moves.specs.turn_ends.rule_rows.declared.tables.Table.TheVariants as table
 
 -- a hint isn't waited for, has no price and gives nothing
 pub record ComesToNothing (cave : CaveView) (hint : ℕ) (p : Scene) : Type 0 where
   pub wait : after_consider cave hint p ≡ p
-  pub price : (by_table price_rows (deed cave hint p)).scene ≡ p
-  pub gift : (by_table give_rows (deed cave hint p)).scene ≡ p
+  pub price : (by_table table.HintPrice price_rows (deed cave hint p)).scene ≡ p
+  pub gift : (by_table table.HintGiven give_rows (deed cave hint p)).scene ≡ p
 
 -- so it is with a hint that the cave lacks
 abbrev pub LackedHintsComeToNothing : Type 0
@@ -30,16 +31,17 @@ LackedHintsComeToNothing =
 -- no points are wanted where the score has no class
 abbrev pub NoClassWantsPoints : Type 0
 NoClassWantsPoints =
-    (d : Deed (Unit {0})) → class_now d ≡ None → by_table class_rows d ≡ say role.OffScale d
+    (d : Deed (Unit {0})) → class_now d ≡ None
+    → by_table table.Classes class_rows d ≡ say role.OffScale (note_row table.Classes 3 d)
 
 -- the player stays where the narrow passage, or the bridge, leads nowhere
 pub record NoWayHasAnEnd : Type 0 where
   pub passage :
       (d : Deed (Unit {0})) → squeeze d ≡ None
-      → squeeze_through d ≡ staying (after_saying role.NoWay d.scene)
+      → squeeze_through d ≡ staying (after_saying role.NoWay (after_row table.Squeeze 1 d.scene))
   pub crossing :
       (d : Deed (Unit {0})) → bridge d ≡ None
-      → cross_bridge d ≡ staying (after_saying role.NoWay d.scene)
+      → cross_bridge d ≡ staying (after_saying role.NoWay (after_row table.Bridge 1 d.scene))
 
 -- the cave is closed only where both ends of the repository are places
 abbrev pub ClosesBetweenPlaces : Type 0
