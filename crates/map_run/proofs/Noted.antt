@@ -11,7 +11,7 @@ use Rattle.play_logs.specs.replay_edits.Edit.{game_of}
 -- the map of the games of logs is that of the logs
 pub mapped-reported : (database bindings : List ℕ) (logs : List (List ℕ)) (seed : ℕ)
     (output : List ℕ)
-    → IsReported (λ cave (_ : Unit {0}) games. map_of_games cave games) database bindings logs seed
+    → IsReported (λ _ cave (_ : Unit {0}) games. map_of_games cave games) database bindings logs seed
     tt
     output
     → IsMapped database bindings logs seed output

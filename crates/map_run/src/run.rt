@@ -42,7 +42,7 @@ impl PlayNotes for Stops {
 
     ghost AreNotesOn = { λ cave games stops. stops ≡ flat_map (stops_in cave) games };
 
-    ghost report_on = { λ cave _ games. map_of_games cave games };
+    ghost report_on = { λ _ cave _ games. map_of_games cave games };
 
     fn none(alloc: Global) -> Result<Stops, AllocError> {
         Ok(Stops {
@@ -61,6 +61,7 @@ impl PlayNotes for Stops {
     fn push_report(
         &self,
         alloc: Global,
+        _database: &[u8],
         cave: &Cave,
         _view: (),
         logs: usize,

@@ -20,3 +20,4 @@ pub mod LabelLaws
 pub mod Emeralds
 pub mod Passed
 pub mod Begun
+pub mod Tries
