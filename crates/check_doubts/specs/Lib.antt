@@ -8,4 +8,5 @@ pub mod Messages
 pub mod Places
 pub mod Treasures
 pub mod Ways
+pub mod WayLines
 pub mod Words

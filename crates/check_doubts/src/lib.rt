@@ -2,6 +2,7 @@
 #![tactic(auto)]
 
 pub mod bound;
+pub mod by_line;
 pub mod cave_doubts;
 mod classes;
 pub mod flaw;
@@ -15,6 +16,7 @@ mod treasures;
 mod ways;
 mod words;
 
+pub use by_line::{WayLine, way_lines};
 pub use cave_doubts::doubts;
 pub use flaw::{Doubt, Flaw, Source};
 pub use listing::{DoubtFiles, push_doubts};

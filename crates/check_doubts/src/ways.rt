@@ -111,7 +111,7 @@ fn may_be_taken(before: &[Row], row: &Row) -> bool
 }
 
 /// Which of a place's ways a row is, by the rows before it.
-fn way_index(place: u16, before: &[MarkedRow]) -> usize
+pub(crate) fn way_index(place: u16, before: &[MarkedRow]) -> usize
     ensures { result ≡ way_index place before.now }
 {
     before.iter().filter(|row| row.is_way_from(place)).count()
