@@ -11,7 +11,7 @@ use anyhow::Result;
 use cave_data::Cave;
 use cave_play::CaveMachine;
 use cave_replay::{Edit, LineText, Session};
-use cave_turn::{Rules, max_score, score, start, turn};
+use cave_turn::{Rules, Unnoted, max_score, score, start, turn};
 use cave_verbs::{Command, Scene, Verb, act};
 use cave_words::{Lexicon, Meter, Steps, check_line};
 use cave_world::{Object, Out, Place, State};
@@ -44,7 +44,12 @@ fn take_lamp(rt: &HostRuntime, rules: &Rules<'_>, state: &mut State) -> Result<(
     let mut out = Out::new();
     if let Some(word) = rules.words_of(b"lamp").first {
         let take = Command::of(Verb::Take, lamp, word);
-        act(rules, take, &mut Scene::open(state, &mut out, false));
+        let mut notes = Unnoted::new();
+        act(
+            rules,
+            take,
+            &mut Scene::open(state, &mut out, &mut notes, false),
+        );
     }
     tell(rt, rules.cave, out.as_slice(), 1)
 }

@@ -1,8 +1,9 @@
 -- Which run the words ask for, and why they are refused.
 use Rattle.std.specs.Prelude.{◌≡◌, ◌≢◌, ◌⊎◌, ◌&&◌, ◌||◌, ℕ, Bool, true, false, bytes_eq, is_some}
-use Rattle.std.specs.Prelude.{List, [], Option, Some, None, option_map, unwrap_or, map, codes, Result}
-use Rattle.std.specs.Prelude.{MatchResult, nat_lt, nat_le, length, if◌then◌else◌}
+use Rattle.std.specs.Prelude.{List, [], Option, Some, None, option_map, unwrap_or, map, codes}
+use Rattle.std.specs.Prelude.{Result, MatchResult, nat_lt, nat_le, length, if◌then◌else◌}
 use Rattle.std.specs.Option.{option_map_or}
+use Rattle.std.specs.List.{list_all}
 use Rattle.clap.specs.Words.{IsAmong, Kinds, Row, all_of, first_of, found_of, kind_of, rows_of}
 use Rattle.clap.specs.Words.{HasKind, fault_of, subcommand_of, subcommand_rows_of}
 use Rattle.clap.specs.declared.error.Error.{Error}
@@ -11,26 +12,26 @@ use Rattle.clap.specs.declared.error.kind.ErrorKind.TheVariants.{DisplayHelp, Di
 use Rattle.clap.specs.declared.error.kind.ErrorKind.TheVariants.{OutOfMemory, UnknownArgument}
 use Rattle.clap.specs.declared.parser.matches.ArgMatches.{ArgMatches}
 use Rattle.play_command.specs.BelowZero.{seed_below_zero}
+use Rattle.play_command.specs.declared.fault.CommandFault.{CommandFault}
+use Rattle.play_command.specs.declared.fault.CommandFault.TheVariants as fault_is
+use Rattle.play_command.specs.declared.line.Files.{Files}
+use Rattle.play_command.specs.declared.line.Line.{Line}
+use Rattle.play_command.specs.declared.line.Line.TheVariants.{Check, Doubts, Play, Edit, Cover, Map}
+use Rattle.play_command.specs.declared.line.Line.TheVariants.{Text}
+use Rattle.play_command.specs.App.{cave_app}
 use Rattle.play_options.specs.Views.{edit_view_named, check_view_named, cover_view_named}
 use Rattle.play_options.specs.Views.{play_view_named}
 use Rattle.play_options.specs.declared.views.CheckView.{CheckView}
 use Rattle.play_options.specs.declared.views.CheckView.TheVariants.{Maximum}
 use Rattle.play_options.specs.declared.views.CoverView.{CoverView}
-use Rattle.play_options.specs.declared.views.CoverView.TheVariants.{Counts}
+use Rattle.play_options.specs.declared.views.CoverView.TheVariants.{Said}
+use Rattle.play_options.specs.declared.views.TextView.TheVariants.{Counts}
 use Rattle.play_options.specs.declared.editing.Editing.{Editing}
 use Rattle.play_options.specs.declared.editing.EditView.{EditView}
 use Rattle.play_options.specs.declared.editing.EditView.TheVariants.{Transcript}
 use Rattle.play_options.specs.declared.views.PlayView.{PlayView}
 use Rattle.play_options.specs.declared.views.PlayView.TheVariants as play
-use Rattle.play_command.specs.declared.fault.CommandFault.{CommandFault}
-use Rattle.play_command.specs.declared.fault.CommandFault.TheVariants as fault_is
-use Rattle.play_command.specs.declared.line.Files.{Files}
-use Rattle.play_command.specs.declared.line.Line.{Line}
-use Rattle.play_command.specs.declared.line.Line.TheVariants.{Check, Doubts, Play, Edit, Cover}
-use Rattle.play_command.specs.declared.line.Line.TheVariants.{Map, Text}
 use Rattle.base_lines.specs.base_limits.Limits.{MAX_SEED, MAX_EVERY, MAX_DIGITS}
-use Rattle.play_command.specs.App.{cave_app}
-use Rattle.std.specs.List.{list_all}
 use Rattle.base_lines.specs.Bytes.{is_digit, number_of}
 
 -- 7 where memory ran out, and 2 for anything wrong with the words
@@ -94,7 +95,7 @@ IsCheckView rows view = IsCheckViewGiven (first_of (codes "print") rows) view
 
 -- what is printed of texts, where this was found for it, or else how many there are
 abbrev pub IsCoverViewGiven : Option (List ℕ) → CoverView → Type 0
-IsCoverViewGiven None view = view ≡ Counts
+IsCoverViewGiven None view = view ≡ Said Counts
 IsCoverViewGiven (Some name) view = cover_view_named name ≡ Some view
 
 abbrev pub IsCoverView : List Row → CoverView → Type 0

@@ -158,8 +158,9 @@ pub(crate) fn cover_print_argument<'a>(alloc: Global) -> Arg<'a>
         .long("print")
         .value_name("WHAT")
         .help(
-            "What is printed: `counts`, how many texts are said and the names of the others, or \
-             `texts`, each that is never said with its first line [default: counts]",
+            "What is printed: `counts`, how many texts are said and the names of the others, \
+             `texts`, each that is never said with its first line, or `rules`, how many rows of \
+             each table of the rules apply and the numbers of the others [default: counts]",
         )
 }
 

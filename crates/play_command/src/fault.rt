@@ -35,7 +35,7 @@ pub enum CommandFault<'a> {
         bindings, names, unused or doubts\n\n\
         For more information, try '--help'.\n")]
     BadCheckView(&'a str),
-    #[error("error: invalid value '{0}' for '--print <WHAT>': wanted is counts or texts\n\n\
+    #[error("error: invalid value '{0}' for '--print <WHAT>': wanted is counts, texts or rules\n\n\
         For more information, try '--help'.\n")]
     BadCoverView(&'a str),
     #[error("cave: there isn't enough memory\n")]

@@ -15,5 +15,5 @@ pub use base_lines::{
 };
 pub use fault::CommandFault;
 pub use line::{Files, Line};
-pub use play_options::{CheckView, CoverView, EditView, Editing, PlayView};
+pub use play_options::{CheckView, CoverView, EditView, Editing, PlayView, TextView};
 pub use read::command_line;

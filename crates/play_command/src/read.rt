@@ -21,7 +21,7 @@ use crate::number::number_in;
 use base_lines::{MAX_EVERY, MAX_SEED, USUAL_EVERY};
 use clap::error::ErrorKind;
 use clap::{ArgMatches, Error};
-use play_options::{CheckView, CoverView, EditView, Editing, PlayView};
+use play_options::{CheckView, CoverView, EditView, Editing, PlayView, TextView};
 use std::alloc::Global;
 use std::convert::AsStr;
 
@@ -302,7 +302,7 @@ fn cover_view_in<'a>(found: &ArgMatches<'a>) -> Result<CoverView, CommandFault<'
         (IsBadCoverView (rows_in found.now)) }
 {
     match value_in(found, "print") {
-        None => Ok(CoverView::Counts),
+        None => Ok(CoverView::Said(TextView::Counts)),
         Some(name) => CoverView::named(name).ok_or(CommandFault::BadCoverView(name)),
     }
 }

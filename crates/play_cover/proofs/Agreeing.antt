@@ -1,14 +1,14 @@
 -- Reports on texts by tests that agree are the same.
-use Rattle.std.proofs.Common.{◌≡◌, ℕ, zero, suc, ◌+◌, ◌<◌, ◌≤◌, Bool, cond, not, ◌&&◌, List}
-use Rattle.std.proofs.Common.{◌∷◌, ◌++◌, length, refl, ap, ap₂, arith}
+use Rattle.std.proofs.Common.{◌≡◌, ℕ, zero, suc, ◌+◌, ◌<◌, ◌≤◌, Bool, cond, not, ◌&&◌, List, ◌∷◌}
+use Rattle.std.proofs.Common.{◌++◌, length, refl, ap, ap₂, arith}
 use Rattle.std.specs.List.{filter, flat_map, range_with_len}
 use Rattle.play_logs.specs.cave_data.CaveView.{CaveView}
+use Rattle.play_logs.proofs.Lists.{agree_flat, agree_sum}
+use Rattle.play_logs.specs.play_options.declared.views.TextView.{TextView}
+use Rattle.play_logs.specs.play_options.declared.views.TextView.TheVariants.{Counts, Texts}
 use Rattle.play_cover.specs.Report.{sums_line, kinds, line, numbers_missing, numbers, report}
 use Rattle.play_cover.specs.Report.{numbers_said}
 use Rattle.play_cover.specs.Missing.{missing_line, missing_lines, missing_report, report_by}
-use Rattle.play_logs.proofs.Lists.{agree_flat, agree_sum}
-use Rattle.play_logs.specs.play_options.declared.views.CoverView.{CoverView}
-use Rattle.play_logs.specs.play_options.declared.views.CoverView.TheVariants.{Counts, Texts}
 use Rattle.play_cover.specs.Texts.{has_text, text, end_of_numbers}
 use Rattle.play_cover.specs.declared.text.Kind.{Kind}
 use Rattle.play_cover.specs.declared.text.Text.{Text}
@@ -73,7 +73,7 @@ module _ (cave : CaveView) (is_said is_told : Text → Bool) (agree : (text : Te
       agree_missing_lines)
       (agree_closing logs)
 
-  pub agree_view : (view : CoverView) (logs : ℕ)
+  pub agree_view : (view : TextView) (logs : ℕ)
       → report_by cave is_said view logs ≡ report_by cave is_told view logs
   agree_view Counts logs = agree_report logs
   agree_view Texts logs = agree_missing_report logs

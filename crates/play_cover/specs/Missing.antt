@@ -2,8 +2,8 @@
 use Rattle.std.specs.Prelude.{ℕ, ◌/◌, ◌%◌, Bool, List, ◌++◌, codes, Option, None, Some, option_map}
 use Rattle.std.specs.List.{flat_map}
 use Rattle.std.specs.FinMap as map
-use Rattle.play_logs.specs.play_options.declared.views.CoverView.{CoverView}
-use Rattle.play_logs.specs.play_options.declared.views.CoverView.TheVariants.{Counts, Texts}
+use Rattle.play_logs.specs.play_options.declared.views.TextView.{TextView}
+use Rattle.play_logs.specs.play_options.declared.views.TextView.TheVariants.{Counts, Texts}
 use Rattle.play_logs.specs.data_bindings.Listing.{first_line}
 use Rattle.play_logs.specs.cave_data.CaveView.{CaveView, Rated, name_of, look_of, class_of}
 use Rattle.play_cover.specs.Report.{kinds, name, numbers_missing, report, sums_line}
@@ -52,6 +52,6 @@ module _ (cave : CaveView) (is_said : Text → Bool) where
   missing_report logs = flat_map missing_lines kinds ++ sums_line cave is_said logs
 
   -- what is reported, by what is asked for
-  abbrev pub report_by : CoverView → ℕ → List ℕ
+  abbrev pub report_by : TextView → ℕ → List ℕ
   report_by Counts logs = report cave is_said logs
   report_by Texts logs = missing_report logs

@@ -16,6 +16,6 @@ pub use play_logs::{
     Cause, Cave, CaveError, CaveMachine, CaveReaders, CheckView, CommandFault, Complaint,
     CoverView, DoubtFiles, Edit, EditFault, EditView, Editing, FaultSite, Files, Flaw, Input,
     InputReader, Inputs, Lexicon, Line, LineFlaw, LineText, LogFault, MAX_INPUT_BYTES, Machine,
-    Meter, OpenFault, Piece, PlayFault, PlayView, Report, ScriptFault, Session, Steps, Unopened,
-    command_line, render, run_check, run_doubts, run_edit, run_play,
+    Meter, OpenFault, Piece, PlayFault, PlayView, Report, ScriptFault, Session, Steps, TextView,
+    Unopened, command_line, render, run_check, run_doubts, run_edit, run_play,
 };

@@ -10,7 +10,7 @@ use crate::cave_texts::CaveTexts;
 use crate::marks::SaidTexts;
 use crate::report::{missing, push_name, push_report, push_sums};
 use crate::text::{KINDS, Kind, PROPS_PER_OBJECT};
-use play_logs::{Cave, CoverView, first_line};
+use play_logs::{Cave, TextView, first_line};
 use std::alloc::{AllocError, Global};
 
 /// What one text of a kind is called.
@@ -144,7 +144,7 @@ pub fn push_view(
     alloc: Global,
     cave: &CaveTexts<'_>,
     said: &SaidTexts,
-    view: CoverView,
+    view: TextView,
     logs: usize,
     text: &mut Vec<u8>,
 ) -> Result<(), AllocError>
@@ -152,7 +152,7 @@ pub fn push_view(
         ≡ text.old.items ++ report_by cave.now (is_marked said.now) view logs) }
 {
     match view {
-        CoverView::Counts => push_report(alloc, cave, said, logs, text),
-        CoverView::Texts => push_missing_report(alloc, cave, said, logs, text),
+        TextView::Counts => push_report(alloc, cave, said, logs, text),
+        TextView::Texts => push_missing_report(alloc, cave, said, logs, text),
     }
 }

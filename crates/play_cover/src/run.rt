@@ -10,11 +10,12 @@ use crate::marks::SaidTexts;
 use play_logs::fault::LogsFault;
 use play_logs::run::run_logs;
 use play_logs::{CaveReaders, CoverView};
+use play_rules::RuleNotes;
 use std::alloc::Global;
 use std::io::{Read, Write};
 
 /// Plays logs, each by itself from its first line, and writes how many of the cave's texts they
-/// say, and which ones they never say.
+/// say, and which ones they never say, or so of the rows of the rules.
 pub fn run_cover<C: Read, B: Read, L: Read, W: Write>(
     alloc: Global,
     cave: &mut CaveReaders<C, B>,
@@ -31,5 +32,12 @@ pub fn run_cover<C: Read, B: Read, L: Read, W: Write>(
         (IsCovered database bindings moves seed view)
         (W.contents output.old) (W.contents output.new) result }
 {
-    run_logs::<SaidTexts, C, B, L, W>(alloc, cave, logs, seed, view, output)
+    match view {
+        CoverView::Said(view) => {
+            run_logs::<SaidTexts, C, B, L, W>(alloc, cave, logs, seed, view, output)
+        }
+        CoverView::Rules => {
+            run_logs::<RuleNotes, C, B, L, W>(alloc, cave, logs, seed, (), output)
+        }
+    }
 }

@@ -9,7 +9,7 @@ use crate::marks::SaidTexts;
 use crate::missing::push_view;
 use crate::parts::note_parts;
 use play_logs::notes::PlayNotes;
-use play_logs::{Cave, CaveMachine, CoverView, Piece, Session};
+use play_logs::{Cave, CaveMachine, Piece, Session, TextView};
 use std::alloc::{AllocError, Global};
 
 /// Notes what was said at each line.
@@ -37,11 +37,11 @@ impl PlayNotes for SaidTexts {
     ghost use Rattle.play_cover.specs.Texts.{AreMarksOf};
     ghost use Rattle.play_cover.specs.Plays.{report_on_games, said_in_games};
 
-    type View = CoverView;
+    type View = TextView;
 
     ghost AreNotesOn = { λ cave games marks. AreMarksOf (said_in_games cave games) marks };
 
-    ghost report_on = { λ cave view games. report_on_games cave view games };
+    ghost report_on = { λ _ cave view games. report_on_games cave view games };
 
     fn none(alloc: Global) -> Result<SaidTexts, AllocError> {
         SaidTexts::new(alloc)
@@ -59,8 +59,9 @@ impl PlayNotes for SaidTexts {
     fn push_report(
         &self,
         alloc: Global,
+        _database: &[u8],
         cave: &Cave,
-        view: CoverView,
+        view: TextView,
         logs: usize,
         text: &mut Vec<u8>,
     ) -> Result<(), AllocError> {

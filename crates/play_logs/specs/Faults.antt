@@ -24,11 +24,11 @@ NotesMore AreNotesOn game old new =
     (games : List Game) → AreNotesOn games old → AreNotesOn (games ++ game ∷ []) new
 
 -- the output is the report on the plays of the logs in the cave of the database and its bindings
-abbrev pub IsReported : {V : Type 0} → (CaveView → V → List Game → List ℕ)
+abbrev pub IsReported : {V : Type 0} → (List ℕ → CaveView → V → List Game → List ℕ)
     → List ℕ → List ℕ → List (List ℕ) → ℕ → V → List ℕ → Type 0
 IsReported report_on database bindings logs seed view output =
     (cave : CaveView) × Reads database bindings cave
-    × (output ≡ report_on cave view (games_of seed logs))
+    × (output ≡ report_on database cave view (games_of seed logs))
 
 abbrev pub at_none : PlayFault → LogsFault
 at_none found = record { fault = found; log = None }

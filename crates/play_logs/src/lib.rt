@@ -16,5 +16,5 @@ pub use cave_play::{
     Cause, Cave, CaveError, CheckView, CommandFault, CoverView, DoubtFiles, Edit, EditFault,
     EditView, Editing, FaultSite, Files, Flaw, Lexicon, Line, LineFlaw, LineText, MAX_INPUT_BYTES,
     Machine, Meter, Object, OpenFault, Part, PlayView, ROLE_NAMES, Report, Role, Session, Steps,
-    command_line, first_line, render,
+    TextView, command_line, first_line, render,
 };

@@ -17,8 +17,8 @@ pub trait PlayNotes: Drop {
     /// The notes are on the plays of these games in a cave.
     ghost AreNotesOn: { CaveView → List Game → Self → Type 0 };
 
-    /// The report on the plays of games in a cave.
-    ghost report_on: { CaveView → Self.View → List Game → List ℕ };
+    /// The report on the plays of games in the cave of a database.
+    ghost report_on: { List ℕ → CaveView → Self.View → List Game → List ℕ };
 
     /// Notes on no play.
     fn none(alloc: Global) -> Result<Self, AllocError>
@@ -37,6 +37,7 @@ pub trait PlayNotes: Drop {
     fn push_report(
         &self,
         alloc: Global,
+        database: &[u8],
         cave: &Cave,
         view: Self::View,
         logs: usize,
@@ -44,5 +45,6 @@ pub trait PlayNotes: Drop {
     ) -> Result<(), AllocError>
         ensures { OnOk result ((games : List Game) → AreNotesOn cave.now games self.now
             → logs ≡ length games
-            → text.new.items ≡ text.old.items ++ report_on cave.now view games) };
+            → text.new.items
+            ≡ text.old.items ++ report_on database.now cave.now view games) };
 }

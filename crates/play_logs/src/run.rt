@@ -9,11 +9,11 @@ ghost use Rattle.play_logs.specs.Faults.{JudgesLogs, RunsLogs, first_stages, IsR
 use crate::fault::LogsFault;
 use crate::notes::PlayNotes;
 use crate::plays::note_logs;
+use cave_play::Lexicon;
 use cave_play::inputs::CaveReaders;
-use cave_play::judge::{check_seed, read_cave};
+use cave_play::judge::{ReadCave, check_seed, read_texts};
 use cave_play::machine::CaveMachine;
 use cave_play::output::write_output;
-use cave_play::{Cave, Lexicon};
 use std::alloc::Global;
 use std::io::{Read, Write};
 
@@ -36,10 +36,10 @@ pub fn run_logs<N: PlayNotes, C: Read, B: Read, L: Read, W: Write>(
         (W.contents output.old) (W.contents output.new) result }
 {
     check_seed(seed)?;
-    let cave = read_cave(alloc, cave)?;
-    let made = report_in_cave::<N, L>(alloc, &cave, logs, seed, view);
+    let read = read_texts(alloc, cave)?;
+    let made = report_in_cave::<N, L>(alloc, &read, logs, seed, view);
     // By a call, as in other runs: the checker goes through the tables of a cave in one place.
-    drop(cave);
+    drop(read);
     let text = made?;
     write_output(output, &text)?;
     Ok(())
@@ -47,7 +47,7 @@ pub fn run_logs<N: PlayNotes, C: Read, B: Read, L: Read, W: Write>(
 
 fn report_in_cave<N: PlayNotes, L: Read>(
     alloc: Global,
-    cave: &Cave,
+    read: &ReadCave,
     logs: &mut [L],
     seed: u32,
     view: N::View,
@@ -55,13 +55,15 @@ fn report_in_cave<N: PlayNotes, L: Read>(
     requires { large_seed seed ≡ None }
     ensures judged { (moves : List (List ℕ)) × AllZip Says (map L.remaining logs.old) moves
         × JudgesLogs [] moves
-        (λ text. text.items ≡ N.report_on cave.now view (games_of seed moves)) result }
+        (λ text. text.items
+        ≡ N.report_on read.now.database.items read.now.cave view (games_of seed moves)) result }
 {
+    let cave = &read.cave;
     let lexicon = Lexicon::build(alloc, cave)?;
     let machine = CaveMachine::new(cave, &lexicon);
     let mut notes = N::none(alloc)?;
     note_logs(alloc, machine, logs, seed, &mut notes)?;
     let mut text = Vec::new(alloc);
-    notes.push_report(alloc, machine.cave(), view, logs.len(), &mut text)?;
+    notes.push_report(alloc, &read.database, cave, view, logs.len(), &mut text)?;
     Ok(text)
 }

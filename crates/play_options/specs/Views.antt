@@ -1,10 +1,11 @@
 -- What runs may print.
 use Rattle.std.specs.Prelude.{ℕ, List, bytes_eq, codes, if◌then◌else◌, Option, Some, None}
 use Rattle.play_options.specs.declared.views.CheckView.{CheckView}
-use Rattle.play_options.specs.declared.views.CheckView.TheVariants.{Maximum, Bindings}
-use Rattle.play_options.specs.declared.views.CheckView.TheVariants.{Names, Unused}
+use Rattle.play_options.specs.declared.views.CheckView.TheVariants.{Maximum, Bindings, Names}
+use Rattle.play_options.specs.declared.views.CheckView.TheVariants.{Unused}
 use Rattle.play_options.specs.declared.views.CoverView.{CoverView}
-use Rattle.play_options.specs.declared.views.CoverView.TheVariants.{Counts, Texts}
+use Rattle.play_options.specs.declared.views.CoverView.TheVariants as covered
+use Rattle.play_options.specs.declared.views.TextView.TheVariants.{Counts, Texts}
 use Rattle.play_options.specs.declared.views.PlayView.{PlayView}
 use Rattle.play_options.specs.declared.views.PlayView.TheVariants as played
 use Rattle.play_options.specs.declared.editing.EditView.{EditView}
@@ -31,8 +32,9 @@ check_view_named name =
 
 abbrev pub cover_view_named : List ℕ → Option CoverView
 cover_view_named name =
-    if bytes_eq name (codes "counts") then Some Counts
-    else (if bytes_eq name (codes "texts") then Some Texts else None)
+    if bytes_eq name (codes "counts") then Some (covered.Said Counts)
+    else (if bytes_eq name (codes "texts") then Some (covered.Said Texts)
+    else (if bytes_eq name (codes "rules") then Some covered.Rules else None))
 
 abbrev pub play_view_named : List ℕ → Option PlayView
 play_view_named name =

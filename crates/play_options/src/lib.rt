@@ -5,4 +5,4 @@ pub mod editing;
 pub mod views;
 
 pub use editing::{EditView, Editing};
-pub use views::{CheckView, CoverView, PlayView};
+pub use views::{CheckView, CoverView, PlayView, TextView};

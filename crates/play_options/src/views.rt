@@ -62,6 +62,15 @@ impl PlayView {
 /// What is printed of the texts that logs say.
 #[derive(Clone, Copy, Debug, PartialEq, Eq)]
 pub enum CoverView {
+    /// Which texts are said.
+    Said(TextView),
+    /// Which rows of the rules apply.
+    Rules,
+}
+
+/// What the coverage of texts prints.
+#[derive(Clone, Copy, Debug, PartialEq, Eq)]
+pub enum TextView {
     /// How many of each kind are said, and the names of those that never are.
     Counts,
     /// Each text that is never said, with its first line.
@@ -74,8 +83,9 @@ impl CoverView {
         ensures { result ≡ cover_view_named name.now }
     {
         match name {
-            "counts" => Some(CoverView::Counts),
-            "texts" => Some(CoverView::Texts),
+            "counts" => Some(CoverView::Said(TextView::Counts)),
+            "texts" => Some(CoverView::Said(TextView::Texts)),
+            "rules" => Some(CoverView::Rules),
             _ => None,
         }
     }

@@ -10,7 +10,7 @@ use map_run::run::run_map;
 use play_cover::run::run_cover;
 use play_cover::{
     CaveReaders, CheckView, CoverView, DoubtFiles, EditView, Editing, Input, Inputs, LogsFault,
-    PlayFault, PlayView, run_check, run_doubts, run_edit, run_play,
+    PlayFault, PlayView, TextView, run_check, run_doubts, run_edit, run_play,
 };
 use std::alloc::Global;
 use std::io::{Read, Write};
@@ -40,10 +40,10 @@ pub const PLAY: Run = Run::Play(PlayView::Transcript);
 pub const EDIT: Run = Run::Edit(EditView::Transcript);
 
 /// What several logs cover.
-pub const COVER: Run = Run::Cover(CoverView::Counts);
+pub const COVER: Run = Run::Cover(CoverView::Said(TextView::Counts));
 
 /// Each run that the program can be asked for, and what it prints of the usual inputs.
-pub const RUNS: [(Run, Printed); 21] = [
+pub const RUNS: [(Run, Printed); 22] = [
     (
         Run::Check(CheckView::Maximum),
         Printed::Whole("cave ok, maximum 132\n"),
@@ -88,8 +88,12 @@ pub const RUNS: [(Run, Printed); 21] = [
     ),
     (COVER, Printed::Between(COVERED_HEAD, COVERED_TAIL)),
     (
-        Run::Cover(CoverView::Texts),
+        Run::Cover(CoverView::Said(TextView::Texts)),
         Printed::Between("short text 1: Road.\n", "\n"),
+    ),
+    (
+        Run::Cover(CoverView::Rules),
+        Printed::Between("questions: ", " rows in 2 logs\n"),
     ),
     (Run::Map, Printed::Between(MAP_HEAD, MAP_TAIL)),
 ];

@@ -21,7 +21,7 @@ fn shown(alloc: Global, words: &[&str]) -> Result<String, AllocError> {
 }
 
 /// Words, and what the answer to them says.
-const ANSWERS: [(&[&str], &str); 34] = [
+const ANSWERS: [(&[&str], &str); 35] = [
     (
         &["cave", "check", "a"],
         "Check { files: Files { cave: \"a\", bind: None, output: None }, view: Maximum }",
@@ -125,7 +125,12 @@ const ANSWERS: [(&[&str], &str); 34] = [
             "cave", "cover", "a", "b", "--seed=7", "c", "--bind", "d", "e",
         ],
         "Cover { files: Files { cave: \"a\", bind: Some(\"d\"), output: None }, \
-        logs: [\"b\", \"c\", \"e\"], seed: 7, view: Counts }",
+        logs: [\"b\", \"c\", \"e\"], seed: 7, view: Said(Counts) }",
+    ),
+    (
+        &["cave", "cover", "a", "b", "--print", "rules"],
+        "Cover { files: Files { cave: \"a\", bind: None, output: None }, \
+        logs: [\"b\"], seed: 0, view: Rules }",
     ),
     (
         &["cave", "map", "a"],

@@ -1,13 +1,12 @@
-use Rattle.play_logs.specs.Faults.{first_stages, IsReported}
-use Rattle.play_cover.specs.Plays.{IsCovered, report_on_games}
+use Rattle.play_logs.specs.Faults.{first_stages}
+use Rattle.play_cover.specs.Plays.{IsCovered}
 use Rattle.play_logs.proofs.FaultLemmas.{RunsLogs-also}
-use Rattle.play_cover.proofs.Telling.{covered-reported}
+use Rattle.play_cover.proofs.Telling.{rules_reported, texts_reported}
 use Rattle.play_cover.proofs.run.run_cover.Goals as goal
 
-pub returns : goal.returns
-returns g c =
-    let (database, bindings, moves, said, others, last, runs) =
-    c.run_logs.ensures.runs in
+pub returns-in-Said : goal.returns-in-Said
+returns-in-Said g c =
+    let (database, bindings, moves, said, others, last, runs) = c.run_logs.ensures.runs in
     record {
       runs = (
         database,
@@ -16,9 +15,26 @@ returns g c =
         said,
         others,
         last,
-        RunsLogs-also (first_stages database bindings c.args.seed) moves
-            (IsReported report_on_games database bindings moves c.args.seed c.args.view)
+        RunsLogs-also (first_stages database bindings c.args.seed) moves _
             (IsCovered database bindings moves c.args.seed c.args.view) _ _ _
-            (covered-reported database bindings moves c.args.seed c.args.view) runs,
+            (texts_reported database bindings moves c.args.seed c.args.view c.in-Said.view
+            c.in-Said.is) runs,
+      );
+    }
+
+pub returns-in-Rules : goal.returns-in-Rules
+returns-in-Rules g c =
+    let (database, bindings, moves, said, others, last, runs) = c.run_logs-in-Rules.ensures.runs in
+    record {
+      runs = (
+        database,
+        bindings,
+        moves,
+        said,
+        others,
+        last,
+        RunsLogs-also (first_stages database bindings c.args.seed) moves _
+            (IsCovered database bindings moves c.args.seed c.args.view) _ _ _
+            (rules_reported database bindings moves c.args.seed c.args.view tt c.in-Rules.is) runs,
       );
     }

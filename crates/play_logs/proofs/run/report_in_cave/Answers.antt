@@ -37,10 +37,12 @@ returns g c =
     kept ∙ sym (length-map c.args.logs.now g.L.Read.remaining)
     ∙ AllZip-length Says (map g.L.Read.remaining c.args.logs.now) moves said
     ∙ sym (length-map moves (λ log. game_of c.args.seed (lines log))) in
+    let read = c.args.read.now in
     let here =
-    subst (λ cave. g.N.PlayNotes.AreNotesOn cave played notes) (sym c.cave.ensures) noted.2 in
+    subst (λ cave. g.N.PlayNotes.AreNotesOn cave played notes) c.new-machine.ensures noted.2 in
     let text =
     c.in_ok-push_report.ensures played here many
-    ∙ ap (λ t. t ++ report_on c.cave.result.now c.args.view played) c.new-text.ensures.items
-    ∙ ap (λ k. report_on k c.args.view played) (c.cave.ensures ∙ c.new-machine.ensures) in
+    ∙ ap (λ t. t ++ report_on c.deref.result.now read.cave c.args.view played)
+    c.new-text.ensures.items
+    ∙ ap (λ d. report_on d read.cave c.args.view played) c.deref.ensures.value in
     record { judged = (moves, said, (noted.0, noted.1, text)) }

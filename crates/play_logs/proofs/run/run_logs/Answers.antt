@@ -1,11 +1,11 @@
-use Rattle.std.proofs.Common.{inl, inr, map, refl, subst, sym}
+use Rattle.std.proofs.Common.{inl, inr, map, refl, subst, sym, ap, ◌∙◌}
 use Rattle.std.proofs.lemmas.Result.{err_from_is_err_and}
 use Rattle.std.proofs.KnownBytes.{Keeps-refl}
 use Rattle.cave_play.specs.Judge.{large_seed}
 use Rattle.cave_play.specs.Stages.{cave_stages}
 use Rattle.cave_play.proofs.InputLemmas.{Says-some}
 use Rattle.cave_play.proofs.StageLemmas.{first_decided-after}
-use Rattle.play_logs.specs.Faults.{first_stages, IsReported}
+use Rattle.play_logs.specs.Faults.{first_stages, games_of, IsReported}
 use Rattle.play_logs.proofs.FaultLemmas.{AllSay-some, IsFoundInLogs-after}
 use Rattle.play_logs.proofs.run.run_logs.Goals as goal
 
@@ -28,12 +28,12 @@ returns-in_err-check_seed g c =
       );
     })
 
-pub returns-in_err-cave : goal.returns-in_err-cave
-returns-in_err-cave g c =
+pub returns-in_err-read : goal.returns-in_err-read
+returns-in_err-read g c =
     let exit =
-    err_from_is_err_and c.from_residual-in_err-cave.result
-    c.from_residual-in_err-cave.ensures.1 in
-    let (database, bindings, said, others, refused) = c.in_err-cave.ensures.judged in
+    err_from_is_err_and c.from_residual-in_err-read.result
+    c.from_residual-in_err-read.ensures.1 in
+    let (database, bindings, said, others, refused) = c.in_err-read.ensures.judged in
     let (moves, last) = AllSay-some (map g.L.Read.remaining c.args.logs.now) in
     rw (exit.1, exit.2)
     (record {
@@ -53,7 +53,7 @@ returns-in_err-text g c =
     let exit =
     err_from_is_err_and c.from_residual-in_err-text.result
     c.from_residual-in_err-text.ensures.1 in
-    let (database, bindings, said, others, read) = c.in_ok-cave.ensures.judged in
+    let (database, bindings, said, others, read) = c.in_ok-read.ensures.judged in
     let (moves, last, refused) = c.in_err-text.ensures.judged in
     let none =
     first_decided-after (large_seed c.args.seed) (cave_stages database bindings)
@@ -70,14 +70,18 @@ returns-in_err-write_output g c =
     let exit =
     err_from_is_err_and c.from_residual-in_err-write_output.result
     c.from_residual-in_err-write_output.ensures.1 in
-    let (database, bindings, said, others, read) = c.in_ok-cave.ensures.judged in
+    let (database, bindings, said, others, read) = c.in_ok-read.ensures.judged in
     let (moves, last, told) = c.in_ok-text.ensures.judged in
     let none =
     first_decided-after (large_seed c.args.seed) (cave_stages database bindings)
     c.in_ok-check_seed.ensures read.0 in
+    let made = c.in_ok-read.read in
+    let same =
+    ap (λ d. g.N.PlayNotes.report_on d made.cave c.args.view (games_of c.args.seed moves))
+    read.1.database_is in
     let output =
     subst (IsReported g.N.PlayNotes.report_on database bindings moves c.args.seed c.args.view)
-    (sym c.deref.ensures.value) (c.in_ok-cave.cave, read.1, told.2) in
+    (sym c.deref.ensures.value) (made.cave, read.1.reads, told.2 ∙ same) in
     let (failed, front) = c.in_err-write_output.ensures.written in
     rw (exit.1, exit.2, failed) (record {
       runs = (
@@ -93,14 +97,18 @@ returns-in_err-write_output g c =
 
 pub returns : goal.returns
 returns g c =
-    let (database, bindings, said, others, read) = c.in_ok-cave.ensures.judged in
+    let (database, bindings, said, others, read) = c.in_ok-read.ensures.judged in
     let (moves, last, told) = c.in_ok-text.ensures.judged in
     let none =
     first_decided-after (large_seed c.args.seed) (cave_stages database bindings)
     c.in_ok-check_seed.ensures read.0 in
+    let made = c.in_ok-read.read in
+    let same =
+    ap (λ d. g.N.PlayNotes.report_on d made.cave c.args.view (games_of c.args.seed moves))
+    read.1.database_is in
     let output =
     subst (IsReported g.N.PlayNotes.report_on database bindings moves c.args.seed c.args.view)
-    (sym c.deref.ensures.value) (c.in_ok-cave.cave, read.1, told.2) in
+    (sym c.deref.ensures.value) (made.cave, read.1.reads, told.2 ∙ same) in
     record {
       runs = (
         database,

@@ -1,0 +1,159 @@
+//! The report on the rules, of whose rows some applied.
+
+ghost use Rattle.std.specs.Prelude.{◌≡◌, codes, ◌++◌, ◌≤◌, length, OnOk, IfOk};
+ghost use Rattle.std.specs.Fmt.{decimal};
+ghost use Rattle.std.specs.List.{flat_map, sum_by};
+ghost use Rattle.play_rows.specs.Rows.{is_among};
+ghost use Rattle.play_rows.specs.Report.{sums_line, line, names, never, numbers_missing, report};
+ghost use Rattle.play_rows.specs.Report.{numbers_applied, noted_in, row_of};
+ghost use Rattle.play_rows.specs.Tables.{row_count};
+ghost use Rattle.play_rows.specs.Tables as defined;
+
+use crate::row_set::RowSet;
+use crate::tables::{EACH_TABLE, row_count, table_name};
+use crate::travel::{count_applied_ways, push_travel};
+use check_doubts::WayLine;
+use std::alloc::{AllocError, Global};
+use turn_scene::{RuleRow, Table};
+
+fn is_applied(noted: &RowSet, table: Table, number: u8) -> bool
+    ensures { result ≡ is_among (row_of table number) noted.now }
+{
+    noted.has(RuleRow::OfTable(table, number))
+}
+
+#[tactic(auto, unfolding(crate::specs::Report::numbers_applied, crate::specs::Report::numbers))]
+fn count_applied(noted: &RowSet, table: Table) -> usize
+    ensures value { result ≡ length (numbers_applied (noted_in noted.now) table) }
+    ensures within { result ≤ defined.ROW_END }
+{
+    (1..row_count(table) + 1)
+        .filter(|number| is_applied(noted, table, *number))
+        .count()
+}
+
+/// The rows that never applied.
+#[tactic(auto, unfolding(crate::specs::Report::numbers_missing, crate::specs::Report::numbers))]
+fn missing(alloc: Global, noted: &RowSet, table: Table) -> Result<Vec<u8>, AllocError>
+    ensures { IfOk result
+        (λ rows. rows.items ≡ numbers_missing (noted_in noted.now) table) }
+{
+    (1..row_count(table) + 1)
+        .filter(|number| !is_applied(noted, table, *number))
+        .collect(alloc)
+}
+
+/// Appends a blank and the number of a row.
+fn push_name(alloc: Global, number: u8, text: &mut Vec<u8>) -> Result<(), AllocError>
+    ensures { OnOk result (text.new.items ≡ text.old.items ++ (codes " " ++ decimal number)) }
+{
+    let name = format!(in alloc; " {number}")?;
+    text.extend_from_slice(name.as_bytes())
+}
+
+fn push_names(alloc: Global, numbers: &[u8], text: &mut Vec<u8>) -> Result<(), AllocError>
+    ensures { OnOk result (text.new.items ≡ text.old.items ++ names numbers.now) }
+{
+    for number in numbers {
+        push_name(alloc, *number, text)?;
+    }
+    Ok(())
+}
+
+/// Appends the numbers of the rows that never applied, if there are any.
+fn push_never(alloc: Global, missing: &[u8], text: &mut Vec<u8>) -> Result<(), AllocError>
+    ensures { OnOk result (text.new.items ≡ text.old.items ++ never missing.now) }
+{
+    if missing.is_empty() {
+        return Ok(());
+    }
+    text.extend_from_slice(b", never")?;
+    push_names(alloc, missing, text)
+}
+
+fn push_line(
+    alloc: Global,
+    noted: &RowSet,
+    table: Table,
+    text: &mut Vec<u8>,
+) -> Result<(), AllocError>
+    ensures { OnOk result (text.new.items
+        ≡ text.old.items ++ line (noted_in noted.now) table) }
+{
+    let name = table_name(table);
+    let shown = count_applied(noted, table);
+    let present = row_count(table);
+    let missing = missing(alloc, noted, table)?;
+    let counted = format!(in alloc; "{name}: {shown} of {present}")?;
+    text.extend_from_slice(counted.as_bytes())?;
+    push_never(alloc, &missing, text)?;
+    text.extend_from_slice(b"\n")
+}
+
+/// The sums of what the lines of tables count: the rows that applied, and all that there are.
+fn totals(noted: &RowSet, tables: &[Table]) -> (usize, usize)
+    requires { length tables.now ≤ defined.TABLE_COUNT }
+    ensures shown { result.0
+        ≡ sum_by (λ t. length (numbers_applied (noted_in noted.now) t)) tables.now }
+    ensures present { result.1 ≡ sum_by row_count tables.now }
+{
+    let (mut shown, mut present) = (0, 0);
+    for table in tables {
+        shown += count_applied(noted, *table);
+        present += row_count(*table) as usize;
+    }
+    (shown, present)
+}
+
+fn push_lines(
+    alloc: Global,
+    noted: &RowSet,
+    tables: &[Table],
+    text: &mut Vec<u8>,
+) -> Result<(), AllocError>
+    ensures { OnOk result (text.new.items
+        ≡ text.old.items ++ flat_map (line (noted_in noted.now)) tables.now) }
+{
+    for table in tables {
+        push_line(alloc, noted, *table, text)?;
+    }
+    Ok(())
+}
+
+/// Appends the line that sums up.
+fn push_sums(
+    alloc: Global,
+    noted: &RowSet,
+    ways: &[WayLine],
+    logs: usize,
+    text: &mut Vec<u8>,
+) -> Result<(), AllocError>
+    ensures { OnOk result (text.new.items
+        ≡ text.old.items ++ sums_line (noted_in noted.now) ways.now logs) }
+{
+    let (shown, present) = totals(noted, &EACH_TABLE);
+    let taken = count_applied_ways(noted, ways);
+    let all = ways.len();
+    let closing = format!(in alloc;
+        "-- {shown} of {present} rows and {taken} of {all} travel rows in {logs} logs\n"
+    )?;
+    text.extend_from_slice(closing.as_bytes())
+}
+
+/// Appends the report on the rules, and on the ways of a cave, of whose rows some were noted in so
+/// many logs.
+#[tactic(auto, unfolding(crate::specs::Report::report))]
+pub fn push_report(
+    alloc: Global,
+    noted: &RowSet,
+    ways: &[WayLine],
+    logs: usize,
+    text: &mut Vec<u8>,
+) -> Result<(), AllocError>
+    ensures { OnOk result (text.new.items
+        ≡ text.old.items ++ report (noted_in noted.now) ways.now logs) }
+{
+    push_lines(alloc, noted, &EACH_TABLE, text)?;
+    push_travel(alloc, noted, ways, text)?;
+    push_sums(alloc, noted, ways, logs, text)
+}
