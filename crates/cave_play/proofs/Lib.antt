@@ -1,3 +1,4 @@
+mod BackLemmas
 mod DoubtLemmas
 mod EditLemmas
 mod FinalStateLemmas
@@ -5,9 +6,11 @@ mod GuardLemmas
 mod KeptLemmas
 pub mod InputLemmas
 mod JudgeLemmas
+mod MetLemmas
 mod OneOutputLemmas
 mod RefusalLemmas
 mod RunLemmas
+mod SayableLemmas
 mod ScriptLemmas
 mod Shown
 pub mod StageLemmas

@@ -80,14 +80,14 @@ fn cave_of(alloc: Global, database: &[u8], bindings: &[u8]) -> Result<Cave, Play
 
 /// A cave with the texts that it was read from.
 #[derive(Drop)]
-pub(crate) struct ReadCave {
-    pub(crate) cave: Cave,
-    pub(crate) database: Vec<u8>,
-    pub(crate) bindings: Vec<u8>,
+pub struct ReadCave {
+    pub cave: Cave,
+    pub database: Vec<u8>,
+    pub bindings: Vec<u8>,
 }
 
 /// Reads a database and its bindings, and keeps them.
-pub(crate) fn read_texts<C: Read, B: Read>(
+pub fn read_texts<C: Read, B: Read>(
     alloc: Global,
     cave: &mut CaveReaders<C, B>,
 ) -> Result<ReadCave, PlayFault>

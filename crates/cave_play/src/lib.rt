@@ -37,7 +37,7 @@ pub use machine::CaveMachine;
 pub use piece::Piece;
 pub use play_command::{
     CheckView, CommandFault, CoverView, EditView, Editing, Files, Line, LineFlaw, MAX_EVERY,
-    MAX_INPUT_BYTES, Meter, PlayView, Steps, command_line,
+    MAX_INPUT_BYTES, Meter, PlayView, Steps, TextView, command_line,
 };
 pub use play_state_text::{Counts, push_state};
 pub use refusal::{KeptLine, Refusal, RefusedItem};

@@ -39,6 +39,13 @@ impl<'a> CaveMachine<'a> {
         self.rules.cave
     }
 
+    /// The rules of the cave.
+    pub fn rules(self) -> Rules<'a>
+        ensures { cave_of result ≡ cave_of self.entry.rules }
+    {
+        self.rules
+    }
+
     /// The score of a state, which is at most the greatest one of the cave.
     pub fn score(self, state: &State) -> u32
         ensures value { result ≡ score_of (cave_of self.entry.rules) state.now }

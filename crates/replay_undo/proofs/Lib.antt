@@ -1,3 +1,5 @@
 pub mod Numerals
 pub mod Texts
 pub mod Spelled
+pub mod SpelledLines
+pub mod Sayable

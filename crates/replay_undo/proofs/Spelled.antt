@@ -1,29 +1,18 @@
--- The lines of groups spell them.
-use Rattle.std.proofs.Common.{◌≡◌, ℕ, ◌+◌, ◌≤◌, List, [], ◌∷◌, ◌++◌, length, map, codes, All, IsTrue}
-use Rattle.std.proofs.Common.{sym, ap, ap₂, ◌∙◌, refl, arith, append_assoc, append-nil, true}
+-- The lines of groups are read back as the groups.
+use Rattle.std.proofs.Common.{◌≡◌, ℕ, ◌+◌, ◌≤◌, List, [], ◌∷◌, ◌++◌, length, map, codes, All}
+use Rattle.std.proofs.Common.{sym, ap, ap₂, ◌∙◌, refl, append_assoc, append-nil, true}
 use Rattle.std.proofs.Common.{Result, Ok}
-use Rattle.std.specs.Prelude.{◌&&◌, Bool, false, Option, None, Some, if◌then◌else◌, is_none, nat_lt}
-use Rattle.std.specs.Fmt.{decimal}
+use Rattle.std.specs.Prelude.{Bool, false, Option, None, Some}
 use Rattle.std.specs.List.{flat_map, list_all}
 use Rattle.std.specs.Str.Lines.{lines}
-use Rattle.std.proofs.lemmas.Bool.Decides.{nat_tests}
-use Rattle.std.proofs.lemmas.Bool.{and_parts}
 use Rattle.std.proofs.lemmas.List.{length-append}
-use Rattle.std.proofs.lemmas.List.Folds.{list_all-append}
 use Rattle.std.proofs.lemmas.List.Elements.{All-append, All-cons, All-head, All-nil, All-tail}
-use Rattle.replay_edits.specs.base_lines.Bytes.{is_digit}
 use Rattle.replay_edits.specs.base_lines.LogLine.{is_skipped}
 use Rattle.replay_edits.specs.base_lines.Line.{is_line_byte}
-use Rattle.replay_edits.specs.base_lines.Line.{is_line, line_fault}
-use Rattle.replay_edits.specs.base_lines.declared.line.LineFault.TheVariants.{TooLong, BadByte}
-use Rattle.replay_edits.specs.base_limits.Limits.{MAX_LINE_BYTES, MAX_LOG_LINES, MAX_SEED}
-use Rattle.replay_edits.specs.declared.fault.EditFault.TheVariants.{BadSeed}
-use Rattle.replay_edits.specs.Faults.{fault_of}
-use Rattle.replay_edits.specs.Edit.{Change, inserts, deletes, own_line, replaces, reseeds}
-use Rattle.replay_edits.proofs.Inverses.{delete_within, insert_within, replace_within}
+use Rattle.replay_edits.specs.Edit.{Change, inserts, deletes, replaces, reseeds}
 use Rattle.replay_scripts.specs.Guards.{answer_naming_guards, changes_so_far, read_guarded_from}
 use Rattle.replay_scripts.specs.Guards.{script_by}
-use Rattle.replay_scripts.specs.Line.{IsNumbered, IsWord, Spells, begin, edit, end, expected_in}
+use Rattle.replay_scripts.specs.Line.{IsWord, Spells, begin, edit, end, expected_in}
 use Rattle.replay_scripts.specs.Line.{kind_of_script_line, nothing, number_after_word}
 use Rattle.replay_scripts.specs.Script.{Applied, Expectation, group_at_line, group_with_change}
 use Rattle.replay_scripts.specs.Script.{guarded_by, read_from, single}
@@ -35,91 +24,8 @@ use Rattle.replay_undo.specs.ScriptText.{Back, CanExpect, IsSpellable, ReadsBack
 use Rattle.replay_undo.specs.ScriptText.{change_line, end_of, group_lines, guard_lines, guards_at}
 use Rattle.replay_undo.specs.ScriptText.{guards_from, line_after, lines_from, number_after}
 use Rattle.replay_undo.specs.ScriptText.{number_in, script_text, spelled_item, spelled_items}
-use Rattle.replay_undo.proofs.Numerals.{all_digits, few_digits, some_digits, value}
 use Rattle.replay_undo.proofs.Texts.{IsTextLine, lines-text, text-groups}
-
--- ---- lines
-
-numbered : (word line : List ℕ) (n : ℕ) (rest : List ℕ) → n ≤ 4294967295
-    → line ≡ word ++ 32 ∷ (decimal n ++ rest) → IsNumbered word line n rest
-numbered word line n rest fits parts = record {
-  blank = 32;
-  digits = decimal n;
-  parts = parts;
-  is_blank_byte = refl;
-  all_digits = all_digits n fits;
-  some_digits = some_digits n fits;
-  few_digits = few_digits n fits;
-  value = value n fits;
-}
-
-abbrev guard_line : ℕ → List ℕ → List ℕ
-guard_line place line = codes "expect " ++ (decimal place ++ (codes " " ++ line))
-
-line_spells : (change : Change) → number_in change ≤ 4294967295
-    → Spells (change_line change) change
-line_spells (inserts place line) fits = (
-  32 ∷ line,
-  numbered (codes "insert") _ place (32 ∷ line) fits refl,
-  (refl, refl),
-)
-line_spells (deletes place) fits = (
-  [],
-  numbered (codes "delete") _ place [] fits
-      (ap (λ d. codes "delete " ++ d) (sym (append-nil (decimal place)))),
-  refl,
-)
-line_spells (replaces place line) fits = (
-  32 ∷ line,
-  numbered (codes "replace") _ place (32 ∷ line) fits refl,
-  (refl, refl),
-)
-line_spells (reseeds seed) fits = (
-  [],
-  numbered (codes "seed") _ seed [] fits
-      (ap (λ d. codes "seed " ++ d) (sym (append-nil (decimal seed)))),
-  refl,
-)
-
--- ---- their bytes
-
-all_pass : (xs ys : List ℕ) → list_all is_line_byte xs ≡ true → list_all is_line_byte ys ≡ true
-    → list_all is_line_byte (xs ++ ys) ≡ true
-all_pass xs ys first second =
-    list_all-append is_line_byte xs ys ∙ ap (λ b. b && list_all is_line_byte ys) first ∙ second
-
-digits_stand : (digits : List ℕ) → IsTrue (list_all is_digit digits)
-    → list_all is_line_byte digits ≡ true
-digits_stand [] all = refl
-digits_stand (digit ∷ digits) all =
-    let both = and_parts (is_digit digit) (list_all is_digit digits) all in
-    let here : is_line_byte digit ≡ true = grind (arith, nat_tests, both.0) in
-    rw here (digits_stand digits both.1)
-
-number_stands : (n : ℕ) → n ≤ 4294967295 → list_all is_line_byte (decimal n) ≡ true
-number_stands n fits = digits_stand (decimal n) (all_digits n fits)
-
-text_stands : (word line : List ℕ) (n : ℕ) → n ≤ 4294967295 → list_all is_line_byte word ≡ true
-    → list_all is_line_byte line ≡ true
-    → list_all is_line_byte (word ++ (decimal n ++ line)) ≡ true
-text_stands word line n fits first last =
-    all_pass word (decimal n ++ line) first
-    (all_pass (decimal n) line (number_stands n fits) last)
-
-line_stands : (change : Change) → number_in change ≤ 4294967295
-    → list_all is_line_byte (own_line change) ≡ true → IsTextLine (change_line change)
-line_stands (inserts place line) fits bytes =
-    text_stands (codes "insert ") (32 ∷ line) place fits refl bytes
-line_stands (deletes place) fits bytes =
-    all_pass (codes "delete ") (decimal place) refl
-    (number_stands place fits)
-line_stands (replaces place line) fits bytes =
-    text_stands (codes "replace ") (32 ∷ line) place fits refl bytes
-line_stands (reseeds seed) fits bytes =
-    all_pass (codes "seed ") (decimal seed) refl
-    (number_stands seed fits)
-
--- ---- what is read of them
+use Rattle.replay_undo.proofs.SpelledLines.{guard_line, line_spells, line_stands, numbered, text_stands}
 
 -- what the lines, numbered from `number` on, give after what was read, by whether some may be guards
 abbrev read_by : Bool → ℕ → List (List ℕ) → List Applied → Option Applied → List Expectation
@@ -423,43 +329,3 @@ pub reads_back : (guarded : Bool) (groups : List (List Back)) → ReadsBack guar
 reads_back guarded groups can =
     IsScriptBy-script_by guarded (script_text groups) (spelled_items 1 groups)
     (script_read guarded groups can)
-
--- ---- what a log takes, a script can say
-
-all_stand : (long stand : Bool)
-    → is_none (if long then Some TooLong else (if stand then None else Some BadByte)) ≡ true
-    → stand ≡ true
-all_stand true stand good = cc
-all_stand false true good = refl
-all_stand false false good = cc
-
-pub one_line : (line : List ℕ) → is_line line ≡ true → IsTextLine line
-unfolding is_line line_fault
-one_line line good =
-    all_stand (nat_lt MAX_LINE_BYTES (length line)) (list_all is_line_byte line) good
-
-seed_within : (large : Bool) → (if large then Some BadSeed else None) ≡ None → large ≡ false
-seed_within true free = cc
-seed_within false free = refl
-
-sayable : (change : Change) (log : List (List ℕ)) → length log ≤ MAX_LOG_LINES
-    → fault_of change log ≡ None
-    → (number_in change ≤ 4294967295) × (list_all is_line_byte (own_line change) ≡ true)
-sayable (inserts place line) log few free =
-    let within = insert_within place line log free in
-    (omega (arith, few, within.0), one_line line within.1)
-sayable (deletes place) log few free =
-    let within = delete_within place log free in (omega (arith, few, within), refl)
-sayable (replaces place line) log few free =
-    let within = replace_within place line log free in
-    (omega (arith, few, within.0), one_line line within.1)
-sayable (reseeds seed) log few free =
-    let fits : nat_lt MAX_SEED seed ≡ false = seed_within (nat_lt MAX_SEED seed) free in
-    (grind (arith, nat_tests, fits), refl)
-
-pub spellable : (guarded : Bool) (back : Back) (log : List (List ℕ))
-    → length log ≤ MAX_LOG_LINES → fault_of back.change log ≡ None
-    → CanExpect guarded back.expected → IsSpellable guarded back
-spellable guarded back log few free can =
-    let says = sayable back.change log few free in
-    record { number_fits = says.0; bytes = says.1; guard = can }

@@ -12,7 +12,7 @@ use Rattle.cave_play.proofs.EditLemmas.{Completes-none, Completes-more, IsApplie
 use Rattle.cave_play.proofs.EditLemmas.{game_after_items-more}
 use Rattle.cave_play.proofs.StrictLemmas.{first_strict_fault-more, first_strict_fault-here}
 use Rattle.cave_play.proofs.StrictLemmas.{first_strict_fault-end}
-use Rattle.cave_play.proofs.UndoLemmas.{kept-more, kept-whole}
+use Rattle.cave_play.proofs.BackLemmas.{kept-more, kept-whole}
 use Rattle.cave_play.proofs.edits.apply.Goals as goal
 
 pub loop-item-init : goal.loop-item-init

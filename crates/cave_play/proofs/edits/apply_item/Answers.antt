@@ -7,7 +7,7 @@ use Rattle.cave_play.specs.Edits.{kept_for}
 use Rattle.cave_play.specs.Table.{last_state}
 use Rattle.cave_play.proofs.StrictLemmas.{strict_fault-outcome}
 use Rattle.cave_play.proofs.TableLemmas.{last_state-played, told-item}
-use Rattle.cave_play.proofs.UndoLemmas.{back_of-outcome}
+use Rattle.cave_play.proofs.BackLemmas.{back_of-outcome}
 use Rattle.cave_play.proofs.edits.apply_item.Goals as goal
 
 pub returns-clause-told : goal.returns-clause-told

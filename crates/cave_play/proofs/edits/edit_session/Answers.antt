@@ -13,7 +13,7 @@ use Rattle.cave_play.specs.Views.{text_of_items}
 use Rattle.cave_play.proofs.StageLemmas.{IsFoundIn-first, IsFoundIn-later, IsFoundIn-memory}
 use Rattle.cave_play.proofs.StageLemmas.{first_decided-later}
 use Rattle.cave_play.proofs.StrictLemmas.{IsFoundIn-strict, first_decided-strict}
-use Rattle.cave_play.proofs.UndoLemmas.{groups_turned}
+use Rattle.cave_play.proofs.BackLemmas.{groups_turned}
 use Rattle.cave_play.proofs.ViewLemmas.{told-whole}
 use Rattle.cave_play.proofs.edits.edit_session.Goals as goal
 

@@ -5,7 +5,7 @@ use Rattle.cave_replay.specs.replay_edits.Edit.{Change, change_of, changes_of, l
 use Rattle.cave_replay.specs.replay_edits.Faults.{log_after_all}
 use Rattle.replay_undo.specs.ScriptText.{Back, back_in, backs_in}
 use Rattle.cave_play.specs.Undo.{expected_at}
-use Rattle.cave_play.proofs.UndoLemmas.{guarded-more}
+use Rattle.cave_play.proofs.MetLemmas.{guarded-more}
 use Rattle.cave_play.proofs.undo.guarded_backs.Goals as goal
 
 pub loop-edit-preserved : goal.loop-edit-preserved
