@@ -21,7 +21,7 @@ FILES = {"check": ["<CAVE>"], "play": ["<CAVE>", "<LOG>"], "edit": ["<CAVE>", "<
 PRINTS = {"check": ["maximum", "bindings", "names", "unused", "doubts"],
           "play": ["transcript", "steps", "score", "state"],
           "edit": ["transcript", "play", "log", "undo", "reports", "table", "steps", "score", "state"],
-          "cover": ["counts", "texts"]}
+          "cover": ["counts", "texts", "rules"]}
 OPTIONS = {"--bind": "FILE", "--seed": "N", "--every": "K", "--print": "WHAT", "--strict": None,
            "--guarded": None}
 KNOWN = {"check": ["--bind", "--print", "--strict"], "play": ["--bind", "--seed", "--print"],
