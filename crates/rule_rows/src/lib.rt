@@ -2,8 +2,10 @@
 //! apply.
 #![tactic(auto)]
 
+pub mod ghost_rows;
 pub mod notes;
 pub mod tables;
 
+pub use ghost_rows::GhostRows;
 pub use notes::{RowNotes, Unnoted};
 pub use tables::{RuleRow, Table};

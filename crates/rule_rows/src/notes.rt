@@ -2,8 +2,8 @@
 ghost use Rattle.std.specs.Prelude.{◌≡◌, List, ◌++◌, ◌∷◌, []};
 ghost use Rattle.rule_rows.specs.declared.tables.RuleRow.{RuleRow};
 
+use crate::ghost_rows::GhostRows;
 use crate::tables::RuleRow;
-use http_server::Log;
 
 /// Notes on the rows of the rules.
 pub trait RowNotes: Drop {
@@ -18,24 +18,24 @@ pub trait RowNotes: Drop {
 /// Notes that keep nothing, and take no memory.
 #[derive(Drop)]
 pub struct Unnoted {
-    log: Log<RuleRow, ()>,
+    noted: GhostRows,
 }
 
 impl Unnoted {
     /// Nothing is noted yet.
     pub fn new() -> Unnoted
-        ensures { result.log.items ≡ [] }
+        ensures { result.noted.rows ≡ [] }
     {
-        Unnoted { log: Log::new() }
+        Unnoted {
+            noted: GhostRows::new(),
+        }
     }
 }
 
 impl RowNotes for Unnoted {
-    ghost use Rattle.std.specs.Prelude.{map};
-
-    ghost rows = { λ n. map (λ (p : _ × _). p.0) n.log.items };
+    ghost rows = { λ n. n.noted.rows };
 
     fn note(&mut self, row: RuleRow) {
-        self.log = self.log.and(&row, &());
+        self.noted = self.noted.and(row);
     }
 }
