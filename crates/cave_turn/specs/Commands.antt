@@ -1,6 +1,6 @@
 -- What a command does.
-use Rattle.std.specs.Prelude.{ℕ, pos, ◌-ℤ◌, Bool, ◌==◌, if◌then◌else◌, List, [], ◌∷◌, Option, Some}
-use Rattle.std.specs.Prelude.{None}
+use Rattle.std.specs.Prelude.{ℕ, pos, ◌-ℤ◌, Bool, true, false, ◌==◌, if◌then◌else◌, List, [], ◌∷◌}
+use Rattle.std.specs.Prelude.{Option, Some, None, is_some}
 use Rattle.std.specs.Int.{int_min}
 use Rattle.turn_text.specs.data_rows.declared.role.Role.TheVariants as role
 use Rattle.turn_text.specs.cave_data.CaveView.{CaveView}
@@ -19,11 +19,13 @@ use Rattle.turn_moves.specs.turn_ends.Questions.{after_ask}
 use Rattle.turn_moves.specs.Arrival.{after_arrival, description_anew}
 use Rattle.turn_moves.specs.Journeys.{journey_by_request}
 use Rattle.turn_begin.specs.turn_scene.Scene.{Scene, scene_at_start, after_telling, after_saying}
-use Rattle.turn_begin.specs.turn_scene.Scene.{with_state, after_draw, happens, thing, after_row}
+use Rattle.turn_begin.specs.turn_scene.Scene.{with_state, after_draw, happens, thing}
 use Rattle.turn_begin.specs.turn_things.Effects.{with_talk, with_dwarves}
 use Rattle.turn_begin.specs.rule_rows.declared.tables.Table.TheVariants as table
-use Rattle.cave_verbs.specs.verb_commands.turn_rules.Rows.{Act, Row, act_of, deed, plain_row}
-use Rattle.cave_verbs.specs.verb_commands.turn_rules.Rows.{chance_row, otherwise, by_table}
+use Rattle.cave_verbs.specs.verb_commands.turn_rules.Rows.{Deed, Act, Test, Row, act_of, deed}
+use Rattle.cave_verbs.specs.verb_commands.turn_rules.Rows.{plain_row, chance_row, otherwise}
+use Rattle.cave_verbs.specs.verb_commands.turn_rules.Rows.{answer_row, otherwise_row, always}
+use Rattle.cave_verbs.specs.verb_commands.turn_rules.Rows.{by_table, act_by_table}
 use Rattle.cave_verbs.specs.verb_commands.turn_rules.Tests.{percent}
 use Rattle.cave_verbs.specs.verb_commands.turn_rules.Effects.{say}
 use Rattle.cave_verbs.specs.verb_commands.Rows.{command_of}
@@ -110,14 +112,55 @@ done_by_request cave (request.Act number x word) p =
 done_by_request cave (request.WhatToDo word) p =
     act_of (after_telling (part.Word line.WhatToDo word) p) next_is.Stay
 
--- what is kept for the next command, by the number of its row: the verb that asks what it is to be
--- done to, or what was said so far where the verb is missing or a word isn't known
-abbrev pub half_command_kept : Request → Next → HalfCommand → ℕ × Option HalfCommand
-half_command_kept (request.Act number x word) next_is.Keep half =
-    (1, Some (record { verb = Some number; object = 0 }))
-half_command_kept (request.WhatToDo word) next half = (2, Some half)
-half_command_kept request.Unknown next half = (3, Some half)
-half_command_kept _ next half = (4, None)
+-- what was read, and what followed
+pub record Done : Type 0 where
+  pub understood : Understood
+  pub next : Next
+
+abbrev pub done : Understood → Next → Done
+done understood next = record { understood = understood; next = next }
+
+-- the verb that asks what it is to be done to, if one does
+abbrev pub verb_that_asks : Request → Next → Option ℕ
+verb_that_asks (request.Act number x word) next_is.Keep = Some number
+verb_that_asks _ _ = None
+
+abbrev pub asking_verb : Deed Done → Option ℕ
+asking_verb d = verb_that_asks d.about.understood.request d.about.next
+
+abbrev pub asks_for_object : Test Done
+asks_for_object d = is_some (asking_verb d)
+
+abbrev pub is_what_to_do : Request → Bool
+is_what_to_do (request.WhatToDo word) = true
+is_what_to_do _ = false
+
+-- the player is asked for the verb
+abbrev pub asks_for_verb : Test Done
+asks_for_verb d = is_what_to_do d.about.understood.request
+
+abbrev pub is_unknown : Request → Bool
+is_unknown request.Unknown = true
+is_unknown _ = false
+
+-- the cave doesn't have the word
+abbrev pub unknown_word : Test Done
+unknown_word d = is_unknown d.about.understood.request
+
+-- the verb alone, or what was said so far
+abbrev pub verb_alone : Deed Done → Option HalfCommand
+verb_alone d = Some (record { verb = asking_verb d; object = 0 })
+
+abbrev pub said_so_far : Deed Done → Option HalfCommand
+said_so_far d = Some d.about.understood.half
+
+-- what is kept for the next command
+unfoldable pub half_command_kept : Deed Done → Act (Option HalfCommand)
+half_command_kept d = act_by_table table.HalfCommand
+    (answer_row (asks_for_object ∷ []) verb_alone
+    ∷ answer_row (asks_for_verb ∷ []) said_so_far
+    ∷ answer_row (unknown_word ∷ []) said_so_far ∷ [])
+    (otherwise_row [] (always None)) d
 
 -- what is kept is remembered; where nothing is, the object that was read is the last one
 abbrev pub after_remembering : Option HalfCommand → ℕ → State → State
@@ -130,9 +173,9 @@ kept_scene kept x p = with_state (after_remembering kept x p.state) p
 
 unfoldable pub scene_of_understood : CaveView → Understood → Scene → Scene
 scene_of_understood cave u p =
-    let done = done_by_request cave u.request p in
-    let kept = half_command_kept u.request done.step u.half in
-    kept_scene kept.1 u.half.object (after_row table.HalfCommand kept.0 done.scene)
+    let a = done_by_request cave u.request p in
+    let kept = half_command_kept (deed cave (done u a.step) a.scene) in
+    kept_scene kept.step u.half.object kept.scene
 
 -- an input line has a first word
 abbrev pub scene_of_words : CaveView → Option (List ℕ) → Option (List ℕ) → Scene → Scene

@@ -1,62 +1,89 @@
 -- The dragon that is fought with bare hands.
-use Rattle.std.specs.Prelude.{ℕ, ◌+◌, ◌/◌, Bool, ◌==◌, ◌&&◌, ◌||◌, not, if◌then◌else◌}
-use Rattle.std.specs.Prelude.{List, [], ◌∷◌}
+use Rattle.std.specs.Prelude.{ℕ, ◌+◌, ◌/◌, List, [], ◌∷◌}
 use Rattle.turn_text.specs.data_numbers.Numbers.{LAST_OBJECT}
 use Rattle.turn_text.specs.cave_data.CaveView.{CaveView}
 use Rattle.turn_text.specs.cave_words.declared.named.Named.TheVariants as name
-use Rattle.turn_text.specs.world_objects.Objects.{Layout, after_move_to, is_first_at}
+use Rattle.turn_text.specs.world_objects.Objects.{is_first_at}
 use Rattle.turn_text.specs.cave_world.declared.ending.Question.{Question}
-use Rattle.turn_begin.specs.turn_scene.Scene.{thing}
-use Rattle.turn_begin.specs.turn_things.Homes.{home, second_home}
+use Rattle.turn_begin.specs.turn_scene.Scene.{Scene}
 use Rattle.turn_begin.specs.turn_things.Props.{DRAGON_DEAD, DRAGON_DYING, RUG_FREE}
-use Rattle.cave_verbs.specs.verb_commands.turn_rules.Rows.{Deed, Effect}
-use Rattle.cave_verbs.specs.verb_commands.turn_rules.Tests.{the, here}
+use Rattle.turn_begin.specs.rule_rows.declared.tables.Table.TheVariants as table
+use Rattle.cave_verbs.specs.verb_commands.turn_rules.Rows.{Deed, Act, Test, Effect, Row, Thing}
+use Rattle.cave_verbs.specs.verb_commands.turn_rules.Rows.{deed, plain_row, answer_row, always}
+use Rattle.cave_verbs.specs.verb_commands.turn_rules.Rows.{otherwise_row, act_by_table, after_all}
+use Rattle.cave_verbs.specs.verb_commands.turn_rules.Rows.{by_table}
+use Rattle.cave_verbs.specs.verb_commands.turn_rules.Tests.{the, it, here, either, both, there_is}
+use Rattle.cave_verbs.specs.verb_commands.turn_rules.Tests.{home_of, second_home_of}
 use Rattle.cave_verbs.specs.verb_commands.turn_rules.Effects.{look, set_prop, fix, loosen, move}
-use Rattle.cave_verbs.specs.verb_commands.turn_rules.Effects.{in_objects, for_each_from}
+use Rattle.cave_verbs.specs.verb_commands.turn_rules.Effects.{in_scene, for_each_from}
 use Rattle.cave_turn.specs.Effects.{arrive, stand}
 
--- between two places; where one is none, the other; where both are none, here
-abbrev pub between : ℕ → ℕ → ℕ → ℕ
-between a b here =
-    if b == 0 then (if a == 0 then here else a) else (if a == 0 then b else (a + b) / 2)
+module _ {C : Type 0} where
+  abbrev pub dragon : Thing C
+  dragon = the name.Dragon
 
--- where the dragon is once it is dead, for a player who is here
-unfoldable pub lair_from : CaveView → ℕ → ℕ
-lair_from cave here =
-    let dragon = thing cave name.Dragon in
-    between (home cave dragon) (second_home cave dragon) here
+  abbrev pub rug : Thing C
+  rug = the name.Rug
 
-abbrev pub lair : Deed Question → ℕ
-lair d = lair_from d.cave (here d)
+-- half-way between the two homes of the dragon, rounded down
+abbrev pub half_way : Deed Question → ℕ
+half_way d = (home_of dragon d + second_home_of dragon d) / 2
 
--- an object's first half is at one of the places of the dragon
-unfoldable pub is_by_dragon : CaveView → Layout → ℕ → Bool
-is_by_dragon cave o x =
-    let a = home cave (thing cave name.Dragon) in
-    let b = second_home cave (thing cave name.Dragon) in
-    (not (a == 0) && is_first_at o a x) || (not (b == 0) && is_first_at o b x)
+-- where the dragon is once it is dead: between its two homes; if one of them is no place, at the
+-- other, and if neither is one, where the player is
+unfoldable pub lair : Deed Question → Act ℕ
+lair d = act_by_table table.Lair
+    (answer_row (there_is (home_of dragon) ∷ there_is (second_home_of dragon) ∷ []) half_way
+    ∷ answer_row (there_is (home_of dragon) ∷ []) (home_of dragon)
+    ∷ answer_row (there_is (second_home_of dragon) ∷ []) (second_home_of dragon) ∷ [])
+    (otherwise_row [] here) d
 
--- an object that is by the dragon is moved to a place
-abbrev pub after_gathering : CaveView → ℕ → ℕ → Layout → Layout
-after_gathering cave place x o = if is_by_dragon cave o x then after_move_to o x place else o
+-- the object's first half is at a place, if there is the place
+abbrev pub first_at : (Deed ℕ → ℕ) → Test ℕ
+first_at place =
+    both (there_is place) (λ d. is_first_at d.scene.state.objects (place d) (it d))
 
--- all that is by the dragon is
-abbrev pub gather : (Deed Question → ℕ) → Effect Question
-gather place d =
-    in_objects (for_each_from 1 LAST_OBJECT (after_gathering d.cave (place d))
-    d.scene.state.objects) d
+-- the object is at a home of the dragon
+abbrev pub by_dragon : Test ℕ
+by_dragon = either (first_at (home_of dragon)) (first_at (second_home_of dragon))
 
--- the dragon is dead, its rug is loose beside it, and all that was there is where the player is
+-- and is moved to the lair
+unfoldable pub gathering_rows : ℕ → List (Row ℕ (Unit {0}))
+gathering_rows place = plain_row (by_dragon ∷ []) (move it (always place) ∷ []) ∷ []
+
+unfoldable pub after_gather : CaveView → ℕ → ℕ → Scene → Scene
+after_gather cave place x p =
+    (by_table table.Gathering (gathering_rows place) (deed cave x p)).scene
+
+-- each object that is by the dragon is, one after another
+abbrev pub gather : Effect ℕ
+gather d = in_scene (for_each_from 1 LAST_OBJECT (after_gather d.cave (it d)) d.scene) d
+
+-- the dragon lies in its lair, with its rug, which is loose, and all that was there, and the player
+-- is there too
+unfoldable pub settle : List (Effect ℕ)
+settle =
+    fix dragon
+    ∷ loosen rug
+    ∷ move dragon it
+    ∷ move rug it
+    ∷ gather
+    ∷ stand it
+    ∷ arrive it
+    ∷ []
+
+unfoldable pub after_settle : CaveView → ℕ → Scene → Scene
+after_settle cave place p = (after_all settle (deed cave place p)).scene
+
+-- the lair is found once
+abbrev pub settle_in_lair : Effect Question
+settle_in_lair d = let found = lair d in in_scene (after_settle d.cave found.step found.scene) d
+
+-- the dragon is dead
 unfoldable pub fight : List (Effect Question)
 fight =
-    look (the name.Dragon) DRAGON_DYING
-    ∷ set_prop (the name.Dragon) DRAGON_DEAD
-    ∷ set_prop (the name.Rug) RUG_FREE
-    ∷ fix (the name.Dragon)
-    ∷ loosen (the name.Rug)
-    ∷ move (the name.Dragon) lair
-    ∷ move (the name.Rug) lair
-    ∷ gather lair
-    ∷ stand lair
-    ∷ arrive here
+    look dragon DRAGON_DYING
+    ∷ set_prop dragon DRAGON_DEAD
+    ∷ set_prop rug RUG_FREE
+    ∷ settle_in_lair
     ∷ []

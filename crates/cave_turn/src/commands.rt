@@ -8,13 +8,14 @@ ghost use Rattle.turn_begin.specs.turn_scene.Bounds.{room_of_timed_request};
 ghost use Rattle.turn_begin.specs.turn_scene.Scene.{scene_of, cave_of};
 ghost use Rattle.cave_turn.specs.Commands.{with_magic_waiting, kept_knife, begin_command};
 ghost use Rattle.cave_turn.specs.Commands.{after_travel, after_puzzle, after_vanished_knives};
-ghost use Rattle.cave_turn.specs.Commands.{next_scene, half_command_kept, done_by_verb};
+ghost use Rattle.cave_turn.specs.Commands.{next_scene, done, half_command_kept, done_by_verb};
 ghost use Rattle.cave_turn.specs.Commands.{done_by_request, after_remembering, kept_scene};
 ghost use Rattle.cave_turn.specs.Commands.{scene_of_understood, scene_of_words, unread_scene};
 ghost use Rattle.cave_turn.specs.Commands.{after_clocks, clocks_scene, command_scene};
 ghost use Rattle.cave_turn.specs.Commands.{done_by_action};
 ghost use Rattle.cave_verbs.specs.verb_commands.Verbs.{verb_of};
-ghost use Rattle.cave_verbs.specs.verb_commands.turn_rules.Rows.{act_of};
+ghost use Rattle.cave_verbs.specs.verb_commands.turn_rules.Rows.{act_of, deed};
+ghost use Rattle.turn_text.specs.cave_data.CaveView.{CaveView};
 
 use crate::finish::end_turn;
 use crate::request::{HalfCommand, Request, Understood, read_words};
@@ -212,26 +213,45 @@ fn do_request<N: RowNotes>(rules: &Rules<'_>, request: &Request, scene: &mut Sce
     }
 }
 
-/// What is kept for the next command, by the number of its row: the verb that asks back, or what was
-/// said so far.
-fn half_command_kept(understood: &Understood, next: &Next) -> (u8, Option<HalfCommand>)
-    ensures { result
-        ≡ half_command_kept understood.now.request next.now understood.now.half }
+/// What is kept for the next command: the verb that asks what it is to be done to, or what was said
+/// so far.
+#[tactic(auto, unfolding(crate::specs::Commands::half_command_kept))]
+fn half_command_kept<N: RowNotes>(
+    understood: &Understood,
+    next: &Next,
+    scene: &mut Scene<'_, N>,
+) -> Option<HalfCommand>
+    ensures kept { (cave : CaveView) → act_of (scene_of N.rows scene.new) result
+        ≡ half_command_kept
+        (deed cave (done understood.now next.now) (scene_of N.rows scene.old)) }
+    ensures says { GoesOnSaying 0 scene.old scene.new }
 {
     match &understood.request {
         Request::Act(number, _, _) => match next {
             Next::Keep => {
-                let verb = HalfCommand {
+                scene.note(Table::HalfCommand, 1);
+                Some(HalfCommand {
                     verb: Some(*number),
                     object: Object::none(),
-                };
-                (1, Some(verb))
+                })
             }
-            _ => (4, None),
+            _ => {
+                scene.note(Table::HalfCommand, 4);
+                None
+            }
         },
-        Request::WhatToDo(_) => (2, Some(understood.half)),
-        Request::Unknown => (3, Some(understood.half)),
-        Request::Motion(_) | Request::Tell(_) | Request::Knives => (4, None),
+        Request::WhatToDo(_) => {
+            scene.note(Table::HalfCommand, 2);
+            Some(understood.half)
+        }
+        Request::Unknown => {
+            scene.note(Table::HalfCommand, 3);
+            Some(understood.half)
+        }
+        Request::Motion(_) | Request::Tell(_) | Request::Knives => {
+            scene.note(Table::HalfCommand, 4);
+            None
+        }
     }
 }
 
@@ -261,8 +281,7 @@ fn do_understood<N: RowNotes>(rules: &Rules<'_>, understood: &Understood, scene:
     ensures says { MovesOnSaying (parts_of_request scene.old.left) scene.old scene.new }
 {
     let next = do_request(rules, &understood.request, scene);
-    let (row, kept) = half_command_kept(understood, &next);
-    scene.note(Table::HalfCommand, row);
+    let kept = half_command_kept(understood, &next, scene);
     remember_command(kept, understood.half.object, scene.state);
 }
 

@@ -1,62 +1,106 @@
-ghost use Rattle.std.specs.Prelude.{◌≡◌, ◌+◌, ◌<◌};
+ghost use Rattle.std.specs.Prelude.{◌≡◌, ◌+◌};
 ghost use Rattle.turn_text.specs.data_numbers.Numbers.{LAST_OBJECT};
 ghost use Rattle.turn_text.specs.cave_world.declared.ending.Question.TheVariants as question_is;
-ghost use Rattle.turn_begin.specs.turn_scene.Bounds.{HasRoom, MovesOnSaying, parts_of_arrival};
+ghost use Rattle.turn_begin.specs.turn_scene.Bounds.{GoesOnSaying, HasRoom, MovesOnSaying};
+ghost use Rattle.turn_begin.specs.turn_scene.Bounds.{parts_of_arrival};
 ghost use Rattle.turn_begin.specs.turn_scene.Scene.{scene_of, cave_of};
-ghost use Rattle.cave_verbs.specs.verb_commands.turn_rules.Rows.{after_all, deed};
+ghost use Rattle.cave_verbs.specs.verb_commands.turn_rules.Rows.{after_all, deed, PlaysBy};
 ghost use Rattle.cave_verbs.specs.verb_commands.turn_rules.Effects.{for_each_from};
-ghost use Rattle.cave_turn.specs.Dragon.{between, lair_from, is_by_dragon, after_gathering, fight};
+ghost use Rattle.cave_turn.specs.Dragon.{lair, by_dragon, after_gather, after_settle, fight};
 
-use turn_begin::{DRAGON_DEAD, DRAGON_DYING, RUG_FREE, RowNotes, Rules, Scene, home, second_home};
+use turn_begin::{
+    DRAGON_DEAD, DRAGON_DYING, RUG_FREE, RowNotes, Rules, Scene, Table, home, second_home,
+};
 use turn_moves::arrive;
-use turn_text::{Anchor, Named, OBJECTS, Object, Objects, Place, Prop};
+use turn_text::{Anchor, Named, OBJECTS, Object, Place, Prop};
 
-fn between(one: Place, other: Place, here: Place) -> Place
-    ensures { result ≡ between one other here }
-{
-    match (one.number(), other.number()) {
-        (0, 0) => here,
-        (_, 0) => one,
-        (0, _) => other,
-        (one, other) => Place::new((one + other) / 2),
-    }
-}
-
-/// Where the dragon is once it is dead.
-#[tactic(auto, unfolding(crate::specs::Dragon::lair_from))]
-fn lair_from(rules: &Rules<'_>, here: Place) -> Place
-    ensures { result ≡ lair_from (cave_of rules.now) here }
-{
-    let dragon = rules.thing(Named::Dragon);
-    between(home(rules, dragon), second_home(rules, dragon), here)
-}
-
-#[tactic(auto, unfolding(crate::specs::Dragon::is_by_dragon))]
-fn is_by_dragon(rules: &Rules<'_>, objects: &Objects, object: Object) -> bool
-    ensures { result ≡ is_by_dragon (cave_of rules.now) objects.now object }
+/// Where the dead dragon is: between its two homes, at its only one, or where the player is.
+#[tactic(auto, unfolding(crate::specs::Dragon::lair))]
+fn lair<N: RowNotes>(rules: &Rules<'_>, scene: &mut Scene<'_, N>) -> Place
+    ensures row { PlaysBy N.rows lair 0 rules.now question_is.Dragon scene.old scene.new result }
 {
     let dragon = rules.thing(Named::Dragon);
     let one = home(rules, dragon);
     let other = second_home(rules, dragon);
+    if one.number() != 0 && other.number() != 0 {
+        scene.note(Table::Lair, 1);
+        return Place::new((one.number() + other.number()) / 2);
+    }
+    if one.number() != 0 {
+        scene.note(Table::Lair, 2);
+        return one;
+    }
+    if other.number() != 0 {
+        scene.note(Table::Lair, 3);
+        return other;
+    }
+    scene.note(Table::Lair, 4);
+    scene.state.trail.here
+}
+
+/// Whether an object is at a home of the dragon.
+fn is_by_dragon<N: RowNotes>(rules: &Rules<'_>, object: Object, scene: &Scene<'_, N>) -> bool
+    ensures { result ≡ by_dragon (deed (cave_of rules.now) object (scene_of N.rows scene.now)) }
+{
+    let dragon = rules.thing(Named::Dragon);
+    let one = home(rules, dragon);
+    let other = second_home(rules, dragon);
+    let objects = &scene.state.objects;
     (one.number() != 0 && objects.is_first_at(one, object))
         || (other.number() != 0 && objects.is_first_at(other, object))
 }
 
-/// All that is at the places of the dragon is moved to one place.
-fn gather(rules: &Rules<'_>, place: Place, objects: &mut Objects)
-    ensures { objects.new
-        ≡ for_each_from 1 LAST_OBJECT (after_gathering (cave_of rules.now) place) objects.old }
+/// An object that is at a home of the dragon is moved to the lair.
+#[tactic(auto, unfolding(crate::specs::Dragon::after_gather, crate::specs::Dragon::gathering_rows))]
+fn gather_object<N: RowNotes>(
+    rules: &Rules<'_>,
+    lair: Place,
+    object: Object,
+    scene: &mut Scene<'_, N>,
+)
+    ensures scene { scene_of N.rows scene.new
+        ≡ after_gather (cave_of rules.now) lair object (scene_of N.rows scene.old) }
+    ensures says { GoesOnSaying 0 scene.old scene.new }
 {
-    for before in 0..OBJECTS as u8 {
-        let object = Object::new(before + 1);
-        if is_by_dragon(rules, objects, object) {
-            objects.move_to(object, place);
-        }
+    if is_by_dragon(rules, object, scene) {
+        scene.note(Table::Gathering, 1);
+        scene.state.move_to(object, lair);
     }
 }
 
+/// All that is at the homes of the dragon is moved to its lair.
+fn gather<N: RowNotes>(rules: &Rules<'_>, lair: Place, scene: &mut Scene<'_, N>)
+    ensures scene { scene_of N.rows scene.new
+        ≡ for_each_from 1 LAST_OBJECT (after_gather (cave_of rules.now) lair)
+        (scene_of N.rows scene.old) }
+    ensures says { GoesOnSaying 0 scene.old scene.new }
+{
+    for before in 0..OBJECTS as u8 {
+        gather_object(rules, lair, Object::new(before + 1), scene);
+    }
+}
+
+/// The dragon lies in its lair, with its rug and all that was there, and the player is there too.
+#[tactic(auto, unfolding(crate::specs::Dragon::after_settle, crate::specs::Dragon::settle, crate::specs::state_with_player_at))]
+fn settle<N: RowNotes>(rules: &Rules<'_>, lair: Place, scene: &mut Scene<'_, N>)
+    requires { HasRoom (parts_of_arrival scene.old.left) scene.old }
+    ensures scene { scene_of N.rows scene.new
+        ≡ after_settle (cave_of rules.now) lair (scene_of N.rows scene.old) }
+    ensures says { MovesOnSaying (parts_of_arrival scene.old.left) scene.old scene.new }
+{
+    let dragon = rules.thing(Named::Dragon);
+    let rug = rules.thing(Named::Rug);
+    scene.state.objects.anchor_to(dragon, Anchor::Fixed);
+    scene.state.objects.anchor_to(rug, Anchor::Loose);
+    scene.state.move_to(dragon, lair);
+    scene.state.move_to(rug, lair);
+    gather(rules, lair, scene);
+    scene.put_player_at(lair);
+    arrive(rules, lair, scene);
+}
+
 /// The player fights the dragon with bare hands, and wins.
-#[tactic(auto, unfolding(crate::specs::Dragon::fight, crate::specs::state_with_player_at))]
+#[tactic(auto, unfolding(crate::specs::Dragon::fight))]
 pub fn fight<N: RowNotes>(rules: &Rules<'_>, scene: &mut Scene<'_, N>)
     requires { HasRoom (parts_of_arrival scene.old.left + 1) scene.old }
     ensures scene { scene_of N.rows scene.new ≡ (after_all fight
@@ -68,12 +112,6 @@ pub fn fight<N: RowNotes>(rules: &Rules<'_>, scene: &mut Scene<'_, N>)
     scene.look(dragon, DRAGON_DYING);
     scene.state.objects.set_prop(dragon, Prop::new(DRAGON_DEAD));
     scene.state.objects.set_prop(rug, Prop::new(RUG_FREE));
-    let place = lair_from(rules, scene.state.trail.here);
-    scene.state.objects.anchor_to(dragon, Anchor::Fixed);
-    scene.state.objects.anchor_to(rug, Anchor::Loose);
-    scene.state.objects.move_to(dragon, place);
-    scene.state.objects.move_to(rug, place);
-    gather(rules, place, &mut scene.state.objects);
-    scene.put_player_at(place);
-    arrive(rules, place, scene);
+    let lair = lair(rules, scene);
+    settle(rules, lair, scene);
 }

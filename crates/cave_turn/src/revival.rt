@@ -3,13 +3,12 @@
 ghost use Rattle.std.specs.Prelude.{◌≡◌, ◌+◌, [], ◌∷◌};
 ghost use Rattle.turn_text.specs.data_numbers.Numbers.{LAST_OBJECT};
 ghost use Rattle.turn_text.specs.cave_world.declared.ending.Question.TheVariants as question_is;
-ghost use Rattle.turn_begin.specs.turn_scene.Bounds.{HasRoom, MovesOnSaying, parts_of_arrival};
-ghost use Rattle.turn_begin.specs.turn_scene.Bounds.{parts_of_end};
+ghost use Rattle.turn_begin.specs.turn_scene.Bounds.{GoesOnSaying, HasRoom, MovesOnSaying};
+ghost use Rattle.turn_begin.specs.turn_scene.Bounds.{parts_of_arrival, parts_of_end};
 ghost use Rattle.turn_begin.specs.turn_scene.Scene.{scene_of, cave_of};
 ghost use Rattle.turn_begin.specs.rule_rows.declared.tables.Table.TheVariants as table;
 ghost use Rattle.cave_verbs.specs.verb_commands.turn_rules.Rows.{Does, after_all, deed, by_table};
-ghost use Rattle.cave_turn.specs.Revival.{reborn_rows, fallen_place, layout_after_fall};
-ghost use Rattle.cave_turn.specs.Revival.{without_belongings, revive};
+ghost use Rattle.cave_turn.specs.Revival.{reborn_rows, put_out_rows, after_fall, revive};
 ghost use Rattle.cave_verbs.specs.verb_commands.turn_rules.Effects.{for_each_down_from};
 ghost use Rattle.cave_turn.specs.Revival.{revival_rows, come_back, bury};
 
@@ -17,7 +16,7 @@ use turn_begin::{
     LAMP_OFF, RowNotes, Rules, Scene, Table, building_place, is_in_hand, start_place,
 };
 use turn_moves::{count_death, describe_here, end};
-use turn_text::{Ending, LIVES, Named, OBJECTS, Object, Objects, Place, Prop, Role, State};
+use turn_text::{Ending, LIVES, Named, OBJECTS, Object, Prop, Role};
 
 /// What is said of a first, a second, a third revival.
 #[tactic(auto, unfolding(crate::specs::Revival::reborn_rows))]
@@ -42,45 +41,51 @@ fn tell_reborn<N: RowNotes>(rules: &Rules<'_>, scene: &mut Scene<'_, N>)
     }
 }
 
-fn fallen_place(rules: &Rules<'_>, place: Place, object: Object) -> Place
-    ensures { result ≡ fallen_place (cave_of rules.now) place object }
+/// A lamp that the player carries is put out.
+#[tactic(auto, unfolding(crate::specs::Revival::put_out_rows))]
+fn put_out_lamp<N: RowNotes>(rules: &Rules<'_>, scene: &mut Scene<'_, N>)
+    ensures rows { Does N.rows (by_table table.LampPutOut put_out_rows ∷ []) 0 rules.now
+        question_is.Die scene.old scene.new }
 {
-    if rules.is(object, Named::Lamp) {
-        start_place(rules.cave)
-    } else {
-        place
+    let lamp = rules.thing(Named::Lamp);
+    if is_in_hand(rules, scene.state, lamp) {
+        scene.note(Table::LampPutOut, 1);
+        scene.state.objects.set_prop(lamp, Prop::new(LAMP_OFF));
     }
 }
 
-#[tactic(auto, unfolding(crate::specs::Revival::layout_after_fall))]
-fn let_fall(rules: &Rules<'_>, place: Place, object: Object, objects: &mut Objects)
-    ensures { objects.new ≡ layout_after_fall (cave_of rules.now) place object objects.old }
+/// An object that was carried falls: the lamp where the game begins, all else at the older place of
+/// the trail, which a death sets to where it leaves things, except a death at place 0.
+#[tactic(auto, unfolding(crate::specs::Revival::after_fall, crate::specs::Revival::fall_rows))]
+fn let_fall<N: RowNotes>(rules: &Rules<'_>, object: Object, scene: &mut Scene<'_, N>)
+    ensures scene { scene_of N.rows scene.new
+        ≡ after_fall (cave_of rules.now) object (scene_of N.rows scene.old) }
+    ensures says { GoesOnSaying 0 scene.old scene.new }
 {
-    if objects.is_carried(object) {
-        objects.move_to(object, fallen_place(rules, place, object));
+    if !scene.state.objects.is_carried(object) {
+        return;
     }
+    if rules.is(object, Named::Lamp) {
+        scene.note(Table::Fall, 1);
+        scene.state.move_to(object, start_place(rules.cave));
+        return;
+    }
+    scene.note(Table::Fall, 2);
+    let older = scene.state.trail.older;
+    scene.state.move_to(object, older);
 }
 
 /// What was carried falls, the last object first.
-fn let_all_fall(rules: &Rules<'_>, place: Place, objects: &mut Objects)
-    ensures { objects.new
-        ≡ for_each_down_from LAST_OBJECT (layout_after_fall (cave_of rules.now) place)
-        objects.old }
+fn leave_belongings<N: RowNotes>(rules: &Rules<'_>, scene: &mut Scene<'_, N>)
+    ensures scene { scene_of N.rows scene.new
+        ≡ for_each_down_from LAST_OBJECT (after_fall (cave_of rules.now))
+        (scene_of N.rows scene.old) }
+    ensures says { GoesOnSaying 0 scene.old scene.new }
 {
     for before in 0..OBJECTS as u8 {
         let object = Object::new(OBJECTS as u8 - before);
-        let_fall(rules, place, object, objects);
+        let_fall(rules, object, scene);
     }
-}
-
-/// What was carried is at the older place of the trail, which a death sets to where it leaves
-/// things, except a death at place 0; the lamp is where the game begins.
-#[tactic(auto, unfolding(crate::specs::Revival::without_belongings))]
-fn leave_belongings(rules: &Rules<'_>, state: &mut State)
-    ensures { state.new ≡ without_belongings (cave_of rules.now) state.old }
-{
-    let older = state.trail.older;
-    let_all_fall(rules, older, &mut state.objects);
 }
 
 /// The player is back, without what was carried, and a lamp that was carried is out.
@@ -92,11 +97,8 @@ fn revive<N: RowNotes>(rules: &Rules<'_>, scene: &mut Scene<'_, N>)
         (deed (cave_of rules.now) question_is.Die (scene_of N.rows scene.old))).scene }
     ensures says { MovesOnSaying (parts_of_arrival scene.old.left) scene.old scene.new }
 {
-    let lamp = rules.thing(Named::Lamp);
-    if is_in_hand(rules, scene.state, lamp) {
-        scene.state.objects.set_prop(lamp, Prop::new(LAMP_OFF));
-    }
-    leave_belongings(rules, scene.state);
+    put_out_lamp(rules, scene);
+    leave_belongings(rules, scene);
     scene.state.put_player_from(building_place(rules.cave));
     describe_here(rules, scene);
 }

@@ -4,7 +4,8 @@ use Rattle.verb_commands.specs.data_rows.declared.role.Role.TheVariants as role
 use Rattle.verb_commands.specs.cave_words.declared.named.Named.TheVariants as name
 use Rattle.verb_commands.specs.cave_world.declared.ending.Ending.TheVariants as ending
 use Rattle.verb_commands.specs.turn_things.Props.{VASE_BROKEN, VASE_WHOLE}
-use Rattle.verb_commands.specs.turn_rules.Effects.{say, fix, set_prop, lay_down}
+use Rattle.verb_commands.specs.turn_rules.Effects.{say, fix, set_prop}
+use Rattle.verb_commands.specs.turn_rules.Putting.{lay_down}
 use Rattle.verb_commands.specs.turn_rules.Rows.{row_then, otherwise_then}
 use Rattle.verb_commands.specs.turn_rules.Tests.{prop, cave_closed}
 use Rattle.verb_commands.specs.Effects.{default}

@@ -1,5 +1,5 @@
 -- FEED and EAT.
-use Rattle.std.specs.Prelude.{◌+◌, ◌++◌, min, List, [], ◌∷◌}
+use Rattle.std.specs.Prelude.{◌+◌, min, List, [], ◌∷◌}
 use Rattle.verb_commands.specs.data_rows.declared.role.Role.TheVariants as role
 use Rattle.verb_commands.specs.cave_words.declared.named.Named.{Named}
 use Rattle.verb_commands.specs.cave_words.declared.named.Named.TheVariants as name
@@ -11,20 +11,21 @@ use Rattle.verb_commands.specs.turn_things.Props.{BIRD_FREE, DRAGON_ALIVE}
 use Rattle.verb_commands.specs.turn_things.Effects.{with_dwarves}
 use Rattle.verb_commands.specs.turn_rules.Effects.{change, say, destroy, loosen, set_prop, lose_one}
 use Rattle.verb_commands.specs.turn_rules.Rows.{Test, row_then, otherwise_then}
-use Rattle.verb_commands.specs.turn_rules.Tests.{the, no, either, near, prop, other_prop}
+use Rattle.verb_commands.specs.turn_rules.Tests.{no, either, near, prop, other_prop}
 use Rattle.verb_commands.specs.turn_rules.Tests.{cave_closed}
 use Rattle.verb_commands.specs.Effects.{default, ask_what}
 use Rattle.verb_commands.specs.Rows.{VerbRow, row, keeps, does, stays}
 use Rattle.verb_commands.specs.declared.verb.Verb.TheVariants as verb
 use Rattle.verb_commands.specs.Tests.{x, is}
 use Rattle.verb_commands.specs.declared.command.Command.{Command}
+use Rattle.cave_verbs.specs.Things.{axe, bird, food}
 
 abbrev pub is_any : List Named → Test Command
 is_any names d = is_one_of d.cave d.about.object names
 
 unfoldable pub bare_eat_rows : List VerbRow
 bare_eat_rows =
-    row_then (near (the name.Food) ∷ []) [] (does verb.Eat (the name.Food))
+    row_then (near food ∷ []) [] (does verb.Eat food)
     ∷ otherwise_then (ask_what ∷ []) keeps
 
 unfoldable pub eat_rows : List VerbRow
@@ -39,27 +40,20 @@ abbrev pub with_more_anger : State → State
 with_more_anger s =
     with_dwarves (record (s.dwarves) { anger = min (s.dwarves.anger + 1) MAX_ANGER }) s
 
--- food for the bear
-abbrev pub feed_bear_rows : List VerbRow
-feed_bear_rows =
-    row (is name.Bear ∷ near (the name.Food) ∷ [])
-    (destroy (the name.Food) ∷ set_prop x BEAR_FED ∷ loosen (the name.Axe)
-    ∷ set_prop (the name.Axe) AXE_FREE ∷ say role.BearFed ∷ [])
-    ∷ row (is name.Bear ∷ prop x BEAR_WILD ∷ []) (say role.NotHungry ∷ [])
-    ∷ row (is name.Bear ∷ prop x BEAR_DEAD ∷ []) (say role.Ridiculous ∷ [])
-    ∷ row (is name.Bear ∷ []) (default ∷ [])
-    ∷ []
-
 unfoldable pub feed_rows : List VerbRow
 feed_rows =
     row (is name.Bird ∷ []) (say role.BirdFeed ∷ [])
-    ∷ row (is name.Snake ∷ no cave_closed ∷ near (the name.Bird) ∷ [])
-    (destroy (the name.Bird) ∷ set_prop (the name.Bird) BIRD_FREE ∷ lose_one ∷ say role.BirdEaten
-    ∷ [])
+    ∷ row (is name.Snake ∷ no cave_closed ∷ near bird ∷ [])
+    (destroy bird ∷ set_prop bird BIRD_FREE ∷ lose_one ∷ say role.BirdEaten ∷ [])
     ∷ row (is name.Dragon ∷ other_prop x DRAGON_ALIVE ∷ []) (say role.Ridiculous ∷ [])
     ∷ row (either (is name.Snake) (is name.Dragon) ∷ []) (say role.NotHungry ∷ [])
     ∷ row (is name.Troll ∷ []) (say role.TrollFeed ∷ [])
-    ∷ row (is name.Dwarf ∷ near (the name.Food) ∷ []) (change with_more_anger
-    ∷ say role.DwarfFeed ∷ [])
+    ∷ row (is name.Dwarf ∷ near food ∷ []) (change with_more_anger ∷ say role.DwarfFeed ∷ [])
     ∷ row (is name.Dwarf ∷ []) (default ∷ [])
-    ∷ (feed_bear_rows ++ otherwise_then (say role.FeedWhat ∷ []) stays)
+    ∷ row (is name.Bear ∷ near food ∷ [])
+    (destroy food ∷ set_prop x BEAR_FED ∷ loosen axe ∷ set_prop axe AXE_FREE ∷ say role.BearFed
+    ∷ [])
+    ∷ row (is name.Bear ∷ prop x BEAR_WILD ∷ []) (say role.NotHungry ∷ [])
+    ∷ row (is name.Bear ∷ prop x BEAR_DEAD ∷ []) (say role.Ridiculous ∷ [])
+    ∷ row (is name.Bear ∷ []) (default ∷ [])
+    ∷ otherwise_then (say role.FeedWhat ∷ []) stays

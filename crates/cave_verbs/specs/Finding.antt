@@ -9,14 +9,17 @@ use Rattle.verb_commands.specs.cave_world.declared.part.Part.TheVariants as part
 use Rattle.verb_commands.specs.cave_world.declared.state.State.{State}
 use Rattle.verb_commands.specs.turn_scene.Scene.{is_called, Scene}
 use Rattle.verb_commands.specs.turn_things.Reach.{is_in_hand}
-use Rattle.verb_commands.specs.turn_rules.Rows.{Deed, Test, Effect, otherwise_then}
-use Rattle.verb_commands.specs.turn_rules.Effects.{in_scene, say, when}
-use Rattle.verb_commands.specs.turn_rules.Tests.{the, in_hand, is_here, dwarf, cave_closed}
+use Rattle.verb_commands.specs.turn_rules.Rows.{Deed, Test, Effect, Row, plain_row}
+use Rattle.verb_commands.specs.turn_rules.Rows.{otherwise_then, by_table}
+use Rattle.verb_commands.specs.turn_rules.Effects.{in_scene, say}
+use Rattle.verb_commands.specs.turn_rules.Tests.{in_hand, is_here, dwarf, cave_closed}
 use Rattle.verb_commands.specs.turn_rules.Tests.{in_bottle, in_lake}
 use Rattle.verb_commands.specs.Rows.{VerbRow, row, stays}
 use Rattle.verb_commands.specs.Effects.{default}
 use Rattle.verb_commands.specs.Tests.{x, is}
 use Rattle.verb_commands.specs.declared.command.Command.{Command}
+use Rattle.verb_commands.specs.rule_rows.declared.tables.Table.TheVariants as table
+use Rattle.cave_verbs.specs.Things.{bear, bottle}
 
 -- FIND an object, and INVENTORY of one
 unfoldable pub find_rows : List VerbRow
@@ -24,7 +27,7 @@ find_rows =
     row (in_hand x ∷ []) (say role.HeldIt ∷ [])
     ∷ row (cave_closed ∷ []) (say role.Around ∷ [])
     ∷ row (is_here x ∷ []) (say role.HereIt ∷ [])
-    ∷ row (in_bottle x ∷ is_here (the name.Bottle) ∷ []) (say role.HereIt ∷ [])
+    ∷ row (in_bottle x ∷ is_here bottle ∷ []) (say role.HereIt ∷ [])
     ∷ row (in_lake x ∷ []) (say role.HereIt ∷ [])
     ∷ row (is name.Dwarf ∷ dwarf ∷ []) (say role.HereIt ∷ [])
     ∷ otherwise_then (default ∷ []) stays
@@ -51,8 +54,11 @@ abbrev pub name_them : Effect Command
 name_them d = in_scene (after_naming (objects_listed d) d.scene) d
 
 -- it is said that the bear follows, if the player has it
+unfoldable pub bear_along_rows : List (Row Command (Unit {0}))
+bear_along_rows = plain_row (in_hand bear ∷ []) (say role.BearFollows ∷ []) ∷ []
+
 abbrev pub tell_bear : Effect Command
-tell_bear = when (in_hand (the name.Bear)) (say role.BearFollows)
+tell_bear = by_table table.BearAlong bear_along_rows
 
 unfoldable pub bare_inventory_rows : List VerbRow
 bare_inventory_rows =

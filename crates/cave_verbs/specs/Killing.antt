@@ -6,8 +6,9 @@ use Rattle.verb_commands.specs.cave_world.declared.ending.Ending.TheVariants as 
 use Rattle.verb_commands.specs.cave_world.declared.ending.Question.TheVariants as question
 use Rattle.verb_commands.specs.turn_things.Props.{BEAR_DEAD, BEAR_WILD, BIRD_FREE, DRAGON_ALIVE}
 use Rattle.verb_commands.specs.turn_rules.Rows.{Deed, Test, row_then, otherwise_then}
-use Rattle.verb_commands.specs.turn_rules.Effects.{say, destroy, set_prop, lose_to_snake}
-use Rattle.verb_commands.specs.turn_rules.Tests.{the, no, either, both, there_is, near, is_here}
+use Rattle.verb_commands.specs.turn_rules.Effects.{say, destroy, set_prop}
+use Rattle.verb_commands.specs.turn_rules.Losses.{lose_to_snake}
+use Rattle.verb_commands.specs.turn_rules.Tests.{no, either, both, there_is, near, is_here}
 use Rattle.verb_commands.specs.turn_rules.Tests.{prop, dwarf, cave_closed}
 use Rattle.verb_commands.specs.Choice.{candidate, objects_meant, several, first}
 use Rattle.verb_commands.specs.Rows.{VerbRow, row, keeps, poses, ends, does, stays}
@@ -17,6 +18,7 @@ use Rattle.verb_commands.specs.declared.verb.Verb.{Verb}
 use Rattle.verb_commands.specs.declared.verb.Verb.TheVariants as verb
 use Rattle.verb_commands.specs.Tests.{x, is}
 use Rattle.verb_commands.specs.declared.command.Command.{Command}
+use Rattle.cave_verbs.specs.Things.{bear, bird, clam, dragon, oyster, snake, troll}
 
 -- the player's own verb, which may have gone on to this one
 abbrev pub is_typed : Verb → Test Command
@@ -25,17 +27,17 @@ is_typed v d = is_verb d.about.commanded v
 abbrev pub foes : Deed Command → List ℕ
 foes = objects_meant
     (candidate name.Dwarf dwarf
-    ∷ candidate name.Snake (near (the name.Snake))
-    ∷ candidate name.Dragon (both (is_here (the name.Dragon)) (prop (the name.Dragon) DRAGON_ALIVE))
-    ∷ candidate name.Troll (is_here (the name.Troll))
-    ∷ candidate name.Bear (both (near (the name.Bear)) (prop (the name.Bear) BEAR_WILD))
+    ∷ candidate name.Snake (near snake)
+    ∷ candidate name.Dragon (both (is_here dragon) (prop dragon DRAGON_ALIVE))
+    ∷ candidate name.Troll (is_here troll)
+    ∷ candidate name.Bear (both (near bear) (prop bear BEAR_WILD))
     ∷ [])
 
 -- what is killed where there is no foe
 abbrev pub prey : Deed Command → List ℕ
 prey = objects_meant
-    (candidate name.Bird (both (near (the name.Bird)) (no (is_typed verb.Throw)))
-    ∷ candidate name.Clam (either (near (the name.Clam)) (near (the name.Oyster)))
+    (candidate name.Bird (both (near bird) (no (is_typed verb.Throw)))
+    ∷ candidate name.Clam (either (near clam) (near oyster))
     ∷ [])
 
 unfoldable pub bare_kill_rows : List VerbRow

@@ -13,6 +13,7 @@ pub mod Ranks
 pub mod Reading
 pub mod Small
 pub mod Taking
+pub mod Things
 pub mod Throwing
 pub mod Waving
 pub use Rattle.verb_commands.specs as verb_commands

@@ -2,22 +2,20 @@
 use Rattle.std.specs.Prelude.{ℕ, ℤ, pos, ◌-ℤ◌, ◌==◌, not, List, [], ◌∷◌}
 use Rattle.std.specs.Ordering.{int_eq}
 use Rattle.verb_commands.specs.data_rows.declared.role.Role.TheVariants as role
-use Rattle.verb_commands.specs.cave_words.declared.named.Named.TheVariants as name
 use Rattle.verb_commands.specs.cave_world.declared.state.State.{State}
-use Rattle.verb_commands.specs.turn_things.Homes.{is_at_home}
 use Rattle.verb_commands.specs.turn_things.SpecialWords.{special}
 use Rattle.verb_commands.specs.turn_things.Props.{EGGS_APPEARING, EGGS_ELSEWHERE, EGGS_VANISHING}
 use Rattle.verb_commands.specs.turn_things.Props.{TROLL_CALM, TROLL_RETURNING}
 use Rattle.verb_commands.specs.turn_things.Effects.{with_talk}
-use Rattle.verb_commands.specs.turn_rules.Rows.{Deed, Test, Effect, Thing, always, otherwise_row}
-use Rattle.verb_commands.specs.turn_rules.Rows.{otherwise_then, answer_row, Act}
-use Rattle.verb_commands.specs.turn_rules.Rows.{act_by_table}
-use Rattle.verb_commands.specs.turn_rules.Effects.{in_state, say, set_prop, look, move, in_scene}
-use Rattle.verb_commands.specs.turn_rules.Tests.{the, no, either, there_is, in_hand, prop, nowhere}
-use Rattle.verb_commands.specs.turn_rules.Tests.{player_at_home, home_of, near}
+use Rattle.verb_commands.specs.turn_rules.Rows.{Deed, Test, Effect, Row, plain_row, otherwise}
+use Rattle.verb_commands.specs.turn_rules.Rows.{otherwise_then, by_table}
+use Rattle.verb_commands.specs.turn_rules.Effects.{in_state, say, set_prop, look, move}
+use Rattle.verb_commands.specs.turn_rules.Tests.{no, either, there_is, in_hand, prop, nowhere}
+use Rattle.verb_commands.specs.turn_rules.Tests.{at_home, player_at_home, home_of, near}
 use Rattle.verb_commands.specs.Rows.{VerbRow, row, stays}
 use Rattle.verb_commands.specs.declared.command.Command.{Command}
 use Rattle.verb_commands.specs.rule_rows.declared.tables.Table.TheVariants as table
+use Rattle.cave_verbs.specs.Things.{eggs, troll}
 
 -- the number of the word that was just read among the special words; 0 if it is none of them
 abbrev pub k : Deed Command → ℕ
@@ -45,16 +43,6 @@ LAST_MAGIC_WORD = 4
 abbrev pub is_last : Test Command
 is_last d = k d == LAST_MAGIC_WORD
 
-abbrev pub eggs : Thing Command
-eggs = the name.Eggs
-
-abbrev pub troll : Thing Command
-troll = the name.Troll
-
--- the first half of an object is at home
-abbrev pub at_home : Thing Command → Test Command
-at_home t d = is_at_home d.cave d.scene.state (t d)
-
 abbrev pub with_magic : ℤ → State → State
 with_magic v s = with_talk (record (s.talk) { magic = v }) s
 
@@ -66,17 +54,11 @@ abbrev pub begin_anew : Effect Command
 begin_anew d = in_state (with_magic (pos 0) d.scene.state) d
 
 -- which text is printed of the eggs as they go home
-unfoldable pub eggs_sight : Deed Command → Act ℤ
-eggs_sight d = act_by_table table.Eggs
-    (answer_row (player_at_home eggs ∷ []) (always EGGS_APPEARING)
-    ∷ answer_row (near eggs ∷ []) (always EGGS_VANISHING) ∷ [])
-    (otherwise_row [] (always EGGS_ELSEWHERE)) d
-
--- it is printed, and they go home
-unfoldable pub send_eggs_home : Effect Command
-send_eggs_home d =
-    let sight = eggs_sight d in
-    move eggs (home_of eggs) (look eggs sight.step (in_scene sight.scene d))
+unfoldable pub eggs_rows : List (Row Command (Unit {0}))
+eggs_rows =
+    plain_row (player_at_home eggs ∷ []) (look eggs EGGS_APPEARING ∷ [])
+    ∷ plain_row (near eggs ∷ []) (look eggs EGGS_VANISHING ∷ [])
+    ∷ otherwise (look eggs EGGS_ELSEWHERE ∷ [])
 
 unfoldable pub bare_foo_rows : List VerbRow
 bare_foo_rows =
@@ -87,5 +69,7 @@ bare_foo_rows =
     ∷ row (at_home eggs ∷ []) (begin_anew ∷ say role.Magic ∷ [])
     ∷ row (in_hand eggs ∷ player_at_home eggs ∷ []) (begin_anew ∷ say role.Magic ∷ [])
     ∷ row (nowhere eggs ∷ nowhere troll ∷ prop troll TROLL_CALM ∷ [])
-    (begin_anew ∷ set_prop troll TROLL_RETURNING ∷ send_eggs_home ∷ [])
-    ∷ otherwise_then (begin_anew ∷ send_eggs_home ∷ []) stays
+    (begin_anew ∷ set_prop troll TROLL_RETURNING ∷ by_table table.Eggs eggs_rows
+    ∷ move eggs (home_of eggs) ∷ [])
+    ∷ otherwise_then
+    (begin_anew ∷ by_table table.Eggs eggs_rows ∷ move eggs (home_of eggs) ∷ []) stays

@@ -8,8 +8,10 @@ use Rattle.verb_commands.specs.turn_things.Props.{CHAIN_UNLOCKED, DOOR_OILED, GR
 use Rattle.verb_commands.specs.turn_things.Props.{GRATE_UNLOCKED}
 use Rattle.verb_commands.specs.turn_rules.Rows.{Deed, Test, Thing, row_then, otherwise_then}
 use Rattle.verb_commands.specs.turn_rules.Effects.{say, bring, destroy, fix, loosen, set_prop}
-use Rattle.verb_commands.specs.turn_rules.Effects.{lay_down, send, panic}
-use Rattle.verb_commands.specs.turn_rules.Tests.{the, no, either, there_is, in_hand, near, is_here}
+use Rattle.verb_commands.specs.turn_rules.Effects.{send}
+use Rattle.verb_commands.specs.turn_rules.Putting.{lay_down}
+use Rattle.verb_commands.specs.turn_rules.Panic.{panic}
+use Rattle.verb_commands.specs.turn_rules.Tests.{no, either, there_is, in_hand, near, is_here}
 use Rattle.verb_commands.specs.turn_rules.Tests.{prop, other_prop, cave_closing, away_from_home}
 use Rattle.verb_commands.specs.Choice.{candidate, objects_meant, first}
 use Rattle.verb_commands.specs.Rows.{VerbRow, row, keeps, stays}
@@ -20,6 +22,7 @@ use Rattle.verb_commands.specs.Verbs.{is_verb}
 use Rattle.verb_commands.specs.declared.next.Step.{Step}
 use Rattle.verb_commands.specs.declared.next.Step.TheVariants.{GoOn}
 use Rattle.verb_commands.specs.declared.command.Command.{Command}
+use Rattle.cave_verbs.specs.Things.{bear, chain, clam, door, grate, keys, oyster, pearl, trident}
 
 abbrev pub is_opening : Test Command
 is_opening d = is_verb d.about.verb verb.Open
@@ -35,62 +38,49 @@ does_it_to t d = GoOn d.about.verb (t d)
 -- that is here, the oyster or the clam at hand
 abbrev pub locks : Deed Command → List ℕ
 locks = objects_meant
-    (candidate name.Grate (is_here (the name.Grate))
-    ∷ candidate name.Door (is_here (the name.Door))
-    ∷ candidate name.Oyster (near (the name.Oyster))
-    ∷ candidate name.Clam (near (the name.Clam))
+    (candidate name.Grate (is_here grate)
+    ∷ candidate name.Door (is_here door)
+    ∷ candidate name.Oyster (near oyster)
+    ∷ candidate name.Clam (near clam)
     ∷ [])
 
 unfoldable pub bare_open_rows : List VerbRow
 bare_open_rows =
-    row_then (there_is (first locks) ∷ near (the name.Chain) ∷ []) (ask_what ∷ []) keeps
+    row_then (there_is (first locks) ∷ near chain ∷ []) (ask_what ∷ []) keeps
     ∷ row_then (there_is (first locks) ∷ []) [] (does_it_to (first locks))
-    ∷ row_then (near (the name.Chain) ∷ []) [] (does_it_to (the name.Chain))
+    ∷ row_then (near chain ∷ []) [] (does_it_to chain)
     ∷ otherwise_then (say role.NoLock ∷ []) stays
-
--- with the keys: what is done to the chain, and of what is neither grate nor chain the default
-unfoldable pub chain_rows : List VerbRow
-chain_rows =
-    row (is name.Chain ∷ is_opening ∷ prop x CHAIN_UNLOCKED ∷ []) (say role.WasUnlocked ∷ [])
-    ∷ row (is name.Chain ∷ is_opening ∷ prop (the name.Bear) BEAR_WILD ∷ [])
-    (say role.BearBars ∷ [])
-    ∷ row (is name.Chain ∷ is_opening ∷ prop (the name.Bear) BEAR_DEAD ∷ [])
-    (set_prop x CHAIN_UNLOCKED ∷ loosen x ∷ fix (the name.Bear) ∷ say role.ChainFree ∷ [])
-    ∷ row (is name.Chain ∷ is_opening ∷ [])
-    (set_prop x CHAIN_UNLOCKED ∷ loosen x ∷ set_prop (the name.Bear) BEAR_FREE
-    ∷ loosen (the name.Bear) ∷ say role.ChainFree ∷ [])
-    ∷ row (is name.Chain ∷ away_from_home x ∷ []) (say role.NoLockHere ∷ [])
-    ∷ row (is name.Chain ∷ other_prop x CHAIN_UNLOCKED ∷ []) (say role.WasLocked ∷ [])
-    ∷ row (is name.Chain ∷ [])
-    (lay_down x ∷ set_prop x CHAIN_LOCKED ∷ fix x ∷ say role.ChainLock ∷ [])
-    ∷ otherwise_then (default ∷ []) stays
-
--- with the keys: what is done to the grate, and then to the chain
-unfoldable pub lock_rows : List VerbRow
-lock_rows =
-    row (is name.Grate ∷ cave_closing ∷ []) (say role.ClosingExit ∷ panic ∷ [])
-    ∷ row (is name.Grate ∷ is_opening ∷ prop x GRATE_LOCKED ∷ [])
-    (set_prop x GRATE_UNLOCKED ∷ say role.Unlocked ∷ [])
-    ∷ row (is name.Grate ∷ is_opening ∷ []) (say role.WasUnlocked ∷ [])
-    ∷ row (is name.Grate ∷ prop x GRATE_LOCKED ∷ []) (say role.WasLocked ∷ [])
-    ∷ row (is name.Grate ∷ []) (set_prop x GRATE_LOCKED ∷ say role.Locked ∷ [])
-    ∷ chain_rows
 
 unfoldable pub open_rows : List VerbRow
 open_rows =
     row (either (is name.Clam) (is name.Oyster) ∷ is_locking ∷ []) (say role.LockWhat ∷ [])
-    ∷ row (is name.Clam ∷ no (in_hand (the name.Trident)) ∷ []) (say role.ClamTool ∷ [])
-    ∷ row (is name.Oyster ∷ no (in_hand (the name.Trident)) ∷ []) (say role.OysterTool ∷ [])
+    ∷ row (is name.Clam ∷ no (in_hand trident) ∷ []) (say role.ClamTool ∷ [])
+    ∷ row (is name.Oyster ∷ no (in_hand trident) ∷ []) (say role.OysterTool ∷ [])
     ∷ row (is name.Clam ∷ in_hand x ∷ []) (say role.ClamHeld ∷ [])
     ∷ row (is name.Oyster ∷ in_hand x ∷ []) (say role.OysterHeld ∷ [])
     ∷ row (is name.Clam ∷ [])
-    (destroy x ∷ bring (the name.Oyster) ∷ send (the name.Pearl) place.Culdesac ∷ say role.Pearl
-    ∷ [])
+    (destroy x ∷ bring oyster ∷ send pearl place.Culdesac ∷ say role.Pearl ∷ [])
     ∷ row (is name.Oyster ∷ []) (say role.OysterOpen ∷ [])
     ∷ row (is name.Door ∷ prop x DOOR_OILED ∷ []) (say role.Ok ∷ [])
     ∷ row (is name.Door ∷ []) (say role.Rusty ∷ [])
     ∷ row (is name.Cage ∷ []) (say role.NoLatch ∷ [])
     ∷ row (is name.Keys ∷ []) (say role.KeysWhat ∷ [])
-    ∷ row (either (is name.Grate) (is name.Chain) ∷ no (near (the name.Keys)) ∷ [])
-    (say role.NoKeys ∷ [])
-    ∷ lock_rows
+    ∷ row (either (is name.Grate) (is name.Chain) ∷ no (near keys) ∷ []) (say role.NoKeys ∷ [])
+    ∷ row (is name.Grate ∷ cave_closing ∷ []) (say role.ClosingExit ∷ panic ∷ [])
+    ∷ row (is name.Grate ∷ is_opening ∷ prop x GRATE_LOCKED ∷ [])
+    (set_prop x GRATE_UNLOCKED ∷ say role.Unlocked ∷ [])
+    ∷ row (is name.Grate ∷ is_opening ∷ []) (say role.WasUnlocked ∷ [])
+    ∷ row (is name.Grate ∷ prop x GRATE_LOCKED ∷ []) (say role.WasLocked ∷ [])
+    ∷ row (is name.Grate ∷ []) (set_prop x GRATE_LOCKED ∷ say role.Locked ∷ [])
+    ∷ row (is name.Chain ∷ is_opening ∷ prop x CHAIN_UNLOCKED ∷ []) (say role.WasUnlocked ∷ [])
+    ∷ row (is name.Chain ∷ is_opening ∷ prop bear BEAR_WILD ∷ []) (say role.BearBars ∷ [])
+    ∷ row (is name.Chain ∷ is_opening ∷ prop bear BEAR_DEAD ∷ [])
+    (set_prop x CHAIN_UNLOCKED ∷ loosen x ∷ fix bear ∷ say role.ChainFree ∷ [])
+    ∷ row (is name.Chain ∷ is_opening ∷ [])
+    (set_prop x CHAIN_UNLOCKED ∷ loosen x ∷ set_prop bear BEAR_FREE ∷ loosen bear
+    ∷ say role.ChainFree ∷ [])
+    ∷ row (is name.Chain ∷ away_from_home x ∷ []) (say role.NoLockHere ∷ [])
+    ∷ row (is name.Chain ∷ other_prop x CHAIN_UNLOCKED ∷ []) (say role.WasLocked ∷ [])
+    ∷ row (is name.Chain ∷ [])
+    (lay_down x ∷ set_prop x CHAIN_LOCKED ∷ fix x ∷ say role.ChainLock ∷ [])
+    ∷ otherwise_then (default ∷ []) stays

@@ -14,13 +14,14 @@ use Rattle.verb_commands.specs.turn_things.Props.{BOTTLE_EMPTY, BOTTLE_OF_OIL, B
 use Rattle.verb_commands.specs.turn_things.Props.{DOOR_OILED, DOOR_RUSTY, VASE_BROKEN}
 use Rattle.verb_commands.specs.turn_rules.Effects.{say, look, bring, fix, set_prop}
 use Rattle.verb_commands.specs.turn_rules.Rows.{Test, Effect, Thing, row_then, otherwise_then}
-use Rattle.verb_commands.specs.turn_rules.Tests.{the, no, either, both, there_is, in_hand, near}
+use Rattle.verb_commands.specs.turn_rules.Tests.{no, either, both, there_is, in_hand, near}
 use Rattle.verb_commands.specs.turn_rules.Tests.{is_here, in_bottle, bottle_full, in_lake, lake}
 use Rattle.verb_commands.specs.Effects.{default, ask_what}
 use Rattle.verb_commands.specs.Rows.{VerbRow, row, keeps, again, does, stays}
 use Rattle.verb_commands.specs.declared.verb.Verb.TheVariants as verb
 use Rattle.verb_commands.specs.Tests.{x, no_object, is}
 use Rattle.verb_commands.specs.declared.command.Command.{Command}
+use Rattle.cave_verbs.specs.Things.{bottle, door, oil, plant, second_plant, water}
 
 -- what is poured: what is in the bottle, where that or nothing is named; 0 for a liquid without a
 -- name
@@ -36,7 +37,7 @@ abbrev pub pours : Named → Test Command
 pours n d = is_called d.cave (what_is_poured d) n
 
 abbrev pub empty_bottle : Effect Command
-empty_bottle d = set_prop (the name.Bottle) BOTTLE_EMPTY d
+empty_bottle d = set_prop bottle BOTTLE_EMPTY d
 
 abbrev pub look_above : Thing Command → Effect Command
 look_above t d = look t (prop_of d.scene.state.objects (t d) +ℤ pos 1) d
@@ -52,29 +53,29 @@ halve t of d = set_prop t (int_div (prop_of d.scene.state.objects (of d)) (pos 2
 -- the plant and its upper part grow with the water
 abbrev pub plant_watered : List (Effect Command)
 plant_watered =
-    look_above (the name.Plant) ∷ grow (the name.Plant)
-    ∷ halve (the name.SecondPlant) (the name.Plant) ∷ []
+    look_above plant ∷ grow plant
+    ∷ halve second_plant plant ∷ []
 
 abbrev pub water_at_hand : Test Command
-water_at_hand = both (in_bottle (the name.Water)) (near (the name.Bottle))
+water_at_hand = both (in_bottle water) (near bottle)
 
 unfoldable pub pour_rows : List VerbRow
 pour_rows =
     row_then (either no_object (is name.Bottle) ∷ no bottle_full ∷ []) (ask_what ∷ []) keeps
     ∷ row (no (in_hand what_is_poured) ∷ []) (default ∷ [])
     ∷ row (no (pours name.Water) ∷ no (pours name.Oil) ∷ []) (say role.CantPour ∷ [])
-    ∷ row (is_here (the name.Door) ∷ pours name.Oil ∷ [])
-    (empty_bottle ∷ set_prop (the name.Door) DOOR_OILED ∷ say role.DoorOiled ∷ [])
-    ∷ row (is_here (the name.Door) ∷ [])
-    (empty_bottle ∷ set_prop (the name.Door) DOOR_RUSTY ∷ say role.DoorWet ∷ [])
-    ∷ row_then (is_here (the name.Plant) ∷ pours name.Water ∷ [])
+    ∷ row (is_here door ∷ pours name.Oil ∷ [])
+    (empty_bottle ∷ set_prop door DOOR_OILED ∷ say role.DoorOiled ∷ [])
+    ∷ row (is_here door ∷ [])
+    (empty_bottle ∷ set_prop door DOOR_RUSTY ∷ say role.DoorWet ∷ [])
+    ∷ row_then (is_here plant ∷ pours name.Water ∷ [])
     (empty_bottle ∷ plant_watered) again
-    ∷ row (is_here (the name.Plant) ∷ []) (empty_bottle ∷ say role.PlantOil ∷ [])
+    ∷ row (is_here plant ∷ []) (empty_bottle ∷ say role.PlantOil ∷ [])
     ∷ otherwise_then (empty_bottle ∷ say role.PourGround ∷ []) stays
 
 unfoldable pub drink_rows : List VerbRow
 drink_rows =
-    row_then (no_object ∷ no (in_lake (the name.Water)) ∷ no water_at_hand ∷ [])
+    row_then (no_object ∷ no (in_lake water) ∷ no water_at_hand ∷ [])
     (ask_what ∷ []) keeps
     ∷ row (there_is x ∷ no (is name.Water) ∷ []) (say role.Ridiculous ∷ [])
     ∷ row (water_at_hand ∷ []) (empty_bottle ∷ say role.Drunk ∷ [])
@@ -82,7 +83,7 @@ drink_rows =
 
 unfoldable pub bare_fill_rows : List VerbRow
 bare_fill_rows =
-    row_then (near (the name.Bottle) ∷ []) [] (does verb.Fill (the name.Bottle))
+    row_then (near bottle ∷ []) [] (does verb.Fill bottle)
     ∷ otherwise_then (ask_what ∷ []) keeps
 
 unfoldable pub fill_rows : List VerbRow
@@ -93,5 +94,5 @@ fill_rows =
     ∷ row (no (is name.Bottle) ∷ []) (default ∷ [])
     ∷ row (bottle_full ∷ []) (say role.BottleFull ∷ [])
     ∷ row (no lake ∷ []) (say role.NoLake ∷ [])
-    ∷ row (in_lake (the name.Oil) ∷ []) (set_prop x BOTTLE_OF_OIL ∷ say role.FilledOil ∷ [])
+    ∷ row (in_lake oil ∷ []) (set_prop x BOTTLE_OF_OIL ∷ say role.FilledOil ∷ [])
     ∷ otherwise_then (set_prop x BOTTLE_OF_WATER ∷ say role.FilledWater ∷ []) stays

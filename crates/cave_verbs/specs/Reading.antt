@@ -8,7 +8,7 @@ use Rattle.verb_commands.specs.cave_world.declared.part.Part.TheVariants as part
 use Rattle.verb_commands.specs.cave_world.declared.part.WordLine.TheVariants as line
 use Rattle.verb_commands.specs.turn_rules.Rows.{Deed, Effect, row_then, otherwise_then, always}
 use Rattle.verb_commands.specs.turn_rules.Effects.{tell, say}
-use Rattle.verb_commands.specs.turn_rules.Tests.{the, there_is, in_hand, near, cave_closed}
+use Rattle.verb_commands.specs.turn_rules.Tests.{there_is, in_hand, near, cave_closed}
 use Rattle.verb_commands.specs.turn_rules.Tests.{in_the_dark, has_hint}
 use Rattle.verb_commands.specs.Choice.{candidate, objects_meant, only}
 use Rattle.verb_commands.specs.Rows.{VerbRow, row, keeps, poses, does, stays}
@@ -16,6 +16,7 @@ use Rattle.verb_commands.specs.Effects.{default, ask_what}
 use Rattle.verb_commands.specs.declared.verb.Verb.TheVariants as verb
 use Rattle.verb_commands.specs.Tests.{x, is}
 use Rattle.verb_commands.specs.declared.command.Command.{Command}
+use Rattle.cave_verbs.specs.Things.{magazine, message, oyster, tablet}
 
 -- it is said that the word that was just read isn't seen here
 abbrev pub not_seen : Effect Command
@@ -23,15 +24,15 @@ not_seen d = tell (part.Word line.NotSeen d.about.word) d
 
 abbrev pub papers : Deed Command → List ℕ
 papers = objects_meant
-    (candidate name.Magazine (near (the name.Magazine))
-    ∷ candidate name.Tablet (near (the name.Tablet))
-    ∷ candidate name.Message (near (the name.Message))
+    (candidate name.Magazine (near magazine)
+    ∷ candidate name.Tablet (near tablet)
+    ∷ candidate name.Message (near message)
     ∷ [])
 
 unfoldable pub bare_read_rows : List VerbRow
 bare_read_rows =
     row_then (in_the_dark ∷ []) (ask_what ∷ []) keeps
-    ∷ row_then (cave_closed ∷ in_hand (the name.Oyster) ∷ []) [] (does verb.Read (the name.Oyster))
+    ∷ row_then (cave_closed ∷ in_hand oyster ∷ []) [] (does verb.Read oyster)
     ∷ row_then (there_is (only papers) ∷ []) [] (does verb.Read (only papers))
     ∷ otherwise_then (ask_what ∷ []) keeps
 

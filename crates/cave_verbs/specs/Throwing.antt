@@ -14,14 +14,16 @@ use Rattle.verb_commands.specs.turn_things.Effects.{with_dwarves}
 use Rattle.verb_commands.specs.turn_rules.Rows.{Test, Effect, row_then, row_by_draw, always}
 use Rattle.verb_commands.specs.turn_rules.Rows.{otherwise_then}
 use Rattle.verb_commands.specs.turn_rules.Effects.{in_state, say, bring, destroy, fix, juggle}
-use Rattle.verb_commands.specs.turn_rules.Effects.{set_prop, troll_goes}
-use Rattle.verb_commands.specs.turn_rules.Tests.{the, no, in_hand, near, is_here, prop, dwarf}
+use Rattle.verb_commands.specs.turn_rules.Effects.{set_prop}
+use Rattle.verb_commands.specs.turn_rules.Troll.{troll_goes}
+use Rattle.verb_commands.specs.turn_rules.Tests.{no, in_hand, near, is_here, prop, dwarf}
 use Rattle.verb_commands.specs.turn_rules.Tests.{treasure, one_in}
 use Rattle.verb_commands.specs.Rows.{VerbRow, row, again, does}
 use Rattle.verb_commands.specs.Effects.{default}
 use Rattle.verb_commands.specs.declared.verb.Verb.TheVariants as verb
 use Rattle.verb_commands.specs.Tests.{x, is}
 use Rattle.verb_commands.specs.declared.command.Command.{Command}
+use Rattle.cave_verbs.specs.Things.{bear, dragon, second_rod, troll}
 
 abbrev pub killed_dwarf : Dwarf → Dwarf
 killed_dwarf one = record one { place = 0; has_seen = false }
@@ -48,26 +50,21 @@ strike d = in_state (with_one_killed d.scene.state) d
 abbrev pub is_first_kill : Test Command
 is_first_kill d = d.scene.state.dwarves.kills == 0
 
--- the axe: at a dwarf it misses in one of three cases
-unfoldable pub axe_rows : List VerbRow
-axe_rows =
-    row_by_draw (dwarf ∷ []) (one_in 3) (say role.AxeMiss ∷ bring x ∷ []) again
-    ∷ row_then (dwarf ∷ is_first_kill ∷ []) (strike ∷ say role.AxeFirst ∷ bring x ∷ []) again
-    ∷ row_then (dwarf ∷ []) (strike ∷ say role.AxeKill ∷ bring x ∷ []) again
-    ∷ row_then (is_here (the name.Dragon) ∷ prop (the name.Dragon) DRAGON_ALIVE ∷ [])
-    (say role.AxeDragon ∷ bring x ∷ []) again
-    ∷ row_then (is_here (the name.Troll) ∷ []) (say role.AxeTroll ∷ bring x ∷ []) again
-    ∷ row (near (the name.Bear) ∷ prop (the name.Bear) BEAR_WILD ∷ [])
-    (bring x ∷ fix x ∷ set_prop x AXE_BY_BEAR ∷ juggle (the name.Bear) ∷ say role.AxeBear ∷ [])
-    ∷ otherwise_then [] (does verb.Kill (always 0))
-
+-- an axe that is thrown at a dwarf misses in one of three cases
 unfoldable pub throw_rows : List VerbRow
 throw_rows =
-    row_then (is name.Rod ∷ no (in_hand x) ∷ in_hand (the name.SecondRod) ∷ [])
-    [] (does verb.Throw (the name.SecondRod))
+    row_then (is name.Rod ∷ no (in_hand x) ∷ in_hand second_rod ∷ [])
+    [] (does verb.Throw second_rod)
     ∷ row (no (in_hand x) ∷ []) (default ∷ [])
-    ∷ row (treasure x ∷ is_here (the name.Troll) ∷ [])
-    (destroy x ∷ troll_goes ∷ say role.TrollPaid ∷ [])
-    ∷ row_then (is name.Food ∷ near (the name.Bear) ∷ []) [] (does verb.Feed (the name.Bear))
+    ∷ row (treasure x ∷ is_here troll ∷ []) (destroy x ∷ troll_goes ∷ say role.TrollPaid ∷ [])
+    ∷ row_then (is name.Food ∷ near bear ∷ []) [] (does verb.Feed bear)
     ∷ row_then (no (is name.Axe) ∷ []) [] (does verb.Drop x)
-    ∷ axe_rows
+    ∷ row_by_draw (dwarf ∷ []) (one_in 3) (say role.AxeMiss ∷ bring x ∷ []) again
+    ∷ row_then (dwarf ∷ is_first_kill ∷ []) (strike ∷ say role.AxeFirst ∷ bring x ∷ []) again
+    ∷ row_then (dwarf ∷ []) (strike ∷ say role.AxeKill ∷ bring x ∷ []) again
+    ∷ row_then (is_here dragon ∷ prop dragon DRAGON_ALIVE ∷ []) (say role.AxeDragon ∷ bring x ∷ [])
+    again
+    ∷ row_then (is_here troll ∷ []) (say role.AxeTroll ∷ bring x ∷ []) again
+    ∷ row (near bear ∷ prop bear BEAR_WILD ∷ [])
+    (bring x ∷ fix x ∷ set_prop x AXE_BY_BEAR ∷ juggle bear ∷ say role.AxeBear ∷ [])
+    ∷ otherwise_then [] (does verb.Kill (always 0))

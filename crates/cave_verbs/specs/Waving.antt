@@ -5,11 +5,12 @@ use Rattle.verb_commands.specs.cave_words.declared.named.Named.TheVariants as na
 use Rattle.verb_commands.specs.world_objects.Objects.{prop_of}
 use Rattle.verb_commands.specs.turn_rules.Effects.{say, look, set_prop}
 use Rattle.verb_commands.specs.turn_rules.Rows.{Effect, Thing, otherwise_then}
-use Rattle.verb_commands.specs.turn_rules.Tests.{the, no, both, in_hand, is_here, cave_closing}
+use Rattle.verb_commands.specs.turn_rules.Tests.{no, both, in_hand, is_here, cave_closing}
 use Rattle.verb_commands.specs.Effects.{default}
 use Rattle.verb_commands.specs.Rows.{VerbRow, row, stays}
 use Rattle.verb_commands.specs.Tests.{x, is}
 use Rattle.verb_commands.specs.declared.command.Command.{Command}
+use Rattle.cave_verbs.specs.Things.{fissure, rod, second_rod}
 
 -- a prop becomes 1 less what it was
 abbrev pub flip : Thing Command → Effect Command
@@ -21,10 +22,10 @@ look_at_flip t d = look t (pos 2 -ℤ prop_of d.scene.state.objects (t d)) d
 
 unfoldable pub wave_rows : List VerbRow
 wave_rows =
-    row (no (in_hand x) ∷ no (both (is name.Rod) (in_hand (the name.SecondRod))) ∷ [])
+    row (no (in_hand x) ∷ no (both (is name.Rod) (in_hand second_rod)) ∷ [])
     (say role.NotHeld ∷ [])
-    ∷ row (is name.Rod ∷ is_here (the name.Fissure) ∷ in_hand (the name.Rod) ∷ no cave_closing ∷ [])
-    (flip (the name.Fissure) ∷ look_at_flip (the name.Fissure) ∷ [])
+    ∷ row (is name.Rod ∷ is_here fissure ∷ in_hand rod ∷ no cave_closing ∷ [])
+    (flip fissure ∷ look_at_flip fissure ∷ [])
     ∷ otherwise_then (default ∷ []) stays
 
 unfoldable pub rub_rows : List VerbRow

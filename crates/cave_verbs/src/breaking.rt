@@ -6,7 +6,7 @@ ghost use Rattle.cave_verbs.specs.Breaking.{break_rows, wake_rows};
 
 use verb_commands::{
     Anchor, Command, Named, Next, Prop, Role, RowNotes, Rules, Scene, Table, VASE_BROKEN,
-    VASE_WHOLE, has_prop, let_go,
+    VASE_WHOLE, has_prop, lay_down,
 };
 
 /// BREAK an object.
@@ -23,7 +23,7 @@ pub fn break_object<N: RowNotes>(
     let x = command.object;
     if rules.is(x, Named::Vase) && has_prop(scene.state, x, VASE_WHOLE) {
         scene.note(Table::Break, 1);
-        let_go(rules, x, scene.state);
+        lay_down(rules, x, scene);
         scene.state.objects.set_prop(x, Prop::new(VASE_BROKEN));
         scene.state.objects.anchor_to(x, Anchor::Fixed);
         return Next::say(Role::VaseSmash, scene);

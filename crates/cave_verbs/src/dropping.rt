@@ -4,11 +4,11 @@ ghost use Rattle.verb_commands.specs.turn_scene.Scene.{is_called, cave_of, thing
 ghost use Rattle.verb_commands.specs.turn_things.Homes.{is_home_elsewhere};
 ghost use Rattle.verb_commands.specs.turn_things.Reach.{is_in_hand, is_near};
 ghost use Rattle.verb_commands.specs.turn_scene.Bounds.{HasRoom, parts_of_row};
-ghost use Rattle.verb_commands.specs.Rows.{ByRows, DoneByRows};
-ghost use Rattle.verb_commands.specs.turn_rules.Rows.{noted, noted_from};
+ghost use Rattle.verb_commands.specs.Rows.{ByRows, DoneByRows, noted_after};
+ghost use Rattle.verb_commands.specs.turn_rules.Rows.{noted};
 ghost use Rattle.verb_commands.specs.rule_rows.declared.tables.Table.TheVariants as table;
 ghost use Rattle.cave_verbs.specs.Ranks.{rank_of, drop_rank};
-ghost use Rattle.cave_verbs.specs.Dropping.{drop_rows, drop_vase_rows};
+ghost use Rattle.cave_verbs.specs.Dropping.{drop_rows};
 
 use verb_commands::{
     Anchor, BATTERIES_FRESH, BIRD_FREE, Command, DRAGON_ALIVE, Named, Next, Prop, Role, RowNotes,
@@ -38,20 +38,22 @@ fn drop_bird_by_snake<N: RowNotes>(
         return Next::disturb(scene);
     }
     scene.note(Table::Drop, 4);
+    scene.say(Role::BirdSnake);
     let snake = rules.thing(Named::Snake);
     scene.state.destroy(snake);
     scene.state.objects.set_prop(snake, Prop::new(SNAKE_GONE));
-    put_down(rules, command.object, scene.state);
-    Next::say(Role::BirdSnake, scene)
+    put_down(rules, command.object, scene);
+    Next::Stay
 }
 
 /// A vase that is put down elsewhere than where the pillow is at home breaks without the pillow.
+#[tactic(auto, unfolding(crate::specs::Dropping::drop_rows))]
 fn drop_vase<N: RowNotes>(rules: &Rules<'_>, command: Command, scene: &mut Scene<'_, N>) -> Next
     requires room { HasRoom parts_of_row scene.old }
     requires vase { IsTrue (is_called (cave_of rules.now) command.object name.Vase) }
     requires away { let cave = cave_of rules.now in
         IsTrue (is_home_elsewhere cave scene.old.state.now (thing cave name.Pillow)) }
-    ensures row { DoneByRows N.rows (noted_from table.Drop 8 drop_vase_rows) rules.now command
+    ensures row { DoneByRows N.rows (noted_after table.Drop 7 drop_rows) rules.now command
         scene.old scene.new result }
 {
     let x = command.object;
@@ -65,7 +67,7 @@ fn drop_vase<N: RowNotes>(rules: &Rules<'_>, command: Command, scene: &mut Scene
         scene.look(x, VASE_BREAKING);
         scene.state.objects.anchor_to(x, Anchor::Fixed);
     }
-    put_down(rules, x, scene.state);
+    put_down(rules, x, scene);
     Next::Stay
 }
 
@@ -110,24 +112,27 @@ pub fn drop_object<N: RowNotes>(
         && has_prop(scene.state, dragon, DRAGON_ALIVE)
     {
         scene.note(Table::Drop, 6);
+        scene.say(Role::BirdDragon);
         scene.state.destroy(x);
         scene.state.objects.set_prop(x, Prop::new(BIRD_FREE));
-        lose_to_snake(rules, scene.state);
-        return Step::Done(Next::say(Role::BirdDragon, scene));
+        lose_to_snake(rules, scene);
+        return Step::Done(Next::Stay);
     }
     let troll = rules.thing(Named::Troll);
     if rules.is(x, Named::Bear) && scene.state.at(troll) {
         scene.note(Table::Drop, 7);
-        remove_troll(rules, scene.state);
+        scene.say(Role::TrollFlees);
+        remove_troll(rules, scene);
         scene.state.objects.set_prop(troll, Prop::new(TROLL_FLED));
-        put_down(rules, x, scene.state);
-        return Step::Done(Next::say(Role::TrollFlees, scene));
+        put_down(rules, x, scene);
+        return Step::Done(Next::Stay);
     }
     let pillow = rules.thing(Named::Pillow);
     if rules.is(x, Named::Vase) && is_home_elsewhere(rules, scene.state, pillow) {
         return Step::Done(drop_vase(rules, command, scene));
     }
     scene.note(Table::Drop, 10);
-    put_down(rules, x, scene.state);
-    Step::Done(Next::say(Role::Ok, scene))
+    scene.say(Role::Ok);
+    put_down(rules, x, scene);
+    Step::Done(Next::Stay)
 }

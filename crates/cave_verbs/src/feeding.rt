@@ -1,12 +1,12 @@
 ghost use Rattle.std.specs.Prelude.{◌≤◌, IsTrue};
 ghost use Rattle.verb_commands.specs.cave_words.declared.named.Named.TheVariants as name;
 ghost use Rattle.verb_commands.specs.turn_scene.Bounds.{HasRoom, parts_of_row};
-ghost use Rattle.verb_commands.specs.Rows.{ByRows, DoneByRows};
+ghost use Rattle.verb_commands.specs.Rows.{ByRows, DoneByRows, noted_after};
 ghost use Rattle.verb_commands.specs.turn_scene.Scene.{is_called, cave_of};
-ghost use Rattle.verb_commands.specs.turn_rules.Rows.{noted, noted_from};
+ghost use Rattle.verb_commands.specs.turn_rules.Rows.{noted};
 ghost use Rattle.verb_commands.specs.rule_rows.declared.tables.Table.TheVariants as table;
 ghost use Rattle.cave_verbs.specs.Ranks.{rank_of};
-ghost use Rattle.cave_verbs.specs.Feeding.{feed_rows, feed_bear_rows, bare_eat_rows, eat_rows};
+ghost use Rattle.cave_verbs.specs.Feeding.{feed_rows, bare_eat_rows, eat_rows};
 
 use verb_commands::{
     AXE_FREE, Anchor, BEAR_DEAD, BEAR_FED, BEAR_WILD, BIRD_FREE, Command, DRAGON_ALIVE, Named,
@@ -68,11 +68,11 @@ pub fn feed<N: RowNotes>(rules: &Rules<'_>, command: Command, scene: &mut Scene<
 }
 
 /// FEED the bear.
-#[tactic(auto, unfolding(crate::specs::Feeding::feed_bear_rows))]
+#[tactic(auto, unfolding(crate::specs::Feeding::feed_rows))]
 fn feed_bear<N: RowNotes>(rules: &Rules<'_>, command: Command, scene: &mut Scene<'_, N>) -> Next
     requires room { HasRoom parts_of_row scene.old }
     requires bear { IsTrue (is_called (cave_of rules.now) command.object name.Bear) }
-    ensures row { DoneByRows N.rows (noted_from table.Feed 8 feed_bear_rows) rules.now command
+    ensures row { DoneByRows N.rows (noted_after table.Feed 7 feed_rows) rules.now command
         scene.old scene.new result }
 {
     let bear = command.object;

@@ -77,19 +77,21 @@ fn name_all<N: RowNotes>(objects: &[Object], scene: &mut Scene<'_, N>)
 }
 
 /// It is said that the bear follows, if it does, and nothing more is done.
+#[tactic(auto, unfolding(crate::specs::Finding::bear_along_rows))]
 fn tell_bear<N: RowNotes>(rules: &Rules<'_>, command: Command, scene: &mut Scene<'_, N>) -> Next
     requires { HasRoom 1 scene.old }
     ensures row { DoneByRow N.rows (row [] (tell_bear ∷ [])) rules.now command scene.old scene.new
         result }
 {
     if is_in_hand(rules, scene.state, rules.thing(Named::Bear)) {
+        scene.note(Table::BearAlong, 1);
         scene.say(Role::BearFollows);
     }
     Next::Stay
 }
 
 /// INVENTORY without an object.
-#[tactic(auto, unfolding(crate::specs::Finding::bare_inventory_rows))]
+#[tactic(auto, unfolding(crate::specs::Finding::bare_inventory_rows, crate::specs::Finding::bear_along_rows))]
 pub fn inventory<N: RowNotes>(rules: &Rules<'_>, command: Command, scene: &mut Scene<'_, N>) -> Next
     requires { HasRoom parts_of_inventory scene.old }
     ensures row { DoneByRows N.rows (noted table.BareInventory bare_inventory_rows) rules.now

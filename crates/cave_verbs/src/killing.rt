@@ -99,10 +99,11 @@ pub fn kill<N: RowNotes>(rules: &Rules<'_>, command: Command, scene: &mut Scene<
     let (row, role) = if rules.is(x, Named::Bird) && is_closed {
         (1, Role::BirdNo)
     } else if rules.is(x, Named::Bird) {
+        scene.note(Table::Kill, 2);
         scene.state.destroy(x);
         scene.state.objects.set_prop(x, Prop::new(BIRD_FREE));
-        lose_to_snake(rules, scene.state);
-        (2, Role::BirdDead)
+        lose_to_snake(rules, scene);
+        return Next::say(Role::BirdDead, scene);
     } else if rules.is(x, Named::Clam) || rules.is(x, Named::Oyster) {
         (3, Role::Shell)
     } else if rules.is(x, Named::Snake) {

@@ -35,7 +35,7 @@ pub fn turn_on<N: RowNotes>(rules: &Rules<'_>, command: Command, scene: &mut Sce
 }
 
 /// OFF, whatever it is done to.
-#[tactic(auto, unfolding(crate::specs::Light::off_rows))]
+#[tactic(auto, unfolding(crate::specs::Light::off_rows, crate::specs::Light::darkened_rows))]
 pub fn turn_off<N: RowNotes>(rules: &Rules<'_>, command: Command, scene: &mut Scene<'_, N>) -> Next
     requires { HasRoom parts_of_row scene.old }
     ensures row { DoneByRows N.rows (noted table.Off off_rows) rules.now command scene.old scene.new
@@ -50,6 +50,7 @@ pub fn turn_off<N: RowNotes>(rules: &Rules<'_>, command: Command, scene: &mut Sc
     scene.state.objects.set_prop(lamp, Prop::new(LAMP_OFF));
     scene.say(Role::LampOff);
     if scene.state.dark(rules.cave, lamp) {
+        scene.note(Table::Darkened, 1);
         return Next::say(Role::Dark, scene);
     }
     Next::Stay

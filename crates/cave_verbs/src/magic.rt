@@ -3,11 +3,14 @@ ghost use Rattle.std.specs.Ordering.{int_eq};
 ghost use Rattle.verb_commands.specs.turn_scene.Bounds.{HasRoom};
 ghost use Rattle.verb_commands.specs.declared.next.Next.TheVariants.{Stay};
 ghost use Rattle.verb_commands.specs.Rows.{DoneByRows};
-ghost use Rattle.verb_commands.specs.turn_rules.Rows.{Does, PlaysBy, noted};
+ghost use Rattle.verb_commands.specs.turn_rules.Rows.{Does, by_table, noted};
+ghost use Rattle.verb_commands.specs.turn_rules.Effects.{move};
+ghost use Rattle.verb_commands.specs.turn_rules.Tests.{home_of};
 ghost use Rattle.verb_commands.specs.data_rows.Rows.{WORDS_PER_CLASS};
 ghost use Rattle.verb_commands.specs.cave_world.Limits.{IsMagic};
 ghost use Rattle.verb_commands.specs.rule_rows.declared.tables.Table.TheVariants as table;
-ghost use Rattle.cave_verbs.specs.Magic.{bare_foo_rows, eggs_sight, send_eggs_home, with_magic};
+ghost use Rattle.cave_verbs.specs.Magic.{bare_foo_rows, eggs_rows, with_magic};
+ghost use Rattle.cave_verbs.specs.Things.{eggs};
 
 use verb_commands::{
     Command, EGGS_APPEARING, EGGS_ELSEWHERE, EGGS_VANISHING, Magic, Named, Next, Prop, Role,
@@ -45,38 +48,39 @@ fn remember(state: &mut State, k: u16)
     set_magic(state, k as i16);
 }
 
-/// Which text is printed of the eggs as they go home.
-#[tactic(auto, unfolding(crate::specs::Magic::eggs_sight))]
-fn eggs_sight<N: RowNotes>(rules: &Rules<'_>, command: &Command, scene: &mut Scene<'_, N>) -> Prop
-    ensures row { PlaysBy N.rows eggs_sight 0 rules.now command.now scene.old scene.new result }
+/// A text of the eggs is printed: they appear, vanish, or do neither here.
+#[tactic(auto, unfolding(crate::specs::Magic::eggs_rows))]
+fn look_at_eggs<N: RowNotes>(rules: &Rules<'_>, command: &Command, scene: &mut Scene<'_, N>)
+    requires { HasRoom 1 scene.old }
+    ensures rows { Does N.rows (by_table table.Eggs eggs_rows ∷ []) 1 rules.now command.now
+        scene.old scene.new }
 {
     let eggs = rules.thing(Named::Eggs);
     if is_home_here(rules, scene.state, eggs) {
         scene.note(Table::Eggs, 1);
-        Prop::new(EGGS_APPEARING)
+        scene.look(eggs, EGGS_APPEARING);
     } else if is_near(rules, scene.state, eggs) {
         scene.note(Table::Eggs, 2);
-        Prop::new(EGGS_VANISHING)
+        scene.look(eggs, EGGS_VANISHING);
     } else {
         scene.note(Table::Eggs, 3);
-        Prop::new(EGGS_ELSEWHERE)
+        scene.look(eggs, EGGS_ELSEWHERE);
     }
 }
 
-/// The text of the eggs is printed, and they go home.
-#[tactic(auto, unfolding(crate::specs::Magic::send_eggs_home))]
+/// A text of the eggs is printed, and they go home.
 fn send_eggs_home<N: RowNotes>(
     rules: &Rules<'_>,
     command: &Command,
     scene: &mut Scene<'_, N>,
 ) -> Next
     requires { HasRoom 1 scene.old }
-    ensures scene { Does N.rows (send_eggs_home ∷ []) 1 rules.now command.now scene.old scene.new }
+    ensures scene { Does N.rows (by_table table.Eggs eggs_rows ∷ move eggs (home_of eggs) ∷ []) 1
+        rules.now command.now scene.old scene.new }
     ensures next { result ≡ Stay }
 {
     let eggs = rules.thing(Named::Eggs);
-    let sight = eggs_sight(rules, command, scene);
-    scene.look(eggs, sight.value());
+    look_at_eggs(rules, command, scene);
     scene.state.move_to(eggs, home(rules, eggs));
     Next::Stay
 }

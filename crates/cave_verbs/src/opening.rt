@@ -2,14 +2,14 @@ ghost use Rattle.std.specs.Prelude.{◌≡◌, ◌≤◌, ◌||◌, IsTrue};
 ghost use Rattle.verb_commands.specs.cave_words.declared.named.Named.TheVariants as name;
 ghost use Rattle.verb_commands.specs.turn_scene.Scene.{is_called, cave_of, scene_of};
 ghost use Rattle.verb_commands.specs.turn_scene.Bounds.{HasRoom, parts_of_row};
-ghost use Rattle.verb_commands.specs.Rows.{ByRows, DoneByRows};
+ghost use Rattle.verb_commands.specs.Rows.{ByRows, DoneByRows, noted_after};
 ghost use Rattle.verb_commands.specs.turn_rules.Effects.{after_sending};
-ghost use Rattle.verb_commands.specs.turn_rules.Rows.{deed, noted, noted_from};
+ghost use Rattle.verb_commands.specs.turn_rules.Rows.{deed, noted};
 ghost use Rattle.verb_commands.specs.Verbs.{is_verb};
 ghost use Rattle.verb_commands.specs.declared.verb.Verb.TheVariants as verb_is;
 ghost use Rattle.verb_commands.specs.rule_rows.declared.tables.Table.TheVariants as table;
 ghost use Rattle.cave_verbs.specs.Ranks.{rank_of};
-ghost use Rattle.cave_verbs.specs.Opening.{bare_open_rows, chain_rows, lock_rows, locks, open_rows};
+ghost use Rattle.cave_verbs.specs.Opening.{bare_open_rows, locks, open_rows};
 
 use arrayvec::ArrayVec;
 use verb_commands::choice::{Meant, add_meant, first};
@@ -17,7 +17,7 @@ use verb_commands::{
     Anchor, BEAR_DEAD, BEAR_FREE, BEAR_WILD, CHAIN_LOCKED, CHAIN_UNLOCKED, Command, DOOR_OILED,
     GRATE_LOCKED, GRATE_UNLOCKED, Named, Next, Object, Place, PlaceRole, Prop, Role, RowNotes,
     Rules, Scene, State, Step, Table, Verb, has_other_prop, has_prop, is_home_elsewhere,
-    is_in_hand, is_near, let_go, place_named, start_panic,
+    is_in_hand, is_near, lay_down, place_named, start_panic,
 };
 
 /// What the player could mean who names nothing: the grate or the door that is here, the oyster or
@@ -118,7 +118,7 @@ fn open_shell<N: RowNotes>(rules: &Rules<'_>, command: Command, scene: &mut Scen
 }
 
 /// OPEN or LOCK the grate, with the keys.
-#[tactic(auto, unfolding(crate::specs::Opening::lock_rows))]
+#[tactic(auto, unfolding(crate::specs::Opening::open_rows))]
 fn open_or_lock_grate<N: RowNotes>(
     rules: &Rules<'_>,
     command: Command,
@@ -126,14 +126,16 @@ fn open_or_lock_grate<N: RowNotes>(
 ) -> Next
     requires room { HasRoom parts_of_row scene.old }
     requires grate { IsTrue (is_called (cave_of rules.now) command.object name.Grate) }
-    ensures row { DoneByRows N.rows (noted_from table.Open 13 lock_rows) rules.now command scene.old
+    ensures row { DoneByRows N.rows (noted_after table.Open 12 open_rows) rules.now command scene.old
         scene.new result }
 {
     let x = command.object;
     let is_opening = command.verb.is(Verb::Open);
     let (row, role) = if scene.state.closing.is_closing {
-        start_panic(scene.state);
-        (13, Role::ClosingExit)
+        scene.note(Table::Open, 13);
+        scene.say(Role::ClosingExit);
+        start_panic(rules, scene);
+        return Next::Stay;
     } else if is_opening && has_prop(scene.state, x, GRATE_LOCKED) {
         scene.state.objects.set_prop(x, Prop::new(GRATE_UNLOCKED));
         (14, Role::Unlocked)
@@ -150,11 +152,11 @@ fn open_or_lock_grate<N: RowNotes>(
 }
 
 /// OPEN or LOCK the chain, with the keys.
-#[tactic(auto, unfolding(crate::specs::Opening::chain_rows))]
+#[tactic(auto, unfolding(crate::specs::Opening::open_rows))]
 fn open_chain<N: RowNotes>(rules: &Rules<'_>, command: Command, scene: &mut Scene<'_, N>) -> Next
     requires room { HasRoom parts_of_row scene.old }
     requires chain { IsTrue (is_called (cave_of rules.now) command.object name.Chain) }
-    ensures row { DoneByRows N.rows (noted_from table.Open 18 chain_rows) rules.now command
+    ensures row { DoneByRows N.rows (noted_after table.Open 17 open_rows) rules.now command
         scene.old scene.new result }
 {
     let x = command.object;
@@ -180,17 +182,18 @@ fn open_chain<N: RowNotes>(rules: &Rules<'_>, command: Command, scene: &mut Scen
     } else if has_other_prop(scene.state, x, CHAIN_UNLOCKED) {
         (23, Role::WasLocked)
     } else {
-        let_go(rules, x, scene.state);
+        scene.note(Table::Open, 24);
+        lay_down(rules, x, scene);
         scene.state.objects.set_prop(x, Prop::new(CHAIN_LOCKED));
         scene.state.objects.anchor_to(x, Anchor::Fixed);
-        (24, Role::ChainLock)
+        return Next::say(Role::ChainLock, scene);
     };
     scene.note(Table::Open, row);
     Next::say(role, scene)
 }
 
 /// OPEN or LOCK an object.
-#[tactic(auto, unfolding(crate::specs::Opening::open_rows, crate::specs::Opening::lock_rows, crate::specs::Opening::chain_rows))]
+#[tactic(auto, unfolding(crate::specs::Opening::open_rows))]
 pub fn open<N: RowNotes>(rules: &Rules<'_>, command: Command, scene: &mut Scene<'_, N>) -> Next
     requires { HasRoom parts_of_row scene.old }
     ensures row { DoneByRows N.rows (noted table.Open open_rows) rules.now command scene.old

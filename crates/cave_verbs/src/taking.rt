@@ -1,11 +1,11 @@
 ghost use Rattle.std.specs.Prelude.{◌≡◌, ◌≤◌};
 ghost use Rattle.verb_commands.specs.turn_scene.Bounds.{HasRoom};
-ghost use Rattle.verb_commands.specs.Rows.{ByRows, DoneByRows};
+ghost use Rattle.verb_commands.specs.Rows.{ByRows, DoneByRows, noted_after};
 ghost use Rattle.verb_commands.specs.turn_scene.Scene.{cave_of};
-ghost use Rattle.verb_commands.specs.turn_rules.Rows.{noted, noted_from};
+ghost use Rattle.verb_commands.specs.turn_rules.Rows.{noted};
 ghost use Rattle.verb_commands.specs.rule_rows.declared.tables.Table.TheVariants as table;
 ghost use Rattle.cave_verbs.specs.Ranks.{rank_of, take_rank};
-ghost use Rattle.cave_verbs.specs.Taking.{bare_take_rows, take_rows, take_freely_rows, lone_object};
+ghost use Rattle.cave_verbs.specs.Taking.{bare_take_rows, take_rows, lone_object};
 
 use verb_commands::{
     BEAR_FED, BEAR_WILD, BIRD_CAGED, BIRD_FREE, BOTTLE_EMPTY, Command, Half, Named, Next, Object,
@@ -103,10 +103,10 @@ pub fn take<N: RowNotes>(rules: &Rules<'_>, command: Command, scene: &mut Scene<
 }
 
 /// TAKE an object that isn't fixed, with hands that aren't full.
-#[tactic(auto, unfolding(crate::specs::Taking::take_freely_rows))]
+#[tactic(auto, unfolding(crate::specs::Taking::take_rows))]
 fn take_freely<N: RowNotes>(rules: &Rules<'_>, command: Command, scene: &mut Scene<'_, N>) -> Next
     requires { HasRoom 1 scene.old }
-    ensures row { DoneByRows N.rows (noted_from table.Take 11 take_freely_rows) rules.now command
+    ensures row { DoneByRows N.rows (noted_after table.Take 10 take_rows) rules.now command
         scene.old scene.new result }
 {
     let x = command.object;

@@ -1,15 +1,16 @@
 ghost use Rattle.std.specs.Prelude.{◌≡◌, ◌≤◌, IsTrue};
 ghost use Rattle.std.specs.List.{position};
 ghost use Rattle.verb_commands.specs.turn_scene.Bounds.{HasRoom, parts_of_row};
-ghost use Rattle.verb_commands.specs.Rows.{ByRows, DoneByRows};
+ghost use Rattle.verb_commands.specs.Rows.{ByRows, DoneByRows, noted_after};
 ghost use Rattle.verb_commands.specs.turn_scene.Scene.{cave_of};
 ghost use Rattle.verb_commands.specs.turn_things.Reach.{is_dwarf_at, is_dwarf_here};
-ghost use Rattle.verb_commands.specs.turn_things.Effects.{put_here};
+ghost use Rattle.verb_commands.specs.turn_things.Effects.{with_objects};
+ghost use Rattle.verb_commands.specs.world_objects.Objects.{after_move_to};
 ghost use Rattle.verb_commands.specs.declared.next.Next.TheVariants.{Arrive};
-ghost use Rattle.verb_commands.specs.turn_rules.Rows.{noted, noted_from};
+ghost use Rattle.verb_commands.specs.turn_rules.Rows.{noted};
 ghost use Rattle.verb_commands.specs.rule_rows.declared.tables.Table.TheVariants as table;
 ghost use Rattle.cave_verbs.specs.Ranks.{rank_of, throw_rank};
-ghost use Rattle.cave_verbs.specs.Throwing.{with_one_killed, axe_rows, throw_rows};
+ghost use Rattle.cave_verbs.specs.Throwing.{with_one_killed, throw_rows};
 
 use verb_commands::{
     AXE_BY_BEAR, Anchor, BEAR_WILD, Command, DRAGON_ALIVE, Dwarf, Named, Next, Object, PIRATE,
@@ -40,7 +41,8 @@ fn kill_one(state: &mut State)
 
 /// The axe is put where the player is, and the player arrives there again.
 fn put_here(axe: Object, state: &mut State) -> Next
-    ensures state { state.new ≡ put_here axe state.old }
+    ensures state { state.new
+        ≡ with_objects (after_move_to state.old.objects axe state.old.trail.here) state.old }
     ensures next { result ≡ Arrive state.old.trail.here }
 {
     let here = state.trail.here;
@@ -49,7 +51,7 @@ fn put_here(axe: Object, state: &mut State) -> Next
 }
 
 /// The axe is thrown at a dwarf: one number of three is drawn, and 0 is a miss.
-#[tactic(auto, unfolding(crate::specs::Throwing::axe_rows, verb_commands::specs::is_dwarf_here))]
+#[tactic(auto, unfolding(crate::specs::Throwing::throw_rows, verb_commands::specs::is_dwarf_here))]
 fn throw_axe_at_dwarf<N: RowNotes>(
     rules: &Rules<'_>,
     command: Command,
@@ -57,7 +59,7 @@ fn throw_axe_at_dwarf<N: RowNotes>(
 ) -> Next
     requires room { HasRoom parts_of_row scene.old }
     requires dwarf { IsTrue (is_dwarf_here scene.old.state.now) }
-    ensures row { DoneByRows N.rows (noted_from table.Throw 6 axe_rows) rules.now command scene.old
+    ensures row { DoneByRows N.rows (noted_after table.Throw 5 throw_rows) rules.now command scene.old
         scene.new result }
 {
     if scene.state.stream.draw(3) == 0 {
@@ -77,10 +79,10 @@ fn throw_axe_at_dwarf<N: RowNotes>(
     put_here(command.object, scene.state)
 }
 
-#[tactic(auto, unfolding(crate::specs::Throwing::axe_rows))]
+#[tactic(auto, unfolding(crate::specs::Throwing::throw_rows))]
 fn throw_axe<N: RowNotes>(rules: &Rules<'_>, command: Command, scene: &mut Scene<'_, N>) -> Step
     requires { HasRoom parts_of_row scene.old }
-    ensures row { ByRows N.rows (noted_from table.Throw 6 axe_rows) rules.now command scene.old
+    ensures row { ByRows N.rows (noted_after table.Throw 5 throw_rows) rules.now command scene.old
         scene.new result }
     ensures ranks { rank_of (cave_of rules.now) result ≤ 2 }
 {
@@ -136,7 +138,7 @@ pub fn throw<N: RowNotes>(rules: &Rules<'_>, command: Command, scene: &mut Scene
     if is_treasure(x) && scene.state.at(rules.thing(Named::Troll)) {
         scene.note(Table::Throw, 3);
         scene.state.destroy(x);
-        remove_troll(rules, scene.state);
+        remove_troll(rules, scene);
         return Step::Done(Next::say(Role::TrollPaid, scene));
     }
     if rules.is(x, Named::Food) && is_near(rules, scene.state, bear) {

@@ -1,31 +1,33 @@
 -- The clocks and the lamp, which go on before a command is read.
-use Rattle.std.specs.Prelude.{Bool, true, false, List, [], ◌∷◌, if◌then◌else◌}
+use Rattle.std.specs.Prelude.{pos, negsuc, Bool, true, false, List, [], ◌∷◌, if◌then◌else◌}
 use Rattle.turn_rules.specs.data_rows.declared.place_role.PlaceRole.TheVariants as place
 use Rattle.turn_rules.specs.cave_data.CaveView.{CaveView}
 use Rattle.turn_rules.specs.turn_scene.Scene.{Scene, here_of}
 use Rattle.turn_rules.specs.Rows.{Deed, Act, Row, deed, row_then, first_fitting_or, nothing_but}
 use Rattle.turn_rules.specs.Rows.{always, act_of, noted}
-use Rattle.turn_rules.specs.Tests.{no, cave_closed, is_bound}
+use Rattle.turn_rules.specs.Tests.{no, cave_closed, is_bound, player_at, in_the_depths}
 use Rattle.turn_rules.specs.Effects.{change}
 use Rattle.turn_rules.specs.rule_rows.declared.tables.Table.TheVariants as table
 use Rattle.turn_clocks.specs.declared.clocks.Clocks.{Clocks}
 use Rattle.turn_clocks.specs.declared.clocks.Clocks.TheVariants.{Closed}
-use Rattle.turn_clocks.specs.FirstClock.{first_clock_goes, first_clock_runs_out}
+use Rattle.turn_clocks.specs.FirstClock.{all_seen, first_clock, some_turns_left}
 use Rattle.turn_clocks.specs.FirstClock.{with_first_clock_down, begin_closing}
 use Rattle.turn_clocks.specs.Lamp.{lamp}
-use Rattle.turn_clocks.specs.Repository.{second_clock_goes, second_clock_runs_out}
+use Rattle.turn_clocks.specs.Repository.{second_clock, second_clock_from}
 use Rattle.turn_clocks.specs.Repository.{with_second_clock_down, close_cave}
 
--- what follows is whether the cave is closed in this turn
+-- the second clock goes once the first has run out; what follows is whether the cave is closed in
+-- this turn
 unfoldable pub clock_rows : List (Row (Unit {0}) Bool)
 clock_rows =
-    row_then (first_clock_goes ∷ first_clock_runs_out ∷ []) begin_closing (always false)
-    ∷ row_then (first_clock_goes ∷ []) (change with_first_clock_down ∷ [])
-    (always false)
-    ∷ row_then (second_clock_goes ∷ second_clock_runs_out ∷ no cave_closed ∷ is_bound place.Ne
+    row_then (all_seen ∷ in_the_depths ∷ no (player_at place.Y2) ∷ first_clock (pos 1) ∷ [])
+    begin_closing (always false)
+    ∷ row_then (all_seen ∷ in_the_depths ∷ no (player_at place.Y2) ∷ some_turns_left ∷ [])
+    (change with_first_clock_down ∷ []) (always false)
+    ∷ row_then (first_clock (negsuc 0) ∷ second_clock (pos 1) ∷ no cave_closed ∷ is_bound place.Ne
     ∷ is_bound place.Sw ∷ []) (change with_second_clock_down ∷ close_cave) (always true)
-    ∷ row_then (second_clock_goes ∷ []) (change with_second_clock_down ∷ [])
-    (always false)
+    ∷ row_then (first_clock (negsuc 0) ∷ second_clock_from (pos 0) ∷ [])
+    (change with_second_clock_down ∷ []) (always false)
     ∷ []
 
 -- one of the clocks goes on by a turn, if one goes

@@ -12,7 +12,8 @@ use Rattle.turn_rules.specs.turn_things.Effects.{with_lamp}
 use Rattle.turn_rules.specs.Rows.{Deed, Act, Test, Effect, Row, row_then, plain_row, by_table}
 use Rattle.turn_rules.specs.Rows.{first_fitting_or, nothing_but, always, otherwise, noted}
 use Rattle.turn_rules.specs.Tests.{the, no, near, prop, nowhere, here, outside, lamp_dead}
-use Rattle.turn_rules.specs.Effects.{with_charge, change, when, say, lay_down, set_prop, set_charge}
+use Rattle.turn_rules.specs.Effects.{with_charge, change, say, set_prop, set_charge}
+use Rattle.turn_rules.specs.Putting.{lay_down}
 use Rattle.turn_rules.specs.rule_rows.declared.tables.Table.TheVariants as table
 use Rattle.turn_clocks.specs.declared.clocks.Clocks.{Clocks}
 use Rattle.turn_clocks.specs.declared.clocks.Clocks.TheVariants.{GoOn, GaveUp}
@@ -22,8 +23,11 @@ abbrev pub with_turn_burnt : State → State
 with_turn_burnt s = with_charge (int_max (s.lamp.charge -ℤ pos 1) (negsuc 0)) s
 
 -- a lamp that is lit burns
+unfoldable pub burning_rows : List (Row (Unit {0}) (Unit {0}))
+burning_rows = plain_row (prop (the name.Lamp) LAMP_ON ∷ []) (change with_turn_burnt ∷ []) ∷ []
+
 abbrev pub burn : Effect (Unit {0})
-burn = when (prop (the name.Lamp) LAMP_ON) (change with_turn_burnt)
+burn = by_table table.Burning burning_rows
 
 -- the lamp has so many turns left
 abbrev pub turns_left : ℤ → Test (Unit {0})
@@ -65,12 +69,8 @@ change_batteries =
     ∷ []
 
 -- the lamp has gone out, and can't be lit again
-unfoldable pub go_out : List (Effect (Unit {0}))
-go_out =
-    set_charge (negsuc 0)
-    ∷ set_prop (the name.Lamp) LAMP_OFF
-    ∷ when (near (the name.Lamp)) (say role.LampDead)
-    ∷ []
+abbrev pub go_out : Effect (Unit {0})
+go_out d = set_prop (the name.Lamp) LAMP_OFF (set_charge (negsuc 0) d)
 
 -- the warning, by where new batteries could come from
 unfoldable pub warning_rows : List (Row (Unit {0}) (Unit {0}))
@@ -86,7 +86,9 @@ warn = change with_warning ∷ by_table table.LampWarning warning_rows ∷ []
 unfoldable pub lamp_rows : List (Row (Unit {0}) Clocks)
 lamp_rows =
     row_then can_change_batteries change_batteries (always GoOn)
-    ∷ row_then (turns_left (pos 0) ∷ []) go_out (always GoOn)
+    ∷ row_then (turns_left (pos 0) ∷ near (the name.Lamp) ∷ []) (go_out ∷ say role.LampDead ∷ [])
+    (always GoOn)
+    ∷ row_then (turns_left (pos 0) ∷ []) (go_out ∷ []) (always GoOn)
     ∷ row_then (lamp_dead ∷ outside here ∷ []) (say role.GiveUp ∷ []) (always GaveUp)
     ∷ row_then (turns_left_up_to (pos LOW_CHARGE) ∷ no is_warned ∷ near (the name.Lamp) ∷ [])
     warn (always GoOn)

@@ -1,5 +1,5 @@
 -- The second clock, and the repository into which the cave is closed where it runs out.
-use Rattle.std.specs.Prelude.{ℕ, ℤ, pos, negsuc, ◌-ℤ◌, int_le, true, ◌&&◌, List, [], ◌∷◌}
+use Rattle.std.specs.Prelude.{ℕ, ℤ, pos, ◌-ℤ◌, int_le, true, List, [], ◌∷◌}
 use Rattle.std.specs.Ordering.{int_eq}
 use Rattle.turn_rules.specs.data_rows.declared.place_role.PlaceRole.{PlaceRole}
 use Rattle.turn_rules.specs.data_rows.declared.place_role.PlaceRole.TheVariants as place
@@ -17,15 +17,13 @@ use Rattle.turn_rules.specs.Tests.{the, place_of}
 use Rattle.turn_rules.specs.Effects.{in_scene, change, move, put_player, say, set_prop, attach}
 use Rattle.turn_rules.specs.Effects.{for_each}
 
--- the clock goes once the first has run out, down to -1
-abbrev pub second_clock_goes : Test (Unit {0})
-second_clock_goes d =
-    int_eq d.scene.state.closing.first_clock (negsuc 0)
-    && int_le (pos 0) d.scene.state.closing.second_clock
+-- the second clock has so many turns left; -1 once it has run out
+abbrev pub second_clock : ℤ → Test (Unit {0})
+second_clock turns d = int_eq d.scene.state.closing.second_clock turns
 
--- its last turn goes
-abbrev pub second_clock_runs_out : Test (Unit {0})
-second_clock_runs_out d = int_eq (d.scene.state.closing.second_clock -ℤ pos 1) (pos 0)
+-- the second clock has so many turns left at least
+abbrev pub second_clock_from : ℤ → Test (Unit {0})
+second_clock_from turns d = int_le turns d.scene.state.closing.second_clock
 
 -- a turn less is left until the cave is closed
 abbrev pub with_second_clock_down : State → State

@@ -1,20 +1,24 @@
-ghost use Rattle.std.specs.Prelude.{◌≡◌, ◌≤ℤ◌, pos, IsTrue, map};
+ghost use Rattle.std.specs.Prelude.{◌≡◌, ◌≤ℤ◌, pos, IsTrue, map, [], ◌∷◌};
+ghost use Rattle.turn_rules.specs.data_rows.declared.place_role.PlaceRole.TheVariants as place;
 ghost use Rattle.turn_rules.specs.turn_scene.Scene.{cave_of, scene_of};
 ghost use Rattle.turn_rules.specs.turn_scene.Bounds.{HasRoom};
-ghost use Rattle.turn_rules.specs.Rows.{deed, Does};
-ghost use Rattle.turn_clocks.specs.FirstClock.{first_clock_goes, dismissed_dwarf, begin_closing};
+ghost use Rattle.turn_rules.specs.rule_rows.declared.tables.Table.TheVariants as table;
+ghost use Rattle.turn_rules.specs.Rows.{all_hold, deed, by_table, Does};
+ghost use Rattle.turn_rules.specs.Tests.{no, player_at, in_the_depths};
+ghost use Rattle.turn_clocks.specs.FirstClock.{all_seen, some_turns_left, dismissed_dwarf};
+ghost use Rattle.turn_clocks.specs.FirstClock.{closing_bear_rows, begin_closing};
 
 use turn_rules::{
     AXE_FREE, Anchor, BEAR_DEAD, CHAIN_UNLOCKED, Dwarf, FISSURE_OPEN, GRATE_LOCKED, Named, Place,
-    PlaceRole, Prop, Role, RowNotes, Rules, Scene, deep_place, has_prop, is_place, place_named,
-    remove_troll,
+    PlaceRole, Prop, Role, RowNotes, Rules, Scene, Table, deep_place, has_prop, is_place,
+    place_named, remove_troll,
 };
 
 /// Whether the first clock goes. It doesn't go at y2.
-#[tactic(auto, unfolding(crate::specs::FirstClock::first_clock_goes))]
 pub fn first_clock_goes<N: RowNotes>(rules: &Rules<'_>, scene: &Scene<'_, N>) -> bool
     ensures value { result
-        ≡ first_clock_goes (deed (cave_of rules.now) tt (scene_of N.rows scene.now)) }
+        ≡ all_hold (all_seen ∷ in_the_depths ∷ no (player_at place.Y2) ∷ some_turns_left ∷ [])
+        (deed (cave_of rules.now) tt (scene_of N.rows scene.now)) }
     ensures left { IsTrue result → pos 1 ≤ℤ scene.now.state.now.closing.first_clock }
 {
     let state = &*scene.state;
@@ -40,13 +44,27 @@ fn dismiss_all(dwarves: &mut [Dwarf])
     }
 }
 
+/// The bear goes, but a dead one stays.
+#[tactic(auto, unfolding(crate::specs::FirstClock::closing_bear_rows))]
+fn remove_bear<N: RowNotes>(rules: &Rules<'_>, scene: &mut Scene<'_, N>)
+    ensures rows { Does N.rows (by_table table.ClosingBear closing_bear_rows ∷ []) 0
+        rules.now tt scene.old scene.new }
+{
+    let bear = rules.thing(Named::Bear);
+    if has_prop(scene.state, bear, BEAR_DEAD) {
+        scene.note(Table::ClosingBear, 1);
+        return;
+    }
+    scene.note(Table::ClosingBear, 2);
+    scene.state.destroy(bear);
+}
+
 /// The ways are barred, dwarves, troll and bear are gone, and nothing holds the chain and the axe.
 #[tactic(auto, unfolding(crate::specs::FirstClock::begin_closing))]
 pub fn begin_closing<N: RowNotes>(rules: &Rules<'_>, scene: &mut Scene<'_, N>)
     requires { HasRoom 1 scene.old }
     ensures scene { Does N.rows begin_closing 1 rules.now tt scene.old scene.new }
 {
-    let bear = rules.thing(Named::Bear);
     let chain = rules.thing(Named::Chain);
     let axe = rules.thing(Named::Axe);
     scene
@@ -58,10 +76,8 @@ pub fn begin_closing<N: RowNotes>(rules: &Rules<'_>, scene: &mut Scene<'_, N>)
         .objects
         .set_prop(rules.thing(Named::Fissure), Prop::new(FISSURE_OPEN));
     dismiss_all(&mut scene.state.dwarves.each);
-    remove_troll(rules, scene.state);
-    if !has_prop(scene.state, bear, BEAR_DEAD) {
-        scene.state.destroy(bear);
-    }
+    remove_troll(rules, scene);
+    remove_bear(rules, scene);
     scene
         .state
         .objects

@@ -12,16 +12,18 @@ ghost use Rattle.turn_clocks.specs.Lamp.{care_for_lamp, lamp};
 use crate::clocks::Clocks;
 use turn_rules::{
     BATTERIES_FRESH, BATTERIES_USED, Charge, LAMP_OFF, LAMP_ON, LOW_CHARGE, Named, Prop, Role,
-    RowNotes, Rules, Scene, State, Table, has_prop, is_near, let_go, outside_place,
+    RowNotes, Rules, Scene, State, Table, has_prop, is_near, lay_down, outside_place,
 };
 
 const BATTERY_TURNS: i32 = 2500;
 
 /// A lamp that is lit burns a turn.
+#[tactic(auto, unfolding(crate::specs::Lamp::burning_rows))]
 fn burn<N: RowNotes>(rules: &Rules<'_>, scene: &mut Scene<'_, N>)
     ensures rows { Does N.rows (burn ∷ []) 0 rules.now tt scene.old scene.new }
 {
     if has_prop(scene.state, rules.thing(Named::Lamp), LAMP_ON) {
+        scene.note(Table::Burning, 1);
         let turns = scene.state.lamp.charge.turns();
         scene.state.lamp.charge = Charge::new((turns - 1).max(-1));
     }
@@ -58,21 +60,17 @@ fn change_batteries<N: RowNotes>(rules: &Rules<'_>, scene: &mut Scene<'_, N>)
         .state
         .objects
         .set_prop(batteries, Prop::new(BATTERIES_USED));
-    let_go(rules, batteries, scene.state);
+    lay_down(rules, batteries, scene);
     renew_charge(scene.state);
 }
 
-#[tactic(auto, unfolding(crate::specs::Lamp::go_out))]
+/// The lamp has gone out, and can't be lit again.
 fn go_out<N: RowNotes>(rules: &Rules<'_>, scene: &mut Scene<'_, N>)
-    requires { HasRoom 1 scene.old }
-    ensures scene { Does N.rows go_out 1 rules.now tt scene.old scene.new }
+    ensures scene { Does N.rows (go_out ∷ []) 0 rules.now tt scene.old scene.new }
 {
     let lamp = rules.thing(Named::Lamp);
     scene.state.lamp.charge = Charge::new(-1);
     scene.state.objects.set_prop(lamp, Prop::new(LAMP_OFF));
-    if is_near(rules, scene.state, lamp) {
-        scene.say(Role::LampDead);
-    }
 }
 
 /// Whether the lamp has gone out, and the player is outside the cave.
@@ -127,17 +125,23 @@ fn care_for_lamp<N: RowNotes>(rules: &Rules<'_>, scene: &mut Scene<'_, N>) -> Cl
         return Clocks::GoOn;
     }
     if scene.state.lamp.charge.turns() == 0 {
-        scene.note(Table::Lamp, 2);
+        if is_near(rules, scene.state, rules.thing(Named::Lamp)) {
+            scene.note(Table::Lamp, 2);
+            go_out(rules, scene);
+            scene.say(Role::LampDead);
+            return Clocks::GoOn;
+        }
+        scene.note(Table::Lamp, 3);
         go_out(rules, scene);
         return Clocks::GoOn;
     }
     if is_stranded(rules, scene) {
-        scene.note(Table::Lamp, 3);
+        scene.note(Table::Lamp, 4);
         scene.say(Role::GiveUp);
         return Clocks::GaveUp;
     }
     if is_warning_due(rules, scene) {
-        scene.note(Table::Lamp, 4);
+        scene.note(Table::Lamp, 5);
         warn(rules, scene);
         return Clocks::GoOn;
     }

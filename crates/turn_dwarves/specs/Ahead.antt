@@ -1,6 +1,6 @@
 -- The ways that a dwarf may go.
-use Rattle.std.specs.Prelude.{ℕ, Bool, ◌==◌, ◌&&◌, not, nat_le, if◌then◌else◌, List, [], ◌∷◌, take}
-use Rattle.std.specs.Prelude.{Option, None, Some}
+use Rattle.std.specs.Prelude.{ℕ, Bool, ◌==◌, ◌&&◌, not, nat_le, nat_lt, if◌then◌else◌, List, []}
+use Rattle.std.specs.Prelude.{◌∷◌, Option, None, Some, take, length}
 use Rattle.std.specs.List.{filter_map}
 use Rattle.turn_rules.specs.data_numbers.Numbers.{LAST_PLACE}
 use Rattle.turn_rules.specs.data_rows.Rows.{Going}
@@ -10,11 +10,15 @@ use Rattle.turn_rules.specs.data_rows.declared.targets.Destination.{Destination}
 use Rattle.turn_rules.specs.data_rows.declared.targets.Destination.TheVariants.{Place}
 use Rattle.turn_rules.specs.cave_data.CaveView.{CaveView, ways_from}
 use Rattle.turn_rules.specs.world_objects.Objects.{is_place}
+use Rattle.turn_rules.specs.cave_world.Limits.{PIRATE}
 use Rattle.turn_rules.specs.cave_world.Sight.{forced}
 use Rattle.turn_rules.specs.cave_world.Travel.{row_condition, row_destination}
 use Rattle.turn_rules.specs.cave_world.declared.dwarves.Dwarf.{Dwarf}
 use Rattle.turn_rules.specs.turn_things.Places.{has_condition_of}
 use Rattle.turn_rules.specs.turn_things.declared.conditions.PlaceCondition.TheVariants as condition
+use Rattle.turn_rules.specs.rule_rows.declared.tables.Table.TheVariants as table
+use Rattle.turn_rules.specs.Rows.{Deed, Test, Act, answer_row, otherwise_row, act_by_table}
+use Rattle.turn_dwarves.specs.Band.{its_dwarf}
 
 -- the first of the places where dwarves go
 abbrev pub FIRST_HAUNT : ℕ
@@ -50,21 +54,38 @@ without_repeats last (place ∷ places) =
     if is_place place last then without_repeats last places
     else place ∷ without_repeats (Some place) places
 
+-- the places to which the rows of a dwarf's place lead it, in the order of the rows
+unfoldable pub places_ahead : CaveView → Bool → Dwarf → List ℕ
+places_ahead cave is_pirate dwarf =
+    let found = filter_map (place_ahead cave is_pirate dwarf) (ways_from cave dwarf.place) in
+    without_repeats None found
+
+-- the places ahead of the dwarf of the number
+abbrev pub ahead : Deed ℕ → List ℕ
+ahead d = places_ahead d.cave (d.about == PIRATE) (its_dwarf d)
+
+-- n places are ahead of the dwarf, or more than n
+abbrev pub ways_ahead : ℕ → Test ℕ
+ways_ahead n d = length (ahead d) == n
+
+abbrev pub more_ways_ahead : ℕ → Test ℕ
+more_ways_ahead n d = nat_lt n (length (ahead d))
+
+-- the first of the places ahead
+abbrev pub first_ahead : ℕ → Deed ℕ → List ℕ
+first_ahead n d = take n (ahead d)
+
+-- the place where the dwarf was before, alone
+abbrev pub way_back : Deed ℕ → List ℕ
+way_back d = (its_dwarf d).last ∷ []
+
 -- among how many places a dwarf chooses at most
 abbrev pub MAX_CANDIDATES : ℕ
 MAX_CANDIDATES = 19
 
--- the places to which the rows of a dwarf's place lead it, in the order of the rows
-unfoldable pub places_ahead : CaveView → Bool → Dwarf → List ℕ
-places_ahead cave is_pirate dwarf =
-    let ahead = filter_map (place_ahead cave is_pirate dwarf) (ways_from cave dwarf.place) in
-    take MAX_CANDIDATES (without_repeats None ahead)
-
--- the places, or where there are none, another alone
-abbrev pub or_alone : ℕ → List ℕ → List ℕ
-or_alone other [] = other ∷ []
-or_alone other (place ∷ places) = place ∷ places
-
 -- the ways of a dwarf: where there is no other, back to where it was before
-unfoldable pub ways_of_dwarf : CaveView → Bool → Dwarf → List ℕ
-ways_of_dwarf cave is_pirate dwarf = or_alone dwarf.last (places_ahead cave is_pirate dwarf)
+unfoldable pub ways_of_dwarf : Deed ℕ → Act (List ℕ)
+ways_of_dwarf d = act_by_table table.DwarfWays
+    (answer_row (ways_ahead 0 ∷ []) way_back
+    ∷ answer_row (more_ways_ahead MAX_CANDIDATES ∷ []) (first_ahead MAX_CANDIDATES) ∷ [])
+    (otherwise_row [] ahead) d

@@ -1,9 +1,12 @@
--- The six dwarves by their numbers from 0, and how angry they are. The last is the pirate.
-use Rattle.std.specs.Prelude.{ℕ, slice_index_or, slice_set}
+-- The six dwarves by their numbers from 0, what rows ask of them, and how angry they are. The last
+-- is the pirate.
+use Rattle.std.specs.Prelude.{ℕ, ◌==◌, slice_index_or, slice_set}
 use Rattle.turn_rules.specs.cave_world.State.{no_dwarf}
 use Rattle.turn_rules.specs.cave_world.declared.dwarves.Dwarf.{Dwarf}
 use Rattle.turn_rules.specs.cave_world.declared.state.State.{State}
 use Rattle.turn_rules.specs.turn_things.Effects.{with_dwarves}
+use Rattle.turn_rules.specs.Rows.{Deed, Test}
+use Rattle.turn_rules.specs.Tests.{here}
 
 unfoldable pub dwarf_of : State → ℕ → Dwarf
 dwarf_of s number = slice_index_or s.dwarves.each number no_dwarf
@@ -15,3 +18,25 @@ with_dwarf number dwarf s =
 
 abbrev pub with_anger : ℕ → State → State
 with_anger n s = with_dwarves (record (s.dwarves) { anger = n }) s
+
+-- the dwarf that a rule is about, by its number
+abbrev pub its_dwarf : Deed ℕ → Dwarf
+its_dwarf d = dwarf_of d.scene.state d.about
+
+-- what rows ask of a dwarf, whatever they are about
+module _ {C : Type 0} where
+  -- a dwarf is nowhere
+  abbrev pub gone : (Deed C → Dwarf) → Test C
+  gone who d = (who d).place == 0
+
+  -- a dwarf has seen the player
+  abbrev pub sees_player : (Deed C → Dwarf) → Test C
+  sees_player who d = (who d).has_seen
+
+  -- a dwarf is where the player is
+  abbrev pub is_with_player : (Deed C → Dwarf) → Test C
+  is_with_player who d = (who d).place == here d
+
+  -- it was there before it moved
+  abbrev pub was_with_player : (Deed C → Dwarf) → Test C
+  was_with_player who d = (who d).last == here d

@@ -12,10 +12,11 @@ use Rattle.turn_rules.specs.turn_scene.Scene.{Scene}
 use Rattle.turn_rules.specs.turn_things.Places.{place_named}
 use Rattle.turn_rules.specs.turn_things.Reach.{is_near}
 use Rattle.turn_rules.specs.turn_things.Treasures.{treasures}
-use Rattle.turn_rules.specs.Rows.{Test, Effect, Row, deed, plain_row, by_rows, all_hold}
+use Rattle.turn_rules.specs.Rows.{Test, Effect, Row, Thing, deed, plain_row, by_table, all_hold}
 use Rattle.turn_rules.specs.Tests.{the, no, either, both, it, is_it, in_hand, is_here, immovable}
-use Rattle.turn_rules.specs.Tests.{nowhere, player_at_home}
-use Rattle.turn_rules.specs.Effects.{in_state, follow, for_each, say, send, when}
+use Rattle.turn_rules.specs.Tests.{player_at_home}
+use Rattle.turn_rules.specs.Effects.{in_state, follow, for_each, say, send}
+use Rattle.turn_rules.specs.rule_rows.declared.tables.Table.TheVariants as table
 use Rattle.turn_dwarves.specs.Band.{dwarf_of, with_dwarf}
 
 -- all treasures are fair to the pirate, but not the pyramid where it or the emerald is at home
@@ -36,14 +37,15 @@ unfoldable pub treasure_near : Test (Unit {0})
 treasure_near d = list_any (is_near d.cave d.scene.state) treasures
 
 -- a fair treasure that is carried, or is here and loose, is brought to the pirate's chest
-unfoldable pub steal_rows : List (Row ℕ (Unit {0}))
-steal_rows =
-    plain_row (fair ∷ either (in_hand it) (both (is_here it) (no (immovable it))) ∷ [])
-    (send it place.Chest ∷ [])
+unfoldable pub theft_rows : List (Row ℕ (Unit {0}))
+theft_rows =
+    plain_row (no fair ∷ []) []
+    ∷ plain_row (in_hand it ∷ []) (send it place.Chest ∷ [])
+    ∷ plain_row (is_here it ∷ no (immovable it) ∷ []) (send it place.Chest ∷ [])
     ∷ []
 
 unfoldable pub steal : CaveView → ℕ → Scene → Scene
-steal cave x p = (by_rows steal_rows (deed cave x p)).scene
+steal cave x p = (by_table table.Theft theft_rows (deed cave x p)).scene
 
 -- the treasures of a list are stolen one after another
 abbrev pub after_thefts : CaveView → List ℕ → Scene → Scene
@@ -68,20 +70,21 @@ with_pirate_home cave s =
 abbrev pub go_home : Effect (Unit {0})
 go_home d = in_state (with_pirate_home d.cave d.scene.state) d
 
--- the pirate takes all that it can get; its chest is there first, if it left no message yet
-unfoldable pub rob : List (Effect (Unit {0}))
-rob =
-    say role.Booty
-    ∷ when (nowhere (the name.Message)) (send (the name.Chest) place.Chest)
-    ∷ send (the name.Message) place.Message
-    ∷ steal_all
-    ∷ go_home
-    ∷ []
+-- the objects that are the pirate's own
+abbrev pub chest : Thing (Unit {0})
+chest = the name.Chest
+
+abbrev pub message : Thing (Unit {0})
+message = the name.Message
+
+-- the pirate leaves its message, takes all that it can get, and goes home
+unfoldable pub take_booty : List (Effect (Unit {0}))
+take_booty = send message place.Message ∷ steal_all ∷ go_home ∷ []
 
 unfoldable pub hide_chest : List (Effect (Unit {0}))
 hide_chest =
     say role.ChestHid
-    ∷ send (the name.Chest) place.Chest
-    ∷ send (the name.Message) place.Message
+    ∷ send chest place.Chest
+    ∷ send message place.Message
     ∷ go_home
     ∷ []

@@ -3,10 +3,10 @@ use Rattle.std.specs.Prelude.{Bool, false, not, ◌==◌, List, [], ◌∷◌}
 use Rattle.turn_rules.specs.cave_data.CaveView.{CaveView}
 use Rattle.turn_rules.specs.turn_scene.Scene.{Scene}
 use Rattle.turn_rules.specs.cave_world.Limits.{ASLEEP, STIRRING}
-use Rattle.turn_rules.specs.Rows.{Deed, Act, Effect, Row, deed, row_then, by_table}
+use Rattle.turn_rules.specs.Rows.{Deed, Act, Effect, Row, deed, row_then, answer_row, by_table}
 use Rattle.turn_rules.specs.Rows.{first_fitting_or, nothing_but, always, otherwise_then, noted}
 use Rattle.turn_rules.specs.Tests.{in_the_depths, anger}
-use Rattle.turn_rules.specs.Effects.{change, follow, when}
+use Rattle.turn_rules.specs.Effects.{change, follow}
 use Rattle.turn_rules.specs.rule_rows.declared.tables.Table.TheVariants as table
 use Rattle.turn_dwarves.specs.Band.{with_anger}
 use Rattle.turn_dwarves.specs.Knives.{no_attack, raid}
@@ -26,7 +26,8 @@ awake = raid ∷ follow after_pirate ∷ tell_attack
 -- by their anger the dwarves sleep, stir, or are awake
 unfoldable pub anger_rows : List (Row Attack Bool)
 anger_rows =
-    row_then (anger ASLEEP ∷ []) (when in_the_depths (change (with_anger STIRRING)) ∷ []) (always false)
+    row_then (anger ASLEEP ∷ in_the_depths ∷ []) (change (with_anger STIRRING) ∷ []) (always false)
+    ∷ answer_row (anger ASLEEP ∷ []) (always false)
     ∷ row_then (anger STIRRING ∷ []) (by_table table.Waking waking_rows ∷ []) (always false)
     ∷ otherwise_then awake is_struck
 

@@ -1,5 +1,5 @@
 -- What the five dwarves do, one after another.
-use Rattle.std.specs.Prelude.{ℕ, ◌+◌, ◌-◌, ◌*◌, ◌==◌, nat_lt, List, [], ◌∷◌}
+use Rattle.std.specs.Prelude.{ℕ, ◌+◌, ◌-◌, ◌*◌, ◌≤◌, nat_lt, List, [], ◌∷◌}
 use Rattle.turn_rules.specs.cave_words.Stream.{number_drawn}
 use Rattle.turn_rules.specs.cave_world.declared.dwarves.Dwarf.{Dwarf}
 use Rattle.turn_rules.specs.cave_world.declared.dwarves.Knife.{Knife}
@@ -7,17 +7,56 @@ use Rattle.turn_rules.specs.cave_world.declared.dwarves.Knife.TheVariants as kni
 use Rattle.turn_rules.specs.cave_world.declared.state.State.{State}
 use Rattle.turn_rules.specs.cave_world.Limits.{AWAKE, PIRATE}
 use Rattle.turn_rules.specs.turn_things.Effects.{with_dwarves}
-use Rattle.turn_rules.specs.Rows.{Deed, Act, Test, Effect, Row, deed, answer_row}
-use Rattle.turn_rules.specs.Rows.{row_by_draw, first_fitting_or, nothing_but, always}
-use Rattle.turn_rules.specs.Rows.{otherwise_then, noted}
+use Rattle.turn_rules.specs.Rows.{Deed, Act, Test, Effect, Row, deed, answer_row, row_then}
+use Rattle.turn_rules.specs.Rows.{row_by_draw, first_fitting_or, nothing_but, otherwise_row}
+use Rattle.turn_rules.specs.Rows.{otherwise_then, noted, answer_by_table}
 use Rattle.turn_rules.specs.Tests.{no}
-use Rattle.turn_rules.specs.Effects.{change, for_each_from}
+use Rattle.turn_rules.specs.Effects.{in_scene, change, for_each_from}
 use Rattle.turn_rules.specs.rule_rows.declared.tables.Table.TheVariants as table
-use Rattle.turn_dwarves.specs.Band.{dwarf_of}
-use Rattle.turn_dwarves.specs.Moving.{dwarf_moved, sees_player, was_with_player}
-use Rattle.turn_dwarves.specs.declared.knives.Threat.{Threat}
-use Rattle.turn_dwarves.specs.declared.knives.Threat.TheVariants as threat
+use Rattle.turn_dwarves.specs.Band.{dwarf_of, gone, sees_player, was_with_player}
+use Rattle.turn_dwarves.specs.Moving.{after_dwarf_move}
 use Rattle.turn_dwarves.specs.declared.knives.Attack.{Attack}
+
+-- nothing is done to the player
+abbrev pub no_attack : Attack
+no_attack = record { dwarves = 0; knives = 0; hits = 0 }
+
+-- no more than n dwarves, knives and hits are counted
+pub record IsByUpTo (n : ℕ) (attack : Attack) : Type 0 where
+  pub dwarves : attack.dwarves ≤ n
+  pub knives : attack.knives ≤ n
+  pub hits : attack.hits ≤ n
+
+-- a dwarf by its number, and what was done to the player so far
+pub record Raider : Type 0 where
+  pub number : ℕ
+  pub attack : Attack
+
+abbrev pub raider : ℕ → Attack → Raider
+raider number attack = record { number = number; attack = attack }
+
+-- the dwarf that acts
+abbrev pub attacker : Deed Raider → Dwarf
+attacker d = dwarf_of d.scene.state d.about.number
+
+-- what was done to the player
+abbrev pub attack : Deed Raider → Attack
+attack d = d.about.attack
+
+abbrev pub with_attack : Attack → Effect Raider
+with_attack a d = record d { about = raider d.about.number a }
+
+-- one dwarf more is with the player
+abbrev pub count_dwarf : Effect Raider
+count_dwarf d = let a = attack d in with_attack (record a { dwarves = a.dwarves + 1 }) d
+
+-- one knife more was thrown
+abbrev pub count_knife : Effect Raider
+count_knife d = let a = attack d in with_attack (record a { knives = a.knives + 1 }) d
+
+-- one knife more hit
+abbrev pub count_hit : Effect Raider
+count_hit d = let a = attack d in with_attack (record a { hits = a.hits + 1 }) d
 
 -- the knife once one was thrown here; one that vanished stays so
 abbrev pub thrown_knife : ℕ → Knife → Knife
@@ -29,63 +68,48 @@ unfoldable pub with_knife_here : State → State
 with_knife_here s =
     with_dwarves (record (s.dwarves) { knife = thrown_knife s.trail.here s.dwarves.knife }) s
 
--- of so many cases a knife hits in so many for each degree of anger over that of
--- dwarves that are just awake
+abbrev pub throw_knife : Effect Raider
+throw_knife d = change with_knife_here d
+
+-- among how many cases it is drawn whether a knife hits
 abbrev pub KNIFE_CASES : ℕ
 KNIFE_CASES = 1000
 
+-- in how many of them it hits, for each degree of anger over that of dwarves that are just awake
 abbrev pub HITS_A_DEGREE : ℕ
 HITS_A_DEGREE = 95
 
 -- a draw: the knife hits
-abbrev pub knife_hits : Test Dwarf
+abbrev pub knife_hits : Test Raider
 knife_hits d = let s = d.scene.state in
     nat_lt (number_drawn KNIFE_CASES s.stream) (HITS_A_DEGREE * (s.dwarves.anger - AWAKE))
 
 -- what a dwarf does once it moved: one that was with the player before throws a knife
-unfoldable pub threat_rows : List (Row Dwarf Threat)
+unfoldable pub threat_rows : List (Row Raider Attack)
 threat_rows =
-    answer_row (no sees_player ∷ []) (always threat.Nothing)
-    ∷ answer_row (no was_with_player ∷ []) (always threat.Waits)
-    ∷ row_by_draw [] knife_hits (change with_knife_here ∷ []) (always threat.Hits)
-    ∷ otherwise_then (change with_knife_here ∷ []) (always threat.Misses)
+    answer_row (no (sees_player attacker) ∷ []) attack
+    ∷ row_then (no (was_with_player attacker) ∷ []) (count_dwarf ∷ []) attack
+    ∷ row_by_draw [] knife_hits (throw_knife ∷ count_dwarf ∷ count_knife ∷ count_hit ∷ []) attack
+    ∷ otherwise_then (throw_knife ∷ count_dwarf ∷ count_knife ∷ []) attack
 
-unfoldable pub threaten : Deed Dwarf → Act Threat
-threaten d =
-    first_fitting_or (noted table.Threats threat_rows) (nothing_but (always threat.Nothing)) d
+unfoldable pub threaten : Deed Raider → Act Attack
+threaten d = first_fitting_or (noted table.Threats threat_rows) (nothing_but attack) d
 
--- the dwarf of the number is nowhere
-abbrev pub dwarf_gone : Test ℕ
-dwarf_gone d = (dwarf_of d.scene.state d.about).place == 0
+-- the dwarf that acts goes one of its ways
+abbrev pub move_attacker : Effect Raider
+move_attacker d = in_scene (after_dwarf_move d.cave d.about.number d.scene) d
 
--- a dwarf that is gone does nothing
-unfoldable pub gone_rows : List (Row ℕ Threat)
-gone_rows = answer_row (dwarf_gone ∷ []) (always threat.Nothing) ∷ []
-
--- any other moves, and may threaten the player then
-abbrev pub move_and_threaten : Deed ℕ → Act Threat
-move_and_threaten d = threaten (dwarf_moved d.cave d.about d.scene)
-
-unfoldable pub dwarf_turn : Deed ℕ → Act Threat
-dwarf_turn d = first_fitting_or gone_rows move_and_threaten d
-
--- what a dwarf did is counted
-abbrev pub with_threat : Threat → Attack → Attack
-with_threat threat.Nothing a = a
-with_threat threat.Waits a = record a { dwarves = a.dwarves + 1 }
-with_threat threat.Misses a = record a { dwarves = a.dwarves + 1; knives = a.knives + 1 }
-with_threat threat.Hits a =
-    record { dwarves = a.dwarves + 1; knives = a.knives + 1; hits = a.hits + 1 }
-
--- nothing is done to the player
-abbrev pub no_attack : Attack
-no_attack = record { dwarves = 0; knives = 0; hits = 0 }
+-- a dwarf that is gone does nothing; any other moves, and may threaten the player then
+unfoldable pub dwarf_turn : Deed Raider → Act Attack
+dwarf_turn d = answer_by_table table.DwarfTurn
+    (answer_row (gone attacker ∷ []) (nothing_but attack) ∷ [])
+    (otherwise_row (move_attacker ∷ []) threaten) d
 
 -- a dwarf acts, and what it does is counted
 abbrev pub let_dwarf_act : ℕ → Effect Attack
 let_dwarf_act number d =
-    let one = dwarf_turn (deed d.cave number d.scene) in
-    record d { about = with_threat one.step d.about; scene = one.scene }
+    let turn = dwarf_turn (deed d.cave (raider number d.about) d.scene) in
+    deed d.cave turn.step turn.scene
 
 -- each of the five before the pirate acts
 abbrev pub raid : Effect Attack

@@ -5,21 +5,21 @@ use Rattle.turn_rules.specs.cave_world.declared.part.NumberLine.TheVariants as l
 use Rattle.turn_rules.specs.cave_world.declared.part.Part.TheVariants as part
 use Rattle.turn_rules.specs.cave_world.Limits.{AWAKE}
 use Rattle.turn_rules.specs.Rows.{Test, Effect, Row, plain_row, otherwise, by_table}
-use Rattle.turn_rules.specs.Tests.{no, both, anger}
-use Rattle.turn_rules.specs.Effects.{change, say, tell, when}
+use Rattle.turn_rules.specs.Tests.{no, anger}
+use Rattle.turn_rules.specs.Effects.{change, say, tell}
 use Rattle.turn_rules.specs.rule_rows.declared.tables.Table.TheVariants as table
 use Rattle.turn_dwarves.specs.Band.{with_anger}
 use Rattle.turn_dwarves.specs.declared.knives.Attack.{Attack}
 
--- so many dwarves see the player
+-- n dwarves see the player
 abbrev pub dwarves : ℕ → Test Attack
 dwarves n d = d.about.dwarves == n
 
--- so many knives were thrown
+-- n knives were thrown
 abbrev pub knives : ℕ → Test Attack
 knives n d = d.about.knives == n
 
--- so many of them hit
+-- n of them hit
 abbrev pub hits : ℕ → Test Attack
 hits n d = d.about.hits == n
 
@@ -40,6 +40,16 @@ dwarf_rows =
     ∷ plain_row (dwarves 1 ∷ []) (say role.DwarfOne ∷ [])
     ∷ otherwise (count_dwarves ∷ [])
 
+-- how angry dwarves are that threw knives for the first time
+abbrev pub PROVOKED : ℕ
+PROVOKED = 3
+
+-- dwarves that threw knives for the first time are angrier from then on
+unfoldable pub provoked_rows : List (Row Attack (Unit {0}))
+provoked_rows =
+    plain_row (no (knives 0) ∷ anger AWAKE ∷ []) (change (with_anger PROVOKED) ∷ [])
+    ∷ []
+
 -- what is said of the knives, and how many hit
 unfoldable pub knife_rows : List (Row Attack (Unit {0}))
 knife_rows =
@@ -50,11 +60,10 @@ knife_rows =
     ∷ plain_row (hits 1 ∷ []) (count_knives ∷ say role.HitMany ∷ [])
     ∷ otherwise (count_knives ∷ count_hits ∷ [])
 
--- the dwarves, and then their knives; dwarves that threw some for the first time are angrier from
--- then on
+-- the dwarves, and then their knives
 unfoldable pub tell_attack : List (Effect Attack)
 tell_attack =
     by_table table.DwarvesHere dwarf_rows
-    ∷ when (both (no (knives 0)) (anger AWAKE)) (change (with_anger 3))
+    ∷ by_table table.Provoked provoked_rows
     ∷ by_table table.Knives knife_rows
     ∷ []

@@ -6,36 +6,38 @@ use Rattle.turn_rules.specs.cave_data.CaveView.{CaveView}
 use Rattle.turn_rules.specs.cave_words.declared.named.Named.TheVariants as name
 use Rattle.turn_rules.specs.cave_world.Limits.{PIRATE}
 use Rattle.turn_rules.specs.cave_world.Sight.{LAMP_ON}
+use Rattle.turn_rules.specs.cave_world.declared.dwarves.Dwarf.{Dwarf}
 use Rattle.turn_rules.specs.turn_scene.Scene.{Scene}
-use Rattle.turn_rules.specs.Rows.{Test, Effect, Row, deed, plain_row, chance_row, by_rows, by_table}
+use Rattle.turn_rules.specs.Rows.{Deed, Test, Effect, Row, deed, plain_row, chance_row}
+use Rattle.turn_rules.specs.Rows.{otherwise, by_table}
 use Rattle.turn_rules.specs.Tests.{the, no, near, prop, prop_from, nowhere, player_at, percent}
-use Rattle.turn_rules.specs.Effects.{in_scene, say}
+use Rattle.turn_rules.specs.Effects.{in_scene, say, send}
 use Rattle.turn_rules.specs.rule_rows.declared.tables.Table.TheVariants as table
-use Rattle.turn_dwarves.specs.Band.{dwarf_of}
-use Rattle.turn_dwarves.specs.Booty.{carries_booty, treasure_near, rob, hide_chest}
-use Rattle.turn_dwarves.specs.Moving.{dwarf_moved}
+use Rattle.turn_dwarves.specs.Band.{dwarf_of, gone, sees_player}
+use Rattle.turn_dwarves.specs.Booty.{carries_booty, treasure_near, chest, message, take_booty}
+use Rattle.turn_dwarves.specs.Booty.{hide_chest}
+use Rattle.turn_dwarves.specs.Moving.{after_dwarf_move}
 
--- the pirate is nowhere
-abbrev pub pirate_gone : Test (Unit {0})
-pirate_gone d = (dwarf_of d.scene.state PIRATE).place == 0
-
--- the pirate sees the player
-abbrev pub pirate_sees : Test (Unit {0})
-pirate_sees d = (dwarf_of d.scene.state PIRATE).has_seen
+-- the pirate
+abbrev pub pirate : Deed (Unit {0}) → Dwarf
+pirate d = dwarf_of d.scene.state PIRATE
 
 -- the pirate came just now
 abbrev pub pirate_came : Test (Unit {0})
-pirate_came d = let one = dwarf_of d.scene.state PIRATE in not (one.last == one.place)
+pirate_came d = let one = pirate d in not (one.last == one.place)
 
 -- one treasure more counts as unseen than count as lost
 abbrev pub one_left : Test (Unit {0})
 one_left d = let tallies = d.scene.state.tallies in tallies.unseen == tallies.lost + 1
 
--- the pirate who is after the player robs, or else hides its chest, or else may be heard
+-- the pirate who is after the player robs, or else hides its chest, or else may be heard; one that
+-- left no message yet puts its chest in its place before it takes its booty
 unfoldable pub pirate_rows : List (Row (Unit {0}) (Unit {0}))
 pirate_rows =
-    plain_row (carries_booty ∷ []) rob
-    ∷ plain_row (no treasure_near ∷ one_left ∷ nowhere (the name.Chest) ∷ near (the name.Lamp)
+    plain_row (carries_booty ∷ nowhere message ∷ [])
+    (say role.Booty ∷ send chest place.Chest ∷ take_booty)
+    ∷ plain_row (carries_booty ∷ []) (say role.Booty ∷ take_booty)
+    ∷ plain_row (no treasure_near ∷ one_left ∷ nowhere chest ∷ near (the name.Lamp)
     ∷ prop (the name.Lamp) LAMP_ON ∷ []) hide_chest
     ∷ chance_row (pirate_came ∷ []) (percent 20) (say role.Rustle ∷ [])
     ∷ []
@@ -43,16 +45,19 @@ pirate_rows =
 -- the pirate is after the player whom it sees away from its chest, which wasn't seen yet
 unfoldable pub chase_rows : List (Row (Unit {0}) (Unit {0}))
 chase_rows =
-    plain_row (pirate_sees ∷ no (player_at place.Chest) ∷ no (prop_from (the name.Chest) (pos 0))
-    ∷ []) (by_table table.Pirate pirate_rows ∷ [])
+    plain_row (sees_player pirate ∷ player_at place.Chest ∷ []) []
+    ∷ plain_row (sees_player pirate ∷ prop_from chest (pos 0) ∷ []) []
+    ∷ plain_row (sees_player pirate ∷ []) (by_table table.Pirate pirate_rows ∷ [])
     ∷ []
 
 abbrev pub move_pirate : Effect (Unit {0})
-move_pirate d = in_scene (dwarf_moved d.cave PIRATE d.scene).scene d
+move_pirate d = in_scene (after_dwarf_move d.cave PIRATE d.scene) d
 
 -- a pirate who isn't gone moves like a dwarf, and may be after the player then
-unfoldable pub move_rows : List (Row (Unit {0}) (Unit {0}))
-move_rows = plain_row (no pirate_gone ∷ []) (move_pirate ∷ by_rows chase_rows ∷ []) ∷ []
+unfoldable pub pirate_turn_rows : List (Row (Unit {0}) (Unit {0}))
+pirate_turn_rows =
+    plain_row (gone pirate ∷ []) []
+    ∷ otherwise (move_pirate ∷ by_table table.Chase chase_rows ∷ [])
 
 unfoldable pub after_pirate : CaveView → Scene → Scene
-after_pirate cave p = (by_rows move_rows (deed cave tt p)).scene
+after_pirate cave p = (by_table table.PirateTurn pirate_turn_rows (deed cave tt p)).scene

@@ -1,19 +1,19 @@
 -- How the dwarves wake.
-use Rattle.std.specs.Prelude.{ℕ, ◌==◌, if◌then◌else◌, unwrap_or, List, [], ◌∷◌}
+use Rattle.std.specs.Prelude.{ℕ, List, [], ◌∷◌}
 use Rattle.turn_rules.specs.data_rows.declared.place_role.PlaceRole.TheVariants as landmark
 use Rattle.turn_rules.specs.data_rows.declared.role.Role.TheVariants as role
 use Rattle.turn_rules.specs.cave_data.CaveView.{CaveView}
 use Rattle.turn_rules.specs.cave_words.Stream.{number_drawn}
 use Rattle.turn_rules.specs.cave_words.declared.named.Named.TheVariants as name
-use Rattle.turn_rules.specs.cave_world.declared.dwarves.Dwarf.{Dwarf}
 use Rattle.turn_rules.specs.cave_world.declared.state.State.{State}
 use Rattle.turn_rules.specs.cave_world.Limits.{AWAKE, PIRATE}
-use Rattle.turn_rules.specs.turn_things.Places.{place_named}
-use Rattle.turn_rules.specs.Rows.{Effect, Row, plain_row, chance_row, by_rows_about, after_drawing}
-use Rattle.turn_rules.specs.Rows.{otherwise}
-use Rattle.turn_rules.specs.Tests.{the, no, in_the_depths, percent}
-use Rattle.turn_rules.specs.Effects.{in_state, change, say, bring, for_each_from}
-use Rattle.turn_dwarves.specs.Band.{dwarf_of, with_dwarf, with_anger}
+use Rattle.turn_rules.specs.turn_scene.Scene.{Scene}
+use Rattle.turn_rules.specs.Rows.{Deed, Effect, Row, deed, plain_row, chance_row, otherwise, noted}
+use Rattle.turn_rules.specs.Rows.{by_rows_about, by_table, after_drawing}
+use Rattle.turn_rules.specs.Tests.{the, no, in_the_depths, percent, is_bound, place_of}
+use Rattle.turn_rules.specs.Effects.{in_state, in_scene, change, say, bring, for_each_from}
+use Rattle.turn_rules.specs.rule_rows.declared.tables.Table.TheVariants as table
+use Rattle.turn_dwarves.specs.Band.{dwarf_of, with_dwarf, with_anger, its_dwarf, is_with_player}
 use Rattle.turn_dwarves.specs.declared.knives.Attack.{Attack}
 
 -- a dwarf goes nowhere
@@ -24,33 +24,44 @@ without_dwarf number s =
 abbrev pub remove : Effect ℕ
 remove d = in_state (without_dwarf d.about d.scene.state) d
 
--- one of the five is gone in 50 of 100 cases
+-- a dwarf is gone in 50 of 100 cases
 unfoldable pub leaving_rows : List (Row ℕ (Unit {0}))
 leaving_rows = chance_row [] (percent 50) (remove ∷ []) ∷ []
 
--- it is drawn which
+-- it is drawn which of the five that may be
 abbrev pub let_one_leave : Effect Attack
 let_one_leave d =
-    by_rows_about (λ e. number_drawn PIRATE d.scene.state.stream) leaving_rows (after_drawing d)
+    by_rows_about (λ e. number_drawn PIRATE d.scene.state.stream)
+    (noted table.Leaving leaving_rows) (after_drawing d)
 
--- a dwarf that is where the player is goes to another place, if one is named for it
-abbrev pub place_apart : CaveView → ℕ → ℕ → ℕ
-place_apart cave here place =
-    if place == here then unwrap_or (place_named cave landmark.Dwarfalt) place else place
+-- a dwarf is at a place, and came from there
+unfoldable pub with_dwarf_at : ℕ → ℕ → State → State
+with_dwarf_at number place s =
+    let dwarf = dwarf_of s number in
+    with_dwarf number (record dwarf { place = place; last = place }) s
 
--- it forgets where it came from
-unfoldable pub dwarf_apart : CaveView → ℕ → Dwarf → Dwarf
-dwarf_apart cave here dwarf =
-    let place = place_apart cave here dwarf.place in record dwarf { place = place; last = place }
+abbrev pub settle : (Deed ℕ → ℕ) → Effect ℕ
+settle place d = in_state (with_dwarf_at d.about (place d) d.scene.state) d
+
+-- where the dwarf is
+abbrev pub its_place : Deed ℕ → ℕ
+its_place d = (its_dwarf d).place
+
+-- a dwarf that is where the player is goes to another place, if one is named for it, and any
+-- forgets where it came from
+unfoldable pub apart_rows : List (Row ℕ (Unit {0}))
+apart_rows =
+    plain_row (is_with_player its_dwarf ∷ is_bound landmark.Dwarfalt ∷ [])
+    (settle (place_of landmark.Dwarfalt) ∷ [])
+    ∷ otherwise (settle its_place ∷ [])
 
 -- a dwarf is kept apart from the player
-abbrev pub with_dwarf_apart : CaveView → ℕ → State → State
-with_dwarf_apart cave number s =
-    with_dwarf number (dwarf_apart cave s.trail.here (dwarf_of s number)) s
+unfoldable pub keep_one_apart : CaveView → ℕ → Scene → Scene
+keep_one_apart cave number p = (by_table table.Apart apart_rows (deed cave number p)).scene
 
 -- each of the five before the pirate is
 abbrev pub keep_apart : Effect Attack
-keep_apart d = in_state (for_each_from 0 PIRATE (with_dwarf_apart d.cave) d.scene.state) d
+keep_apart d = in_scene (for_each_from 0 PIRATE (keep_one_apart d.cave) d.scene) d
 
 -- the dwarves are awake, two of them may be gone, and one throws its axe, which stays here
 unfoldable pub wake : List (Effect Attack)

@@ -1,4 +1,4 @@
-ghost use Rattle.std.specs.Prelude.{◌≡◌};
+ghost use Rattle.std.specs.Prelude.{◌≡◌, take};
 ghost use Rattle.turn_rules.specs.data_rows.RowViews.{going};
 ghost use Rattle.turn_rules.specs.turn_scene.Scene.{cave_of};
 ghost use Rattle.turn_rules.specs.data_rows.Targets.{EndsWithin};
@@ -12,6 +12,9 @@ use turn_things::{
 
 /// The most places among which a dwarf chooses.
 pub const MAX_CANDIDATES: usize = 19;
+
+/// How many places are looked for: one more than those shows that some are left out.
+pub const MAX_SOUGHT: usize = MAX_CANDIDATES + 1;
 
 /// The first of the places where dwarves go.
 const FIRST_HAUNT: u16 = 15;
@@ -56,19 +59,20 @@ fn place_ahead(rules: &Rules<'_>, is_pirate: bool, dwarf: &Dwarf, row: &Row) -> 
     }
 }
 
-/// The places to which the rows of a dwarf's place lead it, in the order of the rows.
+/// The first of the places to which the rows of a dwarf's place lead it, in the order of the rows.
 #[tactic(auto, unfolding(crate::specs::Ahead::places_ahead))]
 pub fn places_ahead(
     rules: &Rules<'_>,
     is_pirate: bool,
     dwarf: &Dwarf,
-) -> ArrayVec<Haunt, MAX_CANDIDATES>
-    ensures { result.items ≡ places_ahead (cave_of rules.now) is_pirate dwarf.now }
+) -> ArrayVec<Haunt, MAX_SOUGHT>
+    ensures { result.items
+        ≡ take MAX_SOUGHT (places_ahead (cave_of rules.now) is_pirate dwarf.now) }
 {
     let mut found = ArrayVec::new();
     let mut last = None;
     for row in rules.cave.travel(dwarf.place.number()) {
-        if found.len() == MAX_CANDIDATES {
+        if found.len() == MAX_SOUGHT {
             return found;
         }
         let Some(place) = place_ahead(rules, is_pirate, dwarf, row) else {

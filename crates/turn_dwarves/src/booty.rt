@@ -10,13 +10,14 @@ ghost use Rattle.turn_rules.specs.turn_things.Treasures.{treasures};
 ghost use Rattle.turn_rules.specs.Effects.{after_sending};
 ghost use Rattle.turn_rules.specs.Rows.{Does, deed};
 ghost use Rattle.turn_dwarves.specs.Booty.{fair, is_carried_booty, carries_booty, treasure_near};
-ghost use Rattle.turn_dwarves.specs.Booty.{steal, after_thefts, with_pirate_home, rob, hide_chest};
+ghost use Rattle.turn_dwarves.specs.Booty.{steal, after_thefts, with_pirate_home, take_booty};
+ghost use Rattle.turn_dwarves.specs.Booty.{hide_chest};
 
 use crate::band::{dwarf_of, set_dwarf};
 use turn_things::treasures::{FIRST_TREASURE, LAST_TREASURE};
 use turn_things::{
-    Dwarf, Named, Object, PIRATE, Place, PlaceRole, Role, RowNotes, Rules, Scene, State, is_fixed,
-    is_home_here, is_in_hand, is_near, place_named,
+    Dwarf, Named, Object, PIRATE, Place, PlaceRole, Role, RowNotes, Rules, Scene, State, Table,
+    is_fixed, is_home_here, is_in_hand, is_near, place_named,
 };
 
 /// An object is moved to a place, if there is the place.
@@ -72,19 +73,34 @@ pub fn is_treasure_near<N: RowNotes>(rules: &Rules<'_>, scene: &Scene<'_, N>) ->
     false
 }
 
+/// A treasure is brought to the pirate's chest.
+fn bring_to_chest(rules: &Rules<'_>, object: Object, state: &mut State)
+    ensures { state.new
+        ≡ after_sending object (place_named (cave_of rules.now) role.Chest) state.old }
+{
+    let chest = place_named(rules.cave, PlaceRole::Chest);
+    send(object, chest, state);
+}
+
 /// A fair treasure that is carried, or is here and loose, is brought to the pirate's chest.
-#[tactic(auto, unfolding(crate::specs::Booty::steal, crate::specs::Booty::steal_rows))]
+#[tactic(auto, unfolding(crate::specs::Booty::steal, crate::specs::Booty::theft_rows))]
 fn steal<N: RowNotes>(rules: &Rules<'_>, object: Object, scene: &mut Scene<'_, N>)
     ensures scene { scene_of N.rows scene.new
         ≡ steal (cave_of rules.now) object (scene_of N.rows scene.old) }
     ensures says { GoesOnSaying 0 scene.old scene.new }
 {
-    if is_fair(rules, object, scene)
-        && (is_in_hand(rules, scene.state, object)
-            || (scene.state.at(object) && !is_fixed(scene.state, object)))
-    {
-        let chest = place_named(rules.cave, PlaceRole::Chest);
-        send(object, chest, scene.state);
+    if !is_fair(rules, object, scene) {
+        scene.note(Table::Theft, 1);
+        return;
+    }
+    if is_in_hand(rules, scene.state, object) {
+        scene.note(Table::Theft, 2);
+        bring_to_chest(rules, object, scene.state);
+        return;
+    }
+    if scene.state.at(object) && !is_fixed(scene.state, object) {
+        scene.note(Table::Theft, 3);
+        bring_to_chest(rules, object, scene.state);
     }
 }
 
@@ -100,14 +116,15 @@ fn steal_all<N: RowNotes>(rules: &Rules<'_>, scene: &mut Scene<'_, N>)
     }
 }
 
-fn put_chest(rules: &Rules<'_>, state: &mut State)
+/// The pirate's chest is put in its place.
+pub fn put_chest(rules: &Rules<'_>, state: &mut State)
     ensures { state.new ≡ after_sending (thing (cave_of rules.now) name.Chest)
         (place_named (cave_of rules.now) role.Chest) state.old }
 {
-    let chest = place_named(rules.cave, PlaceRole::Chest);
-    send(rules.thing(Named::Chest), chest, state);
+    bring_to_chest(rules, rules.thing(Named::Chest), state);
 }
 
+/// The pirate's message is put in its place.
 fn leave_message(rules: &Rules<'_>, state: &mut State)
     ensures { state.new ≡ after_sending (thing (cave_of rules.now) name.Message)
         (place_named (cave_of rules.now) role.Message) state.old }
@@ -130,16 +147,11 @@ fn send_pirate_home(rules: &Rules<'_>, state: &mut State)
     set_dwarf(PIRATE, &pirate, state);
 }
 
-/// The pirate robs the player, and goes home with what it took.
-#[tactic(auto, unfolding(crate::specs::Booty::rob))]
-pub fn rob<N: RowNotes>(rules: &Rules<'_>, scene: &mut Scene<'_, N>)
-    requires { HasRoom 1 scene.old }
-    ensures effects { Does N.rows rob 1 rules.now tt scene.old scene.new }
+/// The pirate leaves its message, takes all that it can get, and goes home with it.
+#[tactic(auto, unfolding(crate::specs::Booty::take_booty))]
+pub fn take_booty<N: RowNotes>(rules: &Rules<'_>, scene: &mut Scene<'_, N>)
+    ensures effects { Does N.rows take_booty 0 rules.now tt scene.old scene.new }
 {
-    scene.say(Role::Booty);
-    if scene.state.is_gone(rules.thing(Named::Message)) {
-        put_chest(rules, scene.state);
-    }
     leave_message(rules, scene.state);
     steal_all(rules, scene);
     send_pirate_home(rules, scene.state);

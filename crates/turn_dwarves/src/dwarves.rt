@@ -8,7 +8,7 @@ ghost use Rattle.turn_dwarves.specs.Knives.{no_attack};
 use crate::knives::raid;
 use crate::lines::tell_attack;
 use crate::pirate::send_pirate;
-use crate::waking::{is_in_depths, set_anger, try_waking};
+use crate::waking::{ASLEEP, STIRRING, is_in_depths, set_anger, try_waking};
 use turn_things::{RowNotes, Rules, Scene, Table};
 
 /// The dwarves sleep, stir, or are awake, where the player arrives. Returns whether a knife hit the
@@ -21,20 +21,22 @@ pub fn encounter_dwarves<N: RowNotes>(rules: &Rules<'_>, scene: &mut Scene<'_, N
     ensures says { GoesOnSaying parts_of_dwarves scene.old scene.new }
 {
     match scene.state.dwarves.anger.number() {
-        0 => {
+        ASLEEP if is_in_depths(rules, scene.state) => {
             scene.note(Table::Anger, 1);
-            if is_in_depths(rules, scene.state) {
-                set_anger(1, scene.state);
-            }
+            set_anger(STIRRING, scene.state);
             false
         }
-        1 => {
+        ASLEEP => {
             scene.note(Table::Anger, 2);
+            false
+        }
+        STIRRING => {
+            scene.note(Table::Anger, 3);
             try_waking(rules, scene);
             false
         }
         _ => {
-            scene.note(Table::Anger, 3);
+            scene.note(Table::Anger, 4);
             encounter_awake(rules, scene)
         }
     }

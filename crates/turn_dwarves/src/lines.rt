@@ -5,11 +5,14 @@ ghost use Rattle.turn_rules.specs.turn_scene.Scene.{after_telling, scene_of};
 ghost use Rattle.turn_rules.specs.cave_world.declared.part.Part.TheVariants as part;
 ghost use Rattle.turn_rules.specs.Rows.{Does, by_table};
 ghost use Rattle.turn_rules.specs.rule_rows.declared.tables.Table.TheVariants as table;
-ghost use Rattle.turn_dwarves.specs.Lines.{dwarf_rows, knife_rows, tell_attack};
+ghost use Rattle.turn_dwarves.specs.Lines.{dwarf_rows, provoked_rows, knife_rows, tell_attack};
 
 use crate::knives::Attack;
-use crate::waking::set_anger;
+use crate::waking::{AWAKE, set_anger};
 use turn_things::{NumberLine, Part, Role, RowNotes, Rules, Scene, Table};
+
+/// How angry dwarves are that threw knives for the first time.
+const PROVOKED: u16 = 3;
 
 /// A line of the game's own with a number is printed.
 fn tell_number<N: RowNotes>(line: NumberLine, number: u32, scene: &mut Scene<'_, N>)
@@ -81,16 +84,25 @@ fn tell_knife_lines<N: RowNotes>(rules: &Rules<'_>, attack: Attack, scene: &mut 
     }
 }
 
-/// The line of the dwarves is printed, and then those of their knives. Dwarves that threw some for
-/// the first time are angrier from then on.
+/// Dwarves that threw knives for the first time are angrier from then on.
+#[tactic(auto, unfolding(crate::specs::Lines::provoked_rows))]
+fn set_provoked<N: RowNotes>(rules: &Rules<'_>, attack: Attack, scene: &mut Scene<'_, N>)
+    ensures rows { Does N.rows (by_table table.Provoked provoked_rows ∷ []) 0 rules.now
+        attack scene.old scene.new }
+{
+    if attack.knives != 0 && scene.state.dwarves.anger.number() == AWAKE {
+        scene.note(Table::Provoked, 1);
+        set_anger(PROVOKED, scene.state);
+    }
+}
+
+/// The line of the dwarves is printed, and then those of their knives.
 #[tactic(auto, unfolding(crate::specs::Lines::tell_attack))]
 pub fn tell_attack<N: RowNotes>(rules: &Rules<'_>, attack: Attack, scene: &mut Scene<'_, N>)
     requires { HasRoom parts_of_attack scene.old }
     ensures lines { Does N.rows tell_attack parts_of_attack rules.now attack scene.old scene.new }
 {
     tell_dwarf_lines(rules, attack, scene);
-    if attack.knives != 0 && scene.state.dwarves.anger.number() == 2 {
-        set_anger(3, scene.state);
-    }
+    set_provoked(rules, attack, scene);
     tell_knife_lines(rules, attack, scene);
 }

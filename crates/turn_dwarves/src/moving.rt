@@ -1,29 +1,51 @@
-ghost use Rattle.std.specs.Prelude.{◌≡◌, ◌<◌, ◌==◌, true};
-ghost use Rattle.turn_rules.specs.cave_words.Stream.{next};
+ghost use Rattle.std.specs.Prelude.{◌≡◌, ◌<◌, ◌≤◌, true, length, take, slice_index_or};
+ghost use Rattle.turn_rules.specs.cave_words.Stream.{next, number_drawn};
 ghost use Rattle.turn_rules.specs.turn_scene.Bounds.{GoesOnSaying};
 ghost use Rattle.turn_rules.specs.turn_scene.Scene.{cave_of, scene_of};
 ghost use Rattle.turn_rules.specs.cave_world.Limits.{dwarf_count};
-ghost use Rattle.turn_rules.specs.Rows.{deed, PlaysBy};
-ghost use Rattle.turn_dwarves.specs.Moving.{chosen_way, dwarf_in_sight, dwarf_moved};
+ghost use Rattle.turn_rules.specs.Rows.{PlaysBy};
+ghost use Rattle.turn_dwarves.specs.Ahead as defined;
+ghost use Rattle.turn_dwarves.specs.Moving.{chosen_way, dwarf_in_sight, after_dwarf_move};
 
-use crate::ahead::places_ahead;
+use crate::ahead::{MAX_CANDIDATES, MAX_SOUGHT, places_ahead};
 use crate::band::{dwarf_of, set_dwarf};
+use crate::haunt::Haunt;
 use crate::waking::is_in_depths;
+use arrayvec::ArrayVec;
 use turn_things::{Dwarf, PIRATE, Place, RowNotes, Rules, Scene, Stream, Table};
+
+/// Draws one of the first of some places.
+fn draw_place(places: &ArrayVec<Haunt, MAX_SOUGHT>, count: usize, stream: &mut Stream) -> Place
+    requires some { 0 < count }
+    requires few { count ≤ defined.MAX_CANDIDATES }
+    requires there { count ≤ length places.now.items }
+    ensures place { result
+        ≡ slice_index_or (take count places.now.items) (number_drawn count stream.old) 0 }
+    ensures moves_on { stream.new ≡ next stream.old }
+{
+    let drawn = stream.draw(count as u32);
+    places[drawn as usize].place()
+}
 
 /// Draws one of the ways of a dwarf, also where there is but one.
 #[tactic(auto, unfolding(crate::specs::Moving::chosen_way, crate::specs::Ahead::ways_of_dwarf))]
-fn choose_way(rules: &Rules<'_>, is_pirate: bool, dwarf: &Dwarf, stream: &mut Stream) -> Place
-    ensures place { result ≡ chosen_way (cave_of rules.now) is_pirate dwarf.now stream.old }
-    ensures moves_on { stream.new ≡ next stream.old }
+fn choose_way<N: RowNotes>(rules: &Rules<'_>, number: usize, scene: &mut Scene<'_, N>) -> Place
+    requires { number < dwarf_count }
+    ensures way { PlaysBy N.rows chosen_way 0 rules.now number scene.old scene.new result }
 {
-    let ahead = places_ahead(rules, is_pirate, dwarf);
+    let dwarf = dwarf_of(scene.state, number);
+    let ahead = places_ahead(rules, number == PIRATE, &dwarf);
     if ahead.is_empty() {
-        stream.draw(1);
+        scene.note(Table::DwarfWays, 1);
+        scene.state.stream.draw(1);
         return dwarf.last;
     }
-    let drawn = stream.draw(ahead.len() as u32);
-    ahead[drawn as usize].place()
+    if MAX_CANDIDATES < ahead.len() {
+        scene.note(Table::DwarfWays, 2);
+        return draw_place(&ahead, MAX_CANDIDATES, &mut scene.state.stream);
+    }
+    scene.note(Table::DwarfWays, 3);
+    draw_place(&ahead, ahead.len(), &mut scene.state.stream)
 }
 
 /// A dwarf that sees the player comes to the player.
@@ -63,16 +85,16 @@ fn dwarf_in_sight<N: RowNotes>(rules: &Rules<'_>, dwarf: Dwarf, scene: &mut Scen
     }
 }
 
-/// The dwarf of a number moves, and is returned.
-#[tactic(auto, unfolding(crate::specs::Moving::dwarf_moved))]
-pub fn move_dwarf<N: RowNotes>(rules: &Rules<'_>, number: usize, scene: &mut Scene<'_, N>) -> Dwarf
+/// The dwarf of a number moves.
+#[tactic(auto, unfolding(crate::specs::Moving::after_dwarf_move))]
+pub fn move_dwarf<N: RowNotes>(rules: &Rules<'_>, number: usize, scene: &mut Scene<'_, N>)
     requires { number < dwarf_count }
-    ensures dwarf { deed (cave_of rules.now) result (scene_of N.rows scene.new)
-        ≡ dwarf_moved (cave_of rules.now) number (scene_of N.rows scene.old) }
+    ensures scene { scene_of N.rows scene.new
+        ≡ after_dwarf_move (cave_of rules.now) number (scene_of N.rows scene.old) }
     ensures says { GoesOnSaying 0 scene.old scene.new }
 {
     let dwarf = dwarf_of(scene.state, number);
-    let place = choose_way(rules, number == PIRATE, &dwarf, &mut scene.state.stream);
+    let place = choose_way(rules, number, scene);
     let on_way = Dwarf {
         place,
         last: dwarf.place,
@@ -80,5 +102,4 @@ pub fn move_dwarf<N: RowNotes>(rules: &Rules<'_>, number: usize, scene: &mut Sce
     };
     let moved = dwarf_in_sight(rules, on_way, scene);
     set_dwarf(number, &moved, scene.state);
-    moved
 }

@@ -6,16 +6,17 @@ ghost use Rattle.turn_rules.specs.world_objects.Objects.{prop_of};
 ghost use Rattle.turn_rules.specs.cave_words.declared.named.Named.TheVariants as name;
 ghost use Rattle.turn_rules.specs.data_rows.declared.place_role.PlaceRole.TheVariants as place;
 ghost use Rattle.turn_rules.specs.cave_world.Sight as defined;
-ghost use Rattle.turn_rules.specs.Rows.{Does, all_hold, by_rows, deed, by_table};
-ghost use Rattle.turn_rules.specs.Tests.{the, no, near, prop, prop_from, nowhere, player_at};
+ghost use Rattle.turn_rules.specs.turn_things.Places.{place_named};
+ghost use Rattle.turn_rules.specs.world_objects.Objects.{is_place};
+ghost use Rattle.turn_rules.specs.Rows.{Does, all_hold, deed, by_table};
+ghost use Rattle.turn_rules.specs.Tests.{the, no, near, prop, nowhere};
 ghost use Rattle.turn_rules.specs.rule_rows.declared.tables.Table.TheVariants as table;
 ghost use Rattle.turn_dwarves.specs.Band as band;
-ghost use Rattle.turn_dwarves.specs.Booty.{treasure_near};
-ghost use Rattle.turn_dwarves.specs.Pirate.{pirate_sees, one_left, pirate_rows, chase_rows};
-ghost use Rattle.turn_dwarves.specs.Pirate.{after_pirate};
+ghost use Rattle.turn_dwarves.specs.Booty.{treasure_near, chest};
+ghost use Rattle.turn_dwarves.specs.Pirate.{one_left, pirate_rows, chase_rows, after_pirate};
 
 use crate::band::dwarf_of;
-use crate::booty::{carries_booty, hide_chest, is_treasure_near, rob};
+use crate::booty::{carries_booty, hide_chest, is_treasure_near, put_chest, take_booty};
 use crate::moving::move_dwarf;
 use turn_things::{
     LAMP_ON, Named, PIRATE, PlaceRole, Role, RowNotes, Rules, Scene, State, Table, has_prop,
@@ -31,24 +32,17 @@ fn is_chest_seen(rules: &Rules<'_>, state: &State) -> bool
     !chest.is_none() && 0 <= state.objects.prop(chest).value()
 }
 
-/// Whether the pirate sees the player, away from its chest, which wasn't seen yet.
-fn is_after_player<N: RowNotes>(rules: &Rules<'_>, scene: &Scene<'_, N>) -> bool
-    ensures { result ≡ all_hold (pirate_sees ∷ no (player_at place.Chest)
-        ∷ no (prop_from (the name.Chest) (pos 0)) ∷ [])
-        (deed (cave_of rules.now) tt (scene_of N.rows scene.now)) }
+/// Whether the player is at the place of the pirate's chest.
+fn is_player_at_chest(rules: &Rules<'_>, state: &State) -> bool
+    ensures { result ≡ is_place state.now.trail.here (place_named (cave_of rules.now) place.Chest) }
 {
-    dwarf_of(scene.state, PIRATE).has_seen
-        && !is_place(
-            scene.state.trail.here,
-            place_named(rules.cave, PlaceRole::Chest),
-        )
-        && !is_chest_seen(rules, scene.state)
+    is_place(state.trail.here, place_named(rules.cave, PlaceRole::Chest))
 }
 
 /// Whether the pirate hides its chest, which is nowhere yet: no treasure is at hand, one more
 /// counts as unseen than count as lost, and the player has light.
 fn hides_chest<N: RowNotes>(rules: &Rules<'_>, scene: &Scene<'_, N>) -> bool
-    ensures { result ≡ all_hold (no treasure_near ∷ one_left ∷ nowhere (the name.Chest)
+    ensures { result ≡ all_hold (no treasure_near ∷ one_left ∷ nowhere chest
         ∷ near (the name.Lamp) ∷ prop (the name.Lamp) defined.LAMP_ON ∷ [])
         (deed (cave_of rules.now) tt (scene_of N.rows scene.now)) }
 {
@@ -78,37 +72,53 @@ fn meet_pirate<N: RowNotes>(rules: &Rules<'_>, scene: &mut Scene<'_, N>)
         scene.old scene.new }
 {
     if carries_booty(rules, scene) {
-        scene.note(Table::Pirate, 1);
-        rob(rules, scene);
+        if scene.state.is_gone(rules.thing(Named::Message)) {
+            scene.note(Table::Pirate, 1);
+            scene.say(Role::Booty);
+            put_chest(rules, scene.state);
+            take_booty(rules, scene);
+            return;
+        }
+        scene.note(Table::Pirate, 2);
+        scene.say(Role::Booty);
+        take_booty(rules, scene);
         return;
     }
     if hides_chest(rules, scene) {
-        scene.note(Table::Pirate, 2);
+        scene.note(Table::Pirate, 3);
         hide_chest(rules, scene);
         return;
     }
-    if !is_pirate_new(scene.state) {
-        return;
-    }
-    if scene.happens(20) {
-        scene.note(Table::Pirate, 3);
+    if is_pirate_new(scene.state) && scene.happens(20) {
+        scene.note(Table::Pirate, 4);
         scene.say(Role::Rustle);
     }
 }
 
-/// The pirate may be after the player.
+/// The pirate is after the player whom it sees away from its chest, which wasn't seen yet.
 #[tactic(auto, unfolding(crate::specs::Pirate::chase_rows))]
 fn chase<N: RowNotes>(rules: &Rules<'_>, scene: &mut Scene<'_, N>)
     requires { HasRoom 1 scene.old }
-    ensures rows { Does N.rows (by_rows chase_rows ∷ []) 1 rules.now tt scene.old scene.new }
+    ensures rows { Does N.rows (by_table table.Chase chase_rows ∷ []) 1 rules.now tt
+        scene.old scene.new }
 {
-    if is_after_player(rules, scene) {
-        meet_pirate(rules, scene);
+    if !dwarf_of(scene.state, PIRATE).has_seen {
+        return;
     }
+    if is_player_at_chest(rules, scene.state) {
+        scene.note(Table::Chase, 1);
+        return;
+    }
+    if is_chest_seen(rules, scene.state) {
+        scene.note(Table::Chase, 2);
+        return;
+    }
+    scene.note(Table::Chase, 3);
+    meet_pirate(rules, scene);
 }
 
-/// The pirate moves like a dwarf, and may be after the player.
-#[tactic(auto, unfolding(crate::specs::Pirate::after_pirate, crate::specs::Pirate::move_rows))]
+/// The pirate moves like a dwarf, and may be after the player then. One that is gone does nothing.
+#[tactic(auto, unfolding(crate::specs::Pirate::after_pirate, crate::specs::Pirate::pirate_turn_rows))]
 pub fn send_pirate<N: RowNotes>(rules: &Rules<'_>, scene: &mut Scene<'_, N>)
     requires { HasRoom 1 scene.old }
     ensures scene { scene_of N.rows scene.new
@@ -116,8 +126,10 @@ pub fn send_pirate<N: RowNotes>(rules: &Rules<'_>, scene: &mut Scene<'_, N>)
     ensures says { GoesOnSaying 1 scene.old scene.new }
 {
     if dwarf_of(scene.state, PIRATE).place.number() == 0 {
+        scene.note(Table::PirateTurn, 1);
         return;
     }
+    scene.note(Table::PirateTurn, 2);
     move_dwarf(rules, PIRATE, scene);
     chase(rules, scene);
 }

@@ -1,6 +1,6 @@
 ghost use Rattle.std.specs.Prelude.{◌≡◌, ◌<◌, ◌≤◌, nat_le, [], ◌∷◌};
-ghost use Rattle.turn_rules.specs.turn_scene.Bounds.{HasRoom};
-ghost use Rattle.turn_rules.specs.turn_scene.Scene.{cave_of};
+ghost use Rattle.turn_rules.specs.turn_scene.Bounds.{GoesOnSaying, HasRoom};
+ghost use Rattle.turn_rules.specs.turn_scene.Scene.{cave_of, scene_of};
 ghost use Rattle.turn_rules.specs.turn_things.Places.{deep_place};
 ghost use Rattle.turn_rules.specs.cave_world.Limits.{MAX_ANGER};
 ghost use Rattle.turn_rules.specs.cave_world.Limits as defined;
@@ -8,15 +8,24 @@ ghost use Rattle.turn_rules.specs.Rows.{Does, by_table};
 ghost use Rattle.turn_rules.specs.rule_rows.declared.tables.Table.TheVariants as table;
 ghost use Rattle.turn_dwarves.specs.Band.{with_anger};
 ghost use Rattle.turn_dwarves.specs.Knives.{no_attack};
-ghost use Rattle.turn_dwarves.specs.Waking.{without_dwarf, let_one_leave, place_apart, dwarf_apart};
+ghost use Rattle.turn_dwarves.specs.Waking.{without_dwarf, let_one_leave, with_dwarf_at};
+ghost use Rattle.turn_dwarves.specs.Waking.{keep_one_apart, wake, waking_rows};
 ghost use Rattle.turn_rules.specs.Effects.{for_each_from};
-ghost use Rattle.turn_dwarves.specs.Waking.{with_dwarf_apart, wake, waking_rows};
 
 use crate::band::{dwarf_of, set_dwarf};
 use turn_things::{
     Count, Dwarf, Named, PIRATE, Place, PlaceRole, Role, RowNotes, Rules, Scene, State, Table,
     deep_place, place_named,
 };
+
+/// How angry dwarves are who sleep.
+pub const ASLEEP: u16 = 0;
+
+/// How angry dwarves are who stir.
+pub const STIRRING: u16 = 1;
+
+/// How angry dwarves are who are just awake.
+pub const AWAKE: u16 = 2;
 
 /// The dwarves are so angry from now on.
 pub fn set_anger(degree: u16, state: &mut State)
@@ -55,42 +64,56 @@ fn let_one_leave<N: RowNotes>(rules: &Rules<'_>, scene: &mut Scene<'_, N>)
 {
     let number = scene.state.stream.draw(PIRATE as u32);
     if scene.happens(50) {
+        scene.note(Table::Leaving, 1);
         remove_dwarf(number as usize, scene.state);
     }
 }
 
-/// Where a dwarf goes that is to be elsewhere than the player.
-fn place_apart(rules: &Rules<'_>, here: Place, place: Place) -> Place
-    ensures { result ≡ place_apart (cave_of rules.now) here place }
+/// A dwarf is at a place, and came from there.
+#[tactic(auto, unfolding(crate::specs::Waking::with_dwarf_at))]
+fn put_dwarf_at(number: usize, place: Place, state: &mut State)
+    requires { number < defined.PIRATE }
+    ensures { state.new ≡ with_dwarf_at number place state.old }
 {
-    if place == here {
-        place_named(rules.cave, PlaceRole::Dwarfalt).unwrap_or(place)
-    } else {
-        place
-    }
-}
-
-#[tactic(auto, unfolding(crate::specs::Waking::dwarf_apart))]
-fn dwarf_apart(rules: &Rules<'_>, here: Place, dwarf: &Dwarf) -> Dwarf
-    ensures { result ≡ dwarf_apart (cave_of rules.now) here dwarf.now }
-{
-    let place = place_apart(rules, here, dwarf.place);
-    Dwarf {
+    let dwarf = dwarf_of(state, number);
+    let settled = Dwarf {
         place,
         last: place,
         has_seen: dwarf.has_seen,
+    };
+    set_dwarf(number, &settled, state);
+}
+
+/// A dwarf that is where the player is goes to another place, if one is named for it, and any
+/// forgets where it came from.
+#[tactic(auto, unfolding(crate::specs::Waking::keep_one_apart, crate::specs::Waking::apart_rows))]
+fn keep_one_apart<N: RowNotes>(rules: &Rules<'_>, number: usize, scene: &mut Scene<'_, N>)
+    requires { number < defined.PIRATE }
+    ensures scene { scene_of N.rows scene.new
+        ≡ keep_one_apart (cave_of rules.now) number (scene_of N.rows scene.old) }
+    ensures says { GoesOnSaying 0 scene.old scene.new }
+{
+    let place = dwarf_of(scene.state, number).place;
+    if place == scene.state.trail.here {
+        if let Some(elsewhere) = place_named(rules.cave, PlaceRole::Dwarfalt) {
+            scene.note(Table::Apart, 1);
+            put_dwarf_at(number, elsewhere, scene.state);
+            return;
+        }
     }
+    scene.note(Table::Apart, 2);
+    put_dwarf_at(number, place, scene.state);
 }
 
 /// The dwarves before the pirate are kept apart from the player, and forget where they came from.
-fn keep_apart(rules: &Rules<'_>, state: &mut State)
-    ensures { state.new
-        ≡ for_each_from 0 defined.PIRATE (with_dwarf_apart (cave_of rules.now)) state.old }
+fn keep_apart<N: RowNotes>(rules: &Rules<'_>, scene: &mut Scene<'_, N>)
+    ensures scene { scene_of N.rows scene.new
+        ≡ for_each_from 0 defined.PIRATE (keep_one_apart (cave_of rules.now))
+        (scene_of N.rows scene.old) }
+    ensures says { GoesOnSaying 0 scene.old scene.new }
 {
     for number in 0..PIRATE {
-        let dwarf = dwarf_of(state, number);
-        let dwarf = dwarf_apart(rules, state.trail.here, &dwarf);
-        set_dwarf(number, &dwarf, state);
+        keep_one_apart(rules, number, scene);
     }
 }
 
@@ -100,10 +123,10 @@ fn wake<N: RowNotes>(rules: &Rules<'_>, scene: &mut Scene<'_, N>)
     requires { HasRoom 1 scene.old }
     ensures scene { Does N.rows wake 1 rules.now no_attack scene.old scene.new }
 {
-    set_anger(2, scene.state);
+    set_anger(AWAKE, scene.state);
     let_one_leave(rules, scene);
     let_one_leave(rules, scene);
-    keep_apart(rules, scene.state);
+    keep_apart(rules, scene);
     scene.say(Role::AxeThrown);
     let here = scene.state.trail.here;
     scene.state.move_to(rules.thing(Named::Axe), here);

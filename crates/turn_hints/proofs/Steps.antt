@@ -6,13 +6,13 @@ use Rattle.std.specs.Prelude.{◌&&◌, is_some, not}
 use Rattle.std.specs.FinMap as map
 use Rattle.turn_ends.specs.cave_data.CaveView.{CaveView}
 use Rattle.turn_ends.specs.cave_data.Tables.{IsAbove}
-use Rattle.turn_ends.specs.turn_rules.Rows.{Act, deed, act_of, after_all, by_table}
+use Rattle.turn_ends.specs.turn_rules.Rows.{Act, Deed, deed, act_of, after_all, by_table, note_row}
 use Rattle.turn_ends.specs.turn_rules.Tests.{has_hint, it, no}
 use Rattle.turn_ends.specs.turn_rules.Effects.{for_each_from}
 use Rattle.turn_ends.specs.turn_scene.Scene.{Scene}
 use Rattle.turn_ends.specs.rule_rows.declared.tables.Table.TheVariants as table
-use Rattle.turn_hints.specs.Hints.{cave_has_it, in_area, restart, count_turn, offer_rows, hint_rows}
-use Rattle.turn_hints.specs.Hints.{after_consider, after_hints, FIRST_HINT, OFFERED_HINTS}
+use Rattle.turn_hints.specs.Hints.{cave_has_it, in_area, has_turns, restart, count_turn, offer_rows}
+use Rattle.turn_hints.specs.Hints.{hint_rows, after_consider, after_hints, FIRST_HINT, OFFERED_HINTS}
 
 -- the next one comes after those so far
 pub one_more : {S : Type 0} (first n : ℕ) (what : ℕ → S → S) (s : S)
@@ -20,11 +20,21 @@ pub one_more : {S : Type 0} (first n : ℕ) (what : ℕ → S → S) (s : S)
 unfolding for_each_from
 one_more first n what s = let next : n + 1 ≡ suc n = omega arith in rw next refl
 
+-- what the two rows of a hint do
+abbrev pub starts_anew : Deed ℕ → Act (Unit {0})
+starts_anew d = act_of (after_all (note_row table.HintTurns 1 ∷ restart ∷ []) d).scene tt
+
+abbrev pub waits : Deed ℕ → Act (Unit {0})
+waits d =
+    act_of (after_all (note_row table.HintTurns 2 ∷ count_turn ∷ by_table table.Offers offer_rows ∷ [])
+    d).scene tt
+
 -- no row fits whose first test fails
-no_row : (a b c : Bool) (x y z : Act (Unit {0})) → a ≡ false
-    → (if a && (b && (not c && true)) then x else (if a && (b && true) then y else z)) ≡ z
-no_row true b c x y z fails = absurd (true≢false fails)
-no_row false b c x y z fails = refl
+no_row : (a b c t : Bool) (x y z : Act (Unit {0})) → a ≡ false
+    → (if a && (b && (not c && (t && true))) then x else (if a && (b && (c && true)) then y else z))
+    ≡ z
+no_row true b c t x y z fails = absurd (true≢false fails)
+no_row false b c t x y z fails = refl
 
 -- a hint that the cave doesn't have changes nothing
 after_consider-none : (cave : CaveView) (h : ℕ) (p : Scene) → map.get cave.hints h ≡ None
@@ -32,10 +42,8 @@ after_consider-none : (cave : CaveView) (h : ℕ) (p : Scene) → map.get cave.h
 unfolding after_consider hint_rows
 after_consider-none cave h p none =
     let d = deed cave h p in
-    let waits : Act (Unit {0}) =
-    act_of (after_all (count_turn ∷ by_table table.Offers offer_rows ∷ []) d).scene tt in
     ap (λ (act : Act (Unit {0})). act.scene)
-    (no_row (cave_has_it d) (no (has_hint it) d) (in_area d) (act_of (restart d).scene tt) waits
+    (no_row (cave_has_it d) (no (has_hint it) d) (in_area d) (has_turns d) (starts_anew d) (waits d)
     (act_of p tt) (ap (λ hint. is_some hint) none))
 
 -- so many hints from the first on

@@ -1,5 +1,5 @@
 -- Hints: one is offered to a player who stays for long where it helps, and who needs it.
-use Rattle.std.specs.Prelude.{ℕ, ℤ, pos, ◌+◌, ◌-◌, ◌*◌, ◌+ℤ◌, Bool, true, ◌==◌, nat_le, nat_lt}
+use Rattle.std.specs.Prelude.{ℕ, ℤ, pos, ◌+◌, ◌-◌, ◌*◌, ◌+ℤ◌, ◌==◌, nat_le, nat_lt}
 use Rattle.std.specs.Prelude.{int_lt, min, length, List, [], ◌∷◌, is_some, unwrap_or, slice_set}
 use Rattle.std.specs.FinMap as map
 use Rattle.std.specs.Int.{int_min}
@@ -16,12 +16,11 @@ use Rattle.turn_ends.specs.cave_world.declared.part.Part.TheVariants as part
 use Rattle.turn_ends.specs.cave_world.declared.state.State.{State}
 use Rattle.turn_ends.specs.turn_scene.Scene.{Scene}
 use Rattle.turn_ends.specs.turn_things.Props.{GRATE_LOCKED, UNSEEN}
-use Rattle.turn_ends.specs.turn_rules.Rows.{Deed, Test, Effect, Row, deed, plain_row, answer_row}
-use Rattle.turn_ends.specs.turn_rules.Rows.{all_hold, by_rows, answer_by_rows, always, by_table}
-use Rattle.turn_ends.specs.turn_rules.Rows.{otherwise_row}
+use Rattle.turn_ends.specs.turn_rules.Rows.{Deed, Test, Effect, Row, deed, plain_row, otherwise}
+use Rattle.turn_ends.specs.turn_rules.Rows.{by_table}
 use Rattle.turn_ends.specs.turn_rules.Tests.{the, no, in_hand, near, prop, other_prop, over}
 use Rattle.turn_ends.specs.turn_rules.Tests.{last_object, held, here, old, older, has_hint, it}
-use Rattle.turn_ends.specs.turn_rules.Effects.{in_state, when, tell, tell_message, take_hint}
+use Rattle.turn_ends.specs.turn_rules.Effects.{in_state, tell, tell_message, take_hint}
 use Rattle.turn_ends.specs.turn_rules.Effects.{set_charge, for_each_from}
 use Rattle.turn_ends.specs.Questions.{ask}
 use Rattle.turn_ends.specs.rule_rows.declared.tables.Table.TheVariants as table
@@ -32,6 +31,10 @@ FIRST_HINT = 4
 
 abbrev pub OFFERED_HINTS : ℕ
 OFFERED_HINTS = 17
+
+-- hints from 9 on have no guard
+abbrev pub FIRST_UNGUARDED_HINT : ℕ
+FIRST_UNGUARDED_HINT = 9
 
 -- those that are offered only where they help
 abbrev pub GRATE_HINT : ℕ
@@ -52,6 +55,10 @@ PYRAMID_HINT = 8
 -- the hint is that of a number
 abbrev pub hint_is : ℕ → Test ℕ
 hint_is h d = d.about == h
+
+-- it is that of a number, or a later one
+abbrev pub hint_from : ℕ → Test ℕ
+hint_from h d = nat_le h d.about
 
 -- stands for a hint that the cave lacks
 abbrev pub no_hint : Hint
@@ -79,25 +86,14 @@ nothing_at place d = length (halves_at (place d) d.scene.state.objects.lists) ==
 abbrev pub two_in_hand : Test ℕ
 two_in_hand d = nat_lt 1 (held d)
 
--- what the guard of a hint asks
-abbrev pub guard_row : ℕ → List (Test ℕ) → Row ℕ Bool
-guard_row h tests = answer_row (hint_is h ∷ []) (all_hold tests)
-
-unfoldable pub helpful : Test ℕ
-helpful d = answer_by_rows
-    (guard_row GRATE_HINT (prop (the name.Grate) GRATE_LOCKED ∷ no (near (the name.Keys)) ∷ [])
-    ∷ guard_row BIRD_HINT
-    (near (the name.Bird) ∷ in_hand (the name.Rod) ∷ last_object name.Bird ∷ [])
-    ∷ guard_row SNAKE_HINT (near (the name.Snake) ∷ no (near (the name.Bird)) ∷ [])
-    ∷ guard_row MAZE_HINT (nothing_at here ∷ nothing_at old ∷ nothing_at older ∷ two_in_hand ∷ [])
-    ∷ guard_row PYRAMID_HINT
-    (other_prop (the name.Emerald) UNSEEN ∷ prop (the name.Pyramid) UNSEEN ∷ []) ∷ [])
-    (otherwise_row [] (always true)) d
-
 abbrev pub with_turns_in_area : ℕ → ℕ → State → State
 with_turns_in_area h n s =
     let hints = s.hints in
     record s { hints = record hints { turns = slice_set hints.turns (h - 1) n } }
+
+-- some turns in the area of the hint count
+abbrev pub has_turns : Test ℕ
+has_turns d = nat_lt 0 (turns_in_area d.scene.state d.about)
 
 -- the turns in the area of the hint are counted from 0 again
 abbrev pub restart : Effect ℕ
@@ -110,28 +106,49 @@ count_turn d =
     let turns = min (turns_in_area s d.about + 1) MAX_TURNS_IN_AREA in
     in_state (with_turns_in_area d.about turns s) d
 
-abbrev pub offer : Effect ℕ
-offer d = ask (question.Hint d.about) d
+abbrev pub ask_offer : Effect ℕ
+ask_offer d = ask (question.Hint d.about) d
 
--- a hint is offered, or put off; the bird's hint goes on waiting
+-- the hint is offered, and its turns are counted from 0 again
+abbrev pub offer : List (Effect ℕ)
+offer = restart ∷ ask_offer ∷ []
+
+-- a hint is offered where its guard says that it helps, and where it has none; without an offer its
+-- turns are counted from 0 again, but those of the bird's hint go on counting
+unfoldable pub guard_rows : List (Row ℕ (Unit {0}))
+guard_rows =
+    plain_row (hint_is GRATE_HINT ∷ prop (the name.Grate) GRATE_LOCKED
+    ∷ no (near (the name.Keys)) ∷ []) offer
+    ∷ plain_row (hint_is BIRD_HINT ∷ near (the name.Bird) ∷ in_hand (the name.Rod)
+    ∷ last_object name.Bird ∷ []) offer
+    ∷ plain_row (hint_is SNAKE_HINT ∷ near (the name.Snake) ∷ no (near (the name.Bird)) ∷ []) offer
+    ∷ plain_row (hint_is MAZE_HINT ∷ nothing_at here ∷ nothing_at old ∷ nothing_at older
+    ∷ two_in_hand ∷ []) offer
+    ∷ plain_row (hint_is PYRAMID_HINT ∷ other_prop (the name.Emerald) UNSEEN
+    ∷ prop (the name.Pyramid) UNSEEN ∷ []) offer
+    ∷ plain_row (hint_from FIRST_UNGUARDED_HINT ∷ []) offer
+    ∷ plain_row (hint_is BIRD_HINT ∷ []) []
+    ∷ otherwise (restart ∷ [])
+
+-- a hint whose player has stayed for long enough waits while a question is open
 unfoldable pub offer_rows : List (Row ℕ (Unit {0}))
 offer_rows =
-    plain_row (has_stayed ∷ no over ∷ helpful ∷ []) (restart ∷ offer ∷ [])
-    ∷ plain_row (has_stayed ∷ no over ∷ no (hint_is BIRD_HINT) ∷ []) (restart ∷ [])
+    plain_row (has_stayed ∷ over ∷ []) []
+    ∷ plain_row (has_stayed ∷ []) (by_table table.HintGuards guard_rows ∷ [])
     ∷ []
 
 -- a hint that the cave has and that wasn't taken counts its turns, from 0 again outside its area, and
 -- is offered
 unfoldable pub hint_rows : List (Row ℕ (Unit {0}))
 hint_rows =
-    plain_row (cave_has_it ∷ no (has_hint it) ∷ no in_area ∷ []) (restart ∷ [])
-    ∷ plain_row (cave_has_it ∷ no (has_hint it) ∷ [])
+    plain_row (cave_has_it ∷ no (has_hint it) ∷ no in_area ∷ has_turns ∷ []) (restart ∷ [])
+    ∷ plain_row (cave_has_it ∷ no (has_hint it) ∷ in_area ∷ [])
     (count_turn ∷ by_table table.Offers offer_rows ∷ [])
     ∷ []
 
 -- what a turn makes of a hint
 unfoldable pub after_consider : CaveView → ℕ → Scene → Scene
-after_consider cave h p = (by_rows hint_rows (deed cave h p)).scene
+after_consider cave h p = (by_table table.HintTurns hint_rows (deed cave h p)).scene
 
 -- each hint from 4 to 20 is considered
 abbrev pub after_hints : CaveView → Scene → Scene
@@ -169,4 +186,6 @@ prolong d = set_charge (longer_charge (hint_of d).points d.scene.state.lamp.char
 -- what a player gets who takes a hint
 unfoldable pub give_rows : List (Row ℕ (Unit {0}))
 give_rows =
-    plain_row (cave_has_it ∷ []) (tell_message hint_text ∷ take_hint it ∷ when bright prolong ∷ []) ∷ []
+    plain_row (cave_has_it ∷ bright ∷ []) (tell_message hint_text ∷ take_hint it ∷ prolong ∷ [])
+    ∷ plain_row (cave_has_it ∷ []) (tell_message hint_text ∷ take_hint it ∷ [])
+    ∷ []

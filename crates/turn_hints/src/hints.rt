@@ -13,13 +13,13 @@ ghost use Rattle.turn_ends.specs.turn_scene.Bounds.{GoesOnSaying, HasRoom, SaysU
 ghost use Rattle.turn_ends.specs.turn_scene.Bounds.{parts_of_question};
 ghost use Rattle.turn_ends.specs.turn_scene.Scene.{scene_of, cave_of};
 ghost use Rattle.turn_ends.specs.turn_things.Props as defined_props;
-ghost use Rattle.turn_ends.specs.turn_rules.Rows.{Does, all_hold, deed, by_table};
-ghost use Rattle.turn_ends.specs.turn_rules.Tests.{the, no, in_hand, near, prop, other_prop, over};
+ghost use Rattle.turn_ends.specs.turn_rules.Rows.{Does, all_hold, deed, by_table, note_row};
+ghost use Rattle.turn_ends.specs.turn_rules.Tests.{the, no, in_hand, near, prop, other_prop};
 ghost use Rattle.turn_ends.specs.turn_rules.Tests.{last_object, here, old, older};
 ghost use Rattle.turn_ends.specs.turn_rules.Effects.{with_charge};
 ghost use Rattle.turn_ends.specs.rule_rows.declared.tables.Table.TheVariants as table;
 ghost use Rattle.turn_hints.specs.Hints as defined;
-ghost use Rattle.turn_hints.specs.Hints.{has_stayed, nothing_at, two_in_hand, helpful};
+ghost use Rattle.turn_hints.specs.Hints.{nothing_at, two_in_hand, offer, guard_rows};
 ghost use Rattle.turn_hints.specs.Hints.{longer_charge, with_turns_in_area, offer_rows};
 ghost use Rattle.turn_hints.specs.Hints.{after_consider, after_hints, price_rows, give_rows};
 
@@ -49,6 +49,9 @@ const MAZE_HINT: u8 = 7;
 
 /// Asks how to take the pyramid out.
 const PYRAMID_HINT: u8 = 8;
+
+/// Hints from 9 on have no guard.
+const FIRST_UNGUARDED_HINT: u8 = 9;
 
 /// How many turns more the lamp burns for each point that a hint costs.
 const TURNS_A_POINT: i32 = 30;
@@ -132,12 +135,16 @@ pub fn give_hint<N: RowNotes>(rules: &Rules<'_>, number: HintNumber, scene: &mut
         scene.old scene.new }
 {
     if let Some(hint) = rules.cave.hint(u16::from(number.number())) {
-        scene.note(Table::HintGiven, 1);
+        if LOW_CHARGE < scene.state.lamp.charge.turns() {
+            scene.note(Table::HintGiven, 1);
+            scene.tell(Part::Message(hint.text));
+            scene.state.take_hint(number);
+            prolong(hint.points, scene.state);
+            return;
+        }
+        scene.note(Table::HintGiven, 2);
         scene.tell(Part::Message(hint.text));
         scene.state.take_hint(number);
-        if LOW_CHARGE < scene.state.lamp.charge.turns() {
-            prolong(hint.points, scene.state);
-        }
     }
 }
 
@@ -164,16 +171,6 @@ fn is_in_area(hint: HintNumber, conditions: u32) -> bool
     (conditions >> hint.number()) % 2 == 1
 }
 
-/// Whether the player is outside the area of a hint of which no turn counts.
-fn is_far(hint: HintNumber, conditions: u32, state: &State) -> bool
-    ensures area { IsTrue result → (cave : CaveView)
-        → conditions ≡ cond_of cave state.now.trail.here
-        → has_condition cave state.now.trail.here hint ≡ false }
-    ensures turns { IsTrue result → turns_in_area state.now hint ≡ 0 }
-{
-    turns_in_area(hint, state).number() == 0 && !is_in_area(hint, conditions)
-}
-
 /// One turn more in the area of a hint.
 #[tactic(auto, unfolding(turn_ends::specs::takes_no_command))]
 fn count_turn(hint: HintNumber, state: &mut State)
@@ -193,20 +190,6 @@ fn restart(hint: HintNumber, state: &mut State)
     ensures over { takes_no_command state.new ≡ takes_no_command state.old }
 {
     set_turns_in_area(hint, Count::new(0), state);
-}
-
-/// Whether the player has stayed for long enough, and no question is open.
-fn is_due<N: RowNotes>(
-    rules: &Rules<'_>,
-    number: HintNumber,
-    hint: &Hint,
-    scene: &Scene<'_, N>,
-) -> bool
-    requires { get (cave_of rules.now).hints number ≡ Some hint.now }
-    ensures { result ≡ all_hold (has_stayed ∷ no over ∷ [])
-        (deed (cave_of rules.now) number (scene_of N.rows scene.now)) }
-{
-    hint.turns <= turns_in_area(number, scene.state).number() && !scene.state.takes_no_command()
 }
 
 /// The grate is locked, and the keys aren't at hand.
@@ -271,24 +254,54 @@ fn is_short_of_pyramid<N: RowNotes>(
         && has_prop(scene.state, rules.thing(Named::Pyramid), UNSEEN)
 }
 
-/// Whether the guard of a hint holds. Five hints have one.
-#[tactic(auto, unfolding(crate::specs::Hints::helpful))]
-fn is_helpful<N: RowNotes>(rules: &Rules<'_>, hint: HintNumber, scene: &Scene<'_, N>) -> bool
-    ensures { result ≡ helpful (deed (cave_of rules.now) hint (scene_of N.rows scene.now)) }
+/// A hint is offered, by a row of the guards, and its turns are counted from 0 again.
+#[tactic(auto, using(crate::proofs::Trails::trail_asked))]
+fn offer<N: RowNotes>(rules: &Rules<'_>, number: HintNumber, row: u8, scene: &mut Scene<'_, N>)
+    requires { HasRoom parts_of_question scene.old }
+    ensures rows { Does N.rows (note_row table.HintGuards row ∷ offer) parts_of_question
+        rules.now number scene.old scene.new }
+    ensures here { scene.new.state.now.trail ≡ scene.old.state.now.trail }
+    ensures over { IsTrue (takes_no_command scene.new.state.now) }
 {
-    match hint.number() {
-        GRATE_HINT => is_locked_out(rules, hint, scene),
-        BIRD_HINT => is_after_bird(rules, hint, scene),
-        SNAKE_HINT => is_held_by_snake(rules, hint, scene),
-        MAZE_HINT => is_lost_in_maze(rules, hint, scene),
-        PYRAMID_HINT => is_short_of_pyramid(rules, hint, scene),
-        _ => true,
+    scene.note(Table::HintGuards, row);
+    restart(number, scene.state);
+    ask(rules, &Question::Hint(number), scene);
+}
+
+/// A hint is offered where its guard says that it helps, and where it has none.
+#[tactic(auto, unfolding(crate::specs::Hints::guard_rows))]
+fn offer_by_guard<N: RowNotes>(rules: &Rules<'_>, number: HintNumber, scene: &mut Scene<'_, N>)
+    requires { HasRoom parts_of_question scene.old }
+    ensures rows { Does N.rows (by_table table.HintGuards guard_rows ∷ []) parts_of_question
+        rules.now number scene.old scene.new }
+    ensures here { scene.new.state.now.trail ≡ scene.old.state.now.trail }
+    ensures few_on { takes_no_command scene.new.state.now ≡ false → SaysUpTo 0 scene.old scene.new }
+{
+    match number.number() {
+        GRATE_HINT if is_locked_out(rules, number, scene) => offer(rules, number, 1, scene),
+        BIRD_HINT if is_after_bird(rules, number, scene) => offer(rules, number, 2, scene),
+        SNAKE_HINT if is_held_by_snake(rules, number, scene) => offer(rules, number, 3, scene),
+        MAZE_HINT if is_lost_in_maze(rules, number, scene) => offer(rules, number, 4, scene),
+        PYRAMID_HINT if is_short_of_pyramid(rules, number, scene) => {
+            offer(rules, number, 5, scene)
+        }
+        FIRST_UNGUARDED_HINT.. => offer(rules, number, 6, scene),
+        BIRD_HINT => scene.note(Table::HintGuards, 7),
+        _ => {
+            scene.note(Table::HintGuards, 8);
+            restart(number, scene.state);
+        }
     }
 }
 
-/// A hint that is due is offered to a player whom it helps, and is put off else.
-#[tactic(auto, using(crate::proofs::Trails::trail_asked), unfolding(crate::specs::Hints::offer_rows))]
-fn offer<N: RowNotes>(rules: &Rules<'_>, number: HintNumber, hint: &Hint, scene: &mut Scene<'_, N>)
+/// A hint whose player has stayed for long enough is offered, or waits while a question is open.
+#[tactic(auto, unfolding(crate::specs::Hints::offer_rows))]
+fn consider_offer<N: RowNotes>(
+    rules: &Rules<'_>,
+    number: HintNumber,
+    hint: &Hint,
+    scene: &mut Scene<'_, N>,
+)
     requires room { HasRoom parts_of_question scene.old }
     requires hint { get (cave_of rules.now).hints number ≡ Some hint.now }
     ensures rows { Does N.rows (by_table table.Offers offer_rows ∷ []) parts_of_question
@@ -300,20 +313,15 @@ fn offer<N: RowNotes>(rules: &Rules<'_>, number: HintNumber, hint: &Hint, scene:
     ensures stays { takes_no_command scene.new.state.now ≡ false
         → takes_no_command scene.old.state.now ≡ false }
 {
-    if !is_due(rules, number, hint, scene) {
+    if turns_in_area(number, scene.state).number() < hint.turns {
         return;
     }
-    if is_helpful(rules, number, scene) {
+    if scene.state.takes_no_command() {
         scene.note(Table::Offers, 1);
-        restart(number, scene.state);
-        ask(rules, &Question::Hint(number), scene);
-        return;
-    }
-    if number.number() == BIRD_HINT {
         return;
     }
     scene.note(Table::Offers, 2);
-    restart(number, scene.state);
+    offer_by_guard(rules, number, scene);
 }
 
 /// A hint that the cave has and that wasn't taken counts its turns, and is offered.
@@ -336,19 +344,22 @@ fn consider<N: RowNotes>(
     ensures stays { takes_no_command scene.new.state.now ≡ false
         → takes_no_command scene.old.state.now ≡ false }
 {
-    if is_far(number, conditions, scene.state) {
+    let is_in_area = is_in_area(number, conditions);
+    if !is_in_area && turns_in_area(number, scene.state).number() == 0 {
         return;
     }
     if let Some(hint) = rules.cave.hint(u16::from(number.number())) {
         if scene.state.is_hint_taken(number) {
             return;
         }
-        if !is_in_area(number, conditions) {
+        if !is_in_area {
+            scene.note(Table::HintTurns, 1);
             restart(number, scene.state);
             return;
         }
+        scene.note(Table::HintTurns, 2);
         count_turn(number, scene.state);
-        offer(rules, number, &hint, scene);
+        consider_offer(rules, number, &hint, scene);
     }
 }
 

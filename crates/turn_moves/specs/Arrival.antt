@@ -16,7 +16,8 @@ use Rattle.turn_ends.specs.turn_rules.Rows.{first_fitting_or, nothing_but, alway
 use Rattle.turn_ends.specs.turn_rules.Rows.{noted}
 use Rattle.turn_ends.specs.turn_rules.Tests.{no, same, here, outside, cave_closing, forced_at}
 use Rattle.turn_ends.specs.turn_rules.Tests.{place_has, over, there_is}
-use Rattle.turn_ends.specs.turn_rules.Effects.{say, panic}
+use Rattle.turn_ends.specs.turn_rules.Effects.{say}
+use Rattle.turn_ends.specs.turn_rules.Panic.{panic}
 use Rattle.turn_ends.specs.Endings.{die}
 use Rattle.turn_moves.specs.Description.{tell_place, describe_place, stop_here}
 use Rattle.turn_moves.specs.Journeys.{set_forth}

@@ -1,21 +1,29 @@
 -- The way back.
 use Rattle.std.specs.Prelude.{ℕ, Bool, false, ◌&&◌, if◌then◌else◌, List, [], ◌∷◌, Option, Some}
-use Rattle.std.specs.Prelude.{None, option_map, slice_index}
+use Rattle.std.specs.Prelude.{None, option_map, is_some, slice_index}
 use Rattle.std.specs.List.{find}
 use Rattle.std.specs.Option.{option_or}
 use Rattle.turn_dwarves.specs.data_rows.Rows.{Going}
 use Rattle.turn_dwarves.specs.data_rows.Targets.{leads_to_place}
+use Rattle.turn_dwarves.specs.data_rows.declared.role.Role.TheVariants as role
 use Rattle.turn_dwarves.specs.data_rows.declared.targets.Destination.{Destination}
 use Rattle.turn_dwarves.specs.data_rows.declared.targets.Destination.TheVariants.{Place}
 use Rattle.turn_dwarves.specs.cave_data.CaveView.{CaveView, ways_from}
 use Rattle.turn_dwarves.specs.cave_world.Sight.{forced}
 use Rattle.turn_dwarves.specs.cave_world.Travel.{row_destination}
-use Rattle.turn_dwarves.specs.cave_world.declared.state.State.{State}
+use Rattle.turn_dwarves.specs.rule_rows.declared.tables.Table.TheVariants as table
+use Rattle.turn_ends.specs.turn_rules.Rows.{Deed, Act, Test, Row, deed, row_then, answer_row}
+use Rattle.turn_ends.specs.turn_rules.Rows.{otherwise_row, otherwise_then, act_by_table, always}
+use Rattle.turn_ends.specs.turn_rules.Rows.{first_fitting_or, nothing_but, noted}
+use Rattle.turn_ends.specs.turn_rules.Tests.{same, here, old, older, forced_at}
+use Rattle.turn_ends.specs.turn_rules.Effects.{say, set_out}
 
--- where a player who goes back goes: where the player came from, or, if that was a place of forced
--- motion, where the player was before that
-abbrev pub back_place : CaveView → State → ℕ
-back_place cave s = if forced cave s.trail.last then s.trail.older else s.trail.last
+-- where a player who goes back wants to go: where the player came from, or, if that was a place of
+-- forced motion, where the player was before that
+unfoldable pub place_back : Deed (Unit {0}) → Act ℕ
+place_back d = act_by_table table.BackFrom
+    (answer_row (forced_at old ∷ []) older ∷ [])
+    (otherwise_row [] old) d
 
 -- the row leads to the place that is sought
 abbrev pub leads_to : ℕ → Going → Bool
@@ -36,6 +44,10 @@ forces_to cave sought _ = false
 abbrev pub leads_through : CaveView → ℕ → Going → Bool
 leads_through cave sought row = forces_to cave sought (row_destination row)
 
+-- the first row that leads to the place that is sought
+abbrev pub direct_row : ℕ → List Going → Option Going
+direct_row sought rows = find (leads_to sought) rows
+
 -- the last row that leads there through a place of forced motion
 abbrev pub indirect_row : CaveView → ℕ → List Going → Option Going
 indirect_row cave sought [] = None
@@ -43,12 +55,39 @@ indirect_row cave sought (row ∷ rows) =
     option_or (indirect_row cave sought rows) (if leads_through cave sought row then Some row
     else None)
 
--- the first row that leads to the place that is sought, or else that one
-unfoldable pub row_back : CaveView → ℕ → List Going → Option Going
-row_back cave sought rows = option_or (find (leads_to sought) rows) (indirect_row cave sought rows)
+-- the first motion of a row, if there is the row
+abbrev pub first_motion : Option Going → Option ℕ
+first_motion found = option_map (λ (row : Going). slice_index row.motions 0) found
 
--- the first motion of the row that leads back from one place to another, if there is one
-unfoldable pub motion_between : CaveView → ℕ → ℕ → Option ℕ
-motion_between cave here sought =
-    option_map (λ (row : Going). slice_index row.motions 0)
-    (row_back cave sought (ways_from cave here))
+-- the place where the player wants to go
+abbrev pub sought : Deed ℕ → ℕ
+sought d = d.about
+
+-- the ways from here
+abbrev pub ways : Deed ℕ → List Going
+ways d = ways_from d.cave (here d)
+
+-- by which motion the player gets there at once, or through a place of forced motion
+abbrev pub at_once : Deed ℕ → Option ℕ
+at_once d = first_motion (direct_row (sought d) (ways d))
+
+abbrev pub in_passing : Deed ℕ → Option ℕ
+in_passing d = first_motion (indirect_row d.cave (sought d) (ways d))
+
+-- the player gets there in a way
+abbrev pub possible : (Deed ℕ → Option ℕ) → Test ℕ
+possible way d = is_some (way d)
+
+-- by which motion the player goes back
+unfoldable pub back_rows : List (Row ℕ (Option ℕ))
+back_rows =
+    row_then (same sought here ∷ []) (set_out ∷ say role.BackNone ∷ []) (always None)
+    ∷ answer_row (possible at_once ∷ []) at_once
+    ∷ answer_row (possible in_passing ∷ []) in_passing
+    ∷ otherwise_then (set_out ∷ say role.BackNo ∷ []) (always None)
+
+unfoldable pub go_back : Deed (Unit {0}) → Act (Option ℕ)
+go_back d =
+    let wanted = place_back d in
+    first_fitting_or (noted table.Back back_rows) (nothing_but (always None))
+    (deed d.cave wanted.step wanted.scene)

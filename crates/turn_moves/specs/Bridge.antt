@@ -7,13 +7,13 @@ use Rattle.turn_dwarves.specs.turn_things.Homes.{hold_of}
 use Rattle.turn_dwarves.specs.turn_things.Props.{BEAR_DEAD, CHASM_UNBRIDGED, TROLL_CALM, TROLL_FLED}
 use Rattle.turn_dwarves.specs.turn_things.Props.{TROLL_RETURNING, UNSEEN}
 use Rattle.turn_dwarves.specs.rule_rows.declared.tables.Table.TheVariants as table
-use Rattle.turn_ends.specs.turn_rules.Rows.{Deed, Act, Effect, Row, deed, row_then}
+use Rattle.turn_ends.specs.turn_rules.Rows.{Deed, Act, Test, Effect, Row, row_then, plain_row}
 use Rattle.turn_ends.specs.turn_rules.Rows.{first_fitting_or, nothing_but, otherwise_then, noted}
-use Rattle.turn_ends.specs.turn_rules.Rows.{noted_from}
+use Rattle.turn_ends.specs.turn_rules.Rows.{by_table}
 use Rattle.turn_ends.specs.turn_rules.Tests.{the, no, in_hand, prop, prop_up_to, here, home_of}
 use Rattle.turn_ends.specs.turn_rules.Tests.{second_home_of, there_is}
 use Rattle.turn_ends.specs.turn_rules.Effects.{say, look, move, destroy, fix, loosen, juggle}
-use Rattle.turn_ends.specs.turn_rules.Effects.{set_prop, lose_one, when, attach}
+use Rattle.turn_ends.specs.turn_rules.Effects.{set_prop, lose_one, attach}
 use Rattle.turn_moves.specs.Ways.{Passage, other_end, passable, end_of, die_at}
 
 -- an end of a bridge is a place of the cave, and 0 is none
@@ -28,10 +28,6 @@ bridge d =
     (bridgehead (second_home_of (the name.Troll) d))
     else None
 
--- the end of the bridge to which the player crosses
-abbrev pub far_end : Deed ℕ → ℕ
-far_end d = d.about
-
 -- the troll asks for a treasure once more, at both ends of the bridge
 unfoldable pub demand_toll : List (Effect (Unit {0}))
 demand_toll =
@@ -45,41 +41,44 @@ demand_toll =
     ∷ []
 
 -- a player whom the troll lets pass is stopped the next time
-abbrev pub pass_troll : Effect ℕ
-pass_troll = when (prop (the name.Troll) TROLL_CALM) (set_prop (the name.Troll) TROLL_RETURNING)
+unfoldable pub toll_rows : List (Row (Unit {0}) (Unit {0}))
+toll_rows =
+    plain_row (prop (the name.Troll) TROLL_CALM ∷ [])
+    (set_prop (the name.Troll) TROLL_RETURNING ∷ [])
+    ∷ []
 
--- the bridge breaks under the bear and the player, and spices that weren't seen yet are lost
-unfoldable pub break_bridge : List (Effect ℕ)
+abbrev pub pass_troll : Effect (Unit {0})
+pass_troll = by_table table.Toll toll_rows
+
+-- spices that weren't seen yet are lost
+unfoldable pub spices_rows : List (Row (Unit {0}) (Unit {0}))
+spices_rows = plain_row (prop_up_to (the name.Spices) UNSEEN ∷ []) (lose_one ∷ []) ∷ []
+
+-- the bridge breaks under the bear and the player
+unfoldable pub break_bridge : List (Effect (Unit {0}))
 break_bridge =
     say role.BridgeFalls
     ∷ set_prop (the name.Chasm) CHASM_UNBRIDGED
     ∷ set_prop (the name.Troll) TROLL_FLED
-    ∷ move (the name.Bear) far_end
+    ∷ move (the name.Bear) (end_of bridge)
     ∷ fix (the name.Bear)
     ∷ set_prop (the name.Bear) BEAR_DEAD
-    ∷ when (prop_up_to (the name.Spices) UNSEEN) lose_one
-    ∷ die_at far_end
+    ∷ by_table table.SpicesLost spices_rows
+    ∷ die_at (end_of bridge)
     ∷ []
 
--- no way, or the troll, holds the player back
+-- the bear is carried once the troll has let the player pass
+abbrev pub bear_comes_along : Test (Unit {0})
+bear_comes_along d = in_hand (the name.Bear) (pass_troll d)
+
+-- no way, or the troll, holds the player back; the bridge bears the player, but not the bear too
 unfoldable pub bridge_rows : List (Row (Unit {0}) ℕ)
 bridge_rows =
     row_then (no (passable bridge) ∷ []) (say role.NoWay ∷ []) here
     ∷ row_then (prop (the name.Troll) TROLL_RETURNING ∷ []) demand_toll here
-    ∷ []
-
--- the bridge bears the player, but not the bear too
-unfoldable pub cross_rows : List (Row ℕ ℕ)
-cross_rows =
-    row_then (no (in_hand (the name.Bear)) ∷ []) [] far_end
-    ∷ otherwise_then break_bridge here
-
--- a player whom the troll lets pass crosses
-unfoldable pub cross : Deed ℕ → Act ℕ
-cross d = first_fitting_or (noted_from table.Bridge 3 cross_rows) (nothing_but here) (pass_troll d)
+    ∷ row_then (no bear_comes_along ∷ []) (pass_troll ∷ []) (end_of bridge)
+    ∷ otherwise_then (pass_troll ∷ break_bridge) here
 
 -- where the bridge leads
 unfoldable pub cross_bridge : Deed (Unit {0}) → Act ℕ
-cross_bridge d =
-    first_fitting_or (noted table.Bridge bridge_rows)
-    (λ e. cross (deed e.cave (end_of bridge e) e.scene)) d
+cross_bridge d = first_fitting_or (noted table.Bridge bridge_rows) (nothing_but here) d

@@ -12,7 +12,7 @@ use Rattle.turn_dwarves.specs.cave_world.declared.state.State.{State}
 use Rattle.turn_dwarves.specs.turn_scene.Scene.{Scene}
 use Rattle.turn_dwarves.specs.rule_rows.declared.tables.Table.TheVariants as table
 use Rattle.turn_ends.specs.turn_rules.Rows.{Deed, Act, Test, Effect, Row, deed, row_then, plain_row}
-use Rattle.turn_ends.specs.turn_rules.Rows.{chance_row, by_rows, first_fitting_or, nothing_but, by_table}
+use Rattle.turn_ends.specs.turn_rules.Rows.{chance_row, first_fitting_or, nothing_but, by_table}
 use Rattle.turn_ends.specs.turn_rules.Rows.{always, otherwise, otherwise_then, noted}
 use Rattle.turn_ends.specs.turn_rules.Tests.{the, no, carries, percent, player_at, cave_closing}
 use Rattle.turn_ends.specs.turn_rules.Tests.{here, forced_at, in_the_dark, was_dark}
@@ -67,16 +67,18 @@ after_objects_here cave p =
 
 -- of a place of forced motion the text alone is printed
 unfoldable pub tell_place : List (Effect (Unit {0}))
-tell_place = by_rows bear_rows ∷ by_table table.PlaceText text_rows ∷ []
+tell_place =
+    by_table table.BearFollows bear_rows ∷ by_table table.PlaceText text_rows ∷ []
 
 -- any other place is described, with the objects there
 unfoldable pub see_place : List (Effect (Unit {0}))
 see_place =
     tell_place
-    ++ by_rows hollow_rows ∷ change with_visit_here ∷ follow after_objects_here ∷ []
+    ++ by_table table.Hollow hollow_rows ∷ change with_visit_here ∷ follow after_objects_here ∷ []
 
 unfoldable pub feel_place : List (Effect (Unit {0}))
-feel_place = by_rows bear_rows ∷ say role.Dark ∷ by_rows hollow_rows ∷ []
+feel_place =
+    by_table table.BearFollows bear_rows ∷ say role.Dark ∷ by_table table.Hollow hollow_rows ∷ []
 
 -- a player who goes on in the dark may fall into a pit
 unfoldable pub description_rows : List (Row (Unit {0}) (Unit {0}))

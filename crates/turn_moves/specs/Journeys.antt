@@ -1,6 +1,5 @@
 -- Where a motion leads a player.
 use Rattle.std.specs.Prelude.{ℕ, ◌+◌, false, ◌==◌, nat_lt, List, [], ◌∷◌, Option, Some, None}
-use Rattle.std.specs.Prelude.{is_some}
 use Rattle.std.specs.List.{list_any}
 use Rattle.turn_dwarves.specs.data_rows.declared.role.Role.TheVariants as role
 use Rattle.turn_dwarves.specs.data_rows.declared.targets.Special.TheVariants.{Squeeze, Bridge}
@@ -21,11 +20,11 @@ use Rattle.turn_dwarves.specs.turn_things.Places.{outside_place}
 use Rattle.turn_dwarves.specs.turn_things.Effects.{with_talk}
 use Rattle.turn_dwarves.specs.rule_rows.declared.tables.Table.TheVariants as table
 use Rattle.turn_ends.specs.turn_rules.Rows.{Deed, Act, Test, Effect, Row, deed, act_of, row_then}
-use Rattle.turn_ends.specs.turn_rules.Rows.{plain_row, by_rows, first_fitting_or, nothing_but, by_table}
-use Rattle.turn_ends.specs.turn_rules.Rows.{always, otherwise, otherwise_then, noted}
-use Rattle.turn_ends.specs.turn_rules.Tests.{here, same, MAX_DETAILS}
-use Rattle.turn_ends.specs.turn_rules.Effects.{in_scene, say, change, set_out}
-use Rattle.turn_moves.specs.Back.{back_place, motion_between}
+use Rattle.turn_ends.specs.turn_rules.Rows.{plain_row, answer_row, otherwise_row, nothing_but}
+use Rattle.turn_ends.specs.turn_rules.Rows.{always, otherwise, by_table, answer_by_table}
+use Rattle.turn_ends.specs.turn_rules.Tests.{here, MAX_DETAILS}
+use Rattle.turn_ends.specs.turn_rules.Effects.{in_scene, say, change}
+use Rattle.turn_moves.specs.Back.{go_back}
 use Rattle.turn_moves.specs.Bridge.{cross_bridge}
 use Rattle.turn_moves.specs.Squeeze.{squeeze_through}
 use Rattle.turn_moves.specs.Ways.{staying}
@@ -58,48 +57,32 @@ forget_darkness d = let p = d.scene in in_scene (record p { was_dark = false }) 
 -- the place will be described at length
 unfoldable pub look_round : List (Effect ℕ)
 look_round =
-    by_rows enough_rows ∷ forget_darkness ∷ change without_visits_here ∷ []
+    by_table table.Enough enough_rows ∷ forget_darkness ∷ change without_visits_here ∷ []
 
 -- the player is at a place before the last one outside the cave
 abbrev pub before_cave : Test ℕ
 before_cave d = nat_lt (here d) (outside_place d.cave)
 
--- where a player who goes back wants to go
-abbrev pub place_back : Deed ℕ → ℕ
-place_back d = back_place d.cave d.scene.state
+-- by which motion the player travels: by none, or by the one that is asked for
+abbrev pub no_travel : Deed ℕ → Act (Option ℕ)
+no_travel = nothing_but (always None)
 
--- by which motion the player travels, if by any
-abbrev pub that_motion : Deed ℕ → Option ℕ
-that_motion d = Some d.about
+abbrev pub that_motion : Deed ℕ → Act (Option ℕ)
+that_motion = nothing_but (λ d. Some d.about)
 
-abbrev pub motion_back : Deed ℕ → Option ℕ
-motion_back d = motion_between d.cave (here d) (place_back d)
+-- or by the one that leads back
+abbrev pub motion_back : Deed ℕ → Act (Option ℕ)
+motion_back d = go_back (deed d.cave tt d.scene)
 
-abbrev pub is_way_back : Test ℕ
-is_way_back d = is_some (motion_back d)
-
--- the motion back, and any other
-unfoldable pub back_rows : List (Row ℕ (Option ℕ))
-back_rows =
-    row_then (is_motion motion.Back ∷ same place_back here ∷ []) (set_out ∷ say role.BackNone ∷ [])
-    (always None)
-    ∷ row_then (is_motion motion.Back ∷ is_way_back ∷ []) [] motion_back
-    ∷ row_then (is_motion motion.Back ∷ []) (set_out ∷ say role.BackNo ∷ []) (always None)
-    ∷ otherwise_then [] that_motion
-
--- the motions with rules of their own, and any other
-unfoldable pub own_motion_rows : List (Row ℕ (Option ℕ))
-own_motion_rows =
-    row_then (is_motion motion.Nowhere ∷ []) [] (always None)
-    ∷ row_then (is_motion motion.Look ∷ []) look_round (always None)
-    ∷ row_then (is_motion motion.Cave ∷ before_cave ∷ []) (say role.CaveOut ∷ []) (always None)
-    ∷ row_then (is_motion motion.Cave ∷ []) (say role.CaveIn ∷ []) (always None)
-    ∷ back_rows
-
--- what a motion comes to that the player asks for
+-- what a motion comes to that the player asks for: some have rules of their own
 unfoldable pub own_motion : Deed ℕ → Act (Option ℕ)
-own_motion d =
-    first_fitting_or (noted table.OwnMotions own_motion_rows) (nothing_but that_motion) d
+own_motion d = answer_by_table table.OwnMotions
+    (answer_row (is_motion motion.Nowhere ∷ []) no_travel
+    ∷ row_then (is_motion motion.Look ∷ []) look_round no_travel
+    ∷ row_then (is_motion motion.Cave ∷ before_cave ∷ []) (say role.CaveOut ∷ []) no_travel
+    ∷ row_then (is_motion motion.Cave ∷ []) (say role.CaveIn ∷ []) no_travel
+    ∷ answer_row (is_motion motion.Back ∷ []) motion_back ∷ [])
+    (otherwise_row [] that_motion) d
 
 -- how many parts are said of it at most: one where the player doesn't travel
 abbrev pub parts_of_own_motion : Option ℕ → ℕ
@@ -123,7 +106,7 @@ refusal_rows =
     ∷ otherwise (say role.NoMotion ∷ [])
 
 abbrev pub after_refusal : CaveView → ℕ → Scene → Scene
-after_refusal cave number p = (by_table table.NoWay refusal_rows (deed cave number p)).scene
+after_refusal cave number p = (by_table table.NoMotion refusal_rows (deed cave number p)).scene
 
 -- where the outcome of a motion leads
 abbrev pub journey_of_outcome : CaveView → ℕ → Outcome → Scene → Act ℕ

@@ -14,7 +14,7 @@ use Rattle.turn_dwarves.specs.turn_things.Effects.{with_tallies}
 use Rattle.turn_dwarves.specs.rule_rows.declared.tables.Table.TheVariants as table
 use Rattle.turn_ends.specs.turn_rules.Rows.{Test, Effect, Row, deed, plain_row, otherwise, by_table}
 use Rattle.turn_ends.specs.turn_rules.Tests.{the, either, it, same, carries, cave_closed, here}
-use Rattle.turn_ends.specs.turn_rules.Effects.{tell, set_prop, change, when, with_charge, for_each}
+use Rattle.turn_ends.specs.turn_rules.Effects.{tell, set_prop, change, with_charge, for_each}
 
 -- an object with a prop below 0 counts as unseen
 abbrev pub unseen : Test ℕ
@@ -41,6 +41,9 @@ SHORT_LAMP = 35
 abbrev pub with_short_lamp : State → State
 with_short_lamp s = with_charge (int_min s.lamp.charge (pos SHORT_LAMP)) s
 
+unfoldable pub last_treasure_rows : List (Row ℕ (Unit {0}))
+last_treasure_rows = plain_row (is_rest_lost ∷ []) (change with_short_lamp ∷ []) ∷ []
+
 -- the text of the object for a prop, or for the one that it has
 abbrev pub tell_its_text_for : ℤ → Effect ℕ
 tell_its_text_for v d = tell (part.Object (it d) v) d
@@ -60,7 +63,7 @@ unfoldable pub find_treasure : ℤ → List (Effect ℕ)
 find_treasure v =
     set_prop it v
     ∷ change with_one_less_unseen
-    ∷ when is_rest_lost (change with_short_lamp)
+    ∷ by_table table.LastTreasure last_treasure_rows
     ∷ by_table table.ObjectText object_text_rows
     ∷ []
 

@@ -82,7 +82,7 @@ fn block<N: RowNotes>(rules: &Rules<'_>, place: Place, scene: &mut Scene<'_, N>)
     if is_shut(rules, place, scene) {
         scene.note(Table::Blocking, 1);
         scene.say(Role::ClosingExit);
-        start_panic(scene.state);
+        start_panic(rules, scene);
         return scene.state.trail.here;
     }
     if is_barred(rules, place, scene) {

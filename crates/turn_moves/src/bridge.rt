@@ -1,43 +1,55 @@
 //! The bridge that a troll guards.
 
-ghost use Rattle.std.specs.Prelude.{◌≡◌, false, IsTrue};
-ghost use Rattle.turn_moves.specs.Bridge.{bridgehead, bridge, demand_toll, break_bridge, cross};
-ghost use Rattle.turn_moves.specs.Bridge.{cross_bridge};
-ghost use Rattle.turn_ends.specs.turn_rules.Rows.{Does, PlaysBy, deed};
-ghost use Rattle.turn_dwarves.specs.turn_scene.Bounds.{HasRoom, SaysUpTo, parts_of_journey};
-ghost use Rattle.turn_dwarves.specs.turn_scene.Scene.{cave_of, scene_of};
+ghost use Rattle.std.specs.Prelude.{◌≡◌, false, [], ◌∷◌, Some, IsTrue, if◌then◌else◌};
+ghost use Rattle.turn_moves.specs.Bridge.{bridgehead, bridge, demand_toll, spices_rows};
+ghost use Rattle.turn_moves.specs.Bridge.{break_bridge, cross_bridge};
+ghost use Rattle.turn_ends.specs.turn_rules.Rows.{Does, PlaysBy, by_table, deed};
+ghost use Rattle.turn_dwarves.specs.rule_rows.declared.tables.Table.TheVariants as table;
+ghost use Rattle.turn_dwarves.specs.cave_words.declared.named.Named.TheVariants as name;
+ghost use Rattle.turn_dwarves.specs.world_objects.Objects.{with_prop};
+ghost use Rattle.turn_dwarves.specs.turn_things.Effects.{with_objects};
+ghost use Rattle.turn_dwarves.specs.turn_things.Props as defined;
+ghost use Rattle.turn_dwarves.specs.turn_things.Reach.{has_prop};
+ghost use Rattle.turn_dwarves.specs.turn_scene.Bounds.{GoesOnSaying, HasRoom, SaysUpTo};
+ghost use Rattle.turn_dwarves.specs.turn_scene.Bounds.{parts_of_journey};
+ghost use Rattle.turn_dwarves.specs.turn_scene.Scene.{after_row, cave_of, scene_of, thing};
 ghost use Rattle.turn_dwarves.specs.cave_world.State.{takes_no_command};
 
 use crate::dying::die_at;
 use crate::ways::{other_end, stay};
 use turn_dwarves::{
-    Anchor, BEAR_DEAD, CHASM_UNBRIDGED, Named, Place, Prop, Role, RowNotes, Rules, Scene,
+    Anchor, BEAR_DEAD, CHASM_UNBRIDGED, Named, Place, Prop, Role, RowNotes, Rules, Scene, State,
     TROLL_CALM, TROLL_FLED, TROLL_RETURNING, Table, UNSEEN, has_prop, has_prop_up_to, hold, home,
     is_in_hand, lose_one, second_home,
 };
 
 /// Where the bridge leads a player at one of its ends.
-#[tactic(auto, unfolding(crate::specs::Bridge::cross_bridge, crate::specs::Bridge::bridge_rows))]
+#[tactic(auto, unfolding(crate::specs::Bridge::cross_bridge, crate::specs::Bridge::bridge_rows, crate::specs::Bridge::toll_rows, crate::specs::Bridge::bridge))]
 pub fn cross_bridge<N: RowNotes>(rules: &Rules<'_>, scene: &mut Scene<'_, N>) -> Place
     requires { HasRoom parts_of_journey scene.old }
     ensures row { PlaysBy N.rows cross_bridge parts_of_journey rules.now tt scene.old scene.new
         result }
     ensures few_on { takes_no_command scene.new.state.now ≡ false → SaysUpTo 1 scene.old scene.new }
 {
-    match bridge(rules, scene) {
-        None => {
-            scene.note(Table::Bridge, 1);
-            stay(scene, Role::NoWay)
-        }
-        Some(end) => {
-            if has_prop(scene.state, rules.thing(Named::Troll), TROLL_RETURNING) {
-                scene.note(Table::Bridge, 2);
-                demand_toll(rules, scene);
-                return scene.state.trail.here;
-            }
-            cross(rules, end, scene)
-        }
+    let Some(end) = bridge(rules, scene) else {
+        scene.note(Table::Bridge, 1);
+        return stay(scene, Role::NoWay);
+    };
+    if has_prop(scene.state, rules.thing(Named::Troll), TROLL_RETURNING) {
+        scene.note(Table::Bridge, 2);
+        demand_toll(rules, scene);
+        return scene.state.trail.here;
     }
+    let was_calm = pass_troll(rules, scene.state);
+    if is_in_hand(rules, scene.state, rules.thing(Named::Bear)) {
+        scene.note(Table::Bridge, 4);
+        note_toll(was_calm, scene);
+        break_bridge(rules, end, scene);
+        return scene.state.trail.here;
+    }
+    scene.note(Table::Bridge, 3);
+    note_toll(was_calm, scene);
+    end
 }
 
 /// A place as an end of a bridge: place 0 is none.
@@ -80,11 +92,51 @@ fn demand_toll<N: RowNotes>(rules: &Rules<'_>, scene: &mut Scene<'_, N>)
     scene.state.objects.juggle(rules.thing(Named::Chasm));
 }
 
-/// The bridge breaks under the bear and the player, and spices that weren't seen yet are lost.
-#[tactic(auto, unfolding(crate::specs::Bridge::break_bridge))]
+/// A player whom the troll lets pass is stopped the next time. Returns whether the troll was calm.
+fn pass_troll(rules: &Rules<'_>, state: &mut State) -> bool
+    ensures calm { let troll = thing (cave_of rules.now) name.Troll in
+        result ≡ has_prop state.old troll defined.TROLL_CALM }
+    ensures state { let troll = thing (cave_of rules.now) name.Troll in
+        let returning = with_prop state.old.objects troll defined.TROLL_RETURNING in
+        state.new ≡ (if result then with_objects returning state.old else state.old) }
+{
+    let troll = rules.thing(Named::Troll);
+    let was_calm = has_prop(state, troll, TROLL_CALM);
+    if was_calm {
+        state.objects.set_prop(troll, Prop::new(TROLL_RETURNING));
+    }
+    was_calm
+}
+
+/// It is noted that a troll that was calm will stop the player the next time.
+fn note_toll<N: RowNotes>(was_calm: bool, scene: &mut Scene<'_, N>)
+    ensures scene { let before = scene_of N.rows scene.old in
+        scene_of N.rows scene.new ≡ (if was_calm then after_row table.Toll 1 before else before) }
+    ensures says { GoesOnSaying 0 scene.old scene.new }
+{
+    if was_calm {
+        scene.note(Table::Toll, 1);
+    }
+}
+
+/// Spices that weren't seen yet are lost.
+#[tactic(auto, unfolding(crate::specs::Bridge::spices_rows))]
+fn lose_spices<N: RowNotes>(rules: &Rules<'_>, scene: &mut Scene<'_, N>)
+    ensures rows { Does N.rows (by_table table.SpicesLost spices_rows ∷ []) 0 rules.now tt scene.old
+        scene.new }
+{
+    if has_prop_up_to(scene.state, rules.thing(Named::Spices), UNSEEN) {
+        scene.note(Table::SpicesLost, 1);
+        lose_one(scene.state);
+    }
+}
+
+/// The bridge breaks under the bear and the player.
+#[tactic(auto, unfolding(crate::specs::Bridge::break_bridge, crate::specs::Bridge::spices_rows, crate::specs::Bridge::bridge))]
 fn break_bridge<N: RowNotes>(rules: &Rules<'_>, end: Place, scene: &mut Scene<'_, N>)
-    requires { HasRoom parts_of_journey scene.old }
-    ensures scene { Does N.rows break_bridge parts_of_journey rules.now end scene.old scene.new }
+    requires room { HasRoom parts_of_journey scene.old }
+    requires end { bridge (deed (cave_of rules.now) tt (scene_of N.rows scene.old)) ≡ Some end }
+    ensures scene { Does N.rows break_bridge parts_of_journey rules.now tt scene.old scene.new }
     ensures over { IsTrue (takes_no_command scene.new.state.now) }
 {
     let bear = rules.thing(Named::Bear);
@@ -100,32 +152,6 @@ fn break_bridge<N: RowNotes>(rules: &Rules<'_>, end: Place, scene: &mut Scene<'_
     scene.state.objects.move_to(bear, end);
     scene.state.objects.anchor_to(bear, Anchor::Fixed);
     scene.state.objects.set_prop(bear, Prop::new(BEAR_DEAD));
-    if has_prop_up_to(scene.state, rules.thing(Named::Spices), UNSEEN) {
-        lose_one(scene.state);
-    }
+    lose_spices(rules, scene);
     die_at(rules, end, scene);
-}
-
-/// A player whom the troll lets pass, and stops the next time, crosses, and breaks the bridge with
-/// the bear.
-#[tactic(auto, unfolding(crate::specs::Bridge::cross, crate::specs::Bridge::cross_rows))]
-fn cross<N: RowNotes>(rules: &Rules<'_>, end: Place, scene: &mut Scene<'_, N>) -> Place
-    requires { HasRoom parts_of_journey scene.old }
-    ensures row { PlaysBy N.rows cross parts_of_journey rules.now end scene.old scene.new result }
-    ensures few_on { takes_no_command scene.new.state.now ≡ false → SaysUpTo 1 scene.old scene.new }
-{
-    let troll = rules.thing(Named::Troll);
-    if has_prop(scene.state, troll, TROLL_CALM) {
-        scene
-            .state
-            .objects
-            .set_prop(troll, Prop::new(TROLL_RETURNING));
-    }
-    if is_in_hand(rules, scene.state, rules.thing(Named::Bear)) {
-        scene.note(Table::Bridge, 4);
-        break_bridge(rules, end, scene);
-        return scene.state.trail.here;
-    }
-    scene.note(Table::Bridge, 3);
-    end
 }

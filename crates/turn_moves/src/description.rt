@@ -5,7 +5,7 @@ ghost use Rattle.turn_dwarves.specs.turn_scene.Bounds.{parts_of_place, parts_of_
 ghost use Rattle.turn_dwarves.specs.turn_scene.Bounds.{parts_of_darkness};
 ghost use Rattle.turn_dwarves.specs.data_rows.declared.place_role.PlaceRole.TheVariants as role_place;
 ghost use Rattle.turn_dwarves.specs.rule_rows.declared.tables.Table.TheVariants as table;
-ghost use Rattle.turn_ends.specs.turn_rules.Rows.{Does, PlaysBy, all_hold, by_rows, deed, by_table};
+ghost use Rattle.turn_ends.specs.turn_rules.Rows.{Does, PlaysBy, all_hold, deed, by_table};
 ghost use Rattle.turn_ends.specs.turn_rules.Tests.{player_at, no, cave_closing};
 ghost use Rattle.turn_moves.specs.Description.{bear_rows, text_rows, hollow_rows, tell_place};
 ghost use Rattle.turn_moves.specs.Description.{see_place, feel_place, after_describe, stop_here};
@@ -19,9 +19,11 @@ use turn_dwarves::{
 #[tactic(auto, unfolding(crate::specs::Description::bear_rows))]
 fn tell_bear<N: RowNotes>(rules: &Rules<'_>, scene: &mut Scene<'_, N>)
     requires { HasRoom 1 scene.old }
-    ensures rows { Does N.rows (by_rows bear_rows ∷ []) 1 rules.now tt scene.old scene.new }
+    ensures rows { Does N.rows (by_table table.BearFollows bear_rows ∷ []) 1 rules.now tt scene.old
+        scene.new }
 {
     if scene.state.toting(rules.thing(Named::Bear)) {
+        scene.note(Table::BearFollows, 1);
         scene.say(Role::BearFollows);
     }
 }
@@ -69,14 +71,15 @@ fn is_hollow<N: RowNotes>(rules: &Rules<'_>, scene: &Scene<'_, N>) -> bool
 #[tactic(auto, unfolding(crate::specs::Description::hollow_rows))]
 fn tell_hollow<N: RowNotes>(rules: &Rules<'_>, scene: &mut Scene<'_, N>)
     requires { HasRoom 1 scene.old }
-    ensures rows { Does N.rows (by_rows hollow_rows ∷ []) 1 rules.now tt scene.old scene.new }
+    ensures rows { Does N.rows (by_table table.Hollow hollow_rows ∷ []) 1 rules.now tt scene.old
+        scene.new }
 {
     if !is_hollow(rules, scene) {
         return;
     }
     if scene.happens(25) {
+        scene.note(Table::Hollow, 1);
         scene.say(Role::Hollow);
-        return;
     }
 }
 

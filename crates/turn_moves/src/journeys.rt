@@ -5,7 +5,8 @@ ghost use Rattle.turn_dwarves.specs.cave_world.Motions.{motion_number};
 ghost use Rattle.turn_dwarves.specs.cave_world.State.{takes_no_command};
 ghost use Rattle.turn_dwarves.specs.turn_scene.Bounds.{GoesOnSaying, HasRoom, SaysUpTo};
 ghost use Rattle.turn_dwarves.specs.turn_scene.Bounds.{parts_of_journey};
-ghost use Rattle.turn_ends.specs.turn_rules.Rows.{Does, PlaysBy, act_of, by_rows};
+ghost use Rattle.turn_dwarves.specs.rule_rows.declared.tables.Table.TheVariants as table;
+ghost use Rattle.turn_ends.specs.turn_rules.Rows.{Does, PlaysBy, act_of, by_table};
 ghost use Rattle.turn_moves.specs.Journeys.{after_refusal, journey_of_outcome, journey_by_rows};
 ghost use Rattle.turn_moves.specs.Journeys.{set_forth, enough_rows, look_round, own_motion};
 ghost use Rattle.turn_moves.specs.Journeys.{parts_of_own_motion, journey_by_request};
@@ -41,7 +42,7 @@ pub fn journey_by_request<N: RowNotes>(
 
 /// What a motion comes to that the player asks for. Returns the motion by which the player travels,
 /// if by any.
-#[tactic(auto, unfolding(crate::specs::Journeys::own_motion, crate::specs::Journeys::own_motion_rows))]
+#[tactic(auto, unfolding(crate::specs::Journeys::own_motion))]
 fn own_motion<N: RowNotes>(rules: &Rules<'_>, motion: u16, scene: &mut Scene<'_, N>) -> Option<u16>
     requires { HasRoom 1 scene.old }
     ensures row { PlaysBy N.rows own_motion (parts_of_own_motion result) rules.now motion scene.old
@@ -66,15 +67,22 @@ fn own_motion<N: RowNotes>(rules: &Rules<'_>, motion: u16, scene: &mut Scene<'_,
         scene.say(Role::CaveIn);
         return None;
     }
-    go_back(rules, motion, scene)
+    if motion == Motion::Back.number() {
+        scene.note(Table::OwnMotions, 5);
+        return go_back(rules, scene);
+    }
+    scene.note(Table::OwnMotions, 6);
+    Some(motion)
 }
 
 #[tactic(auto, unfolding(crate::specs::Journeys::enough_rows))]
 fn say_enough<N: RowNotes>(rules: &Rules<'_>, motion: u16, scene: &mut Scene<'_, N>)
     requires { HasRoom 1 scene.old }
-    ensures rows { Does N.rows (by_rows enough_rows ∷ []) 1 rules.now motion scene.old scene.new }
+    ensures rows { Does N.rows (by_table table.Enough enough_rows ∷ []) 1 rules.now motion scene.old
+        scene.new }
 {
     if scene.state.talk.details.number() < MAX_DETAILS {
+        scene.note(Table::Enough, 1);
         scene.say(Role::Enough);
         scene.state.talk.details = scene.state.talk.details.up();
     }
@@ -120,31 +128,31 @@ fn refuse<N: RowNotes>(rules: &Rules<'_>, motion: u16, scene: &mut Scene<'_, N>)
         Motion::Northwest,
     ];
     if is_among(&directions, motion) {
-        scene.note(Table::NoWay, 1);
+        scene.note(Table::NoMotion, 1);
         scene.say(Role::NoDir);
         return;
     }
     if is_among(&[Motion::Forward, Motion::Left, Motion::Right], motion) {
-        scene.note(Table::NoWay, 2);
+        scene.note(Table::NoMotion, 2);
         scene.say(Role::Facing);
         return;
     }
     if is_among(&[Motion::Out, Motion::Inside], motion) {
-        scene.note(Table::NoWay, 3);
+        scene.note(Table::NoMotion, 3);
         scene.say(Role::Inout);
         return;
     }
     if is_among(&[Motion::Xyzzy, Motion::Plugh], motion) {
-        scene.note(Table::NoWay, 4);
+        scene.note(Table::NoMotion, 4);
         scene.say(Role::Magic);
         return;
     }
     if motion == Motion::Crawl.number() {
-        scene.note(Table::NoWay, 5);
+        scene.note(Table::NoMotion, 5);
         scene.say(Role::Crawl);
         return;
     }
-    scene.note(Table::NoWay, 6);
+    scene.note(Table::NoMotion, 6);
     scene.say(Role::NoMotion);
 }
 

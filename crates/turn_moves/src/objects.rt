@@ -6,7 +6,8 @@ ghost use Rattle.turn_dwarves.specs.rule_rows.declared.tables.Table.TheVariants 
 ghost use Rattle.turn_ends.specs.turn_rules.Rows.{Does, deed, by_table};
 ghost use Rattle.turn_moves.specs.Objects.{unseen, is_second_here, with_one_less_unseen};
 ghost use Rattle.turn_moves.specs.Objects.{is_rest_lost, with_short_lamp, object_text_rows};
-ghost use Rattle.turn_moves.specs.Objects.{find_treasure, after_object, after_objects};
+ghost use Rattle.turn_moves.specs.Objects.{last_treasure_rows, find_treasure, after_object};
+ghost use Rattle.turn_moves.specs.Objects.{after_objects};
 
 use turn_dwarves::{
     Charge, Half, Named, Object, Part, Prop, RowNotes, Rules, SEEN, SEEN_FASTENED,
@@ -71,6 +72,18 @@ fn tell_object_text<N: RowNotes>(rules: &Rules<'_>, object: Object, scene: &mut 
     scene.tell(Part::Object(object, prop.value()));
 }
 
+/// The lamp doesn't burn for long any more once all treasures that are left are lost.
+#[tactic(auto, unfolding(crate::specs::Objects::last_treasure_rows))]
+fn meet_last_treasure<N: RowNotes>(rules: &Rules<'_>, object: Object, scene: &mut Scene<'_, N>)
+    ensures rows { Does N.rows (by_table table.LastTreasure last_treasure_rows ∷ []) 0 rules.now
+        object scene.old scene.new }
+{
+    if is_rest_lost(rules, object, scene) {
+        scene.note(Table::LastTreasure, 1);
+        shorten_lamp(scene.state);
+    }
+}
+
 /// A treasure is seen for the first time.
 #[tactic(auto, unfolding(crate::specs::Objects::find_treasure))]
 fn find_treasure<N: RowNotes>(
@@ -84,9 +97,7 @@ fn find_treasure<N: RowNotes>(
 {
     scene.state.objects.set_prop(object, prop);
     count_one_less(scene.state);
-    if is_rest_lost(rules, object, scene) {
-        shorten_lamp(scene.state);
-    }
+    meet_last_treasure(rules, object, scene);
     tell_object_text(rules, object, scene);
 }
 

@@ -13,8 +13,7 @@ use Rattle.turn_things.specs.cave_world.declared.part.Part.TheVariants as part
 use Rattle.turn_things.specs.cave_world.declared.state.State.{State}
 use Rattle.turn_things.specs.turn_scene.Scene.{Scene, with_state, after_telling, after_saying}
 use Rattle.turn_things.specs.turn_scene.Scene.{after_look_at, after_setting_out}
-use Rattle.turn_things.specs.Effects.{put_down, let_go, without_troll, after_loss_to_snake}
-use Rattle.turn_things.specs.Effects.{with_one_more_lost, with_objects, after_panic, with_lamp}
+use Rattle.turn_things.specs.Effects.{with_one_more_lost, with_objects, with_lamp}
 use Rattle.turn_things.specs.Places.{place_named}
 use Rattle.turn_rules.specs.Rows.{Deed, Test, Effect, Thing, always}
 
@@ -95,22 +94,7 @@ module _ {C : Type 0} where
   abbrev pub set_prop : Thing C → ℤ → Effect C
   set_prop t v d = in_objects (with_prop d.scene.state.objects (t d) v) d
 
-  -- an object is put down where the player is
-  abbrev pub put : Thing C → Effect C
-  put t d = in_state (put_down d.cave (t d) d.scene.state) d
-
-  -- an object that is carried is put where the player is
-  abbrev pub lay_down : Thing C → Effect C
-  lay_down t d = in_state (let_go d.cave (t d) d.scene.state) d
-
-  -- the troll goes, who is paid or flees
-  abbrev pub troll_goes : Effect C
-  troll_goes d = in_state (without_troll d.cave d.scene.state) d
-
-  -- one treasure more is lost, if the snake is at home
-  abbrev pub lose_to_snake : Effect C
-  lose_to_snake d = in_state (after_loss_to_snake d.cave d.scene.state) d
-
+  -- one treasure more is lost
   abbrev pub lose_one : Effect C
   lose_one d = in_state (with_one_more_lost d.scene.state) d
 
@@ -141,10 +125,6 @@ module _ {C : Type 0} where
   -- the player's place becomes the one that the player came from
   abbrev pub set_out : Effect C
   set_out d = in_scene (after_setting_out d.scene) d
-
-  -- a player who tries to get out of a closing cave panics
-  abbrev pub panic : Effect C
-  panic d = in_state (after_panic d.scene.state) d
 
   abbrev pub take_hint : (Deed C → ℕ) → Effect C
   take_hint h d = in_state (with_hint_taken (h d) d.scene.state) d

@@ -1,7 +1,11 @@
 pub mod Effects
 pub mod Laws
+pub mod Losses
+pub mod Panic
+pub mod Putting
 pub mod Rows
 pub mod Tests
+pub mod Troll
 pub use Rattle.turn_things.specs.cave_data as cave_data
 pub use Rattle.turn_things.specs.cave_words as cave_words
 pub use Rattle.turn_things.specs.cave_world as cave_world

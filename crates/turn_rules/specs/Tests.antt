@@ -13,7 +13,7 @@ use Rattle.turn_things.specs.cave_world.State.{is_hint_taken, takes_no_command}
 use Rattle.turn_things.specs.turn_scene.Scene.{thing, happens, is_called}
 use Rattle.turn_things.specs.Reach.{is_in_hand, is_near, has_prop, has_other_prop, has_prop_up_to}
 use Rattle.turn_things.specs.Reach.{is_dwarf_here, is_fixed}
-use Rattle.turn_things.specs.Homes.{home, second_home, is_home_here, is_home_elsewhere}
+use Rattle.turn_things.specs.Homes.{home, second_home, is_at_home, is_home_here, is_home_elsewhere}
 use Rattle.turn_things.specs.Places.{place_named, has_condition_of, outside_place, deep_place}
 use Rattle.turn_things.specs.Places.{building_place, start_place}
 use Rattle.turn_things.specs.declared.conditions.PlaceCondition.{PlaceCondition}
@@ -130,6 +130,10 @@ module _ {C : Type 0} where
   abbrev pub nowhere : Thing C → Test C
   nowhere t d = is_gone d.scene.state.objects (t d)
 
+  -- the first half of an object is at home
+  abbrev pub at_home : Thing C → Test C
+  at_home t d = is_at_home d.cave d.scene.state (t d)
+
   -- the player is where an object is at home, or elsewhere
   abbrev pub player_at_home : Thing C → Test C
   player_at_home t d = is_home_here d.cave d.scene.state (t d)
@@ -229,7 +233,7 @@ module _ {C : Type 0} where
   abbrev pub last_object : Named → Test C
   last_object n d = is_called d.cave d.scene.state.talk.last n
 
--- what rows ask that are about an object, or a hint, by its number
+-- what rows ask that are about an object, a hint or a dwarf, by its number
 abbrev pub it : Thing ℕ
 it d = d.about
 

@@ -1,8 +1,17 @@
-//! What rules are written in: rows of tests and effects, of which the first that fits applies.
+//! What rules are written in: rows of tests and effects, of which the first that fits applies; and
+//! what several rules do: they put objects down, dismiss the troll, lose treasures and start a panic.
 #![tactic(auto)]
 
 pub mod laws;
+pub mod losses;
+pub mod panicking;
+pub mod putting;
+pub mod troll;
 
+pub use losses::{lose_one, lose_to_snake};
+pub use panicking::start_panic;
+pub use putting::{lay_down, put_down};
+pub use troll::remove_troll;
 pub use turn_things::props::{
     AXE_BY_BEAR, AXE_FREE, BATTERIES_FRESH, BATTERIES_USED, BEAR_DEAD, BEAR_FED, BEAR_FREE,
     BEAR_WILD, BIRD_CAGED, BIRD_FREE, BOTTLE_EMPTY, BOTTLE_OF_OIL, BOTTLE_OF_WATER, CHAIN_LOCKED,
@@ -17,6 +26,5 @@ pub use turn_things::{
     PlaceRole, Prop, Question, Role, RowNotes, Rules, Scene, State, Table, Word, WordLine,
     deep_place, has_other_prop, has_prop, has_prop_up_to, home, is_at_home, is_dwarf_here,
     is_fixed, is_home_elsewhere, is_home_here, is_in_hand, is_liquid, is_near, is_place,
-    is_treasure, lake, let_go, liquid, lose_one, lose_to_snake, outside_place, place_named,
-    put_down, remove_troll, special, start_panic,
+    is_treasure, lake, liquid, outside_place, place_named, special,
 };

@@ -1,12 +1,9 @@
-//! What rules name and ask: objects and places, conditions, liquids, reach, and what is done to
-//! objects.
+//! What rules name and ask: objects and places, conditions, liquids and reach.
 #![tactic(auto)]
 
 pub mod conditions;
-pub mod effects;
 pub mod homes;
 pub mod liquids;
-pub mod panicking;
 pub mod places;
 pub mod props;
 pub mod reach;
@@ -14,10 +11,8 @@ pub mod special_words;
 pub mod treasures;
 
 pub use conditions::{PlaceCondition, has_condition_of};
-pub use effects::{let_go, lose_one, lose_to_snake, put_down, remove_troll};
 pub use homes::{hold, home, is_at_home, is_home_elsewhere, is_home_here, second_home};
 pub use liquids::{is_liquid, lake, liquid};
-pub use panicking::start_panic;
 pub use places::{building_place, deep_place, is_place, outside_place, place_named, start_place};
 pub use reach::{
     has_other_prop, has_prop, has_prop_up_to, is_dwarf_here, is_fixed, is_in_hand, is_near,

@@ -1,12 +1,13 @@
 -- Rules of verbs as rows: they are about a command, and say what follows it.
-use Rattle.std.specs.Prelude.{ℕ, List}
+use Rattle.std.specs.Prelude.{ℕ, ◌+◌, List, drop}
 use Rattle.turn_rules.specs.cave_world.declared.ending.Ending.{Ending}
 use Rattle.turn_rules.specs.cave_world.declared.ending.Question.{Question}
 use Rattle.turn_rules.specs.turn_scene.declared.scene.Scene.{Scene as OpenScene}
 use Rattle.turn_rules.specs.turn_scene.declared.rules.Rules.{Rules}
 use Rattle.turn_rules.specs.Rows.{Deed, Act, Test, Effect, Thing, Row, row_then, act_of_row}
-use Rattle.turn_rules.specs.Rows.{first_fitting_or, nothing_but, PlaysBy}
+use Rattle.turn_rules.specs.Rows.{first_fitting_or, nothing_but, noted_from, PlaysBy}
 use Rattle.turn_rules.specs.rule_rows.declared.tables.RuleRow.{RuleRow}
+use Rattle.turn_rules.specs.rule_rows.declared.tables.Table.{Table}
 use Rattle.verb_commands.specs.Room.{parts_by}
 use Rattle.verb_commands.specs.declared.next.Next.{Next}
 use Rattle.verb_commands.specs.declared.next.Next.TheVariants as next_is
@@ -55,6 +56,10 @@ does verb x d = GoOn verb (x d)
 -- a row after which nothing follows
 abbrev pub row : List (Test Command) → List (Effect Command) → VerbRow
 row tests effects = row_then tests effects stays
+
+-- the rows of a table after so many, by the numbers that they have in it
+abbrev pub noted_after : Table → ℕ → List VerbRow → List VerbRow
+noted_after table n rows = noted_from table (n + 1) (drop n rows)
 
 -- what the first row that fits does, and nothing if none does
 abbrev pub first_fitting : List VerbRow → Deed Command → Act Step

@@ -19,7 +19,7 @@ pub use turn_rules::{
     Scene, State, TROLL_CALM, TROLL_FLED, TROLL_RETURNING, Table, UNSEEN, VASE_BREAKING,
     VASE_BROKEN, VASE_ON_PILLOW, VASE_WHOLE, WordLine, has_other_prop, has_prop, has_prop_up_to,
     home, is_at_home, is_dwarf_here, is_fixed, is_home_elsewhere, is_home_here, is_in_hand,
-    is_liquid, is_near, is_place, is_treasure, lake, let_go, liquid, lose_one, lose_to_snake,
+    is_liquid, is_near, is_place, is_treasure, lake, lay_down, liquid, lose_one, lose_to_snake,
     place_named, put_down, remove_troll, special, start_panic,
 };
 pub use verb::{NoRules, Verb};

@@ -1,20 +1,20 @@
 use Rattle.std.proofs.Common.{rules, arith, ap, ◌∙◌}
-use Rattle.turn_begin.specs.turn_scene.Scene.{cave_of}
-use Rattle.cave_turn.specs.Dragon.{after_gathering}
+use Rattle.turn_begin.specs.turn_scene.Scene.{cave_of, scene_of}
+use Rattle.cave_turn.specs.Dragon.{after_gather}
 use Rattle.cave_verbs.specs.verb_commands.turn_rules.Effects.{for_each_from}
 use Rattle.cave_turn.proofs.dragon.gather.Goals as goal
 
 pub loop-before-init : goal.loop-before-init
 unfolding for_each_from
-loop-before-init c = search rules
+loop-before-init g c = search rules
 
 pub loop-before-preserved : goal.loop-before-preserved
 unfolding for_each_from
-loop-before-preserved c = search rules
+loop-before-preserved g c = search rules
 
-pub returns : goal.returns
-returns c =
-    c.loop-before.invariant
-    ∙ ap (λ n. for_each_from 1 n (after_gathering (cave_of c.args.rules.now) c.args.place)
-    c.args.objects.now)
+pub returns-clause-scene : goal.returns-clause-scene
+returns-clause-scene g c =
+    c.loop-before.invariant.0
+    ∙ ap (λ n. for_each_from 1 n (after_gather (cave_of c.args.rules.now) c.args.lair)
+    (scene_of g.N.RowNotes.rows c.args.scene.now))
     (omega arith)

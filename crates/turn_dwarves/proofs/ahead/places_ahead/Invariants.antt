@@ -10,6 +10,6 @@ abbrev pub invariant-loop-row : goal.invariant-loop-row
 invariant-loop-row l =
     let lead = place_ahead (cave_of l.rules) l.is_pirate l.dwarf in
     let rest = map going (drop l.row-index l.row-items) in
-    (take 19 (l.found.items ++ without_repeats l.last (filter_map lead rest))
-    ≡ take 19 (without_repeats None (filter_map lead (map going l.row-items))))
-    × (length l.found.items ≤ 19)
+    (take 20 (l.found.items ++ without_repeats l.last (filter_map lead rest))
+    ≡ take 20 (without_repeats None (filter_map lead (map going l.row-items))))
+    × (length l.found.items ≤ 20)

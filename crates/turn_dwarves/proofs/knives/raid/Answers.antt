@@ -1,23 +1,11 @@
-use Rattle.std.proofs.Common.{rules, arith}
+use Rattle.std.proofs.Common.{rules}
 use Rattle.turn_rules.specs.Effects.{for_each_from}
 use Rattle.turn_dwarves.proofs.knives.raid.Goals as goal
 
 pub loop-number-init : goal.loop-number-init
 unfolding for_each_from
-loop-number-init g c = record {
-  raid = search rules;
-  says = search rules;
-  dwarves = search rules;
-  knives = search rules;
-  hits = search rules;
-}
+loop-number-init g c = record { raid = search rules; says = search rules; few = search rules }
 
 pub loop-number-preserved : goal.loop-number-preserved
 unfolding for_each_from
-loop-number-preserved g c = record {
-  raid = search rules;
-  says = search rules;
-  dwarves = omega (arith, c.loop-number.invariant.dwarves, c.with-attack.ensures.dwarf);
-  knives = omega (arith, c.loop-number.invariant.knives, c.with-attack.ensures.knife);
-  hits = omega (arith, c.loop-number.invariant.hits, c.with-attack.ensures.hit);
-}
+loop-number-preserved g c = record { raid = search rules; says = search rules; few = search rules }

@@ -1,9 +1,9 @@
-use Rattle.std.proofs.Common.{◌≡◌, ◌≤◌}
+use Rattle.std.proofs.Common.{◌≡◌}
 use Rattle.turn_rules.specs.turn_scene.Bounds.{GoesOnSaying}
 use Rattle.turn_rules.specs.turn_scene.Scene.{cave_of, scene_of}
 use Rattle.turn_rules.specs.Rows.{deed}
 use Rattle.turn_rules.specs.Effects.{for_each_from}
-use Rattle.turn_dwarves.specs.Knives.{let_dwarf_act, no_attack}
+use Rattle.turn_dwarves.specs.Knives.{IsByUpTo, let_dwarf_act, no_attack}
 use Rattle.turn_dwarves.proofs.knives.raid.Given as goal
 
 -- the dwarves before this one acted
@@ -14,7 +14,5 @@ invariant-loop-number g l = record {
       ≡ for_each_from 0 l.number let_dwarf_act
       (deed (cave_of l.rules) no_attack (scene_of g.N.RowNotes.rows l.initial.scene));
   says : GoesOnSaying 0 l.initial.scene l.scene;
-  dwarves : l.attack.dwarves ≤ l.number;
-  knives : l.attack.knives ≤ l.number;
-  hits : l.attack.hits ≤ l.number;
+  few : IsByUpTo l.number l.attack;
 }

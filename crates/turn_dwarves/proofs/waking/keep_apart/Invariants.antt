@@ -1,10 +1,16 @@
 use Rattle.std.proofs.Common.{◌≡◌}
-use Rattle.turn_rules.specs.turn_scene.Scene.{cave_of}
+use Rattle.turn_rules.specs.turn_scene.Bounds.{GoesOnSaying}
+use Rattle.turn_rules.specs.turn_scene.Scene.{cave_of, scene_of}
 use Rattle.turn_rules.specs.Effects.{for_each_from}
-use Rattle.turn_dwarves.specs.Waking.{with_dwarf_apart}
+use Rattle.turn_dwarves.specs.Waking.{keep_one_apart}
 use Rattle.turn_dwarves.proofs.waking.keep_apart.Given as goal
 
 -- the dwarves before this one are kept apart
 abbrev pub invariant-loop-number : goal.invariant-loop-number
-invariant-loop-number l =
-    l.state ≡ for_each_from 0 l.number (with_dwarf_apart (cave_of l.rules)) l.fn.state
+invariant-loop-number g l = record {
+  apart :
+      scene_of g.N.RowNotes.rows l.scene
+      ≡ for_each_from 0 l.number (keep_one_apart (cave_of l.rules))
+      (scene_of g.N.RowNotes.rows l.initial.scene);
+  says : GoesOnSaying 0 l.initial.scene l.scene;
+}
