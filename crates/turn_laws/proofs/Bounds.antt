@@ -1,7 +1,6 @@
 -- How many deaths, carried objects and dwarves there are, where the player is, what is open, and
 -- that a closing cave lets nobody out.
 use Rattle.std.specs.Prelude.{◌/◌}
-use Rattle.cave_turn.specs.Dragon.{between, lair_from}
 use Rattle.cave_turn.specs.Turns.{start_of_game}
 use Rattle.cave_turn.specs.cave_world.State.{asleep, far_closing, starting_state}
 use Rattle.cave_turn.specs.turn_begin.Begin.{all_objects, begun_state, starting_objects}
@@ -25,12 +24,12 @@ use Rattle.turn_laws.proofs.Lines.{lasting, lasts, turned}
 use Rattle.turn_laws.proofs.Places.{none_of}
 use Rattle.turn_laws.proofs.View.{Asks, Bands, Begins, Buries, Burns, Claim, Closes, Comes, Dies}
 use Rattle.turn_laws.proofs.View.{Ends, IsFound, IsPut, Keeps, Kills, Line, Moves, Passes, Puts}
-use Rattle.turn_laws.proofs.View.{Revives, Shifts, Takes, View, choose, from_one, line_of, living}
-use Rattle.turn_laws.proofs.View.{not_asked, not_die, some_place}
+use Rattle.turn_laws.proofs.View.{Revives, Shifts, Takes, View, between, choose, from_one, line_of}
+use Rattle.turn_laws.proofs.View.{living, not_asked, not_die, some_place}
 use Rattle.turn_laws.proofs.Words.{Bool, CaveView, Ending, List, None, Option, Question, Some}
 use Rattle.turn_laws.proofs.Words.{State, [], ap, arith, building_place, carried_objects, false}
-use Rattle.turn_laws.proofs.Words.{false≢true, get_or, home, inl, inr, is_carried_spot, is_some}
-use Rattle.turn_laws.proofs.Words.{length, map, min, nat_le, nat_tests, no_dwarf, not}
+use Rattle.turn_laws.proofs.Words.{false≢true, get_or, home, inl, inr, is_carried_spot}
+use Rattle.turn_laws.proofs.Words.{is_some, length, map, min, nat_le, nat_tests, no_dwarf, not}
 use Rattle.turn_laws.proofs.Words.{outside_place, refl, spot_at, subst, suc, sym, thing, true}
 use Rattle.turn_laws.proofs.Words.{true≢false, zero, ℕ, ◌&&◌, ◌+◌, ◌-◌, ◌<◌, ◌==◌, ◌∙◌, ◌∷◌, ◌≡◌}
 use Rattle.turn_laws.proofs.Words.{◌≤◌, ◌⊎◌}
@@ -333,7 +332,6 @@ half_way a b here last one other =
 -- where the player is put is inside
 put_inside : (cave : CaveView) (place : ℕ) (v : View) → PutsInside cave → IsPut cave place v
     → IsOutsideCave cave place → place ≡ v.here
-unfolding lair_from
 put_inside cave place v inside (inl is) out = absurd (inside.repository place is out)
 put_inside cave place v inside (inr is) out =
     is ∙ half_way (home cave (thing cave name.Dragon)) (second_home cave (thing cave name.Dragon))

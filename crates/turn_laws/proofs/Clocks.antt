@@ -1,26 +1,29 @@
 -- What the clocks, and the lamp with them, make of a claim.
+use Rattle.std.specs.Prelude.{int_le}
 use Rattle.std.proofs.Common.{◌++◌}
 use Rattle.cave_turn.specs.cave_world.Sight.{LAMP_ON}
 use Rattle.cave_turn.specs.turn_clocks.Clocks.{clock_rows, run_clocks, tick_clocks}
-use Rattle.cave_turn.specs.turn_clocks.FirstClock.{begin_closing, first_clock_goes}
-use Rattle.cave_turn.specs.turn_clocks.FirstClock.{with_first_clock_down, without_dwarves}
-use Rattle.cave_turn.specs.turn_clocks.Lamp.{burn, can_change_batteries, care_for_lamp}
-use Rattle.cave_turn.specs.turn_clocks.Lamp.{change_batteries, go_out, lamp, lamp_rows, turns_left}
-use Rattle.cave_turn.specs.turn_clocks.Lamp.{warn, warning_rows, with_new_charge, with_turn_burnt}
+use Rattle.cave_turn.specs.turn_clocks.FirstClock.{all_seen, begin_closing, closing_bear_rows}
+use Rattle.cave_turn.specs.turn_clocks.FirstClock.{some_turns_left, with_first_clock_down}
+use Rattle.cave_turn.specs.turn_clocks.FirstClock.{without_dwarves}
+use Rattle.cave_turn.specs.turn_clocks.Lamp.{burn, burning_rows, can_change_batteries}
+use Rattle.cave_turn.specs.turn_clocks.Lamp.{care_for_lamp, change_batteries, go_out, lamp}
+use Rattle.cave_turn.specs.turn_clocks.Lamp.{lamp_rows, turns_left, warn, warning_rows}
 use Rattle.cave_turn.specs.turn_clocks.Lamp.{with_warning}
 use Rattle.cave_turn.specs.turn_clocks.Repository.{all_of, close_cave, northeast_things}
-use Rattle.cave_turn.specs.turn_clocks.Repository.{second_clock_goes, southwest_things}
-use Rattle.cave_turn.specs.turn_clocks.Repository.{with_empty_hands, with_second_clock_down}
-use Rattle.cave_turn.specs.turn_clocks.Repository.{without_all}
-use Rattle.cave_turn.specs.turn_rules.Effects.{destroy, put_player, set_charge, troll_goes}
+use Rattle.cave_turn.specs.turn_clocks.Repository.{southwest_things, with_empty_hands}
+use Rattle.cave_turn.specs.turn_clocks.Repository.{with_second_clock_down, without_all}
+use Rattle.cave_turn.specs.turn_rules.Effects.{put_player}
+use Rattle.cave_turn.specs.turn_rules.Troll.{after_troll, troll_goes, troll_leaves}
 use Rattle.cave_turn.specs.turn_rules.Rows.{act_of}
-use Rattle.cave_turn.specs.turn_rules.Tests.{near, place_of, prop}
-use Rattle.cave_turn.specs.turn_things.Effects.{let_go, put_here, without_troll}
+use Rattle.cave_turn.specs.turn_rules.Putting.{after_lay_down, lay_down_rows}
+use Rattle.cave_turn.specs.turn_rules.Tests.{place_of, player_at}
+use Rattle.cave_turn.specs.turn_things.Effects.{with_objects}
 use Rattle.cave_turn.specs.turn_things.Homes.{hold_of}
 use Rattle.cave_turn.specs.turn_things.Props.{AXE_FREE, BATTERIES_USED, BIRD_CAGED, BOTTLE_EMPTY}
 use Rattle.cave_turn.specs.turn_things.Props.{CHAIN_UNLOCKED, FISSURE_OPEN, GRATE_LOCKED}
 use Rattle.cave_turn.specs.turn_things.Props.{PLANT_SMALL, SEEN, SNAKE_GONE}
-use Rattle.cave_turn.specs.world_objects.Objects.{anchor_at}
+use Rattle.cave_turn.specs.world_objects.Objects.{after_move_to, anchor_at}
 use Rattle.cave_turn.specs.world_objects.declared.spot.Anchor.TheVariants as anchor
 use Rattle.cave_turn.specs.data_rows.declared.place_role.PlaceRole.TheVariants as landmark
 use Rattle.cave_turn.specs.cave_words.declared.named.Named.TheVariants as name
@@ -30,24 +33,29 @@ use Rattle.cave_turn.specs.rule_rows.declared.tables.Table.TheVariants as table
 use Rattle.cave_turn.specs.rule_rows.declared.tables.RuleRow.{RuleRow}
 use Rattle.turn_laws.specs.Courses.{is_lit}
 use Rattle.turn_laws.specs.Laws.{before_lamp, is_changed, unless_closed}
-use Rattle.turn_laws.proofs.Effects.{deed_chosen, effects, fails_alone, guarded, holds_alone}
+use Rattle.turn_laws.proofs.Effects.{by_guarded, effects, fails_alone, guarded, holds_alone}
+use Rattle.turn_laws.proofs.Effects.{second_holds}
 use Rattle.turn_laws.proofs.Effects.{more_charge, moved, moved_all, quiet, tests}
 use Rattle.turn_laws.proofs.View.{Begins, Burns, Change, Claim, Counts, Hold, IsKept, IsMoved}
 use Rattle.turn_laws.proofs.View.{Juggle, Leaves, Line, On, Place, Prop, Ready, Shifts, Shuts}
-use Rattle.turn_laws.proofs.View.{Somewhere, There, Ticks, View, after, burnt, choose, led, left_of}
-use Rattle.turn_laws.proofs.View.{view}
-use Rattle.turn_laws.proofs.Words.{Act, BEAR_DEAD, Bool, CaveView, Clocks, Deed, LAMP_OFF, List}
+use Rattle.turn_laws.proofs.View.{Somewhere, There, Ticks, View, after, burnt, led, left_of, view}
+use Rattle.turn_laws.proofs.Words.{if◌then◌else◌}
+use Rattle.turn_laws.proofs.Words.{Act, Bool, CaveView, Clocks, Deed, LAMP_OFF, List}
 use Rattle.turn_laws.proofs.Words.{MAX_LAMP_TURNS, None, Option, Scene, Some, State, UNSEEN, []}
-use Rattle.turn_laws.proofs.Words.{after_all, all_hold, always, carried_objects, change, deed}
-use Rattle.turn_laws.proofs.Words.{false, has_prop, home, if◌then◌else◌, inl, inr, int_eq, int_min}
-use Rattle.turn_laws.proofs.Words.{is_in_hand, is_some, negsuc, noted, nothing_but, place_named}
-use Rattle.turn_laws.proofs.Words.{pos, refl, say, set_prop, subst, sym, the, thing, true}
-use Rattle.turn_laws.proofs.Words.{true≢false, unwrap_or, with_charge, ℕ, ℤ, ◌&&◌, ◌+ℤ◌, ◌-ℤ◌, ◌∙◌}
-use Rattle.turn_laws.proofs.Words.{◌∷◌, ◌≡◌}
+use Rattle.turn_laws.proofs.Words.{after_all, all_hold, always, arith, ints, by_table, carried_objects, change}
+use Rattle.turn_laws.proofs.Words.{deed, false, has_prop, home, in_the_depths, inl, inr}
+use Rattle.turn_laws.proofs.Words.{int_eq, int_min, is_some, negsuc, no, noted, nothing_but}
+use Rattle.turn_laws.proofs.Words.{place_named, pos, refl, say, set_prop, subst, sym, the, thing}
+use Rattle.turn_laws.proofs.Words.{true, true≢false, unwrap_or, with_charge, ℕ, ℤ, ◌&&◌, ◌+ℤ◌, ◌-ℤ◌}
+use Rattle.turn_laws.proofs.Words.{◌∙◌, ◌∷◌, ◌≡◌}
 
 -- an object is put at a place, with a prop for when it was carried
 abbrev stored : ℕ → ℕ → ℤ → List Change
 stored place x v = Place x place ∷ Prop x (UNSEEN -ℤ v) ∷ []
+
+-- a clock whose last turn goes has one
+last_turn : (c : ℤ) → int_eq c (pos 1) ≡ true → int_le (pos 0) c ≡ true
+last_turn c one = grind (arith, ints, one)
 
 -- what holds where the clocks closed the cave: the player is elsewhere, at the repository's end
 pub record AfterClosure (P : Claim) (cave : CaveView) (before : ℕ) (s : State) : Type 0 where
@@ -71,50 +79,60 @@ module _ {game : CaveView} {l : Line} {Q P : Claim} (k : IsKept game l Q P) wher
   moves : IsMoved Early
   moves v c r = record { holds = k.keeps (Shifts c) v tt r.holds; calm = r.calm; at = r.at }
 
-  counted : (d : Deed (Unit {0})) → (first_clock_goes d && true) ≡ true → On Early d.scene.state
-      → On Early (with_first_clock_down d.scene.state)
-  unfolding first_clock_goes
+  counted : (d : Deed (Unit {0}))
+      → all_hold (all_seen ∷ in_the_depths ∷ no (player_at landmark.Y2) ∷ some_turns_left ∷ []) d
+      ≡ true
+      → On Early d.scene.state → On Early (with_first_clock_down d.scene.state)
   counted d fit r =
       let v = view d.scene.state in
       record { holds = k.keeps Counts v (search tests) r.holds; calm = r.calm; at = r.at }
 
-  ticked : (d : Deed (Unit {0})) (rest : Bool) → (second_clock_goes d && rest) ≡ true
+  ticked : (d : Deed (Unit {0})) → int_le (pos 0) d.scene.state.closing.second_clock ≡ true
       → On Early d.scene.state → On Early (with_second_clock_down d.scene.state)
-  ticked d rest fit r =
+  ticked d some r =
       let v = view d.scene.state in
-      record { holds = k.keeps Ticks v (search tests) r.holds; calm = r.calm; at = r.at }
+      record { holds = k.keeps Ticks v some r.holds; calm = r.calm; at = r.at }
+
+  ticked_by : (d : Deed (Unit {0})) (runs : Bool)
+      → (runs && (int_le (pos 0) d.scene.state.closing.second_clock && true)) ≡ true
+      → On Early d.scene.state → On Early (with_second_clock_down d.scene.state)
+  ticked_by d runs fit r = ticked d (holds_alone _ (second_holds runs _ fit)) r
+
+  -- a claim would hold once the cave is closing
+  abbrev Begun : Claim
+  Begun v =
+      Early (record v { closing = record v.closing { first_clock = negsuc 0; is_closing = true } })
+
+  begun_moved : IsMoved Begun
+  begun_moved v change h = moves _ change h
+
+  bear_goes : (x : ℕ) (s : State) → On Begun s
+      → On Begun (with_objects (after_move_to s.objects x 0) s)
+  bear_goes x s h = begun_moved (view s) (Place x 0) h
 
   -- the cave begins to close
   start_kept : (d : Deed (Unit {0})) → On Early d.scene.state
       → On Early (after_all begin_closing d).scene.state
-  unfolding begin_closing without_troll
+  unfolding begin_closing after_troll troll_leaves closing_bear_rows
   start_kept d h =
       let cave = d.cave in
       let troll = thing cave name.Troll in let second = thing cave name.SecondTroll in
       let e = troll_goes (change without_dwarves
       (set_prop (the name.Fissure) FISSURE_OPEN (set_prop (the name.Grate) GRATE_LOCKED d))) in
-      let bear = prop (the name.Bear) BEAR_DEAD e in
       let begun : Early (after game Begins (view d.scene.state)) =
       record { holds = k.keeps Begins _ h.calm h.holds; calm = h.calm; at = h.at } in
-      let gone = moved_all Early moves (
+      let gone : On Begun e.scene.state = moved_all Early moves (
       Prop (thing cave name.Grate) GRATE_LOCKED ∷ Prop (thing cave name.Fissure) FISSURE_OPEN
       ∷ Place troll 0 ∷ Hold troll anchor.Loose ∷ Place second (home cave troll)
       ∷ Hold second (hold_of cave troll) ∷ Juggle (thing cave name.Chasm) ∷ []
       ) _ begun in
-      let after = λ (f : Deed (Unit {0})).
-      Early (record (view f.scene.state) {
-        closing = record f.scene.state.closing { first_clock = negsuc 0; is_closing = true };
-      }) in
-      let left = if bear then e else destroy (the name.Bear) e in
+      let left = by_table table.ClosingBear closing_bear_rows e in
       let chain = thing left.cave name.Chain in let axe = thing left.cave name.Axe in
-      moved_all Early moves (
+      moved_all Begun begun_moved (
       Prop chain CHAIN_UNLOCKED ∷ Hold chain anchor.Loose ∷ Prop axe AXE_FREE
       ∷ Hold axe anchor.Loose ∷ []
-      ) (record (view left.scene.state) {
-        closing = record left.scene.state.closing { first_clock = negsuc 0; is_closing = true };
-      })
-      (choose after bear e (destroy (the name.Bear) e) (λ _. gone)
-      (λ _. moved_all Early moves (Place (thing cave name.Bear) 0 ∷ []) _ gone))
+      ) (view left.scene.state)
+      (quiet Begun (noted table.ClosingBear closing_bear_rows) (search bear_goes parts 20) e gone)
 
   emptied_kept : (xs : List ℕ) (v : View) → Early v
       → Early (record v { objects = without_all xs v.objects })
@@ -122,18 +140,19 @@ module _ {game : CaveView} {l : Line} {Q P : Claim} (k : IsKept game l Q P) wher
   emptied_kept (x ∷ xs) v h = emptied_kept xs _ (moves v (Place x 0) h)
 
   -- the cave is closed where both ends of a repository are known: the player is elsewhere
-  closed_kept : (d : Deed (Unit {0})) (notes : List RuleRow) (a b c : Bool)
-      → (second_clock_goes d
-      && (a && (b && (is_some (place_named d.cave landmark.Ne) && c)))) ≡ true
+  closed_kept : (d : Deed (Unit {0})) (notes : List RuleRow) (b c : Bool)
+      → (int_eq d.scene.state.closing.first_clock (negsuc 0)
+      && (int_eq d.scene.state.closing.second_clock (pos 1)
+      && (b && (is_some (place_named d.cave landmark.Ne) && c)))) ≡ true
       → On Early d.scene.state
       → AfterClosure Early d.cave d.scene.state.trail.here
       (after_all (change with_second_clock_down ∷ close_cave)
       (record d { scene = record d.scene { rows = notes } })).scene.state
   unfolding close_cave with_empty_hands northeast_things southwest_things
-  closed_kept d notes a b c fit h =
+  closed_kept d notes b c fit h =
       let cave = d.cave in let v = view d.scene.state in
       let ne = place_of landmark.Ne d in let sw = place_of landmark.Sw d in
-      let gone = ticked d _ fit h in
+      let gone = ticked d (last_turn d.scene.state.closing.second_clock (search tests)) h in
       let shut : Early (after game Shuts (after game Ticks v)) =
       record { holds = k.keeps Shuts _ (search tests) gone.holds; calm = h.calm; at = h.at } in
       let hung = moved_all Early moves (
@@ -163,7 +182,7 @@ module _ {game : CaveView} {l : Line} {Q P : Claim} (k : IsKept game l Q P) wher
       let d : Deed (Unit {0}) = deed cave tt p in
       guarded (λ (a : Act Bool). AfterClocks Early cave p.state.trail.here a.step a.scene.state)
       (nothing_but (always false)) d (noted table.Clocks clock_rows)
-      (search (effects, start_kept, counted d, ticked d, closed_kept d) parts 20)
+      (search (effects, start_kept, counted d, ticked_by d, closed_kept d) parts 20)
 
 -- what the lamp leaves of a charge
 gone_out : (c : ℤ) → int_eq c (pos 0) ≡ true → negsuc 0 ≡ left_of c
@@ -201,12 +220,12 @@ module _ {cave : CaveView} {l : Line} {Q P : Claim} (k : IsKept cave l Q P) wher
 
   burnt_kept : (p : Scene) → has_prop p.state (thing cave name.Lamp) LAMP_ON ≡ l.is_lit
       → On (Ready (Somewhere l) Q) p.state → On Dims (burn (deed cave tt p)).scene.state
+  unfolding burning_rows
   burnt_kept p lit h =
-      let d = deed cave tt p in
-      choose (λ (e : Deed (Unit {0})). On Dims e.scene.state) (prop (the name.Lamp) LAMP_ON d)
-      (change with_turn_burnt d) d
-      (λ fit c is. burnt_as true (sym fit ∙ lit) c is)
-      (λ other c is. burnt_as false (sym other ∙ lit) c is)
+      by_guarded Dims (deed cave tt p) (noted table.Burning burning_rows) (
+        (λ fit c is. burnt_as true (sym (holds_alone _ fit) ∙ lit) c is),
+        (λ other c is. burnt_as false (sym (fails_alone _ other) ∙ lit) c is),
+      )
     where
       burnt_as : (b : Bool) → b ≡ l.is_lit → (c : ℤ) → Leaves l (burnt b p.state.lamp.charge) c
           → R (record (view p.state) { charge = c })
@@ -220,35 +239,36 @@ module _ {cave : CaveView} {l : Line} {Q P : Claim} (k : IsKept cave l Q P) wher
   dims_moved : IsMoved Dims
   dims_moved v change h c is = moved k (record v { charge = c }) change (h c is)
 
-  replaced_kept : (d : Deed (Unit {0})) → l.is_changed ≡ true → On Dims d.scene.state
-      → On R (after_all change_batteries d).scene.state
-  unfolding change_batteries let_go
-  replaced_kept d changed h =
-      let x = thing d.cave name.Batteries in
-      let used = (set_prop (the name.Batteries) BATTERIES_USED d).scene.state in
-      let got : On Dims used = dims_moved (view d.scene.state) (Prop x BATTERIES_USED) h in
-      choose (λ (s : State). On R (with_new_charge s)) (is_in_hand d.cave used x)
-      (put_here x used) used
-      (λ _. renewed _ (dims_moved (view used) (Place x used.trail.here) got))
-      (λ _. renewed (view used) got)
+  dims_placed : (x place : ℕ) (s : State) → On Dims s
+      → On Dims (with_objects (after_move_to s.objects x place) s)
+  dims_placed x place s h = dims_moved (view s) (Place x place) h
+
+  laid_down_dim : (x : ℕ) (p : Scene) → On Dims p.state
+      → On Dims (after_lay_down cave x p).state
+  unfolding after_lay_down lay_down_rows
+  laid_down_dim x p h =
+      quiet Dims (noted table.LayDown lay_down_rows) (search dims_placed parts 20) (deed cave x p) h
+
+  replaced_kept : (p : Scene) → l.is_changed ≡ true → On Dims p.state
+      → On R (after_all change_batteries (deed cave tt p)).scene.state
+  unfolding change_batteries
+  replaced_kept p changed h =
+      let x = thing cave name.Batteries in let d : Deed (Unit {0}) = deed cave tt p in
+      let used = (set_prop (the name.Batteries) BATTERIES_USED (say role.Replaced d)).scene in
+      let got : On Dims used.state = dims_moved (view p.state) (Prop x BATTERIES_USED) h in
+      renewed (view (after_lay_down cave x used).state) (laid_down_dim x used got)
     where
       renewed : (v : View) → Dims v
           → R (record v { charge = int_min (v.charge +ℤ pos 2500) (pos MAX_LAMP_TURNS) })
       renewed v h = h _ (inl (changed, more_charge v.charge 2500))
 
-  -- the lamp goes out, which may be said
-  going_out_kept : (d : Deed (Unit {0})) → (turns_left (pos 0) d && true) ≡ true
-      → On Dims d.scene.state → On R (after_all go_out d).scene.state
-  unfolding go_out
+  -- the lamp goes out
+  going_out_kept : (d : Deed (Unit {0})) → turns_left (pos 0) d ≡ true
+      → On Dims d.scene.state → On R (go_out d).scene.state
   going_out_kept d none dims =
-      let c = d.scene.state.lamp.charge in
       let h : On R (with_charge (negsuc 0) d.scene.state) =
-      dims (negsuc 0) (inr (gone_out c (holds_alone _ none))) in
-      let x = thing d.cave name.Lamp in
-      let out = set_prop (the name.Lamp) LAMP_OFF (set_charge (negsuc 0) d) in
-      let off : On R out.scene.state =
-      moved k (view (with_charge (negsuc 0) d.scene.state)) (Prop x LAMP_OFF) h in
-      deed_chosen k (near (the name.Lamp) out) (say role.LampDead out) out off off
+      dims (negsuc 0) (inr (gone_out d.scene.state.lamp.charge none)) in
+      moved k (view (with_charge (negsuc 0) d.scene.state)) (Prop (thing d.cave name.Lamp) LAMP_OFF) h
 
   lasts : (d : Deed (Unit {0})) → (turns_left (pos 0) d && true) ≡ false → On Dims d.scene.state
       → On R d.scene.state
@@ -268,7 +288,7 @@ module _ {cave : CaveView} {l : Line} {Q P : Claim} (k : IsKept cave l Q P) wher
       let dims = burnt_kept p of.lit h in let stays = lasts (lit p) in
       guarded (λ (a : Act Clocks). After R cave before a.step a.scene.state)
       (nothing_but (always clocks.GoOn)) (lit p) (noted table.Lamp lamp_rows)
-      (search (effects, replaced_kept, changes, going_out_kept, stays, dims, warned_kept)
+      (search (effects, tests, replaced_kept, changes, going_out_kept, stays, dims, warned_kept)
       parts 20 depth 9)
     where
       changes : all_hold can_change_batteries (lit p) ≡ true → l.is_changed ≡ true

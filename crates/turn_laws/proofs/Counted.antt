@@ -7,7 +7,6 @@ use Rattle.std.proofs.lemmas.List.Quantifiers.{position-Some}
 use Rattle.std.proofs.lemmas.List.Sums.{sum_by-set}
 use Rattle.std.specs.List.{list_any, position, prefix_len, range_with_len}
 use Rattle.cave_turn.specs.cave_verbs.Throwing.{killed_dwarf, without_first_at, without_one}
-use Rattle.cave_turn.specs.turn_dwarves.Waking.{dwarf_apart}
 use Rattle.cave_turn.specs.turn_things.Reach.{is_dwarf_at}
 use Rattle.cave_turn.specs.world_objects.Objects.{after_carry, after_juggle, after_move_to}
 use Rattle.cave_turn.specs.world_objects.Objects.{anchor_of, carried_up_to, is_carried, spot_of}
@@ -17,13 +16,14 @@ use Rattle.cave_turn.specs.world_objects.declared.spot.Spot.TheVariants as spot
 use Rattle.turn_laws.specs.DwarfLaws.{is_living}
 use Rattle.turn_laws.proofs.View.{Band, Change, HasRoom, Hold, IsBandAfter, Juggle, Place, Prop}
 use Rattle.turn_laws.proofs.View.{after_change, after_taking, choose, kept_by_set, living}
-use Rattle.turn_laws.proofs.Words.{Anchor, Bool, CaveView, Dwarf, Layout, List, None, Option, Some}
-use Rattle.turn_laws.proofs.Words.{[], ap, arith, carried_objects, count_by-le-length}
-use Rattle.turn_laws.proofs.Words.{dismissed_dwarf, false, false≢true, filter, get_or}
-use Rattle.turn_laws.proofs.Words.{if◌then◌else◌, inl, inr, is_carried_spot, length, length-filter}
-use Rattle.turn_laws.proofs.Words.{map, min, nat_le, nat_tests, no_dwarf, not, refl, set, spot_at}
-use Rattle.turn_laws.proofs.Words.{subst, suc, sym, take, true, true≢false, zero, ℕ, ℤ, ◌&&◌, ◌+◌}
-use Rattle.turn_laws.proofs.Words.{◌-◌, ◌<◌, ◌==◌, ◌||◌, ◌∙◌, ◌∷◌, ◌≡◌, ◌≤◌, ◌⊎◌}
+use Rattle.turn_laws.proofs.Words.{if◌then◌else◌}
+use Rattle.turn_laws.proofs.Words.{Anchor, Bool, Dwarf, Layout, List, None, Option, Some, [], ap}
+use Rattle.turn_laws.proofs.Words.{arith, carried_objects, count_by-le-length, dismissed_dwarf}
+use Rattle.turn_laws.proofs.Words.{false, false≢true, filter, get_or, inl, inr}
+use Rattle.turn_laws.proofs.Words.{is_carried_spot, length, length-filter, map, min, nat_le}
+use Rattle.turn_laws.proofs.Words.{nat_tests, no_dwarf, not, refl, set, spot_at, subst, suc, sym}
+use Rattle.turn_laws.proofs.Words.{take, true, true≢false, zero, ℕ, ℤ, ◌&&◌, ◌+◌, ◌-◌, ◌<◌, ◌==◌}
+use Rattle.turn_laws.proofs.Words.{◌||◌, ◌∙◌, ◌∷◌, ◌≡◌, ◌≤◌, ◌⊎◌}
 
 -- where one condition follows from another, and one count is at most another, so it is with one
 -- more of each
@@ -230,15 +230,9 @@ struck_living n m xs some there = by_first (position (is_dwarf_at n) (take m xs)
         killed_living m i xs found.0
         (stands (get_or (take m xs) i no_dwarf).place found.1)
 
--- a dwarf that is gone stays so where it is kept apart from a player who is somewhere
-apart_gone : (cave : CaveView) (n : ℕ) (d : Dwarf) → 1 ≤ n → d.place ≡ 0
-    → (dwarf_apart cave n d).place ≡ 0
-unfolding dwarf_apart
-apart_gone cave n d some gone =
-    choose (λ (p : ℕ). p ≡ 0) (d.place == n) _ d.place (λ same. absurd (here same)) (λ _. gone)
-  where
-    here : (d.place == n) ≡ true → ⊥
-    here same = grind (arith, nat_tests)
+-- a dwarf that is with a player who is somewhere isn't gone
+pub isnt_gone : (here place : ℕ) → 1 ≤ here → (place == here) ≡ true → place ≡ 0 → ⊥
+isnt_gone here place some same gone = grind (arith, nat_tests, some, same, gone)
 
 pub dismissed_gone : (xs : List Dwarf) (i : ℕ)
     → (get_or (map dismissed_dwarf xs) i no_dwarf).place ≡ 0
@@ -282,15 +276,6 @@ changed here a i d gone = record {
   alive = λ some. changed_living 5 i a.each d (gone some);
   few = λ some. let less = changed_living 5 i a.each d (gone some) in omega (arith, less);
 }
-
--- a dwarf is kept apart from the player
-pub apart : (cave : CaveView) (here : ℕ) (a : Band) (i : ℕ)
-    → IsBandAfter here a (record a {
-      each = set a.each i (dwarf_apart cave here (get_or a.each i no_dwarf));
-    })
-apart cave here a i =
-    changed here a i (dwarf_apart cave here (get_or a.each i no_dwarf))
-    (λ some low gone. apart_gone cave here (get_or a.each i no_dwarf) some gone)
 
 -- a dwarf that is where the player is is killed
 pub struck : (here : ℕ) (a : Band) → list_any (is_dwarf_at here) (take 5 a.each) ≡ true

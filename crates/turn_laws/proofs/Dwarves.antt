@@ -1,34 +1,35 @@
 -- What the dwarves do keeps each claim that what happens while the player stays keeps.
+use Rattle.cave_turn.specs.turn_rules.Rows.{act_of_row, answer_row, note_row, noted_row}
+use Rattle.cave_turn.specs.turn_rules.Rows.{otherwise_row}
+use Rattle.cave_turn.specs.cave_words.Stream.{next}
+use Rattle.cave_turn.specs.turn_dwarves.Ahead.{ways_of_dwarf}
 use Rattle.cave_turn.specs.cave_world.Limits.{PIRATE}
-use Rattle.cave_turn.specs.turn_dwarves.Band.{dwarf_of, with_anger, with_dwarf}
-use Rattle.cave_turn.specs.turn_dwarves.Booty.{after_thefts, hide_chest, rob, steal, steal_rows}
-use Rattle.cave_turn.specs.turn_dwarves.Booty.{with_pirate_home}
+use Rattle.cave_turn.specs.turn_dwarves.Band.{dwarf_of, gone, with_anger, with_dwarf}
+use Rattle.cave_turn.specs.turn_dwarves.Booty.{after_thefts, hide_chest, steal, take_booty}
+use Rattle.cave_turn.specs.turn_dwarves.Booty.{theft_rows, with_pirate_home}
 use Rattle.cave_turn.specs.turn_dwarves.Dwarves.{anger_rows, awake, encounter_dwarves}
-use Rattle.cave_turn.specs.turn_dwarves.Knives.{dwarf_turn, gone_rows, let_dwarf_act}
-use Rattle.cave_turn.specs.turn_dwarves.Knives.{move_and_threaten, no_attack, raid, threat_rows}
+use Rattle.cave_turn.specs.turn_dwarves.Knives.{Raider, attack, attacker, dwarf_turn, let_dwarf_act}
+use Rattle.cave_turn.specs.turn_dwarves.Knives.{move_attacker, no_attack, raid, raider, threat_rows}
 use Rattle.cave_turn.specs.turn_dwarves.Knives.{threaten, with_knife_here}
-use Rattle.cave_turn.specs.turn_dwarves.Lines.{dwarf_rows, knife_rows, knives, tell_attack}
-use Rattle.cave_turn.specs.turn_dwarves.Moving.{chosen_way, dwarf_in_sight, dwarf_moved}
+use Rattle.cave_turn.specs.turn_dwarves.Lines.{dwarf_rows, knife_rows, provoked_rows, tell_attack}
+use Rattle.cave_turn.specs.turn_dwarves.Moving.{after_dwarf_move, chosen_way, dwarf_in_sight}
 use Rattle.cave_turn.specs.turn_dwarves.Moving.{dwarf_on_way}
-use Rattle.cave_turn.specs.turn_dwarves.Pirate.{after_pirate, chase_rows, move_pirate, move_rows}
-use Rattle.cave_turn.specs.turn_dwarves.Pirate.{pirate_rows}
-use Rattle.cave_turn.specs.turn_dwarves.Waking.{leaving_rows, wake, waking_rows, with_dwarf_apart}
-use Rattle.cave_turn.specs.turn_dwarves.Waking.{without_dwarf}
+use Rattle.cave_turn.specs.turn_dwarves.Pirate.{after_pirate, chase_rows, move_pirate, pirate_rows}
+use Rattle.cave_turn.specs.turn_dwarves.Pirate.{pirate_turn_rows}
+use Rattle.cave_turn.specs.turn_dwarves.Waking.{apart_rows, keep_one_apart, leaving_rows, wake}
+use Rattle.cave_turn.specs.turn_dwarves.Waking.{waking_rows, with_dwarf_at, without_dwarf}
 use Rattle.cave_turn.specs.turn_dwarves.declared.knives.Attack.{Attack}
-use Rattle.cave_turn.specs.turn_dwarves.declared.knives.Threat.{Threat}
 use Rattle.cave_turn.specs.turn_rules.Effects.{for_each_from}
-use Rattle.cave_turn.specs.turn_rules.Tests.{both}
-use Rattle.cave_turn.specs.turn_dwarves.declared.knives.Threat.TheVariants as threat
 use Rattle.cave_turn.specs.rule_rows.declared.tables.Table.TheVariants as table
-use Rattle.turn_laws.proofs.Counted.{angrier, apart, changed}
-use Rattle.turn_laws.proofs.Effects.{banded, by_guarded, each_kept, effects, fails_alone, guarded}
-use Rattle.turn_laws.proofs.Effects.{holds_alone, kept_by, placed, quiet, second_holds}
-use Rattle.turn_laws.proofs.View.{Claim, IsKept, Line, On, Ready, Somewhere, choose, some_place}
-use Rattle.turn_laws.proofs.View.{view}
+use Rattle.turn_laws.proofs.Counted.{angrier, changed, isnt_gone}
+use Rattle.turn_laws.proofs.Effects.{banded, by_guarded, each_kept, effects, fails_alone}
+use Rattle.turn_laws.proofs.Effects.{first_holds, guarded, holds_alone, kept_by, placed}
+use Rattle.turn_laws.proofs.Effects.{quiet, second_holds}
+use Rattle.turn_laws.proofs.View.{Claim, IsKept, Line, On, Ready, Somewhere, some_place, view}
 use Rattle.turn_laws.proofs.Words.{Act, Bool, CaveView, Deed, Dwarf, List, Scene, State, []}
-use Rattle.turn_laws.proofs.Words.{after_all, after_draw, always, anger, arith, by_rows, by_table}
-use Rattle.turn_laws.proofs.Words.{change, deed, false, min, no, noted, nothing_but, refl, subst}
-use Rattle.turn_laws.proofs.Words.{sym, true, when, ℕ, ◌&&◌, ◌<◌, ◌==◌, ◌∷◌, ◌≡◌, ◌≤◌}
+use Rattle.turn_laws.proofs.Words.{after_all, always, arith, by_table, deed, false}
+use Rattle.turn_laws.proofs.Words.{min, noted, nothing_but, refl, subst, sym, true, ℕ}
+use Rattle.turn_laws.proofs.Words.{◌&&◌, ◌<◌, ◌==◌, ◌∷◌, ◌≡◌, ◌≤◌}
 
 -- the pirate is none of the five dwarves
 not_low : 5 < 5 → ⊥
@@ -38,11 +39,13 @@ module _ {game : CaveView} {l : Line} {Q P : Claim} (k : IsKept game l Q P) wher
   abbrev R : Claim
   R = Ready (Somewhere l) P
 
+  -- a dwarf changes; one of the five that is gone stays gone
   dwarf_kept : (n : ℕ) (d : Dwarf) (s : State)
-      → (n < 5 → (dwarf_of s n).place ≡ 0 → d.place ≡ 0) → On R s → On R (with_dwarf n d s)
+      → (1 ≤ s.trail.here → n < 5 → (dwarf_of s n).place ≡ 0 → d.place ≡ 0) → On R s
+      → On R (with_dwarf n d s)
   unfolding with_dwarf dwarf_of
   dwarf_kept n d s gone h =
-      banded k (view s) _ (changed s.trail.here (view s).band n d (λ _. gone)) h
+      banded k (view s) _ (changed s.trail.here (view s).band n d gone) h
 
   -- the dwarves are angrier than they were
   angry_kept : (was n : ℕ) (s : State) → (s.dwarves.anger == was) ≡ true → was ≤ n → On R s
@@ -51,19 +54,35 @@ module _ {game : CaveView} {l : Line} {Q P : Claim} (k : IsKept game l Q P) wher
       let least : min s.dwarves.anger 13 ≤ n = grind (arith, so, more) in
       banded k (view s) _ (angrier s.trail.here (view s).band n least) h
 
-  leaving_kept : (d : Deed ℕ) → On R d.scene.state → On R (by_rows leaving_rows d).scene.state
+  leaving_kept : (d : Deed ℕ) → On R d.scene.state
+      → On R (by_table table.Leaving leaving_rows d).scene.state
   unfolding leaving_rows without_dwarf
-  leaving_kept d h = quiet R leaving_rows (search gone parts 20) d h
+  leaving_kept d h = quiet R (noted table.Leaving leaving_rows) (search gone parts 20) d h
     where
       gone : (n : ℕ) (s : State) → On R s → On R (without_dwarf n s)
-      gone n s g = dwarf_kept n _ s (λ _ _. refl) g
+      gone n s g = dwarf_kept n _ s (λ _ _ _. refl) g
 
-  apart_kept : (cave : CaveView) (s : State) → On R s
-      → On R (for_each_from 0 5 (with_dwarf_apart cave) s)
-  unfolding with_dwarf dwarf_of
-  apart_kept cave s h =
-      each_kept (On R) 0 5 (with_dwarf_apart cave)
-      (λ n t g. banded k (view t) _ (apart cave t.trail.here (view t).band n) g) s h
+  settled_kept : (n place : ℕ) (s : State)
+      → (1 ≤ s.trail.here → (dwarf_of s n).place ≡ 0 → place ≡ 0) → On R s
+      → On R (with_dwarf_at n place s)
+  unfolding with_dwarf_at
+  settled_kept n place s gone h = dwarf_kept n _ s (λ some low. gone some) h
+
+  one_apart_kept : (cave : CaveView) (n : ℕ) (p : Scene) → On R p.state
+      → On R (keep_one_apart cave n p).state
+  unfolding keep_one_apart apart_rows
+  one_apart_kept cave n p h =
+      by_guarded R (deed cave n p) (noted table.Apart apart_rows) (
+        (λ fit. settled_kept n _ p.state
+            (λ some gone. absurd (isnt_gone _ _ some (first_holds _ _ fit) gone)) h),
+        (λ _. settled_kept n _ p.state (λ some gone. gone) h),
+      )
+
+  apart_kept : (cave : CaveView) (p : Scene) → On R p.state
+      → On R (for_each_from 0 5 (keep_one_apart cave) p).state
+  apart_kept cave p h =
+      each_kept (λ (q : Scene). On R q.state) 0 5 (keep_one_apart cave)
+      (λ n q g. one_apart_kept cave n q g) p h
 
   woken_kept : (d : Deed Attack) → (d.scene.state.dwarves.anger == 1 && true) ≡ true
       → On R d.scene.state → On R (after_all wake d).scene.state
@@ -83,56 +102,65 @@ module _ {game : CaveView} {l : Line} {Q P : Claim} (k : IsKept game l Q P) wher
   unfolding dwarf_in_sight
   sight_same d = grind arith
 
+  -- nor does one whose ways are counted
+  ways_same : (d : Deed ℕ) → (ways_of_dwarf d).scene.state ≡ d.scene.state
+  unfolding ways_of_dwarf
+  ways_same d = grind arith
+
   moved_kept : (cave : CaveView) (n : ℕ) (p : Scene)
       → (n < 5 → (dwarf_of p.state n).place ≡ 0 → ⊥) → On R p.state
-      → On R (dwarf_moved cave n p).scene.state
-  unfolding dwarf_moved dwarf_of
+      → On R (after_dwarf_move cave n p).state
+  unfolding after_dwarf_move chosen_way dwarf_of
   moved_kept cave n p living h =
-      let dwarf = dwarf_of p.state n in let q = after_draw p in
-      let way = chosen_way cave (n == PIRATE) dwarf p.state.stream in
-      let d = deed cave (dwarf_on_way way dwarf) q in
-      subst (λ (s : State). On R (with_dwarf n (dwarf_in_sight d).step s)) (sym (sight_same d))
-      (dwarf_kept n _ q.state (λ low gone. absurd (living low gone)) h)
+      let way = chosen_way (deed cave n p) in
+      let d = deed cave (dwarf_on_way way.step (dwarf_of p.state n)) way.scene in
+      let moved = (dwarf_in_sight d).step in
+      subst (λ (s : State). On R (with_dwarf n moved s)) (sym (sight_same d))
+      (subst (λ (s : State). On R (with_dwarf n moved (record s { stream = next s.stream })))
+      (sym (ways_same (deed cave n p)))
+      (dwarf_kept n moved (record (p.state) { stream = next p.state.stream })
+      (λ _ low gone. absurd (living low gone)) h))
 
-  threatened_kept : (d : Deed Dwarf) → On R d.scene.state → On R (threaten d).scene.state
+  threatened_kept : (d : Deed Raider) → On R d.scene.state → On R (threaten d).scene.state
   unfolding threaten threat_rows with_knife_here
   threatened_kept d h =
-      kept_by R (noted table.Threats threat_rows) (always threat.Nothing) (search parts 20) d h
+      kept_by R (noted table.Threats threat_rows) attack (search parts 20) d h
 
-  turn_kept : (cave : CaveView) (n : ℕ) (p : Scene) → On R p.state
-      → On R (dwarf_turn (deed cave n p)).scene.state
-  unfolding dwarf_turn gone_rows
-  turn_kept cave n p h =
-      guarded (λ (a : Act Threat). On R a.scene.state) move_and_threaten (deed cave n p) gone_rows
-      (search (effects, moving) parts 20)
-    where
-      moving : ((dwarf_of p.state n).place == 0 && true) ≡ false
-          → On R (threaten (dwarf_moved cave n p)).scene.state
-      moving some =
-          threatened_kept (dwarf_moved cave n p)
-          (moved_kept cave n p (λ _ gone. some_place _ (fails_alone _ some) gone) h)
+  turn_kept : (d : Deed Raider) → On R d.scene.state → On R (dwarf_turn d).scene.state
+  unfolding dwarf_turn
+  turn_kept d h =
+      guarded (λ (a : Act (Act Attack)). On R a.step.scene.state)
+      (act_of_row (noted_row table.DwarfTurn 2 (otherwise_row (move_attacker ∷ []) threaten))) d
+      (noted table.DwarfTurn (answer_row (gone attacker ∷ []) (nothing_but attack) ∷ [])) (
+        (λ _. h),
+        (λ some. threatened_kept (move_attacker (note_row table.DwarfTurn 2 d))
+            (moved_kept d.cave d.about.number (note_row table.DwarfTurn 2 d).scene
+            (λ _ gone. some_place _ (fails_alone _ some) gone) h)),
+      )
 
   raided_kept : (d : Deed Attack) → On R d.scene.state → On R (raid d).scene.state
   raided_kept d h =
       each_kept (λ (e : Deed Attack). On R e.scene.state) 0 5 let_dwarf_act
-      (λ n e g. turn_kept e.cave n e.scene g) d h
+      (λ n e g. turn_kept (deed e.cave (raider n e.about) e.scene) g) d h
 
   -- what is printed, and the anger of dwarves who throw knives for the first time
   told_kept : (d : Deed Attack) → On R d.scene.state → On R (after_all tell_attack d).scene.state
-  unfolding tell_attack dwarf_rows knife_rows
+  unfolding tell_attack dwarf_rows provoked_rows knife_rows
   told_kept d h =
       let one = by_table table.DwarvesHere dwarf_rows d in
       let first = quiet R (noted table.DwarvesHere dwarf_rows) (search parts 20) d h in
       quiet R (noted table.Knives knife_rows) (search parts 20)
-      (when (both (no (knives 0)) (anger 2)) (change (with_anger 3)) one)
-      (choose (λ (e : Deed Attack). On R e.scene.state) (both (no (knives 0)) (anger 2) one)
-      (change (with_anger 3) one) one
-      (λ fit. angry_kept 2 3 one.scene.state (second_holds (no (knives 0) one) _ fit) (omega arith)
-      first) (λ _. first))
+      (by_table table.Provoked provoked_rows one)
+      (by_guarded R one (noted table.Provoked provoked_rows) (
+        (λ fit. angry_kept 2 3 one.scene.state (holds_alone _ (second_holds _ _ fit)) (omega arith)
+            first),
+        (λ _. first),
+      ))
 
   stolen_kept : (cave : CaveView) (x : ℕ) (p : Scene) → On R p.state → On R (steal cave x p).state
-  unfolding steal steal_rows
-  stolen_kept cave x p h = quiet R steal_rows (search effects parts 20) (deed cave x p) h
+  unfolding steal theft_rows
+  stolen_kept cave x p h =
+      quiet R (noted table.Theft theft_rows) (search effects parts 20) (deed cave x p) h
 
   all_stolen_kept : (cave : CaveView) (xs : List ℕ) (p : Scene) → On R p.state
       → On R (after_thefts cave xs p).state
@@ -142,11 +170,12 @@ module _ {game : CaveView} {l : Line} {Q P : Claim} (k : IsKept game l Q P) wher
 
   home_kept : (cave : CaveView) (s : State) → On R s → On R (with_pirate_home cave s)
   unfolding with_pirate_home
-  home_kept cave s h = dwarf_kept PIRATE _ s (λ low _. absurd (not_low low)) h
+  home_kept cave s h = dwarf_kept PIRATE _ s (λ _ low _. absurd (not_low low)) h
 
   pirate_kept : (cave : CaveView) (p : Scene) → On R p.state → On R (after_pirate cave p).state
-  unfolding after_pirate move_rows chase_rows pirate_rows rob hide_chest
-  pirate_kept cave p h = quiet R move_rows (search moved parts 20) (deed cave tt p) h
+  unfolding after_pirate pirate_turn_rows chase_rows pirate_rows take_booty hide_chest
+  pirate_kept cave p h =
+      quiet R (noted table.PirateTurn pirate_turn_rows) (search moved parts 20) (deed cave tt p) h
     where
       met : (d : Deed (Unit {0})) → On R d.scene.state
           → On R (by_table table.Pirate pirate_rows d).scene.state
@@ -155,14 +184,14 @@ module _ {game : CaveView} {l : Line} {Q P : Claim} (k : IsKept game l Q P) wher
           (search (effects, home_kept, all_stolen_kept) parts 20 depth 12) d h
 
       moved : (d : Deed (Unit {0})) → On R d.scene.state
-          → On R (by_rows chase_rows (move_pirate d)).scene.state
+          → On R (by_table table.Chase chase_rows (move_pirate d)).scene.state
       moved d h =
-          quiet R chase_rows (search met parts 20) (move_pirate d)
+          quiet R (noted table.Chase chase_rows) (search met parts 20) (move_pirate d)
           (moved_kept d.cave PIRATE d.scene (λ low _. not_low low) h)
 
-  stirred_kept : (s : State) → (s.dwarves.anger == 0 && true) ≡ true → On R s
+  stirred_kept : (s : State) (deep : Bool) → (s.dwarves.anger == 0 && deep) ≡ true → On R s
       → On R (with_anger 1 s)
-  stirred_kept s asleep h = angry_kept 0 1 s (holds_alone _ asleep) (omega arith) h
+  stirred_kept s deep asleep h = angry_kept 0 1 s (first_holds _ deep asleep) (omega arith) h
 
   -- the dwarves sleep, stir, or act
   pub dwarves_kept : (cave : CaveView) (p : Scene) → On R p.state

@@ -1,14 +1,21 @@
 -- What rows make of a claim, by what their effects make of it: of one that is kept by what happens
 -- while the player stays.
 use Rattle.cave_turn.specs.turn_rules.Effects.{after_sending, for_each_down_from, for_each_from}
+use Rattle.turn_laws.proofs.Words.{if◌then◌else◌}
 use Rattle.turn_laws.proofs.Words.{Act, Anchor, Bool, CaveView, Closing, Deed, Dwarf, Ending}
 use Rattle.turn_laws.proofs.Words.{Layout, List, MAX_LAMP_TURNS, None, Option, Question, Scene}
 use Rattle.turn_laws.proofs.Words.{Some, State, Tallies, [], after_drawing, after_look_at, all_hold}
-use Rattle.turn_laws.proofs.Words.{arith, by_rows, false, first_fitting_or, if◌then◌else◌, inl, inr}
-use Rattle.turn_laws.proofs.Words.{int_min, ints, min, nothing_but, pos, refl, slice_set, suc, true}
-use Rattle.turn_laws.proofs.Words.{zero, ℕ, ℤ, ◌&&◌, ◌+ℤ◌, ◌+◌, ◌||◌, ◌∷◌, ◌≡◌, ◌≤◌, ◌⊎◌}
+use Rattle.turn_laws.proofs.Words.{arith, by_rows, by_table, deed, false, first_fitting_or}
+use Rattle.turn_laws.proofs.Words.{inl, inr, int_min, ints, min, noted, nothing_but, pos, refl}
+use Rattle.turn_laws.proofs.Words.{slice_set, subst, suc, sym, true, zero, ℕ, ℤ, ◌&&◌, ◌+ℤ◌, ◌+◌}
+use Rattle.turn_laws.proofs.Words.{◌∷◌, ◌≡◌, ◌≤◌, ◌⊎◌}
+use Rattle.cave_turn.specs.rule_rows.declared.tables.Table.TheVariants as table
 use Rattle.cave_turn.specs.turn_rules.Rows.{Row, Test, act_of_row, after_trying_by, fits_by}
-use Rattle.cave_turn.specs.turn_things.Effects.{after_panic}
+use Rattle.cave_turn.specs.turn_rules.Losses.{after_loss_to_snake, loss_to_snake_rows}
+use Rattle.cave_turn.specs.turn_rules.Panic.{after_panic, panic_rows}
+use Rattle.cave_turn.specs.turn_rules.Putting.{after_lay_down, after_put, caged_bird_rows}
+use Rattle.cave_turn.specs.turn_rules.Putting.{free_bird_rows, lay_down_rows, put_down, vessel}
+use Rattle.cave_turn.specs.turn_rules.Troll.{after_troll, troll_leaves}
 use Rattle.cave_turn.specs.verb_commands.Effects.{after_default}
 use Rattle.cave_turn.specs.world_objects.Objects.{after_juggle, after_move_to, with_anchor}
 use Rattle.cave_turn.specs.world_objects.Objects.{with_prop}
@@ -189,14 +196,28 @@ shown n o q c t b h a e =
       ending = e;
     }
 
--- what holds with each clock that panic may leave holds after it
-pub panicked : (R : State → Type 0) (s : State)
-    → ((n : ℤ) → (n ≡ s.closing.second_clock) ⊎ (n ≡ pos 15)
-    → R (record s { closing = record s.closing { second_clock = n; is_panicking = true } }))
-    → R (after_panic s)
-panicked R s each =
-    choose R (s.closing.is_panicking || s.closing.is_closed) _ _
-    (λ _. each s.closing.second_clock (inl refl)) (λ _. each (pos 15) (inr refl))
+-- what holds with each clock that panic may leave, and where nothing changes, holds after it
+pub panicked : (R : State → Type 0) (cave : CaveView) (p : Scene) → R p.state
+    → ((n : ℤ) → (n ≡ p.state.closing.second_clock) ⊎ (n ≡ pos 15)
+    → R (record (p.state) {
+      closing = record (p.state.closing) { second_clock = n; is_panicking = true };
+    }))
+    → R (after_panic cave p).state
+unfolding after_panic panic_rows
+panicked R cave p here each =
+    guarded (λ (a : Act (Unit {0})). R a.scene.state) (nothing_but (λ e. tt)) (deed cave tt p)
+    (noted table.Panic panic_rows) (
+      (λ _. here),
+      (λ _. (
+        (λ _. each p.state.closing.second_clock (inl refl)),
+        (λ _. each (pos 15) (inr refl)),
+      )),
+    )
+
+-- what is put down for an object changes nothing
+vessel_same : (d : Deed ℕ) → (vessel d).scene.state ≡ d.scene.state
+unfolding vessel
+vessel_same d = grind arith
 
 module _ {game : CaveView} {l : Line} {Q P : Claim} {Other : ℕ → Type 0} (k : IsKept game l Q P)
   where
@@ -258,10 +279,11 @@ module _ {game : CaveView} {l : Line} {Q P : Claim} {Other : ℕ → Type 0} (k 
     act_chosen b a c h g =
         choose (λ (one : Act _). On (Ready Other P) one.scene.state) b a c (λ _. h) (λ _. g)
 
-    pub panic : (s : State) → On (Ready Other P) s → On (Ready Other P) (after_panic s)
-    panic s h =
-        panicked (On (Ready Other P)) s (λ n how.
-        record { holds = k.keeps (Panics n) (view s) how h.holds; calm = h.calm; at = h.at })
+    pub panic : (cave : CaveView) (p : Scene) → On (Ready Other P) p.state
+        → On (Ready Other P) (after_panic cave p).state
+    panic cave p h =
+        panicked (On (Ready Other P)) cave p h (λ n how.
+        record { holds = k.keeps (Panics n) (view p.state) how h.holds; calm = h.calm; at = h.at })
 
     pub sent : (x : ℕ) (o : Option ℕ) (s : State) → On (Ready Other P) s
         → On (Ready Other P) (after_sending x o s)
@@ -295,4 +317,41 @@ pub ruleset changes_made = (placed, held, propped, juggled, hinted, lost, angere
 
 pub ruleset choices = (state_chosen, deed_chosen, scene_chosen, act_chosen, say_default, look)
 
-pub ruleset effects = (changes_made, choices, panic, sent)
+ruleset plain_effects = (changes_made, choices)
+
+-- what rules do that have rows of their own
+module _ {game : CaveView} {l : Line} {Q P : Claim} {Other : ℕ → Type 0} (k : IsKept game l Q P)
+  where
+    pub put : (cave : CaveView) (x : ℕ) (p : Scene) → On (Ready Other P) p.state
+        → On (Ready Other P) (after_put cave x p).state
+    unfolding after_put put_down caged_bird_rows free_bird_rows
+    put cave x p h =
+        let y = vessel (deed cave x p) in let d = deed cave y.step y.scene in
+        let one = subst (On (Ready Other P)) (sym (vessel_same (deed cave x p))) h in
+        let caged = quiet (Ready Other P) (noted table.CagedBird caged_bird_rows)
+        (search plain_effects parts 20) d one in
+        let free = quiet (Ready Other P) (noted table.FreeBird free_bird_rows)
+        (search plain_effects parts 20) (by_table table.CagedBird caged_bird_rows d) caged in
+        moved k _ (Place y.step _) free
+
+    pub laid_down : (cave : CaveView) (x : ℕ) (p : Scene) → On (Ready Other P) p.state
+        → On (Ready Other P) (after_lay_down cave x p).state
+    unfolding after_lay_down lay_down_rows
+    laid_down cave x p h =
+        quiet (Ready Other P) (noted table.LayDown lay_down_rows) (search plain_effects parts 20)
+        (deed cave x p) h
+
+    pub troll_gone : (cave : CaveView) (p : Scene) → On (Ready Other P) p.state
+        → On (Ready Other P) (after_troll cave p).state
+    unfolding after_troll troll_leaves
+    troll_gone cave p h = search plain_effects
+
+    pub lost_to_snake : (cave : CaveView) (p : Scene) → On (Ready Other P) p.state
+        → On (Ready Other P) (after_loss_to_snake cave p).state
+    unfolding after_loss_to_snake loss_to_snake_rows
+    lost_to_snake cave p h =
+        quiet (Ready Other P) (noted table.SnakeLoss loss_to_snake_rows) (search plain_effects parts 20)
+        (deed cave tt p) h
+
+pub ruleset effects =
+    (changes_made, choices, panic, sent, put, laid_down, troll_gone, lost_to_snake)

@@ -5,7 +5,8 @@ use Rattle.base_lines.proofs.LogLines.{IsLogLine-log_line, log_line-only}
 use Rattle.cave_turn.specs.Answers.{after_answer, after_no, after_yes, give_instructions}
 use Rattle.cave_turn.specs.Answers.{is_of_hint, quit, reply_scene}
 use Rattle.cave_turn.specs.Commands.{command_scene}
-use Rattle.cave_turn.specs.Dragon.{after_gathering, fight, is_by_dragon, lair_from}
+use Rattle.cave_turn.specs.Dragon.{after_gather, after_settle, fight, gathering_rows, lair}
+use Rattle.cave_turn.specs.Dragon.{settle}
 use Rattle.cave_turn.specs.Finish.{end_of_turn}
 use Rattle.cave_turn.specs.Revival.{bury}
 use Rattle.cave_turn.specs.Turns.{silent_turn, start_of_game, turn_of, turn_on_line, with_seed}
@@ -25,31 +26,48 @@ use Rattle.cave_turn.specs.turn_ends.Questions.{with_question}
 use Rattle.turn_laws.specs.Courses.{is_lit}
 use Rattle.turn_laws.specs.Laws.{HasEnded, IsQuiet, Lasts, before_clocks, before_lamp, is_changed}
 use Rattle.turn_laws.specs.Laws.{is_command, is_input_kind, is_no_answer, is_priced, pays}
-use Rattle.turn_laws.proofs.Effects.{by_guarded, each_kept, effects, holds_alone, look, moved_all}
-use Rattle.turn_laws.proofs.Effects.{moved_if, paid_by, quiet}
+use Rattle.turn_laws.proofs.Effects.{by_guarded, each_kept, effects, holds_alone, look, moved}
+use Rattle.turn_laws.proofs.Effects.{moved_all, paid_by, quiet}
 use Rattle.turn_laws.proofs.Moves.{arriving_kept, arriving_open}
 use Rattle.turn_laws.proofs.Places.{asking_kept, ended_kept, ending_kept, question_kept}
 use Rattle.turn_laws.proofs.Turns.{commanded_kept, finished_kept, mourned, reborn_kept}
-use Rattle.turn_laws.proofs.View.{Anywhere, Asks, Claim, Closes, Hints, Hold, IsChargeAfter, IsKept}
-use Rattle.turn_laws.proofs.View.{IsMoved, Keeps, Line, Moves, On, Passes, Pays, Place, Prop, Puts}
-use Rattle.turn_laws.proofs.View.{Ready, View, choose, is_die, led, line_of, view}
-use Rattle.turn_laws.proofs.Words.{Bool, CaveView, Deed, Ending, Layout, List, LogLine, None}
-use Rattle.turn_laws.proofs.Words.{Option, Question, Scene, Some, State, Turn, [], after_all}
-use Rattle.turn_laws.proofs.Words.{after_look_at, answer_in, answers, ap, arith, by_table, deed}
-use Rattle.turn_laws.proofs.Words.{false, false≢true, if◌then◌else◌, inr, ints, is_dragon, is_some}
-use Rattle.turn_laws.proofs.Words.{is_yes, log_line, not, noted, pos, refl, start_place, subst, sym}
-use Rattle.turn_laws.proofs.Words.{thing, true, true≢false, turn_of_input, turn_on_log_line}
-use Rattle.turn_laws.proofs.Words.{with_state, without_question, ℕ, ℤ, ◌&&◌, ◌||◌, ◌∙◌, ◌∷◌, ◌≡◌}
+use Rattle.turn_laws.proofs.View.{Anywhere, Asks, Claim, Closes, Hints, Hold, IsCalm, IsChargeAfter}
+use Rattle.turn_laws.proofs.View.{IsKept, IsMoved, Keeps, Line, Moves, On, Passes, Pays, Place}
+use Rattle.turn_laws.proofs.View.{Prop, Puts, Ready, choose, is_die, lair_from, led, line_of, view}
+use Rattle.turn_laws.proofs.Words.{if◌then◌else◌}
+use Rattle.turn_laws.proofs.Words.{Bool, CaveView, Deed, Ending, List, LogLine, None, Option}
+use Rattle.turn_laws.proofs.Words.{Question, Scene, Some, State, Turn, [], after_all, after_look_at}
+use Rattle.turn_laws.proofs.Words.{answer_in, answers, ap, arith, by_table, deed, false, false≢true}
+use Rattle.turn_laws.proofs.Words.{inr, ints, is_dragon, is_some, is_yes, log_line, not}
+use Rattle.turn_laws.proofs.Words.{noted, pos, refl, start_place, subst, sym, thing, true}
+use Rattle.turn_laws.proofs.Words.{true≢false, turn_of_input, turn_on_log_line, with_state}
+use Rattle.turn_laws.proofs.Words.{without_question, ℕ, ℤ, ◌&&◌, ◌||◌, ◌∙◌, ◌∷◌, ◌≡◌}
 use Rattle.cave_turn.specs.rule_rows.declared.tables.Table.TheVariants as table
 use Rattle.cave_turn.specs.turn_rules.Effects.{for_each_from}
+use Rattle.cave_turn.specs.turn_things.Effects.{with_objects}
+use Rattle.cave_turn.specs.world_objects.Objects.{after_move_to}
 
 -- all that is by the dragon is moved to a place
-gathered_kept : (P : Claim) → IsMoved P → (cave : CaveView) (place : ℕ) (v : View) → P v
-    → P (record v { objects = for_each_from 1 100 (after_gathering cave place) v.objects })
-gathered_kept P moves cave place v h =
-    each_kept (λ (o : Layout). P (record v { objects = o })) 1 100 (after_gathering cave place)
-    (λ x o g. moved_if P moves (is_by_dragon cave o x) (Place x place)
-    (record v { objects = o }) g) v.objects h
+gathered_kept : (P : Claim) → IsMoved P → (cave : CaveView) (place : ℕ) (p : Scene) → On P p.state
+    → On P (for_each_from 1 100 (after_gather cave place) p).state
+unfolding after_gather gathering_rows
+gathered_kept P moves cave place p h =
+    each_kept (λ (q : Scene). On P q.state) 1 100 (after_gather cave place)
+    (λ x q g. quiet P (noted table.Gathering (gathering_rows place)) (search placed parts 20)
+    (deed cave x q) g) p h
+  where
+    placed : (x : ℕ) (s : State) → On P s
+        → On P (with_objects (after_move_to s.objects x place) s)
+    placed x s h = moves (view s) (Place x place) h
+
+-- the lair is found by what is true, and changes nothing
+lair_same : (d : Deed Question) → (lair d).scene.state ≡ d.scene.state
+unfolding lair
+lair_same d = grind arith
+
+lair_is : (d : Deed Question) → (lair d).step ≡ lair_from d.cave d.scene.state.trail.here
+unfolding lair
+lair_is d = grind arith
 
 -- the charge that the instructions and a hint give
 full_charge : (b : ℤ) → IsChargeAfter b (pos 1000)
@@ -90,25 +108,37 @@ module _ {cave : CaveView} {l : Line} {Q P : Claim} (k : IsKept cave l Q P) wher
       quiet (Ready Anywhere P) (noted table.HintGiven give_rows)
       (search (effects, paid_by) parts 20) d h
 
+  -- the player is put where the dragon lies
+  put_in_lair : (place : ℕ) (p : Scene) → place ≡ lair_from cave p.state.trail.here
+      → On (Ready Anywhere P) p.state → On P (after_settle cave place p).state
+  unfolding after_settle settle state_with_player_at
+  put_in_lair place p is h =
+      let dragon = thing cave name.Dragon in let rug = thing cave name.Rug in
+      let here = p.state.trail.here in
+      let Still : Claim = λ v. P (record v { here = here }) × IsCalm v in
+      let still : IsMoved Still = λ v c g. (k.keeps (Moves c) _ tt g.0, g.1) in
+      let q = (after_all (first_of 4 settle) (deed cave place p)).scene in
+      let lies = moved_all Still still (
+      Hold dragon anchor.Fixed ∷ Hold rug anchor.Loose ∷ Place dragon place ∷ Place rug place
+      ∷ []) (view p.state) (h.holds, h.calm) in
+      let all = gathered_kept Still still cave place q lies in
+      arriving_open k here place (after_all (first_of 6 settle) (deed cave place p)).scene all.0
+      all.1 (λ some. k.keeps (Puts place) _ (some, inr is) all.0)
+
   fought_kept : (p : Scene) → On (Ready Anywhere P) p.state
       → On P (after_all fight (deed cave question.Dragon p)).scene.state
-  unfolding fight lair_from state_with_player_at
+  unfolding fight
   fought_kept p h =
-      let d = deed cave question.Dragon p in
       let dragon = thing cave name.Dragon in let rug = thing cave name.Rug in
-      let changes = λ (place : ℕ). (Prop dragon DRAGON_DEAD ∷ Prop rug RUG_FREE
-      ∷ Hold dragon anchor.Fixed ∷ Hold rug anchor.Loose ∷ Place dragon place ∷ Place rug place
-      ∷ []) in
-      let moves : IsMoved P = λ v c h. k.keeps (Moves c) v tt h in
       let q = after_look_at dragon (pos 1) p in
       let looks : On (Ready Anywhere P) q.state = look k dragon (pos 1) p h in
-      let s = q.state in let here = s.trail.here in
-      let place = lair_from cave here in
-      let killed =
-      gathered_kept P moves cave place _
-      (moved_all P moves (changes place) (view s) looks.holds) in
-      arriving_open k here place (after_all (first_of 9 fight) d).scene killed looks.calm
-      (λ some. k.keeps (Puts place) _ (some, inr refl) killed)
+      let d = after_all (first_of 3 fight) (deed cave question.Dragon p) in
+      let dead : On (Ready Anywhere P) d.scene.state =
+      moved k _ (Prop rug RUG_FREE) (moved k (view q.state) (Prop dragon DRAGON_DEAD) looks) in
+      let found = lair d in let same = sym (lair_same d) in
+      put_in_lair found.step found.scene
+      (subst (λ (s : State). found.step ≡ lair_from cave s.trail.here) same (lair_is d))
+      (subst (On (Ready Anywhere P)) same dead)
 
   -- answers, which are no commands, so that no lamp burns
   module _ (unlit : l.is_lit ≡ false) where

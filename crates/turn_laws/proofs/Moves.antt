@@ -14,30 +14,28 @@ use Rattle.cave_turn.specs.data_rows.declared.targets.Destination.TheVariants.{P
 use Rattle.cave_turn.specs.data_rows.declared.targets.Special.TheVariants.{Bridge, Squeeze}
 use Rattle.cave_turn.specs.turn_moves.Arrival.{after_arrival, after_forced_motions}
 use Rattle.cave_turn.specs.turn_moves.Arrival.{description_anew, stop_at}
-use Rattle.cave_turn.specs.turn_moves.Bridge.{break_bridge, bridge, bridge_rows, cross}
-use Rattle.cave_turn.specs.turn_moves.Bridge.{cross_bridge, cross_rows, demand_toll}
-use Rattle.cave_turn.specs.turn_moves.Journeys.{back_rows, enough_rows, journey_by}
+use Rattle.cave_turn.specs.turn_moves.Bridge.{break_bridge, bridge_rows, cross_bridge, demand_toll}
+use Rattle.cave_turn.specs.turn_moves.Bridge.{pass_troll, spices_rows, toll_rows}
+use Rattle.cave_turn.specs.turn_moves.Back.{back_rows, go_back, place_back}
+use Rattle.cave_turn.specs.turn_moves.Journeys.{enough_rows, journey_by}
 use Rattle.cave_turn.specs.turn_moves.Journeys.{journey_by_request, journey_by_rows}
 use Rattle.cave_turn.specs.turn_moves.Journeys.{journey_of_outcome, look_round, own_motion}
-use Rattle.cave_turn.specs.turn_moves.Journeys.{own_motion_rows, refusal_rows, set_forth}
-use Rattle.cave_turn.specs.turn_moves.Journeys.{that_motion}
+use Rattle.cave_turn.specs.turn_moves.Journeys.{refusal_rows, set_forth}
 use Rattle.cave_turn.specs.turn_moves.Squeeze.{squeeze_rows, squeeze_through}
-use Rattle.cave_turn.specs.turn_moves.Ways.{end_of}
 use Rattle.cave_turn.specs.turn_scene.Scene.{after_setting_out, with_left}
-use Rattle.cave_turn.specs.turn_things.Props.{TROLL_CALM, TROLL_RETURNING}
 use Rattle.cave_turn.specs.cave_words.declared.named.Named.TheVariants as name
 use Rattle.cave_turn.specs.cave_world.declared.travel_rows.Outcome.TheVariants as outcome
 use Rattle.cave_turn.specs.turn_rules.Rows.{act_of}
-use Rattle.turn_laws.proofs.Effects.{effects, guarded, kept_by, placed, propped, quiet}
-use Rattle.turn_laws.proofs.Effects.{state_chosen}
+use Rattle.turn_laws.proofs.Effects.{effects, guarded, kept_by, placed, quiet, state_chosen}
 use Rattle.turn_laws.proofs.Places.{Reaches, Stopped, falling_kept, seen_kept, shown_kept}
 use Rattle.turn_laws.proofs.Places.{shown_open}
 use Rattle.turn_laws.proofs.View.{Anywhere, Claim, IsCalm, IsKept, Line, On, Ready, There, View}
 use Rattle.turn_laws.proofs.View.{choose, view}
+use Rattle.turn_laws.proofs.Words.{if◌then◌else◌}
 use Rattle.turn_laws.proofs.Words.{Act, Bool, CaveView, Deed, List, None, Option, Scene, Some}
-use Rattle.turn_laws.proofs.Words.{State, [], after_all, by_rows, deed, false, first_fitting_or}
-use Rattle.turn_laws.proofs.Words.{has_prop, here, length, noted, noted_from, nothing_but, set_prop}
-use Rattle.turn_laws.proofs.Words.{slice_set, suc, the, thing, true, zero, ℕ, ◌-◌, ◌==◌, ◌∷◌}
+use Rattle.turn_laws.proofs.Words.{State, [], after_all, always, arith, by_table, deed, false, here, length}
+use Rattle.turn_laws.proofs.Words.{noted, nothing_but, slice_set, subst, suc, sym, thing, true}
+use Rattle.turn_laws.proofs.Words.{zero, ℕ, ◌-◌, ◌==◌, ◌∷◌, ◌≡◌}
 use Rattle.cave_turn.specs.rule_rows.declared.tables.Table.TheVariants as table
 
 module _ {cave : CaveView} {l : Line} {Q P : Claim} (k : IsKept cave l Q P) where
@@ -91,38 +89,28 @@ module _ {cave : CaveView} {l : Line} {Q P : Claim} (k : IsKept cave l Q P) wher
   unfolding squeeze_through squeeze_rows
   squeezed_kept d h = kept_by R (noted table.Squeeze squeeze_rows) here (search parts 20) d h
 
+  passed_kept : (d : Deed (Unit {0})) → On R d.scene.state → On R (pass_troll d).scene.state
+  unfolding toll_rows
+  passed_kept d h = quiet R (noted table.Toll toll_rows) (search effects parts 20) d h
+
+  spiced_kept : (d : Deed (Unit {0})) → On R d.scene.state
+      → On R (by_table table.SpicesLost spices_rows d).scene.state
+  unfolding spices_rows
+  spiced_kept d h = quiet R (noted table.SpicesLost spices_rows) (search effects parts 20) d h
+
   -- the bridge breaks
-  broken_kept : (end : ℕ) (p : Scene) → On R p.state
-      → On P (after_all break_bridge (deed cave end p)).scene.state
+  broken_kept : (d : Deed (Unit {0})) → On R d.scene.state
+      → On P (after_all break_bridge d).scene.state
   unfolding break_bridge
-  broken_kept end p h = search (effects, falling_kept k) depth 16
+  broken_kept d h = search (effects, spiced_kept, falling_kept k) depth 16
 
-  -- a player whom the troll lets pass crosses
-  over_kept : (end : ℕ) (p : Scene) → On R p.state
-      → On P (first_fitting_or (noted_from table.Bridge 3 cross_rows) (nothing_but here)
-      (deed cave end p)).scene.state
-  unfolding cross_rows
-  over_kept end p h =
-      guarded (λ (a : Act ℕ). On P a.scene.state) (nothing_but here) (deed cave end p)
-      (noted_from table.Bridge 3 cross_rows) (search (effects, held_still, broken_kept) parts 20)
-
-  crossed_kept : (end : ℕ) (p : Scene) → On R p.state → On P (cross (deed cave end p)).scene.state
-  unfolding cross
-  crossed_kept end p h =
-      let d = deed cave end p in let e = set_prop (the name.Troll) TROLL_RETURNING d in
-      choose
-      (λ (f : Deed ℕ). On P (first_fitting_or (noted_from table.Bridge 3 cross_rows)
-      (nothing_but here) f).scene.state)
-      (has_prop p.state (thing cave name.Troll) TROLL_CALM) e d
-      (λ _. over_kept end e.scene (propped k _ _ h)) (λ _. over_kept end p h)
-
-  -- or the troll asks for a treasure
+  -- a player whom the troll lets pass crosses, or the troll asks for a treasure
   bridged_kept : (p : Scene) → On R p.state → On P (cross_bridge (deed cave tt p)).scene.state
   unfolding cross_bridge bridge_rows demand_toll
   bridged_kept p h =
-      guarded (λ (a : Act ℕ). On P a.scene.state)
-      (λ e. cross (deed e.cave (end_of bridge e) e.scene)) (deed cave tt p)
-      (noted table.Bridge bridge_rows) (search (effects, held_still, crossed_kept) parts 20 depth 12)
+      guarded (λ (a : Act ℕ). On P a.scene.state) (nothing_but here) (deed cave tt p)
+      (noted table.Bridge bridge_rows)
+      (search (effects, held_still, passed_kept, broken_kept) parts 20 depth 12)
 
   led_kept : (motion : ℕ) (o : Outcome) (p : Scene) → On R p.state
       → On P (journey_of_outcome cave motion o p).scene.state
@@ -132,7 +120,7 @@ module _ {cave : CaveView} {l : Line} {Q P : Claim} (k : IsKept cave l Q P) wher
   led_kept motion (outcome.Special Bridge) p h = bridged_kept p h
   led_kept motion (outcome.Say message) p h = h.holds
   led_kept motion outcome.NoMotion p h =
-      quiet P (noted table.NoWay refusal_rows) (search parts 20) (deed cave motion p) h.holds
+      quiet P (noted table.NoMotion refusal_rows) (search parts 20) (deed cave motion p) h.holds
   led_kept motion outcome.NoWay p h = h.holds
 
   forth_kept : (motion : ℕ) (p : Scene) → On R p.state
@@ -174,16 +162,32 @@ module _ {cave : CaveView} {l : Line} {Q P : Claim} (k : IsKept cave l Q P) wher
       → On R (after_all look_round d).scene.state
   unfolding look_round enough_rows without_visits
   looking_round_kept d h =
-      let e = by_rows enough_rows d in
+      let e = by_table table.Enough enough_rows d in
       let s = e.scene.state in let place = s.trail.here in
-      let g = quiet R enough_rows (search parts 20) d h in
+      let g = quiet R (noted table.Enough enough_rows) (search parts 20) d h in
       state_chosen k (place == 0) s (record s { visits = slice_set s.visits (place - 1) 0 }) g g
 
+  -- where a player who goes back wants to go is found by what is true, and changes nothing
+  wanted_same : (d : Deed (Unit {0})) → (place_back d).scene.state ≡ d.scene.state
+  unfolding place_back
+  wanted_same d = grind arith
+
+  back_kept : (d : Deed (Unit {0})) → On R d.scene.state → On R (go_back d).scene.state
+  unfolding go_back back_rows state_after_set_out
+  back_kept d h =
+      let wanted = place_back d in
+      kept_by R (noted table.Back back_rows) (always None) (search parts 20)
+      (deed d.cave wanted.step wanted.scene) (subst (On R) (sym (wanted_same d)) h)
+
+  -- one of two answers of a table
+  answer_chosen : (b : Bool) (a c : Act (Act (Option ℕ))) → On R a.step.scene.state
+      → On R c.step.scene.state → On R (if b then a else c).step.scene.state
+  answer_chosen b a c h g =
+      choose (λ (one : Act (Act (Option ℕ))). On R one.step.scene.state) b a c (λ _. h) (λ _. g)
+
   own_kept : (d : Deed ℕ) → On R d.scene.state → On R (own_motion d).scene.state
-  unfolding own_motion own_motion_rows back_rows state_after_set_out
-  own_kept d h =
-      kept_by R (noted table.OwnMotions own_motion_rows) that_motion
-      (search looking_round_kept parts 20) d h
+  unfolding own_motion
+  own_kept d h = search (answer_chosen, looking_round_kept, back_kept) depth 12
 
   -- the player travels by a motion, or arrives again
   gone_by_kept : (o : Option ℕ) (p : Scene) → On R p.state

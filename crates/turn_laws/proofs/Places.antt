@@ -17,8 +17,8 @@ use Rattle.cave_turn.specs.turn_moves.Description.{stop_rows, tell_place, text_r
 use Rattle.cave_turn.specs.turn_moves.Description.{with_visit_here}
 use Rattle.cave_turn.specs.turn_moves.Dying.{after_die_at, with_all_left_at}
 use Rattle.cave_turn.specs.turn_moves.Objects.{after_object, after_objects, find_treasure}
-use Rattle.cave_turn.specs.turn_moves.Objects.{is_rest_lost, object_rows, object_text_rows}
-use Rattle.cave_turn.specs.turn_moves.Objects.{with_one_less_unseen, with_short_lamp}
+use Rattle.cave_turn.specs.turn_moves.Objects.{last_treasure_rows, object_rows, object_text_rows}
+use Rattle.cave_turn.specs.turn_moves.Objects.{with_one_less_unseen}
 use Rattle.cave_turn.specs.turn_rules.Tests.{it}
 use Rattle.cave_turn.specs.turn_scene.Scene.{scene_at_place}
 use Rattle.cave_turn.specs.world_objects.Lists.{halves_at}
@@ -26,7 +26,7 @@ use Rattle.cave_turn.specs.world_objects.declared.object.Half.{Half}
 use Rattle.cave_turn.specs.cave_world.declared.ending.Ending.TheVariants as ending_is
 use Rattle.cave_turn.specs.cave_world.declared.ending.Question.TheVariants as question
 use Rattle.cave_turn.specs.data_rows.declared.role.Role.TheVariants as role
-use Rattle.cave_turn.specs.turn_things.Effects.{after_panic}
+use Rattle.cave_turn.specs.turn_rules.Panic.{after_panic}
 use Rattle.turn_laws.proofs.Dwarves.{dwarves_kept}
 use Rattle.turn_laws.proofs.Effects.{by_guarded, effects, fails_alone, guarded, holds_alone}
 use Rattle.turn_laws.proofs.Effects.{panicked, propped, quiet}
@@ -34,10 +34,10 @@ use Rattle.turn_laws.proofs.View.{Anywhere, Claim, Comes, Dies, Ends, Finds, IsC
 use Rattle.turn_laws.proofs.View.{Line, On, Panics, Ready, Shortens, Somewhere, There, View}
 use Rattle.turn_laws.proofs.View.{anywhere, choose, from_one, view}
 use Rattle.turn_laws.proofs.Words.{Act, Bool, CaveView, Deed, Ending, List, None, Option, Question}
-use Rattle.turn_laws.proofs.Words.{Scene, Some, State, [], after_all, always, arith, by_rows}
-use Rattle.turn_laws.proofs.Words.{by_table, change, deed, false, first_fitting_or, inl, inr}
-use Rattle.turn_laws.proofs.Words.{is_some, nat_le, not, noted, nothing_but, outside_place, refl}
-use Rattle.turn_laws.proofs.Words.{say, set_prop, sym, true, true≢false, when, with_ending}
+use Rattle.turn_laws.proofs.Words.{Scene, Some, State, [], after_all, always, arith, by_table}
+use Rattle.turn_laws.proofs.Words.{change, deed, false, first_fitting_or, inl, inr, is_some}
+use Rattle.turn_laws.proofs.Words.{nat_le, not, noted, nothing_but, outside_place, refl, say}
+use Rattle.turn_laws.proofs.Words.{set_prop, sym, true, true≢false, with_ending}
 use Rattle.turn_laws.proofs.Words.{with_one_death, with_state, ℕ, ℤ, ◌&&◌, ◌-◌, ◌==◌, ◌||◌, ◌∙◌}
 use Rattle.turn_laws.proofs.Words.{◌∷◌, ◌≡◌, ◌≤◌, ◌⊎◌}
 use Rattle.cave_turn.specs.rule_rows.declared.tables.Table.TheVariants as table
@@ -122,15 +122,15 @@ module _ (P : Claim) where
   told_kept : (d : Deed (Unit {0})) → On P d.scene.state → On P (after_all tell_place d).scene.state
   unfolding tell_place bear_rows text_rows
   told_kept d h =
-      quiet P (noted table.PlaceText text_rows) (search parts 20) (by_rows bear_rows d)
-      (quiet P bear_rows (search parts 20) d h)
+      quiet P (noted table.PlaceText text_rows) (search parts 20) (by_table table.BearFollows bear_rows d)
+      (quiet P (noted table.BearFollows bear_rows) (search parts 20) d h)
 
   darkness_kept : (d : Deed (Unit {0})) → On P d.scene.state
       → On P (after_all feel_place d).scene.state
   unfolding feel_place bear_rows hollow_rows
   darkness_kept d h =
-      quiet P hollow_rows (search parts 20) (say role.Dark (by_rows bear_rows d))
-      (quiet P bear_rows (search parts 20) d h)
+      quiet P (noted table.Hollow hollow_rows) (search parts 20) (say role.Dark (by_table table.BearFollows bear_rows d))
+      (quiet P (noted table.BearFollows bear_rows) (search parts 20) d h)
 
   text_kept : (d : Deed ℕ) → On P d.scene.state
       → On P (by_table table.ObjectText object_text_rows d).scene.state
@@ -185,21 +185,24 @@ module _ {cave : CaveView} {l : Line} {Q P : Claim} (k : IsKept cave l Q P) wher
   -- a treasure is found, and the rest may be lost
   found_kept : (v : ℤ) (d : Deed ℕ) → On R d.scene.state
       → On R (after_all (find_treasure v) d).scene.state
-  unfolding find_treasure
+  unfolding find_treasure last_treasure_rows
   found_kept v d h =
       let seen = set_prop it v d in
       let s = seen.scene.state in
       let e = change with_one_less_unseen seen in
       let got : On R s = propped k (it d) v h in
-      text_kept R (when is_rest_lost (change with_short_lamp) e)
-      (choose (λ (f : Deed ℕ). On R f.scene.state) (is_rest_lost e) (change with_short_lamp e) e
-      (λ lost. record {
-        holds = k.keeps Shortens (view s)
-            (two_unseen s.tallies.unseen (s.tallies.unseen - 1 == s.tallies.lost) lost) got.holds;
-        calm = h.calm;
-        at = h.at;
-      })
-      (λ _. record { holds = k.keeps Finds (view s) tt got.holds; calm = h.calm; at = h.at }))
+      text_kept R (by_table table.LastTreasure last_treasure_rows e)
+      (guarded (λ (a : Act (Unit {0})). On R a.scene.state) (nothing_but (λ f. tt)) e
+      (noted table.LastTreasure last_treasure_rows) (
+        (λ lost. record {
+          holds = k.keeps Shortens (view s)
+              (two_unseen s.tallies.unseen (s.tallies.unseen - 1 == s.tallies.lost)
+              (holds_alone _ lost)) got.holds;
+          calm = h.calm;
+          at = h.at;
+        }),
+        (λ _. record { holds = k.keeps Finds (view s) tt got.holds; calm = h.calm; at = h.at }),
+      ))
 
   object_kept : (x : ℕ) (p : Scene) → On R p.state → On R (after_object cave x p).state
   unfolding after_object object_rows
@@ -215,13 +218,13 @@ module _ {cave : CaveView} {l : Line} {Q P : Claim} (k : IsKept cave l Q P) wher
   sight_kept : (p : Scene) → On R p.state → On R (after_all see_place (deed cave tt p)).scene.state
   unfolding see_place tell_place hollow_rows
   sight_kept p h =
-      let d = by_table table.PlaceText text_rows (by_rows bear_rows (deed cave tt p)) in
-      let q = by_rows hollow_rows d in
+      let d = by_table table.PlaceText text_rows (by_table table.BearFollows bear_rows (deed cave tt p)) in
+      let q = by_table table.Hollow hollow_rows d in
       let r = change with_visit_here q in
       let s = r.scene.state in
       objects_kept (halves_at s.trail.here s.objects.lists) r.scene
       (visit_kept R q.scene.state q.scene.state.trail.here
-      (quiet R hollow_rows (search parts 20) d (told_kept R (deed cave tt p) h)))
+      (quiet R (noted table.Hollow hollow_rows) (search parts 20) d (told_kept R (deed cave tt p) h)))
 
   held_still : {v : View} → R v → P v
   held_still h = h.holds
@@ -283,19 +286,22 @@ module _ {cave : CaveView} {l : Line} {Q P : Claim} (k : IsKept cave l Q P) wher
   come_on_kept before place p h calm stays =
       guarded (λ (held : Act ℕ). OnStop P (come_to cave held.step held.scene))
       (nothing_but new) (deed cave place p) (noted table.Blocking blocking_rows)
-      (search (panics, come_kept before, comes) parts 20)
+      (search (stays_here, come_kept before, comes) parts 20)
     where
-      panics : (let t = after_panic p.state in
-          On (There P before) t × IsCalm (view t) × Reaches P t.trail.here t)
-      panics =
-          let s = p.state in
-          panicked
-          (λ (t : State). On (There P before) t × IsCalm (view t) × Reaches P t.trail.here t) s
+      stays_here : (q : Scene) → On (There P before) q.state → IsCalm (view q.state)
+          → Reaches P q.state.trail.here q.state
+          → OnStop P (come_to cave (after_panic cave q).state.trail.here (after_panic cave q))
+      stays_here q there still found =
+          let s = q.state in
+          let t = panicked
+          (λ (t : State). On (There P before) t × IsCalm (view t) × Reaches P t.trail.here t)
+          cave q (there, still, found)
           (λ n how. (
-            k.keeps (Panics n) (record (view s) { here = before }) how h,
-            calm,
-            λ some. k.keeps (Panics n) (view s) how (stays some),
-          ))
+            k.keeps (Panics n) (record (view s) { here = before }) how there,
+            still,
+            λ some. k.keeps (Panics n) (view s) how (found some),
+          )) in
+          come_kept before _ (after_panic cave q) t.0 t.1 t.2
 
       comes : (p.state.closing.is_closing
           && (not (place == 0) && (nat_le place (outside_place cave) && true))) ≡ false

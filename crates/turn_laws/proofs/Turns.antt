@@ -1,31 +1,31 @@
 -- What a command makes of a claim.
-use Rattle.cave_turn.specs.Commands.{after_clocks, after_puzzle, after_travel, begin_command}
-use Rattle.cave_turn.specs.Commands.{clocks_scene, command_scene, done_by_action, done_by_request}
-use Rattle.cave_turn.specs.Commands.{done_by_verb, kept_scene, next_scene, puzzle_rows}
-use Rattle.cave_turn.specs.Commands.{scene_of_understood, scene_of_words}
+use Rattle.cave_turn.specs.cave_words.Stream.{next}
+use Rattle.cave_turn.specs.Commands.{Done, after_clocks, after_puzzle, after_travel, begin_command}
+use Rattle.cave_turn.specs.Commands.{clocks_scene, command_scene, done, done_by_action}
+use Rattle.cave_turn.specs.Commands.{done_by_request, done_by_verb, half_command_kept, kept_scene}
+use Rattle.cave_turn.specs.Commands.{next_scene, puzzle_rows, scene_of_understood, scene_of_words}
 use Rattle.cave_turn.specs.Finish.{end_of_turn, end_rows, hands_rows, is_hidden_in_hand}
 use Rattle.cave_turn.specs.Finish.{layout_with_object_shown}
-use Rattle.cave_turn.specs.Revival.{come_back, fallen_place, layout_after_fall, reborn_rows}
-use Rattle.cave_turn.specs.Revival.{revival_rows, revive, without_belongings}
+use Rattle.cave_turn.specs.Revival.{after_fall, come_back, fall_rows, put_out_rows, reborn_rows}
+use Rattle.cave_turn.specs.Revival.{revival_rows, revive}
 use Rattle.cave_turn.specs.cave_data.CaveView.{default_message}
 use Rattle.cave_turn.specs.cave_verbs.Acting.{act}
 use Rattle.cave_turn.specs.cave_words.Words.{words_of}
 use Rattle.cave_turn.specs.cave_words.declared.words.Words.{Words}
-use Rattle.cave_turn.specs.cave_world.State.{takes_no_command, with_player_from}
+use Rattle.cave_turn.specs.cave_world.State.{takes_no_command}
 use Rattle.cave_turn.specs.declared.request.HalfCommand.{HalfCommand}
 use Rattle.cave_turn.specs.declared.request.Request.{Request}
 use Rattle.cave_turn.specs.declared.request.Understood.{Understood}
 use Rattle.cave_turn.specs.turn_clocks.Clocks.{run_clocks}
-use Rattle.cave_turn.specs.turn_hints.Hints.{after_consider, hint_rows, offer_rows}
+use Rattle.cave_turn.specs.turn_hints.Hints.{after_consider, guard_rows, hint_rows, offer_rows}
 use Rattle.cave_turn.specs.turn_moves.Journeys.{journey_by_request}
 use Rattle.cave_turn.specs.turn_scene.Scene.{after_telling, happens}
 use Rattle.cave_turn.specs.turn_things.Effects.{with_objects}
 use Rattle.cave_turn.specs.verb_commands.Rows.{command_of}
 use Rattle.cave_turn.specs.verb_commands.Verbs.{verb_of}
-use Rattle.cave_turn.specs.world_objects.Objects.{is_carried, prop_of}
+use Rattle.cave_turn.specs.world_objects.Objects.{after_move_to, prop_of, with_prop}
 use Rattle.cave_turn.specs.turn_clocks.declared.clocks.Clocks.TheVariants as clocks
 use Rattle.cave_turn.specs.cave_world.declared.ending.Ending.TheVariants as ending_is
-use Rattle.cave_turn.specs.cave_words.declared.named.Named.TheVariants as name
 use Rattle.cave_turn.specs.verb_commands.declared.next.Next.TheVariants as next_is
 use Rattle.cave_turn.specs.cave_world.declared.part.Part.TheVariants as part
 use Rattle.cave_turn.specs.cave_world.declared.ending.Question.TheVariants as question
@@ -34,28 +34,28 @@ use Rattle.turn_laws.specs.Laws.{before_clocks, before_lamp}
 use Rattle.turn_laws.proofs.Reading.{read_kept}
 use Rattle.cave_turn.specs.turn_ends.Questions.{with_question}
 use Rattle.std.specs.FinMap as map
+use Rattle.std.specs.Prelude.{take as first_of}
 use Rattle.turn_laws.proofs.Clocks.{After, IsLampOf, clocks_kept}
-use Rattle.turn_laws.proofs.Effects.{by_guarded, each_kept, each_kept_down, fails_alone}
-use Rattle.turn_laws.proofs.Effects.{first_holds, moved_if, propped, quiet, second_holds, tests}
+use Rattle.turn_laws.proofs.Effects.{by_guarded, each_kept, each_kept_down, fails_alone, moved}
+use Rattle.turn_laws.proofs.Effects.{moved_if, quiet, tests}
 use Rattle.turn_laws.proofs.Moves.{arriving_kept, arriving_open, describing_kept, motion_kept}
 use Rattle.turn_laws.proofs.Places.{asking_kept, ended_kept, ending_kept, none_over}
 use Rattle.turn_laws.proofs.Verbs.{acted_kept, is_asking_apart, known}
 use Rattle.turn_laws.proofs.View.{Anywhere, Asks, Buries, Claim, IsKept, IsMoved, Line, Moves, On}
 use Rattle.turn_laws.proofs.View.{Place, Prop, Puts, Ready, Revives, Somewhere, View, anywhere}
 use Rattle.turn_laws.proofs.View.{choose, view, with_death}
-use Rattle.turn_laws.proofs.Words.{Bool, CaveView, Clocks, Deed, LAMP_OFF, Layout, List, Next, None}
-use Rattle.turn_laws.proofs.Words.{Option, Question, Scene, Some, State, UNSEEN, Verb, after_all}
-use Rattle.turn_laws.proofs.Words.{after_draw, after_look_at, arith, building_place, by_table}
-use Rattle.turn_laws.proofs.Words.{change, deed, drop, false, inl, is_some, nat_le, next_of_step}
-use Rattle.turn_laws.proofs.Words.{not, noted, refl, set_prop, sym, the, true, with_one_death}
-use Rattle.turn_laws.proofs.Words.{with_state, without_question, ℕ, ℤ, ◌&&◌, ◌-ℤ◌, ◌==◌, ◌||◌, ◌≡◌}
+use Rattle.turn_laws.proofs.Words.{Bool, CaveView, Clocks, Deed, Layout, List, Next, None}
+use Rattle.turn_laws.proofs.Words.{Option, Scene, Some, State, UNSEEN, Verb, after_all, after_draw}
+use Rattle.turn_laws.proofs.Words.{after_look_at, arith, building_place, by_table, change, deed}
+use Rattle.turn_laws.proofs.Words.{drop, false, inl, is_some, nat_le, next_of_step, noted}
+use Rattle.turn_laws.proofs.Words.{refl, subst, sym, true, with_one_death, without_question, ℕ, ℤ}
+use Rattle.turn_laws.proofs.Words.{◌&&◌, ◌-ℤ◌, ◌==◌, ◌||◌, ◌≡◌}
 use Rattle.cave_turn.specs.rule_rows.declared.tables.Table.TheVariants as table
-use Rattle.cave_turn.specs.turn_rules.Tests.{in_hand}
-use Rattle.cave_turn.specs.turn_rules.Effects.{for_each_from}
+use Rattle.cave_turn.specs.turn_rules.Effects.{for_each_down_from, for_each_from}
 
--- what doesn't hold not doesn't hold
-not_so : (b : Bool) → not b ≡ true → b ≡ false
-not_so b h = grind (arith, h)
+-- where a row with another test fits one that has that test too doesn't, so that test fails
+test_fails : (a b : Bool) → (a && true) ≡ true → (a && (b && true)) ≡ false → b ≡ false
+test_fails a b fit other = grind (arith, fit, other)
 
 -- objects that are shown, or that fall, one after another
 module _ (P : Claim) (moves : IsMoved P) where
@@ -67,14 +67,16 @@ module _ (P : Claim) (moves : IsMoved P) where
       (λ x o g. moved_if P moves (is_hidden_in_hand o x) (Prop x (UNSEEN -ℤ prop_of o x))
       (record v { objects = o }) g) v.objects h
 
-  left_kept : (cave : CaveView) (s : State) (v : View) → v.objects ≡ s.objects → P v
-      → P (record v { objects = (without_belongings cave s).objects })
-  unfolding without_belongings layout_after_fall
-  left_kept cave s v same h =
-      each_kept_down (λ (o : Layout). P (record v { objects = o })) 100
-      (layout_after_fall cave s.trail.older)
-      (λ x o g. moved_if P moves (is_carried o x) (Place x (fallen_place cave s.trail.older x))
-      (record v { objects = o }) g) s.objects (rw (sym same) h)
+  fallen_kept : (cave : CaveView) (p : Scene) → On P p.state
+      → On P (for_each_down_from 100 (after_fall cave) p).state
+  unfolding after_fall fall_rows
+  fallen_kept cave p h =
+      each_kept_down (λ (q : Scene). On P q.state) 100 (after_fall cave)
+      (λ x q g. quiet P (noted table.Fall fall_rows) (search placed parts 20) (deed cave x q) g) p h
+    where
+      placed : (x place : ℕ) (s : State) → On P s
+          → On P (with_objects (after_move_to s.objects x place) s)
+      placed x place s h = moves (view s) (Place x place) h
 
 -- what is kept of a command for the next one
 settled_kept : (P : Claim) (o : Option HalfCommand) (x : ℕ) (p : Scene) → On P p.state
@@ -82,6 +84,10 @@ settled_kept : (P : Claim) (o : Option HalfCommand) (x : ℕ) (p : Scene) → On
 unfolding kept_scene
 settled_kept P None x p h = h
 settled_kept P (Some half) x p h = h
+
+half_same : (d : Deed Done) → (half_command_kept d).scene.state ≡ d.scene.state
+unfolding half_command_kept
+half_same d = grind arith
 
 module _ {cave : CaveView} {l : Line} {Q P : Claim} (k : IsKept cave l Q P) where
   abbrev Here : ℕ → Type 0
@@ -91,28 +97,33 @@ module _ {cave : CaveView} {l : Line} {Q P : Claim} (k : IsKept cave l Q P) wher
   moves v c h = k.keeps (Moves c) v tt h
 
   -- a hint is offered only where nothing is over
+  guarded_kept : (i : ℕ) (p : Scene) → is_some (map.get cave.hints i) ≡ true
+      → (is_some p.state.question || is_some p.state.ending) ≡ false → On P p.state
+      → On P (by_table table.HintGuards guard_rows (deed cave i p)).scene.state
+  unfolding guard_rows
+  guarded_kept i p known free h =
+      by_guarded P (deed cave i p) (noted table.HintGuards guard_rows)
+      (search (asking_kept P, due, h) parts 40 depth 30)
+    where
+      due : On P (with_question (question.Hint i) p.state)
+      due =
+          let calm = none_over p.state.question p.state.ending free in
+          k.keeps (Asks (question.Hint i)) (view p.state) (refl, calm, known) h
+
   offered_kept : (i : ℕ) (p : Scene) → is_some (map.get cave.hints i) ≡ true → On P p.state
       → On P (by_table table.Offers offer_rows (deed cave i p)).scene.state
   unfolding offer_rows takes_no_command
   offered_kept i p known h =
       by_guarded P (deed cave i p) (noted table.Offers offer_rows)
-      (search (asking_kept P, due) parts 20)
-    where
-      due : (stays more : Bool)
-          → (stays && (not (is_some p.state.question || is_some p.state.ending) && more)) ≡ true
-          → On P (with_question (question.Hint i) p.state)
-      due stays more fit =
-          let none = not_so _ (first_holds _ more (second_holds stays _ fit)) in
-          let calm = none_over p.state.question p.state.ending none in
-          k.keeps (Asks (question.Hint i)) (view p.state) (refl, calm, known) h
+      (search (h, known, guarded_kept, test_fails) parts 20)
 
   hints_kept : (p : Scene) → On P p.state
       → On P (for_each_from 4 17 (after_consider cave) p).state
   unfolding after_consider hint_rows
   hints_kept p h =
       each_kept (λ (q : Scene). On P q.state) 4 17 (after_consider cave)
-      (λ i q g. by_guarded P (deed cave i q) hint_rows (search (g, offered_kept, tests) parts 20))
-      p h
+      (λ i q g. by_guarded P (deed cave i q) (noted table.HintTurns hint_rows)
+      (search (g, offered_kept, tests) parts 20)) p h
 
   -- what is in the hands is shown
   hands_kept : (d : Deed (Unit {0})) → On P d.scene.state
@@ -175,7 +186,10 @@ module _ {cave : CaveView} {l : Line} {Q P : Claim} (k : IsKept cave l Q P) wher
   carried_out_kept : (u : Understood) (p : Scene) → On (Ready Here P) p.state
       → On P (scene_of_understood cave u p).state
   unfolding scene_of_understood
-  carried_out_kept u p h = settled_kept P _ _ _ (done_kept u.request p h)
+  carried_out_kept u p h =
+      let a = done_by_request cave u.request p in
+      let d = deed cave (done u a.step) a.scene in
+      settled_kept P _ _ _ (subst (On P) (sym (half_same d)) (done_kept u.request p h))
 
   -- the words of a line are done
   done_for_kept : (words : Words) (p : Scene) → On (Ready Here P) p.state
@@ -229,29 +243,31 @@ module _ {cave : CaveView} {l : Line} {Q P : Claim} (k : IsKept cave l Q P) wher
     k.keeps (Buries ending_is.Killed) (view s) (asked, goes, unlit) h,
   )
 
+  -- a claim would hold if the player were back
+  abbrev Back : Claim
+  Back v = Ready Anywhere P (record v { here = building_place cave })
+
+  back_moved : IsMoved Back
+  back_moved v c r = moved k _ c r
+
   -- a player is back, without what was carried
-  returned_kept : (p : Scene)
-      → On (Ready Anywhere P) (with_player_from (building_place cave) p.state)
+  returned_kept : (p : Scene) → On Back p.state
       → On P (after_all (drop 1 revive) (deed cave question.Die p)).scene.state
-  unfolding revive without_belongings
+  unfolding revive
   returned_kept p h =
-      let s = p.state in let place = building_place cave in
-      describing_kept k
-      (with_state (with_player_from place (without_belongings cave s)) p) (record {
-        holds = left_kept P moves cave s (view (with_player_from place s)) refl h.holds;
-        calm = h.calm;
-        at = tt;
-      })
+      describing_kept k (after_all (first_of 2 (drop 1 revive)) (deed cave question.Die p)).scene
+      (fallen_kept Back back_moved cave p h)
 
   revived_kept : (p : Scene) → (nat_le 3 p.state.tallies.deaths && true) ≡ false
       → On Mourned p.state → On P (after_all revive (deed cave question.Die p)).scene.state
-  unfolding revive
+  unfolding revive put_out_rows
   revived_kept p few h =
-      let d = deed cave question.Die p in let lamp = the name.Lamp in
-      let back = h.0 (fails_alone _ few) in
-      choose (λ (e : Deed Question). On P (after_all (drop 1 revive) e).scene.state)
-      (in_hand lamp d) (set_prop lamp LAMP_OFF d) d
-      (λ _. returned_kept _ (propped k _ LAMP_OFF back)) (λ _. returned_kept p back)
+      returned_kept _ (quiet Back (noted table.LampPutOut put_out_rows) (search put_out parts 20)
+      (deed cave question.Die p) (h.0 (fails_alone _ few)))
+    where
+      put_out : (x : ℕ) (w : ℤ) (s : State) → On Back s
+          → On Back (with_objects (with_prop s.objects x w) s)
+      put_out x w s g = back_moved (view s) (Prop x w) g
 
   pub reborn_kept : (p : Scene) → On Mourned (with_one_death p.state)
       → On P (after_all come_back (deed cave question.Die p)).scene.state

@@ -1,22 +1,23 @@
 -- What verbs do keeps each claim that what happens in a game keeps, and no verb asks whether to
 -- come back from death, or about a hint.
+use Rattle.cave_turn.specs.cave_words.Stream.{next}
 use Rattle.std.specs.Prelude.{take as first_of}
 use Rattle.cave_turn.specs.cave_verbs.Acting.{act, act_bare, act_on, act_once, act_within, rows_of}
 use Rattle.cave_turn.specs.cave_verbs.Blasting.{blast_rows}
 use Rattle.cave_turn.specs.cave_verbs.Breaking.{break_rows, wake_rows}
 use Rattle.cave_turn.specs.cave_verbs.Dropping.{drop_rows}
 use Rattle.cave_turn.specs.cave_verbs.Feeding.{bare_eat_rows, eat_rows, feed_rows}
-use Rattle.cave_turn.specs.cave_verbs.Finding.{bare_inventory_rows, find_rows}
+use Rattle.cave_turn.specs.cave_verbs.Finding.{bare_inventory_rows, bear_along_rows, find_rows}
 use Rattle.cave_turn.specs.cave_verbs.Killing.{bare_kill_rows, kill_rows}
-use Rattle.cave_turn.specs.cave_verbs.Light.{off_rows, on_rows}
-use Rattle.cave_turn.specs.cave_verbs.Magic.{bare_foo_rows, eggs_sight, send_eggs_home}
-use Rattle.cave_turn.specs.cave_verbs.Opening.{bare_open_rows, chain_rows, lock_rows, open_rows}
+use Rattle.cave_turn.specs.cave_verbs.Light.{darkened_rows, off_rows, on_rows}
+use Rattle.cave_turn.specs.cave_verbs.Magic.{bare_foo_rows, eggs_rows}
+use Rattle.cave_turn.specs.cave_verbs.Opening.{bare_open_rows, open_rows}
 use Rattle.cave_turn.specs.cave_verbs.Pouring.{bare_fill_rows, drink_rows, fill_rows, pour_rows}
 use Rattle.cave_turn.specs.cave_verbs.Reading.{bare_read_rows, read_rows}
 use Rattle.cave_turn.specs.cave_verbs.Small.{bare_brief_rows, bare_quit_rows, bare_rows}
 use Rattle.cave_turn.specs.cave_verbs.Small.{bare_score_rows, nothing_rows, other_rows}
-use Rattle.cave_turn.specs.cave_verbs.Taking.{bare_take_rows, take_freely_rows, take_rows}
-use Rattle.cave_turn.specs.cave_verbs.Throwing.{axe_rows, throw_rows, without_first_at}
+use Rattle.cave_turn.specs.cave_verbs.Taking.{bare_take_rows, take_rows}
+use Rattle.cave_turn.specs.cave_verbs.Throwing.{throw_rows, without_first_at}
 use Rattle.cave_turn.specs.cave_verbs.Waving.{rub_rows, wave_rows}
 use Rattle.cave_turn.specs.turn_things.Reach.{is_dwarf_at, is_dwarf_here}
 use Rattle.cave_turn.specs.verb_commands.Rows.{VerbRow, first_fitting, going_on, stays}
@@ -29,9 +30,9 @@ use Rattle.cave_turn.specs.cave_world.declared.ending.Question.TheVariants as qu
 use Rattle.cave_turn.specs.verb_commands.declared.verb.Verb.TheVariants as verb
 use Rattle.turn_laws.proofs.Words.{Act, Bool, CaveView, Closing, Deed, Dwarf, Ending, Layout, List}
 use Rattle.turn_laws.proofs.Words.{Next, Option, Question, Scene, Tallies, Verb, [], arith}
-use Rattle.turn_laws.proofs.Words.{carried_objects, deed, drop, false, length, min, nat_le}
+use Rattle.turn_laws.proofs.Words.{carried_objects, deed, drop, false, here, length, min, nat_le}
 use Rattle.turn_laws.proofs.Words.{next_of_step, noted, nothing_but, refl, suc, true, true≢false}
-use Rattle.turn_laws.proofs.Words.{zero, ℕ, ℤ, ◌&&◌, ◌+◌, ◌-◌, ◌==◌, ◌∷◌, ◌≡◌, ◌≤◌}
+use Rattle.turn_laws.proofs.Words.{zero, ℕ, ℤ, ◌&&◌, ◌+◌, ◌==◌, ◌∷◌, ◌≡◌, ◌≤◌}
 use Rattle.turn_laws.proofs.Effects.{LeadRows, Leads, Left, banded, banded_as, effects, first_holds}
 use Rattle.turn_laws.proofs.Effects.{first_leads, guarded, propped, second_holds, shown}
 use Rattle.std.specs.List.{list_any}
@@ -40,8 +41,6 @@ use Rattle.turn_laws.specs.Reachable.{IsKnown}
 use Rattle.turn_laws.proofs.Counted.{room, room_still, struck}
 use Rattle.turn_laws.proofs.View.{Band, Claim, HasRoom, IsKept, Line, On, Ready, Somewhere, Takes}
 use Rattle.turn_laws.proofs.View.{View, after_taking, choose, is_die}
-use Rattle.cave_turn.specs.turn_things.Effects.{after_loss_to_snake, let_go, put_down}
-use Rattle.cave_turn.specs.turn_things.Effects.{without_troll}
 
 -- a question is whether to come back, or about a hint
 abbrev pub is_apart : Question → Bool
@@ -120,32 +119,35 @@ module _ {game : CaveView} {l : Line} {Q P : Claim} (k : IsKept game l Q P) wher
       banded k _ _
       (struck n (banded_as g m w) (second_holds (nat_le 2 g) _ (first_holds _ rest fit))) r
 
-  -- from the row on that fits full hands it is known that they aren't full
+  -- the rows of TAKE before the one that fits full hands
+  abbrev before_full_hands : ℕ
+  before_full_hands = 9
+
+  -- from that row on it is known that they aren't full
   taken_kept : Keep (first_fitting (noted table.Take take_rows))
-  unfolding take_rows take_freely_rows
+  unfolding take_rows
   taken_kept d h =
       let rows = noted table.Take take_rows in
-      let before = length take_rows - (length take_freely_rows + 1) in
-      first_leads (Ready Here P) (Ready Here P) Spared (first_of before rows)
-      (first_fitting (drop before rows)) (search tables parts 60)
-      (λ e g. guarded (Left (Ready Here P) Spared) (nothing_but stays) e (drop before rows)
+      first_leads (Ready Here P) (Ready Here P) Spared (first_of before_full_hands rows)
+      (first_fitting (drop before_full_hands rows)) (search tables parts 60)
+      (λ e g. guarded (Left (Ready Here P) Spared) (nothing_but stays) e
+      (drop before_full_hands rows)
       (search (tables, took, took_both, tamed) depth 30)) d h
 
   -- the rows of verbs without an object
   bare_kept : (v : Verb) → KeepRows Here P (rows_of v).0
   unfolding bare_brief_rows bare_eat_rows bare_fill_rows bare_foo_rows bare_inventory_rows
       bare_kill_rows bare_open_rows bare_quit_rows bare_read_rows bare_rows bare_score_rows
-      bare_take_rows blast_rows drink_rows nothing_rows off_rows on_rows pour_rows send_eggs_home
-      eggs_sight
+      bare_take_rows bear_along_rows blast_rows darkened_rows drink_rows eggs_rows nothing_rows
+      off_rows on_rows pour_rows
   bare_kept verb.Take = search tables parts 60
   bare_kept _ = search tables parts 60 depth 9
 
   -- what verbs do to an object
   object_kept : (v : Verb) → Keep (first_fitting (rows_of v).1)
   unfolding blast_rows break_rows drink_rows drop_rows eat_rows feed_rows fill_rows find_rows
-      kill_rows nothing_rows off_rows on_rows open_rows other_rows pour_rows read_rows rub_rows
-      wake_rows wave_rows lock_rows chain_rows throw_rows axe_rows is_dwarf_here after_loss_to_snake
-      let_go put_down without_troll
+      kill_rows nothing_rows off_rows darkened_rows on_rows open_rows other_rows pour_rows read_rows
+      rub_rows wake_rows wave_rows throw_rows is_dwarf_here
   object_kept verb.Take d h = taken_kept d h
   object_kept v d h = by_rows (rows_of v).1 (search (tables, killed) parts 60 depth 14 fits 4000) d h
 

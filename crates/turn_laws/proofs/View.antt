@@ -1,8 +1,9 @@
 -- What laws speak of in a state, and what happens to it in a game.
 use Rattle.std.specs.Int.{int_max}
-use Rattle.std.specs.Prelude.{int_le}
-use Rattle.cave_turn.specs.Dragon.{lair_from}
+use Rattle.std.specs.Prelude.{int_le, ◌/◌}
+use Rattle.cave_turn.specs.cave_words.declared.named.Named.TheVariants as name
 use Rattle.cave_turn.specs.cave_world.declared.dwarves.Dwarves.{Dwarves}
+use Rattle.cave_turn.specs.turn_things.Homes.{second_home}
 use Rattle.cave_turn.specs.world_objects.Objects.{after_carry, after_juggle, after_move_to}
 use Rattle.cave_turn.specs.world_objects.Objects.{with_anchor, with_prop}
 use Rattle.cave_turn.specs.data_rows.declared.place_role.PlaceRole.TheVariants as landmark
@@ -14,10 +15,10 @@ use Rattle.turn_laws.specs.Reachable.{IsKnown}
 use Rattle.turn_laws.proofs.Words.{Anchor, Bool, CaveView, Closing, Dwarf, Ending, Layout, List}
 use Rattle.turn_laws.proofs.Words.{MAX_LAMP_TURNS, None, Option, Question, Some, State, Tallies, []}
 use Rattle.turn_laws.proofs.Words.{ap, arith, building_place, carried_objects, dismissed_dwarf}
-use Rattle.turn_laws.proofs.Words.{false, filter, get_or, if◌then◌else◌, int_eq, int_lt, int_min}
+use Rattle.turn_laws.proofs.Words.{false, filter, get_or, home, if◌then◌else◌, int_eq, int_lt, int_min}
 use Rattle.turn_laws.proofs.Words.{is_some, length, map, min, nat_le, nat_tests, negsuc, no_dwarf}
 use Rattle.turn_laws.proofs.Words.{outside_place, place_named, pos, refl, set, slice_index_or}
-use Rattle.turn_laws.proofs.Words.{slice_set, suc, sym, take, true, true≢false, zero, ℕ, ℤ, ◌&&◌}
+use Rattle.turn_laws.proofs.Words.{slice_set, suc, sym, take, thing, true, true≢false, zero, ℕ, ℤ, ◌&&◌}
 use Rattle.turn_laws.proofs.Words.{◌+◌, ◌-ℤ◌, ◌-◌, ◌<◌, ◌==◌, ◌∙◌, ◌∷◌, ◌≡◌, ◌≤ℤ◌, ◌≤◌, ◌⊎◌}
 
 -- the question whether to come back
@@ -139,6 +140,17 @@ left_of c = if int_eq c (pos 0) then negsuc 0 else c
 abbrev pub is_shut_off : CaveView → ℕ → View → Bool
 is_shut_off cave place v =
     v.closing.is_closing && nat_le 1 place && nat_le place (outside_place cave)
+
+-- between two places; where one is none, the other; where both are none, here
+abbrev pub between : ℕ → ℕ → ℕ → ℕ
+between a b here =
+    if b == 0 then (if a == 0 then here else a) else (if a == 0 then b else (a + b) / 2)
+
+-- where the dragon dies, for a player who is here
+abbrev pub lair_from : CaveView → ℕ → ℕ
+lair_from cave here =
+    let dragon = thing cave name.Dragon in
+    between (home cave dragon) (second_home cave dragon) here
 
 -- the player is put at a place: at the end of the repository, or where the dragon dies
 abbrev pub IsPut : CaveView → ℕ → View → Type 0

@@ -1,9 +1,10 @@
 -- What is missing is asked for by no row.
-use Rattle.std.proofs.Common.{Bool, List, [], arith, false, refl, true, ◌≡◌, ◌∷◌}
+use Rattle.std.proofs.Common.{Bool, List, [], arith, false, negsuc, pos, refl, true, ◌≡◌, ◌∷◌}
 use Rattle.std.proofs.lemmas.Bool.{false≢true}
 use Rattle.std.specs.Prelude.{◌&&◌}
 use Rattle.turn_clocks.specs.Clocks.{clock_rows, tick_clocks}
-use Rattle.turn_clocks.specs.Repository.{second_clock_goes, second_clock_runs_out}
+use Rattle.turn_clocks.specs.FirstClock.{first_clock}
+use Rattle.turn_clocks.specs.Repository.{second_clock}
 use Rattle.turn_hints.specs.Hints.{after_consider, give_rows, hint_rows, price_rows}
 use Rattle.turn_moves.specs.Bridge.{bridge_rows, cross_bridge}
 use Rattle.turn_moves.specs.Squeeze.{squeeze_rows, squeeze_through}
@@ -60,7 +61,7 @@ closes_between_places d closed =
       (
         (λ _. unbound),
         (
-          (λ fit _. last_two (second_clock_goes d) (second_clock_runs_out d) (no cave_closed d) _ _ fit),
+          (λ fit _. last_two (first_clock (negsuc 0) d) (second_clock (pos 1) d) (no cave_closed d) _ _ fit),
           ((λ _. unbound), unbound),
         ),
       ),
