@@ -1,5 +1,5 @@
 -- The report on the rules, and on the ways of a cave, of whose rows some were noted.
-use Rattle.std.specs.Prelude.{ℕ, ◌+◌, Bool, true, false, not, List, [], ◌∷◌, ◌++◌, length, codes}
+use Rattle.std.specs.Prelude.{ℕ, ◌≤◌, Bool, true, false, not, List, [], ◌∷◌, ◌++◌, length, codes}
 use Rattle.std.specs.Fmt.{decimal}
 use Rattle.std.specs.List.{filter, flat_map, range_with_len, sum_by}
 use Rattle.check_doubts.specs.declared.by_line.WayLine.{WayLine}
@@ -7,7 +7,7 @@ use Rattle.turn_scene.specs.rule_rows.declared.tables.RuleRow.{RuleRow}
 use Rattle.turn_scene.specs.rule_rows.declared.tables.RuleRow.TheVariants.{OfTable, OfPlace}
 use Rattle.turn_scene.specs.rule_rows.declared.tables.Table.{Table}
 use Rattle.play_rows.specs.Rows.{is_among}
-use Rattle.play_rows.specs.Tables.{row_count, table_name, tables}
+use Rattle.play_rows.specs.Tables.{row_count, table_name, tables, words_of}
 
 abbrev pub row_of : Table → ℕ → RuleRow
 row_of table number = OfTable table number
@@ -19,12 +19,25 @@ noted_in noted row = is_among row noted
 unfoldable pub numbers : Table → List ℕ
 numbers t = range_with_len 1 (row_count t)
 
+-- a row has this number
+abbrev pub IsRowOf : Table → ℕ → Type 0
+IsRowOf t number = (1 ≤ number) × (number ≤ row_count t)
+
 abbrev pub names : List ℕ → List ℕ
 names numbers = flat_map (λ number. codes " " ++ decimal number) numbers
 
 abbrev pub never : List ℕ → List ℕ
 never [] = []
 never (first ∷ others) = codes ", never" ++ names (first ∷ others)
+
+-- the line of a row that never applied, in words
+abbrev pub row_line : Table → ℕ → List ℕ
+row_line t number =
+    codes "    " ++ (table_name t ++ (codes " " ++ (decimal number
+    ++ (codes "  " ++ (words_of t number ++ codes "\n")))))
+
+abbrev pub row_lines : Table → List ℕ → List ℕ
+row_lines t numbers = flat_map (row_line t) numbers
 
 abbrev pub line_names : List WayLine → List ℕ
 line_names ways = flat_map (λ way. codes " " ++ decimal way.line) ways
@@ -52,6 +65,10 @@ module _ (is_noted : RuleRow → Bool) where
   line t =
       table_name t ++ (codes ": " ++ (decimal (length (numbers_applied t))
       ++ (codes " of " ++ (decimal (row_count t) ++ (never (numbers_missing t) ++ codes "\n")))))
+
+  -- the line of a table, and below it one for each of its rows that never applied
+  abbrev pub table_lines : Table → List ℕ
+  table_lines t = line t ++ row_lines t (numbers_missing t)
 
   -- a way was tried and applied
   abbrev pub is_way_applied : WayLine → Bool
@@ -86,6 +103,6 @@ module _ (is_noted : RuleRow → Bool) where
       ++ (codes " of " ++ (decimal (length ways)
       ++ (codes " travel rows in " ++ (decimal logs ++ codes " logs\n")))))))))
 
-  -- a line for each table, one for the ways, and the sum
+  -- the lines of each table, one for the ways, and the sum
   unfoldable pub report : List WayLine → ℕ → List ℕ
-  report ways logs = flat_map line tables ++ (travel_line ways ++ sums_line ways logs)
+  report ways logs = flat_map table_lines tables ++ (travel_line ways ++ sums_line ways logs)

@@ -2,15 +2,16 @@
 
 ghost use Rattle.std.specs.Prelude.{◌≡◌, codes, ◌++◌, ◌≤◌, length, OnOk, IfOk};
 ghost use Rattle.std.specs.Fmt.{decimal};
-ghost use Rattle.std.specs.List.{flat_map, sum_by};
+ghost use Rattle.std.specs.List.{All, flat_map, sum_by};
 ghost use Rattle.play_rows.specs.Rows.{is_among};
 ghost use Rattle.play_rows.specs.Report.{sums_line, line, names, never, numbers_missing, report};
-ghost use Rattle.play_rows.specs.Report.{numbers_applied, noted_in, row_of};
+ghost use Rattle.play_rows.specs.Report.{IsRowOf, noted_in, numbers_applied, row_line, row_lines};
+ghost use Rattle.play_rows.specs.Report.{row_of, table_lines};
 ghost use Rattle.play_rows.specs.Tables.{row_count};
 ghost use Rattle.play_rows.specs.Tables as defined;
 
 use crate::row_set::RowSet;
-use crate::tables::{EACH_TABLE, row_count, table_name};
+use crate::tables::{EACH_TABLE, row_count, table_name, words_of};
 use crate::travel::{count_applied_ways, push_travel};
 use check_doubts::WayLine;
 use std::alloc::{AllocError, Global};
@@ -35,8 +36,9 @@ fn count_applied(noted: &RowSet, table: Table) -> usize
 /// The rows that never applied.
 #[tactic(auto, unfolding(crate::specs::Report::numbers_missing, crate::specs::Report::numbers))]
 fn missing(alloc: Global, noted: &RowSet, table: Table) -> Result<Vec<u8>, AllocError>
-    ensures { IfOk result
+    ensures value { IfOk result
         (λ rows. rows.items ≡ numbers_missing (noted_in noted.now) table) }
+    ensures within { IfOk result (λ rows. All (IsRowOf table) rows.items) }
 {
     (1..row_count(table) + 1)
         .filter(|number| !is_applied(noted, table, *number))
@@ -75,19 +77,68 @@ fn push_line(
     alloc: Global,
     noted: &RowSet,
     table: Table,
+    missing: &[u8],
     text: &mut Vec<u8>,
 ) -> Result<(), AllocError>
+    requires { missing.now ≡ numbers_missing (noted_in noted.now) table }
     ensures { OnOk result (text.new.items
         ≡ text.old.items ++ line (noted_in noted.now) table) }
 {
     let name = table_name(table);
     let shown = count_applied(noted, table);
     let present = row_count(table);
-    let missing = missing(alloc, noted, table)?;
     let counted = format!(in alloc; "{name}: {shown} of {present}")?;
     text.extend_from_slice(counted.as_bytes())?;
-    push_never(alloc, &missing, text)?;
+    push_never(alloc, missing, text)?;
     text.extend_from_slice(b"\n")
+}
+
+/// Appends the line of a row that never applied, which says in words when it applies.
+fn push_row_line(
+    alloc: Global,
+    table: Table,
+    number: u8,
+    text: &mut Vec<u8>,
+) -> Result<(), AllocError>
+    requires { IsRowOf table number }
+    ensures { OnOk result (text.new.items ≡ text.old.items ++ row_line table number) }
+{
+    text.extend_from_slice(b"    ")?;
+    text.extend_from_slice(table_name(table).as_bytes())?;
+    push_name(alloc, number, text)?;
+    text.extend_from_slice(b"  ")?;
+    text.extend_from_slice(words_of(table, number).as_bytes())?;
+    text.extend_from_slice(b"\n")
+}
+
+fn push_row_lines(
+    alloc: Global,
+    table: Table,
+    numbers: &[u8],
+    text: &mut Vec<u8>,
+) -> Result<(), AllocError>
+    requires { All (IsRowOf table) numbers.now }
+    ensures { OnOk result (text.new.items ≡ text.old.items ++ row_lines table numbers.now) }
+{
+    for number in numbers {
+        push_row_line(alloc, table, *number, text)?;
+    }
+    Ok(())
+}
+
+/// Appends the line of a table, and one for each of its rows that never applied.
+fn push_table(
+    alloc: Global,
+    noted: &RowSet,
+    table: Table,
+    text: &mut Vec<u8>,
+) -> Result<(), AllocError>
+    ensures { OnOk result (text.new.items
+        ≡ text.old.items ++ table_lines (noted_in noted.now) table) }
+{
+    let missing = missing(alloc, noted, table)?;
+    push_line(alloc, noted, table, &missing, text)?;
+    push_row_lines(alloc, table, &missing, text)
 }
 
 /// The sums of what the lines of tables count: the rows that applied, and all that there are.
@@ -105,17 +156,17 @@ fn totals(noted: &RowSet, tables: &[Table]) -> (usize, usize)
     (shown, present)
 }
 
-fn push_lines(
+fn push_tables(
     alloc: Global,
     noted: &RowSet,
     tables: &[Table],
     text: &mut Vec<u8>,
 ) -> Result<(), AllocError>
     ensures { OnOk result (text.new.items
-        ≡ text.old.items ++ flat_map (line (noted_in noted.now)) tables.now) }
+        ≡ text.old.items ++ flat_map (table_lines (noted_in noted.now)) tables.now) }
 {
     for table in tables {
-        push_line(alloc, noted, *table, text)?;
+        push_table(alloc, noted, *table, text)?;
     }
     Ok(())
 }
@@ -153,7 +204,7 @@ pub fn push_report(
     ensures { OnOk result (text.new.items
         ≡ text.old.items ++ report (noted_in noted.now) ways.now logs) }
 {
-    push_lines(alloc, noted, &EACH_TABLE, text)?;
+    push_tables(alloc, noted, &EACH_TABLE, text)?;
     push_travel(alloc, noted, ways, text)?;
     push_sums(alloc, noted, ways, logs, text)
 }

@@ -1,13 +1,14 @@
-//! The tables of the rules, by number and name, and how many rows each has.
+//! The tables of the rules, by number and name, and the rows of each by their numbers.
 
-ghost use Rattle.std.specs.Prelude.{◌≡◌, ◌<◌};
-ghost use Rattle.play_rows.specs.Tables.{table_name, table_number, row_count};
+ghost use Rattle.std.specs.Prelude.{◌≡◌, ◌<◌, ◌≤◌};
+ghost use Rattle.play_rows.specs.Tables.{table_name, table_number, row_count, words_of};
 ghost use Rattle.play_rows.specs.Tables as defined;
 
+use crate::row_words::row_words;
 use turn_scene::Table;
 
 /// How many tables there are.
-pub const TABLE_COUNT: usize = 71;
+pub const TABLE_COUNT: usize = 103;
 
 /// Each table.
 pub const EACH_TABLE: [Table; TABLE_COUNT] = [
@@ -15,24 +16,41 @@ pub const EACH_TABLE: [Table; TABLE_COUNT] = [
     Table::Die,
     Table::Yes,
     Table::No,
+    Table::Lair,
+    Table::Gathering,
     Table::Death,
     Table::Reborn,
     Table::Revival,
+    Table::LampPutOut,
+    Table::Fall,
     Table::Clocks,
+    Table::ClosingBear,
+    Table::Panic,
+    Table::Burning,
     Table::Lamp,
     Table::LampWarning,
     Table::Hands,
+    Table::HintTurns,
     Table::Offers,
+    Table::HintGuards,
     Table::HintPrice,
     Table::HintGiven,
     Table::Classes,
     Table::Anger,
     Table::Waking,
+    Table::Leaving,
+    Table::Apart,
+    Table::DwarfTurn,
+    Table::DwarfWays,
     Table::DwarfSight,
     Table::Threats,
     Table::DwarvesHere,
+    Table::Provoked,
     Table::Knives,
+    Table::PirateTurn,
+    Table::Chase,
     Table::Pirate,
+    Table::Theft,
     Table::Words,
     Table::TwoWords,
     Table::WordEntered,
@@ -43,17 +61,30 @@ pub const EACH_TABLE: [Table; TABLE_COUNT] = [
     Table::HalfCommand,
     Table::WordAloud,
     Table::OwnMotions,
-    Table::NoWay,
+    Table::Enough,
+    Table::BackFrom,
+    Table::Back,
+    Table::NoMotion,
     Table::Squeeze,
     Table::Bridge,
+    Table::Toll,
+    Table::SpicesLost,
     Table::Blocking,
     Table::Arrival,
     Table::Hits,
     Table::Stops,
     Table::Description,
+    Table::BearFollows,
     Table::PlaceText,
+    Table::Hollow,
     Table::ObjectHere,
+    Table::LastTreasure,
     Table::ObjectText,
+    Table::Vessel,
+    Table::CagedBird,
+    Table::FreeBird,
+    Table::LayDown,
+    Table::SnakeLoss,
     Table::BareTake,
     Table::Take,
     Table::Drop,
@@ -61,6 +92,7 @@ pub const EACH_TABLE: [Table; TABLE_COUNT] = [
     Table::Open,
     Table::On,
     Table::Off,
+    Table::Darkened,
     Table::Wave,
     Table::BareKill,
     Table::Kill,
@@ -72,6 +104,7 @@ pub const EACH_TABLE: [Table; TABLE_COUNT] = [
     Table::Throw,
     Table::Find,
     Table::BareInventory,
+    Table::BearAlong,
     Table::Feed,
     Table::BareFill,
     Table::Fill,
@@ -87,55 +120,86 @@ pub const EACH_TABLE: [Table; TABLE_COUNT] = [
 /// What each table is called.
 const TABLE_NAMES: [&str; TABLE_COUNT] = [
     "questions",
-    "Die",
+    "death question",
     "yes",
     "no",
+    "lair",
+    "gathering",
     "death",
-    "reborn",
+    "words of revival",
     "revival",
+    "lamp put out",
+    "belongings",
     "clocks",
+    "bear at the closing",
+    "panic",
+    "burning",
     "lamp",
     "lamp warning",
-    "hands",
+    "closed cave, carried",
+    "hint turns",
     "hint offers",
+    "hint guards",
     "hint price",
     "hint given",
     "classes",
     "anger",
     "waking",
+    "dwarf leaves",
+    "dwarf kept apart",
+    "dwarf turn",
+    "dwarf ways",
     "dwarf sight",
-    "threats",
-    "dwarves here",
-    "knives",
+    "knife throws",
+    "lines of dwarves",
+    "provoked",
+    "lines of knives",
+    "pirate turn",
+    "chase",
     "pirate",
-    "words",
-    "two words",
+    "theft",
+    "reading 1: line",
+    "reading 2: pair",
     "word after ENTER",
-    "word alone",
-    "word before another",
+    "reading 3: single word",
+    "reading 4: first word",
     "unknown word",
     "word for an object",
     "half commands",
     "word aloud",
     "motions",
-    "refusals",
+    "enough",
+    "way back",
+    "BACK",
+    "motions without a row",
     "narrow passage",
     "bridge",
+    "toll",
+    "spices lost",
     "blocked ways",
     "arrival",
-    "hits",
-    "stops",
+    "knife deaths",
+    "described anew",
     "description",
+    "bear follows",
     "text of a place",
+    "hollow",
     "object at a place",
+    "last treasure",
     "text of an object",
+    "put: vessel",
+    "put: caged bird",
+    "put: free bird",
+    "lay down",
+    "lost to the snake",
     "TAKE alone",
     "TAKE",
     "DROP",
-    "OPEN alone",
-    "OPEN",
+    "OPEN/LOCK alone",
+    "OPEN/LOCK",
     "ON",
     "OFF",
+    "OFF, dark",
     "WAVE",
     "KILL alone",
     "KILL",
@@ -145,8 +209,9 @@ const TABLE_NAMES: [&str; TABLE_COUNT] = [
     "DRINK",
     "RUB",
     "THROW",
-    "FIND",
+    "FIND/INVENTORY",
     "INVENTORY alone",
+    "INVENTORY, bear",
     "FEED",
     "FILL alone",
     "FILL",
@@ -157,13 +222,6 @@ const TABLE_NAMES: [&str; TABLE_COUNT] = [
     "READ",
     "BREAK",
     "WAKE",
-];
-
-/// How many rows each table has.
-const ROW_COUNTS: [u8; TABLE_COUNT] = [
-    8, 3, 8, 8, 2, 3, 2, 4, 4, 3, 2, 2, 1, 1, 3, 3, 3, 4, 4, 3, 6, 3, 4, 3, 3, 6, 6, 3, 10, 4, 3,
-    8, 6, 3, 4, 2, 3, 2, 2, 3, 4, 5, 2, 2, 16, 10, 4, 25, 4, 2, 3, 5, 13, 8, 2, 3, 4, 2, 12, 7, 2,
-    12, 2, 8, 5, 8, 3, 4, 7, 4, 2,
 ];
 
 /// The place of a table among all of them, from 0.
@@ -186,5 +244,14 @@ pub fn row_count(table: Table) -> u8
     ensures value { result ≡ row_count table }
     ensures within { result < defined.ROW_END }
 {
-    ROW_COUNTS[table_number(table)]
+    row_words(table).len() as u8
+}
+
+/// When a row of a table applies, in words.
+pub fn words_of(table: Table, number: u8) -> &'static str
+    requires first { 1 ≤ number }
+    requires last { number ≤ row_count table }
+    ensures { result.now ≡ words_of table number }
+{
+    row_words(table)[number as usize - 1]
 }

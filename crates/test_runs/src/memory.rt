@@ -7,7 +7,7 @@ use std::alloc::Global;
 use std::process::Abort;
 
 /// How many bytes a writer has room for, more than a run writes.
-const ROOM: usize = 16_384;
+const ROOM: usize = 32_768;
 
 /// Does a run into a writer that needs no memory any more, so that where memory runs out, it is the
 /// run's own.
