@@ -6,7 +6,7 @@ docs/PLAY.md, What a state keeps; docs/VERBS.md, Terms; docs/TURN.md, The score,
 import scores
 from tables import TABLES, rule
 
-CARRIED, NATURE = -1, -1
+HANDS, NATURE = -1, -1  # where a first half is that is in the hands, and what holds a second half
 DWARVES, PIRATE = range(5), 5
 ASKED_BY_ROLE = {"welcome": "welcome", "quit": "quit", "score quit": "score-quit",
                  "take hint": "hint-take", "oyster": "oyster-ask", "dragon": "with-what"}
@@ -76,7 +76,7 @@ class Game:
                 self.lists.setdefault(place, []).insert(0, half)
 
     def move(self, x, place):
-        """Moves the first half of x; at place 0 it is away, and at -1 it is carried."""
+        """Moves the first half of x; at place 0 it is away, and at -1 in the hands."""
         self.put_half(x, self.where, place)
 
     def anchor(self, x, place):
@@ -84,8 +84,8 @@ class Game:
         self.put_half(-x, self.held, place)
 
     def juggle(self, x):
-        """Both halves of x come to the fronts of their lists, unless x is carried."""
-        if x and self.where[x] != CARRIED:
+        """Both halves of x come to the fronts of their lists, unless x is in the hands."""
+        if x and not self.is_in_hands(x):
             self.move(x, self.where[x])
             self.anchor(x, self.held[x])
 
@@ -143,10 +143,15 @@ class Game:
         oil, lake = (self.cave.has(self.here, bit) for bit in (1, 2))
         return None if not lake else self.thing("OIL" if oil else "WATER")
 
+    def is_in_hands(self, x):
+        """Whether the first half of x is in the player's hands."""
+        return x != 0 and self.where[x] == HANDS
+
     def is_carried(self, x):
+        """Whether x is in the hands, or, for a liquid, in a bottle that is."""
         if x and x in (self.thing("WATER"), self.thing("OIL")):
-            return self.where[self.thing("BOTTLE")] == CARRIED and self.liquid() == x
-        return x != 0 and self.where[x] == CARRIED
+            return self.is_in_hands(self.thing("BOTTLE")) and self.liquid() == x
+        return self.is_in_hands(x)
 
     def is_here(self, x):
         return x != 0 and self.here in (self.where[x], self.held[x])
@@ -155,8 +160,8 @@ class Game:
         return self.is_carried(x) or x != 0 and self.where[x] == self.here
 
     def in_hands(self):
-        """The objects whose first half is carried, ascending."""
-        return [x for x in range(1, 101) if self.where[x] == CARRIED]
+        """The objects that are in the hands, ascending."""
+        return [x for x in range(1, 101) if self.where[x] == HANDS]
 
     def dwarf_here(self):
         """The first of the five dwarves that is here, if they are awake; else None."""
@@ -165,8 +170,9 @@ class Game:
 
     def is_dark(self):
         lamp = self.thing("LAMP")
+        is_near = self.is_in_hands(lamp) or self.where[lamp] == self.here
         return not self.cave.has(self.here, 0) and not (
-            lamp and self.prop[lamp] == 1 and self.is_at_hand(lamp))
+            lamp and self.prop[lamp] == 1 and is_near)
 
     # ---- What is said
 
@@ -213,7 +219,7 @@ class Game:
             self.panicked, self.clock2 = True, self.clock2 if self.closed else 15
 
     def die(self, lies_at):
-        """A death; what is carried will lie at a place."""
+        """A death; what is in the hands will lie at a place."""
         self.older = lies_at
         TABLES["death"].apply(self)
 
@@ -266,7 +272,7 @@ class Game:
         for x in range(1, 101):
             place, held, prop = now = self.where[x], self.held[x], self.prop[x]
             if now != tuple(part[x] for part in self.first[:3]):
-                where = "away" if place == 0 else "carried" if place == CARRIED else f"at {place}"
+                where = "away" if place == 0 else "carried" if place == HANDS else f"at {place}"
                 by = ", fixed" if held == NATURE else f", also at {held}" if held else ""
                 yield f"object {self.named(x)}: {where}{by}, prop {prop}"
         verb = self.named(self.half_verb, 2000)

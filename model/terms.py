@@ -2,7 +2,7 @@
 
 import operator
 
-from state import CARRIED, Game
+from state import HANDS, Game
 from tables import TABLES, phrases
 
 COMPARED = {"is": operator.eq, "is other than": operator.ne, "is below": operator.lt,
@@ -27,7 +27,7 @@ phrases({
     "{A} prop (%s) {N}" % "|".join(COMPARED):
         lambda game, x, how, number: x != 0 and COMPARED[how](game.prop[x], number),
     "{A} is carried": Game.is_carried,
-    "the first half of {A} is carried": lambda game, x: x != 0 and game.where[x] == CARRIED,
+    "{A} is in the hands": Game.is_in_hands,
     "{A} is here": Game.is_here,
     "{A} is at hand": Game.is_at_hand,
     "{A} is nowhere": lambda game, x: x != 0 and game.where[x] == 0,
@@ -58,7 +58,7 @@ phrases({
     "prop {A} {N}": Game.set_prop,
     "{A} vanishes": lambda game, x: game.move(x, 0),
     "bring {A}": lambda game, x: game.move(x, game.here),
-    "carry {A}": lambda game, x: game.move(x, CARRIED),
+    "carry {A}": lambda game, x: game.move(x, HANDS),
     "move {A} to {W}": move_to_role,
     "fix {A}": lambda game, x: game.anchor(x, -1),
     "loosen {A}": lambda game, x: game.anchor(x, 0),

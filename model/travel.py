@@ -1,7 +1,7 @@
 """Travel, arrival and description (docs/PLAY.md)."""
 
 import dwarves  # whose rows of anger are done as the player arrives
-from state import CARRIED, DWARVES
+from state import DWARVES
 from tables import TABLES, phrases, rule, tables
 
 MOST_FORCED = 20
@@ -74,9 +74,9 @@ def beyond_bridge(game):
     return other_end(game, game.home(troll)) if troll else None
 
 def is_with(game, may_lie_here):
-    """Whether the object of a condition is carried, or may lie here. First halves are carried."""
+    """Whether the object of a condition is in the hands, or may lie here."""
     x = (game.condition - 1) % 100 + 1
-    return game.where[x] == CARRIED or may_lie_here and game.is_here(x)
+    return game.is_in_hands(x) or may_lie_here and game.is_here(x)
 
 # ---- Arrival
 
@@ -142,13 +142,14 @@ phrases({
     "a row leads there": lambda game: game.straight != [],
     "a row leads there by a place of forced motion": lambda game: game.roundabout != [],
     "it happens": lambda game: game.happens(game.condition),
-    "its object is carried": lambda game: is_with(game, False),
-    "its object is carried or here": lambda game: is_with(game, True),
+    "its object is in the hands": lambda game: is_with(game, False),
+    "its object is in the hands or here": lambda game: is_with(game, True),
     "its prop is another":
         lambda game: game.prop[game.condition % 100] != game.condition // 100 - 3,
     "the passage is here": lambda game: beyond_passage(game) is not None,
     "the bridge is here": lambda game: beyond_bridge(game) is not None,
-    "nothing is carried but EMERALD": lambda game: game.in_hands() in ([], [game.thing("EMERALD")]),
+    "nothing is in the hands but EMERALD":
+        lambda game: game.in_hands() in ([], [game.thing("EMERALD")]),
     "motion is forced": lambda game: game.cave.is_forced(game.here),
     "the place has bit {N}": lambda game, bit: game.cave.has(game.here, bit),
     "this is the second place of k": lambda game: game.here == game.held[game.names["k"]],
@@ -201,16 +202,16 @@ tables("""
         condition is 100 | nothing
         condition is below 100, it happens | nothing
         condition is below 100 | the row fails
-        condition is at most 200, its object is carried | nothing
+        condition is at most 200, its object is in the hands | nothing
         condition is at most 200 | the row fails
-        condition is at most 300, its object is carried or here | nothing
+        condition is at most 300, its object is in the hands or here | nothing
         condition is at most 300 | the row fails
         its prop is another | nothing
         | the row fails
     destination
         destination is at most 300 | arrive there
         destination is 301, the passage isn't here | say no-way; arrive
-        destination is 301, nothing is carried but EMERALD | pass through
+        destination is 301, nothing is in the hands but EMERALD | pass through
         destination is 301 | say too-tight; arrive
         destination is 302 | bring EMERALD; the row fails
         destination is 303, the bridge isn't here | say no-way; arrive
@@ -220,9 +221,12 @@ tables("""
     bridge
         TROLL prop is 1 | text TROLL 1; prop TROLL 0; TROLL2 vanishes; loosen TROLL2; \
             TROLL is at both its homes; juggle CHASM; arrive
-        the first half of BEAR is carried | say bridge-falls; prop CHASM 1; prop TROLL 2; \
+        | the rows of toll; the rows of crossing
+    toll
+        TROLL prop is 0 | prop TROLL 1
+    crossing
+        BEAR is carried | say bridge-falls; prop CHASM 1; prop TROLL 2; \
             move BEAR across; fix BEAR; prop BEAR 3; SPICES may be lost; die across
-        TROLL prop is 0 | prop TROLL 1; cross
         | cross
     arrival
         here is 0 | die before
@@ -235,14 +239,14 @@ tables("""
         it was dark, draw 35 of 100 | say pit; die here
         | the rows of bear; say dark; the rows of hollow
     bear
-        the first half of BEAR is carried | say bear-follows
+        BEAR is in the hands | say bear-follows
     hollow
         the player is at y2, the cave isn't closing, draw 25 of 100 | say hollow
     forced motion
         forced_left is 0 | say forced-limit
         | one motion less; travel by 1
     object
-        k is STEPS, the first half of GOLD is carried | nothing
+        k is STEPS, GOLD is in the hands | nothing
         k prop is below 0, the cave is closed | nothing
         k is STEPS, this is the second place of k, k prop is below 0 | see k; text STEPS 1
         k prop is below 0 | see k; text of k

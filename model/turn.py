@@ -147,12 +147,12 @@ def lamp_lets_go_on(game):
 # ---- Answers
 
 def come_back(game):
-    """After death: what was carried lies where the player died, or beyond."""
-    lamp, carried = game.thing("LAMP"), game.in_hands()
-    if lamp in carried:
+    """After death: what was in the hands lies where the player died, or beyond."""
+    lamp = game.thing("LAMP")
+    if game.is_carried(lamp):
         rule("coming back: the lamp")
         game.prop[lamp] = 0
-    for x in reversed(carried):
+    for x in reversed(game.in_hands()):
         game.move(x, game.cave.place("start") if x == lamp else game.older)
     game.here = game.last = game.cave.place("building")
     travel.describe(game)
@@ -181,19 +181,19 @@ def end_turn(game):
     if game.is_over():
         return
     if game.closed:
-        show_carried(game)
+        show_what_is_in_the_hands(game)
     for hint in sorted(game.cave.hints):
         if hint >= 4 and hint not in game.taken:
             wait_for_hint(game, hint)
 
-def show_carried(game):
-    """What is carried in a closed cave shows itself."""
+def show_what_is_in_the_hands(game):
+    """What is in the hands in a closed cave shows itself."""
     oyster = game.thing("OYSTER")
-    if oyster and game.prop[oyster] < 0 and game.is_carried(oyster):
+    if oyster and game.prop[oyster] < 0 and game.is_in_hands(oyster):
         rule("closed: OYSTER shows itself")
         game.object_text(oyster, 1)
-    for x in range(1, 101):
-        if game.prop[x] < 0 and game.is_carried(x):
+    for x in game.in_hands():
+        if game.prop[x] < 0:
             rule("closed: a prop is turned")
             game.prop[x] = -1 - game.prop[x]
 
@@ -238,7 +238,7 @@ phrases({
     "{A} is the last object": lambda game, x: x != 0 and game.last_object == x,
     "nothing is around": lambda game: not any(
         game.lists.get(it) for it in (game.here, game.last, game.older)),
-    "two objects are carried": lambda game: len(game.in_hands()) >= 2,
+    "two objects are in the hands": lambda game: len(game.in_hands()) >= 2,
 }, {
     "chance goes on from it": lambda game: vars(game).update(stream=game.seed % 1_048_576),
     "the question again": lambda game: game.ask(game.question),
@@ -362,7 +362,7 @@ tables("""
         hint is 5 | nothing
         hint is 6, SNAKE is at hand, BIRD isn't at hand | wait anew; question hint
         hint is 6 | wait anew
-        hint is 7, nothing is around, two objects are carried | wait anew; question hint
+        hint is 7, nothing is around, two objects are in the hands | wait anew; question hint
         hint is 7 | wait anew
         hint is 8, EMERALD prop is other than -1, PYRAMID prop is -1 | wait anew; question hint
         hint is 8 | wait anew

@@ -7,7 +7,7 @@ from tables import phrases, rule, tables
 ACTIONS = {name: number for number, name in enumerate(
     """TAKE DROP SAY OPEN NOTHING LOCK ON OFF WAVE CALM WALK KILL POUR EAT DRINK RUB THROW QUIT FIND
     INVENTORY FEED FILL BLAST SCORE FOO BRIEF READ BREAK WAKE SUSPEND HOURS""".split(), 1)}
-MOST_CARRIED, MAGIC_WORDS, MOST_ANGER = 7, 4, 13
+MOST_IN_HANDS, MAGIC_WORDS, MOST_ANGER = 7, 4, 13
 
 # ---- What verbs mean that are said alone, and what is one of several things
 
@@ -67,7 +67,7 @@ def eggs_go_home(game):
     game.move(eggs, home)
 
 def carried_list(game):
-    """What INVENTORY lists: what is carried but BEAR, and the liquid in a carried bottle."""
+    """What INVENTORY lists: what is carried but BEAR."""
     return [x for x in range(1, 101) if game.is_carried(x) and not game.is_thing(x, "BEAR")]
 
 def ask_back(game):
@@ -103,7 +103,7 @@ phrases({
         game.is_thing(x, "ROD") and game.is_carried(game.thing("ROD2")),
     "{A} is one of ([A-Z ]+)": lambda game, x, names:
         any(game.is_thing(x, it) for it in names.split()),
-    "seven objects are carried": lambda game: len(game.in_hands()) >= MOST_CARRIED,
+    "seven objects are in the hands": lambda game: len(game.in_hands()) >= MOST_IN_HANDS,
     "by itself or with BOTTLE": lambda game: game.names["x"] in (0, game.thing("BOTTLE")),
     "the list is empty": lambda game: not carried_list(game),
     "it is the turn of the word": lambda game:
@@ -138,7 +138,7 @@ TABLES = tables("""
         x is WATER or OIL, BOTTLE is carried, BOTTLE prop is 1 | as FILL BOTTLE
         x is WATER or OIL, BOTTLE is carried | say bottle-full
         x is WATER or OIL | say no-bottle
-        seven objects are carried | say too-much
+        seven objects are in the hands | say too-much
         x is BIRD, BIRD prop is 0, ROD is carried | say bird-rod
         x is BIRD, BIRD prop is 0, CAGE isn't carried | say no-cage
         x is BIRD, BIRD prop is 0 | prop BIRD 1; carry CAGE; carry BIRD; say ok
@@ -272,8 +272,10 @@ TABLES = tables("""
         x is DWARF, a dwarf is here | say here-it
         | default
     INVENTORY alone
-        the list is empty | say empty; the rows of bear
-        | say holding; list what is carried; the rows of bear
+        the list is empty | say empty; the rows of bear that is carried
+        | say holding; list what is carried; the rows of bear that is carried
+    bear that is carried
+        BEAR is carried | say bear-follows
     FEED
         x is BIRD | say bird-feed
         x is SNAKE, the cave isn't closed, BIRD is at hand | BIRD vanishes; prop BIRD 0; \

@@ -1,0 +1,98 @@
+"""What the duel compares: random games, directed games, and mutated databases."""
+
+import random
+from collections import Counter, namedtuple
+
+import directed
+import generate
+from database import Cave, bindings_of, sections_of
+from errands import stage_of
+from players import Player
+from scripts import mutated, script_for
+
+FILES = ("cave.txt", "bindings.txt", "log.txt", "script.txt")
+STATE = ["--print", "state"]
+KINDS = {"directed": "directed game", "game": "game", "database": "database"}
+
+# A case is its files and the words with which both are called.
+Case = namedtuple("Case", "name texts words")
+
+
+def text_of(lines):
+    return "".join(it + "\n" for it in lines)
+
+
+def cave_of(texts):
+    return Cave(sections_of(texts["cave.txt"]), bindings_of(texts["bindings.txt"]))
+
+
+def calls_of(rng, call, options, is_edited):
+    """The call of a game by which something else than its transcript is printed, at random."""
+    if is_edited:
+        what = rng.choice(["play", "log", "undo", "steps", "score", "reports", "table"])
+        every = "1" if what in ("reports", "table") else rng.choice(["1", "2", "7", "50", "10000"])
+        call = [*call, "--every", every]
+        return call, [*call, "--print", what, *["--strict"] * (rng.random() < 0.1)]
+    covers = ["cover", "cave.txt", "log.txt", *options]
+    views = [[*call, "--print", it] for it in ("steps", "score")]
+    return call, rng.choice([*views, covers, [*covers, "--print", "texts"]])
+
+
+def game_cases(rng, seed, number, counts):
+    """A random game, called in three ways, of which one prints the state to which it leads."""
+    stage = stage_of(seed, number)
+    maker = generate.Maker(rng, stage)
+    texts = {"cave.txt": maker.database(), "bindings.txt": maker.bindings()}
+    cave = cave_of(texts)
+    start = rng.choice([0, 1, rng.randrange(1 << 20), rng.randrange(1 << 31)])
+    log = Player(rng, cave, start, counts, stage).make()
+    texts["log.txt"] = text_of(log)
+    if rng.random() < 0.02:
+        texts["log.txt"] = mutated(rng, texts["log.txt"])
+    call = ["play", "cave.txt", "log.txt"]
+    options = ["--bind", "bindings.txt", "--seed", f"{start}"]
+    if is_edited := rng.random() < 0.4:
+        others = [Player(rng, cave, start, counts).candidate() for _ in range(4)]
+        guarded = rng.random() < 0.4
+        texts["script.txt"] = script_for(rng, log, others, guarded)
+        call = ["edit", *call[1:], "script.txt"]
+        options += ["--guarded"] * guarded
+    call, other = calls_of(rng, call + options, options, is_edited)
+    return [Case(f"game-{number}", texts, it) for it in (call, [*call, *STATE], other)]
+
+
+def directed_cases(number):
+    """A directed game, with its transcript and the state to which it leads."""
+    game = directed.GAMES[number]
+    texts = {"cave.txt": game.database, "bindings.txt": game.bindings,
+             "log.txt": text_of(game.lines)}
+    call = ["play", "cave.txt", "log.txt", "--bind", "bindings.txt", "--seed", "0"]
+    calls = [[*call, *STATE]] if game.is_long else [call, [*call, *STATE]]
+    return [Case(f"directed-{game.name}", texts, it) for it in calls]
+
+
+def database_cases(rng, number, kept):
+    """A mutated database, or bindings; the text that is changed stays for some cases."""
+    if number % 10 == 0 or not kept:
+        maker = generate.Maker(rng)
+        kept[:] = [maker.database(), maker.bindings()]
+    texts = dict(zip(FILES, kept))
+    name = "bindings.txt" if rng.random() < 0.2 else "cave.txt"
+    texts[name] = mutated(rng, texts[name])
+    prints = ["bindings", "names", "unused", "doubts"]
+    what = ["--print", rng.choice(prints)] if rng.random() < 0.3 else []
+    call = ["check", "cave.txt", "--bind", "bindings.txt", *what]
+    return [Case(f"database-{number}", texts, call)]
+
+
+def chunk_of_cases(kind, seed, numbers):
+    """The cases of some numbers."""
+    counts, kept = Counter(), []
+    for number in numbers:
+        rng = random.Random(f"{seed} {kind} {number}")
+        if kind == "game":
+            yield from game_cases(rng, seed, number, counts)
+        elif kind == "directed":
+            yield from directed_cases(number)
+        else:
+            yield from database_cases(rng, number, kept)
