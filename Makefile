@@ -38,6 +38,7 @@ checks:
 	tools/check-numbers
 	tools/check-pages
 	tools/check-rows
+	tools/rule-words --check
 	tools/counts --check
 	tools/check-checks
 	logs/tools/check-documents
@@ -53,6 +54,7 @@ test: checks
 	tools/check-wrong-lines
 	@mkdir -p out
 	tools/manual docs/PROGRAM.md > out/cave.1
+	tools/manual $(RULES) > out/cave-rules.7
 	tools/progress all out/test.log rt ci
 	@tail -n 1 out/test.log
 	@! grep 'BAD EDIT' out/test.log
@@ -66,7 +68,7 @@ test: checks
 	tools/prefixes $(PROGRAM)
 	tools/check-memory
 	model/suite
-	model/duel $(PROGRAM) --count 300 --databases 1000 --seed 1 --quiet
+	model/duel $(PROGRAM) --count 3000 --databases 10000 --seed 1 --quiet
 
 # What takes too long for the gate, after it: cut inputs, each allocation refused in turn, small wrong
 # bodies, the example of a new rule, and the long duel. It prints a line for each part.
@@ -83,8 +85,8 @@ suite: checks $(PROGRAM)
 	@logs/tools/check-undo $(PROGRAM)
 	@model/suite
 
-# Plays random games, and reads mutated databases, with the program and with the model in Python, and
-# compares what both say. Case N of a seed is the same for any counts and jobs.
+# Plays directed and random games, and reads mutated databases, with the program and with the model
+# in Python, and compares what both say. Case N of a seed is the same for any counts and jobs.
 COUNT ?= 300
 DATABASES ?= 1000
 SEED ?= 1
@@ -125,11 +127,16 @@ page: graphviz $(PROGRAM)
 picture: page
 	@tools/picture docs/tour.html docs/tour.png
 
+# Puts the program into PREFIX, with cave(1), cave-rules(7) and the completions of shells.
+RULES = 'cave-rules(7): the rules of the games that cave plays' \
+	docs/TURN.md docs/PLAY.md docs/VERBS.md
 install: $(PROGRAM)
 	install -D -m 755 $(PROGRAM) $(PREFIX)/bin/cave
 	@mkdir -p out
 	tools/manual docs/PROGRAM.md > out/cave.1
 	install -D -m 644 out/cave.1 $(PREFIX)/share/man/man1/cave.1
+	tools/manual $(RULES) > out/cave-rules.7
+	install -D -m 644 out/cave-rules.7 $(PREFIX)/share/man/man7/cave-rules.7
 	tools/completions bash > out/cave.bash
 	install -D -m 644 out/cave.bash $(PREFIX)/share/bash-completion/completions/cave
 	tools/completions zsh > out/_cave

@@ -4,20 +4,46 @@ module.
 A definition notes the rows of a table where it has `noted table.NAME ROWS`, or `by_table` so, or
 where it is a table itself: `ROWS d = .._by_table table.NAME`. Where it notes cases by their
 numbers, the table is one of `BY_CASES`. `play_rows` has all these tables in a list, and a list of
-how many rows each has.
+what each is called.
+
+On a page such a table stands below its name, in bold, and a comment with the names of its
+definitions; its rows begin with their numbers. One that is two tables has both names.
 """
 
 import re
+from collections import namedtuple
+
+# Where a table stands on the pages, and its labels.
+Place = namedtuple("Place", "order labels")
 
 LISTS = "crates/play_rows/specs/Tables.antt"
-NOTED = re.compile(r"\b(?:noted|noted_from|by_table) table\.(\w+) (?:\d+ )?(\w+)")
+PAGES = ("docs/TURN.md", "docs/PLAY.md", "docs/VERBS.md")
+SHOWN = re.compile(
+    r"^(?:((?:\*\*[^*]+\*\*(?:, )?)+)\n\n)?<!-- rows: (.*) -->\n\n?((?:^\|.*\n)*)", re.MULTILINE
+)
+NOTED = re.compile(r"\b(?:noted|noted_from|by_table) table\.(\w+) (?:\d+ )?\(?(\w+)")
 ITSELF = re.compile(r"^(\w+) d =\s+\w+_by_table table\.(\w+)", re.MULTILINE)
-BY_CASES = {
-    "Questions": "tell_question",
-    "Yes": "answers_to",
-    "No": "answers_to",
-    "HalfCommand": "half_command_kept",
-}
+BY_CASES = {"Questions": "tell_question", "Yes": "answers_to", "No": "answers_to"}
+
+
+def tables_shown(text):
+    """Of each table of rules of a page, its labels, the names of its definitions, and its rows."""
+    for labels, names, table in SHOWN.findall(text):
+        rows = [row.strip()[1:-1].split("|") for row in table.splitlines()[2:]]
+        cells = [[cell.strip() for cell in row] for row in rows]
+        yield re.findall(r"\*\*([^*]+)\*\*", labels), names.split(), cells
+
+
+def plain(cell):
+    """The words of a cell without marks; an empty one is of a last row."""
+    words = re.sub(r"\[([^]]+)\]\([^)]*\)", r"\1", cell)
+    return re.sub(r"[`*]", "", words) or "otherwise"
+
+
+def labels_in(lists):
+    """The label of each table, in the order of the list."""
+    labels = list_in(lists, "TABLE_NAMES", r'codes "([^"]*)"')
+    return dict(zip(list_in(lists, "tables", r"table\.(\w+)"), labels))
 
 
 def list_in(text, name, item):
@@ -42,15 +68,13 @@ def late(tables, shown):
             yield f"{LISTS}: {one} and {other} stand in the pages the other way round"
 
 
-def faults(lists, texts, shown, counted):
-    """What is wrong with the lists, of the rows whose places on the pages, and whose numbers there,
-    are given by their names."""
-    tables, counts = list_in(lists, "tables", r"table\.(\w+)"), list_in(lists, "ROW_COUNTS", r"\d+")
+def faults(lists, texts, shown):
+    """What is wrong with the lists, of the rows whose places on the pages are given by names."""
+    tables, labels = list_in(lists, "tables", r"table\.(\w+)"), labels_in(lists)
     noted, places = noted_in(texts), {}
     yield from (f"{LISTS}: {it} is noted, and isn't listed" for it in noted if it not in tables)
-    if len(tables) != len(counts):
-        yield f"{LISTS}: of {len(tables)} tables the rows of {len(counts)} are counted"
-    for table, count in zip(tables, counts):
+    yield from (f"{LISTS}: {it} has no name" for it in tables if it not in labels)
+    for table, label in labels.items():
         names = [*noted.get(table, {}), *filter(None, [BY_CASES.get(table)])]
         if not names:
             yield f"{LISTS}: {table} is noted nowhere"
@@ -58,7 +82,9 @@ def faults(lists, texts, shown, counted):
             if name not in shown:
                 yield f"{LISTS}: {table} has {name}, which no page shows"
                 continue
-            places[table] = shown[name]
-            if counted[name] != int(count):
-                yield f"{LISTS}: {table} has {count} rows, and the page shows {counted[name]}"
+            place = shown[name]
+            places[table] = place.order
+            if label not in place.labels:
+                told = ", ".join(place.labels) or "nothing"
+                yield f"{LISTS}: {table} is called {label}, and on the page {told}"
     yield from late([*places], places)

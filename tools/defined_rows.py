@@ -1,0 +1,150 @@
+"""The tables of rules in the definitions, of specs/, and what their rows ask and say: a module.
+
+    files = tables_defined(top)     # of each file its tables, in their order
+    rows_of(table), count_rows(table), rows_in_words(files)
+
+A table is a list of rows, what follows by such a list and a last row, a list of effects, or what is
+said case by case.
+"""
+
+import glob
+import re
+import textwrap
+from collections import namedtuple
+
+Table = namedtuple("Table", "name text form")
+Words = namedtuple("Words", "roles things")
+
+KIND = r"(?:\w+ → )*List (?:\w+Row|\(Row .*\))"
+EFFECTS = r"List \(Effect .*\)"
+HEAD = re.compile(r"(?:abbrev|unfoldable) pub (\w+) : (.*)$")
+ROW = re.compile(
+    r"(?:^ +\(?|∷ |= |\+\+ |\) \()(?:\w*row(?:_\w+)?|otherwise(?:_then)?)(?= |\n)", re.MULTILINE
+)
+NAME = re.compile(r"(?<![.\w])[a-z]\w*")
+ROLE = re.compile(r"\brole\.(\w+)")
+SHORT_NAME = re.compile(r"^ *(\w+) = the name\.(\w+)$", re.MULTILINE)
+THING = re.compile(r"\bname\.(\w+)|(?<![.\w])([a-z]\w*)")
+
+
+def text_of(path):
+    with open(path, encoding="utf-8") as file:
+        return file.read()
+
+
+def table_of(block):
+    """The table of a block of a file, and how its rows are counted; none for another block."""
+    kept = [it for it in block.splitlines() if not re.match(r"\s*--|module ", it)]
+    lines = textwrap.dedent("\n".join(kept)).splitlines()
+    head = HEAD.match(lines[0]) if lines else None
+    if not head:
+        return None
+    name, kind = head.groups()
+    text = "\n".join(lines[1:])
+    listed = re.fullmatch(KIND, kind) and len(re.findall(rf"^{name} ", text, re.MULTILINE)) == 1
+    if listed or re.match(rf"{name} d = (?:answer_by_rows|\w+_by_table table\.\w+)\n", text):
+        return Table(name, text.split("=", 1)[1], "rows")
+    if re.fullmatch(EFFECTS, kind):
+        return Table(name, text.split("=", 1)[1], "effects")
+    return Table(name, text, "cases")
+
+
+def tables_defined(top):
+    """The files of the definitions, with the tables of each in their order, and their cases."""
+    found = {}
+    for path in sorted(glob.glob("crates/*/specs/**/*.antt", root_dir=top, recursive=True)):
+        blocks = re.split(r"\n\s*\n", text_of(f"{top}/{path}"))
+        found[path] = [table for table in map(table_of, blocks) if table]
+    return found
+
+
+def count_items(text):
+    """The items of a list that ends in the empty one."""
+    depth = items = 0
+    for letter in text:
+        depth += (letter == "(") - (letter == ")")
+        items += letter == "∷" and depth == 0
+    return items
+
+
+def rows_of(table):
+    """The texts of the rows of a table, without those of tables that it ends in."""
+    if table.form == "cases":
+        return re.split(rf"^(?={table.name} )", table.text, flags=re.MULTILINE)[1:]
+    text = f"={table.text}"
+    starts = [row.start() for row in ROW.finditer(text)]
+    return [text[one:other] for one, other in zip(starts, [*starts[1:], None])]
+
+
+def count_rows(table):
+    if table.form == "effects":
+        return count_items(table.text)
+    return len(rows_of(table))
+
+
+def parts_of(texts):
+    """Of each table of a file, the tables of the file that it is made of."""
+    parts = {name: set(NAME.findall(text)) & texts.keys() - {name} for name, text in texts.items()}
+    for _ in texts:
+        parts = {it: own.union(*(parts[part] for part in own)) for it, own in parts.items()}
+    return parts
+
+
+# ---- what a row asks and says
+
+def tests_of(row):
+    """What the tests of a row say: its first list; of a last row, nothing."""
+    head, _, rest = row.strip(" ()=∷+").partition(" ")
+    if head.startswith("otherwise") or not rest.startswith("("):
+        return ""
+    depth = 0
+    for at, letter in enumerate(rest):
+        depth += (letter == "(") - (letter == ")")
+        if depth == 0:
+            return rest[: at + 1]
+    return rest
+
+
+def with_effects(text, effects, seen=frozenset()):
+    """A text, with the lists of effects that it names written out."""
+    def written_out(found):
+        name = found[0]
+        if name in seen or name not in effects:
+            return name
+        return with_effects(effects[name], effects, seen | {name})
+
+    return NAME.sub(written_out, text)
+
+
+def things_in(text, short_names):
+    """The objects that a text names."""
+    found = {named or short_names.get(short) for named, short in THING.findall(text)} - {None}
+    return {f"{it.removeprefix('Second').upper()}{'2' * it.startswith('Second')}" for it in found}
+
+
+def effects_of_crates(files):
+    """Of each crate the lists of effects that its files define, by their names."""
+    found = {}
+    for path, tables in files.items():
+        effects = {it.name: it.text for it in tables if it.form == "effects"}
+        found.setdefault(path.split("/")[1], {}).update(effects)
+    return found
+
+
+def rows_in_words(files, top):
+    """Of each table, of each row the roles that it says, in order, and the objects of its tests."""
+    effects, short_names, found = effects_of_crates(files), {}, {}
+    for path in files:
+        short_names.update(SHORT_NAME.findall(text_of(f"{top}/{path}")))
+    for path, tables in files.items():
+        near = effects[path.split("/")[1]]
+        for table in tables:
+            if table.form != "effects":
+                found[table.name] = [words_of(row, near, short_names) for row in rows_of(table)]
+    return found
+
+
+def words_of(row, effects, short_names):
+    """What a row says and asks, with the effects of its crate written out."""
+    said = ROLE.findall(with_effects(row, effects))
+    return Words([it.lower() for it in said], things_in(tests_of(row), short_names))
