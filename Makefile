@@ -1,16 +1,29 @@
-.PHONY: try play checks test soak suite duel graphviz map chart page picture install
+.PHONY: help try play checks test soak suite duel map chart page picture install
+
+# The first target, so `make` alone lists them too: each has its sentence after `##`.
+help: ## lists what `make` can do
+	@sed -n 's/^\([a-z]*\):.*## /  make \1\t/p' Makefile | expand -t 18
+	@echo
+	@echo "Another folder than ~/.local is \`make install PREFIX=FOLDER\`, and a longer duel is"
+	@echo "\`make duel COUNT=N DATABASES=N SEED=N JOBS=N\`."
+
+# Ends what needs a program that isn't there, before anything is proved for it.
+has-%:
+	@tools/command_line.py $*
 
 PREFIX ?= $(HOME)/.local
 PROGRAM = crates/cave/out/cave
-SOURCES = $(shell find crates -name out -prune -o -type f \( -name '*.rt' -o -name '*.antt' \) -print) crates.txt
-FIRST_GAME = play $(CURDIR)/caves/shoal.txt $(CURDIR)/logs/tour.log --bind $(CURDIR)/caves/shoal.bind --seed 3
+SOURCES = crates.txt \
+	$(shell find crates -name out -prune -o -type f \( -name '*.rt' -o -name '*.antt' \) -print)
+FIRST_GAME = play '$(CURDIR)/caves/shoal.txt' '$(CURDIR)/logs/tour.log' \
+	--bind '$(CURDIR)/caves/shoal.bind' --seed 3
 
 # Plays a shipped cave with a shipped log by the program as it is written, before any proof of it.
 # `rt try` runs it in a folder of its own, so its files are handed over, and their names are bare.
-TRY_FILES = --data shoal.txt=$(CURDIR)/caves/shoal.txt --data shoal.bind=$(CURDIR)/caves/shoal.bind \
-	--data tour.log=$(CURDIR)/logs/tour.log
+TRY_FILES = --data 'shoal.txt=$(CURDIR)/caves/shoal.txt' \
+	--data 'shoal.bind=$(CURDIR)/caves/shoal.bind' --data 'tour.log=$(CURDIR)/logs/tour.log'
 TRY_GAME = play shoal.txt tour.log --bind shoal.bind --seed 3
-try:
+try: has-rt ## plays a shipped log within a minute or two, unproved, and keeps no program
 	@echo "Unproved: the program is compiled and run as it is written. This takes a minute or two."
 	@mkdir -p out
 	@cd crates/cave && rt try --seconds 900 $(TRY_FILES) -- $(TRY_GAME) 2> ../../out/try.log \
@@ -19,7 +32,7 @@ try:
 	@echo "That was unproved, and is kept nowhere. \`make play\` proves it all and plays the same."
 
 # Plays the same with the program that was proved, and proves and builds first what isn't built.
-play: $(PROGRAM)
+play: $(PROGRAM) ## proves and builds the program, and plays that log with it
 	@$(PROGRAM) $(FIRST_GAME)
 
 # Proves the program with all that it is built on, and builds it. What was said is in out/build.log.
@@ -29,11 +42,16 @@ $(PROGRAM): $(SOURCES)
 	@cd crates/cave && ../../tools/progress cave ../../out/build.log rt run -- $(FIRST_GAME)
 	@touch $@
 
-# What takes seconds and needs no proof and no program: what nobody uses, functions that don't go by
-# the word of their definition, what the pages name and show, that the checks of pages and of suites
-# fail what they should, and what shells complete.
-checks:
+# What takes seconds and needs no proof and no program: what nobody uses, imports from a crate that
+# doesn't have the item, functions that don't go by the word of their definition, what the pages
+# name and show, that the checks of pages and of suites fail what they should, how scripts answer
+# `--help`, and what shells complete. A check that skips something says so in a line, and adds it to
+# the file SKIPPED: `make test` ends with the sum.
+checks test: export SKIPPED = $(CURDIR)/out/skipped
+checks: ## checks names, imports, pages and scripts, in seconds, without any proof
+	@rm -f out/skipped
 	tools/check-unused
+	tools/check-homes
 	tools/check-names
 	tools/check-numbers
 	tools/check-pages
@@ -41,6 +59,7 @@ checks:
 	tools/rule-words --check
 	tools/counts --check
 	tools/check-checks
+	tools/check-help
 	logs/tools/check-documents
 	logs/tools/plant --check
 	logs/tools/check-runner
@@ -48,9 +67,9 @@ checks:
 
 # Those checks, and the lines that must not compile; then the gate: each proof from nothing, the
 # edits that must fail, each of which has to compile, the tests and the program; and then the suite
-# with the program that was proved, and what the suite leaves out; cut caves, and refused memory; and
-# last the second opinion.
-test: checks
+# with the program that was proved, and what the suite leaves out; cut caves, and refused memory;
+# and last the second opinion.
+test: has-rt has-cc checks ## runs the gate: all proofs anew, wrong bodies, tests, suite and duel
 	tools/check-wrong-lines
 	@mkdir -p out
 	tools/manual docs/PROGRAM.md > out/cave.1
@@ -69,15 +88,18 @@ test: checks
 	tools/check-memory
 	model/suite
 	model/duel $(PROGRAM) --count 3000 --databases 10000 --seed 1 --quiet
+	@touch out/skipped
+	@cat out/skipped
+	@awk '{ sum += $$1 } END { print "parts of checks that were skipped:", sum + 0 }' out/skipped
 
-# What takes too long for the gate, after it: cut inputs, each allocation refused in turn, small wrong
-# bodies, the example of a new rule, and the long duel. It prints a line for each part.
-soak: $(PROGRAM)
+# What takes too long for the gate, after it: cut inputs, each allocation refused in turn, small
+# wrong bodies, the example of a new rule, and the long duel. It prints a line for each part.
+soak: $(PROGRAM) ## runs what takes longer: refused memory, small wrong bodies, a long duel
 	tools/soak
 
 # Plays each log of logs/ with the program, and compares what it says with the transcript beside it;
 # and then those that the model can play with the model.
-suite: checks $(PROGRAM)
+suite: checks $(PROGRAM) ## plays the logs of logs/, and compares them with their transcripts
 	@logs/run $(PROGRAM)
 	@logs/tools/check-large-cave $(PROGRAM)
 	@logs/tools/check-coverage $(PROGRAM)
@@ -91,23 +113,19 @@ COUNT ?= 300
 DATABASES ?= 1000
 SEED ?= 1
 JOBS ?= $(shell nproc)
-duel: $(PROGRAM)
+duel: $(PROGRAM) ## plays random games with the program and the model, and compares them
 	@model/duel $(PROGRAM) --count $(COUNT) --databases $(DATABASES) --seed $(SEED) --jobs $(JOBS)
-
-graphviz:
-	@command -v dot > /dev/null || { echo "There is no \`dot\`, which draws maps:" \
-		"install Graphviz, as by \`apt-get install graphviz\`."; exit 1; }
 
 # Draws the map of the shoal with what the tour sees of it, by Graphviz, into docs/shoal.svg.
 MAP = map caves/shoal.txt logs/tour.log --bind caves/shoal.bind --seed 3
-map: graphviz $(PROGRAM)
+map: has-dot $(PROGRAM) ## draws the map of the shoal, by Graphviz, into docs/shoal.svg
 	@mkdir -p out
 	@$(PROGRAM) $(MAP) > out/shoal.dot
 	@dot -Tsvg out/shoal.dot -o docs/shoal.svg
 	@echo "docs/shoal.svg is drawn."
 
 # Draws the score and the lamp of the tour over its lines, by gnuplot, into docs/tour.svg.
-chart: $(PROGRAM)
+chart: has-gnuplot $(PROGRAM) ## draws score and lamp of the tour, by gnuplot, into docs/tour.svg
 	@mkdir -p out
 	@$(PROGRAM) $(FIRST_GAME) --print steps > out/tour.steps
 	@tools/chart out/tour.steps --output docs/tour.svg
@@ -116,7 +134,7 @@ chart: $(PROGRAM)
 # Makes a page for a browser, docs/tour.html: the tour as it goes without the pillow, and the tour.
 TOUR = caves/shoal.txt logs/tour.log
 HOW = --bind caves/shoal.bind --seed 3
-page: graphviz $(PROGRAM)
+page: has-dot $(PROGRAM) ## makes a page of two walks for a browser, docs/tour.html
 	@mkdir -p out
 	@$(PROGRAM) edit $(TOUR) logs/edit-tour.script $(HOW) --print log > out/tour-without-pillow.log
 	@tools/page caves/shoal.txt out/tour-without-pillow.log --against logs/tour.log $(HOW) \
@@ -124,20 +142,20 @@ page: graphviz $(PROGRAM)
 	@echo "docs/tour.html is made: open it in a browser."
 
 # Takes the picture of that page that README shows, by a headless chromium: docs/tour.png.
-picture: page
+picture: has-chromium has-chromedriver page ## takes a picture of that page: docs/tour.png
 	@tools/picture docs/tour.html docs/tour.png
 
 # Puts the program into PREFIX, with cave(1), cave-rules(7) and the completions of shells.
 RULES = 'cave-rules(7): the rules of the games that cave plays' \
 	docs/TURN.md docs/PLAY.md docs/VERBS.md
-install: $(PROGRAM)
-	install -D -m 755 $(PROGRAM) $(PREFIX)/bin/cave
+install: $(PROGRAM) ## puts the program, its manuals and completions into ~/.local
+	install -D -m 755 $(PROGRAM) '$(PREFIX)/bin/cave'
 	@mkdir -p out
 	tools/manual docs/PROGRAM.md > out/cave.1
-	install -D -m 644 out/cave.1 $(PREFIX)/share/man/man1/cave.1
+	install -D -m 644 out/cave.1 '$(PREFIX)/share/man/man1/cave.1'
 	tools/manual $(RULES) > out/cave-rules.7
-	install -D -m 644 out/cave-rules.7 $(PREFIX)/share/man/man7/cave-rules.7
+	install -D -m 644 out/cave-rules.7 '$(PREFIX)/share/man/man7/cave-rules.7'
 	tools/completions bash > out/cave.bash
-	install -D -m 644 out/cave.bash $(PREFIX)/share/bash-completion/completions/cave
+	install -D -m 644 out/cave.bash '$(PREFIX)/share/bash-completion/completions/cave'
 	tools/completions zsh > out/_cave
-	install -D -m 644 out/_cave $(PREFIX)/share/zsh/site-functions/_cave
+	install -D -m 644 out/_cave '$(PREFIX)/share/zsh/site-functions/_cave'

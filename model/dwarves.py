@@ -69,10 +69,7 @@ def throw(game):
     """A knife is thrown, and hits or not."""
     game.knives += 1
     game.hits += game.draw(1000) < 95 * (game.anger - 2)
-    if game.knife >= 0:
-        game.knife = game.here
-    else:
-        rule("knives: none lies any more")
+    TABLES["thrown knife"].apply(game)
 
 def they_grow_angrier(game):
     """The first knives make the dwarves angrier."""
@@ -110,6 +107,7 @@ phrases({
         f"There are {game.seeing} threatening little dwarves in the room with you."),
     "how many knives":
         lambda game: game.out.append(f"{game.knives} of them throw knives at you!"),
+    "a knife lies here": lambda game: vars(game).update(knife=game.here),
     "how many hits": lambda game: game.out.append(f"{game.hits} of them get you!"),
 })
 
@@ -125,6 +123,9 @@ tables("""
         seeing is 0 | nothing
         seeing is 1 | say dwarf-one
         | how many dwarves
+    thrown knife
+        knife is below 0 | nothing
+        | a knife lies here
     knives
         knives is 0 | nothing
         knives is 1, hits is 0 | say knife-one; say miss-one

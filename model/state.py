@@ -203,7 +203,13 @@ class Game:
         """Whether a question is open or the game has ended, so that nothing more is done."""
         return self.question is not None or self.ended is not None
 
+    def open_question(self, question):
+        """The next line answers it."""
+        self.question = question
+        TABLES["asking"].apply(self)
+
     def ask(self, question):
+        """Says the message of a question."""
         self.question = question
         if question == "hint":
             self.message(self.cave.hints[self.hint][2])

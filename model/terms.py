@@ -69,7 +69,7 @@ phrases({
     "I see no W here": lambda game: game.out.append(f"I see no {game.word} here."),
     "panic": Game.panic,
     "the troll leaves": Game.troll_leaves,
-    "question ([a-z ]+)": Game.ask,
+    "question ([a-z ]+)": Game.open_question,
     "hint {N} is taken": lambda game, hint: game.taken.add(hint),
     "end ([a-z ]+)": Game.end,
     "a treasure is lost": Game.lose,

@@ -31,10 +31,8 @@ def a_command(game):
     game.question = None
     game.turns += 1
     game.magic = -game.magic if game.magic > 0 else 0
-    if game.knife > 0 and game.knife != game.here:
-        rule("turn: a knife elsewhere is forgotten")
-        game.knife = 0
     game.was_dark, game.forced_left = game.is_dark(), travel.MOST_FORCED
+    TABLES["knife left behind"].apply(game)
     if clocks_let_go_on(game):
         read_words(game)
     else:
@@ -180,22 +178,15 @@ def the_price(game):
 def end_turn(game):
     if game.is_over():
         return
-    if game.closed:
-        show_what_is_in_the_hands(game)
+    TABLES["closed cave"].apply(game)
     for hint in sorted(game.cave.hints):
         if hint >= 4 and hint not in game.taken:
             wait_for_hint(game, hint)
 
-def show_what_is_in_the_hands(game):
-    """What is in the hands in a closed cave shows itself."""
-    oyster = game.thing("OYSTER")
-    if oyster and game.prop[oyster] < 0 and game.is_in_hands(oyster):
-        rule("closed: OYSTER shows itself")
-        game.object_text(oyster, 1)
-    for x in game.in_hands():
-        if game.prop[x] < 0:
-            rule("closed: a prop is turned")
-            game.prop[x] = -1 - game.prop[x]
+def objects_show_themselves(game):
+    for x in range(1, 101):
+        game.names["k"] = x
+        TABLES["object shown"].apply(game)
 
 def wait_for_hint(game, hint):
     if not game.cave.has(game.here, hint):
@@ -216,8 +207,9 @@ phrases({
     "the game has ended": lambda game: game.ended is not None,
     "a question is open": lambda game: game.question is not None,
     "the question is dragon": lambda game: game.question == "dragon",
-    "the answer is (yes)": lambda game, yes: reply(game) == yes,
-    "the answer is yes or no": lambda game: reply(game) is not None,
+    "the answer is (yes|no)": lambda game, answer: reply(game) == answer,
+    "the question is score quit": lambda game: game.question == "score quit",
+    "a knife lies elsewhere": lambda game: game.knife > 0 and game.knife != game.here,
     "SAY was kept": lambda game: game.half_verb == SAY,
     "a word comes after": lambda game: game.after is not None,
     "the words are (.+) and (.+)": lambda game, *wanted: len(game.words) == 2 and all(
@@ -241,7 +233,10 @@ phrases({
     "two objects are in the hands": lambda game: len(game.in_hands()) >= 2,
 }, {
     "chance goes on from it": lambda game: vars(game).update(stream=game.seed % 1_048_576),
-    "the question again": lambda game: game.ask(game.question),
+    "its question": lambda game: game.ask(game.question),
+    "the score so far": lambda game: game.out.append("If you were to quit now, you would score"
+        f" {game.score()} out of a possible {game.cave.greatest_score()}."),
+    "the prop of {A} is turned": lambda game, x: game.set_prop(x, -1 - game.prop[x]),
     "travel by it": lambda game: travel.travel(game, game.number),
     "read both": lambda game: read(game, game.word, game.after),
     "read the next word alone": lambda game: read(game, game.after),
@@ -270,8 +265,14 @@ tables("""
         the game has ended | nothing
         a question isn't open | a command
         the question is dragon, the answer isn't yes | a command
-        the answer is yes or no | an answer
-        | say answer; the question again
+        the answer is yes | an answer
+        the answer is no | an answer
+        | say answer; its question
+    asking
+        the question is score quit | the score so far; its question
+        | its question
+    knife left behind
+        a knife lies elsewhere | knife becomes 0
     command
         SAY was kept, a word doesn't come after | say the word aloud
         the words are ENTER and STREA or WATER, the lake is WATER | say feet-wet
@@ -351,6 +352,12 @@ tables("""
             | warned becomes 1; say lamp-low-find
         lamp is at most 30, warned is 0, LAMP is at hand | warned becomes 1; say lamp-low
         | nothing
+    closed cave
+        the cave is closed, OYSTER is in the hands, OYSTER prop is below 0 \
+            | text OYSTER 1; objects show themselves
+        the cave is closed | objects show themselves
+    object shown
+        k is in the hands, k prop is below 0 | the prop of k is turned
     death
         the cave is closing | say killed-closing; count a death; end killed
         | question revive

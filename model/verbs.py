@@ -110,8 +110,6 @@ phrases({
         number_of_magic(game) != 0 and game.magic == 1 - number_of_magic(game),
     "the word is the last": lambda game: number_of_magic(game) == MAGIC_WORDS,
 }, {
-    "the score so far": lambda game: game.out.append("If you were to quit now, you would score"
-        f" {game.score()} out of a possible {game.cave.greatest_score()}."),
     "list what is carried": lambda game: [game.object_text(x, None) for x in carried_list(game)],
     "default": lambda game: game.message(game.cave.defaults.get(game.verb, 0)),
     "as ([A-Z]+)": lambda game, verb: perform(game, ACTIONS[verb], 0),
@@ -262,7 +260,7 @@ TABLES = tables("""
     QUIT alone
         | question quit
     SCORE alone
-        | the score so far; question score quit
+        | question score quit
     FIND INVENTORY
         x is carried | say held-it
         the cave is closed | say around

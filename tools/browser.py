@@ -1,7 +1,6 @@
 """A headless chromium as a module, driven through chromedriver, by the standard library alone.
 
-    import browser
-    if package := browser.missing(): ...
+    import browser                # its PROGRAMS have to be there
     with browser.Browser(1200, 800) as page:
         page.open("walk.html", 12)
         page.press("ArrowDown")
@@ -22,7 +21,7 @@ import time
 import urllib.error
 import urllib.request
 
-PACKAGES = {"chromium": "chromium", "chromedriver": "chromium-driver"}
+PROGRAMS = ("chromium", "chromedriver")
 STARTED = re.compile(r"started successfully on port (\d+)")
 KEYS = {"ArrowLeft": "\ue012", "ArrowUp": "\ue013", "ArrowRight": "\ue014", "ArrowDown": "\ue015",
         "PageUp": "\ue00e", "PageDown": "\ue00f", "End": "\ue010", "Home": "\ue011",
@@ -34,11 +33,6 @@ ARGUMENTS = """--headless=new --no-first-run --disable-gpu --force-device-scale-
 
 class Failed(Exception):
     """What the driver refused, by its own words."""
-
-
-def missing():
-    """The package that isn't there and is wanted, or None."""
-    return next((PACKAGES[it] for it in PACKAGES if not shutil.which(it)), None)
 
 
 class Browser:

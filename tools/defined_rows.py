@@ -42,7 +42,7 @@ def table_of(block):
     name, kind = head.groups()
     text = "\n".join(lines[1:])
     listed = re.fullmatch(KIND, kind) and len(re.findall(rf"^{name} ", text, re.MULTILINE)) == 1
-    if listed or re.match(rf"{name} d = (?:answer_by_rows|\w+_by_table table\.\w+)\n", text):
+    if listed or re.match(rf"{name} d = (?:answer_by_rows|\w+_by_table table\.\w+ \w+)\n", text):
         return Table(name, text.split("=", 1)[1], "rows")
     if re.fullmatch(EFFECTS, kind):
         return Table(name, text.split("=", 1)[1], "effects")
@@ -58,13 +58,16 @@ def tables_defined(top):
     return found
 
 
-def count_items(text):
+def items_of(text):
     """The items of a list that ends in the empty one."""
-    depth = items = 0
+    items, depth = [""], 0
     for letter in text:
         depth += (letter == "(") - (letter == ")")
-        items += letter == "∷" and depth == 0
-    return items
+        if letter == "∷" and depth == 0:
+            items.append("")
+        else:
+            items[-1] += letter
+    return items[:-1]
 
 
 def rows_of(table):
@@ -78,7 +81,7 @@ def rows_of(table):
 
 def count_rows(table):
     if table.form == "effects":
-        return count_items(table.text)
+        return len(items_of(table.text))
     return len(rows_of(table))
 
 
@@ -132,14 +135,18 @@ def effects_of_crates(files):
 
 
 def rows_in_words(files, top):
-    """Of each table, of each row the roles that it says, in order, and the objects of its tests."""
+    """Of each table, of each row the roles that it says, in order, and the objects of its tests; of
+    a list of effects, the objects of each."""
     effects, short_names, found = effects_of_crates(files), {}, {}
     for path in files:
         short_names.update(SHORT_NAME.findall(text_of(f"{top}/{path}")))
     for path, tables in files.items():
         near = effects[path.split("/")[1]]
         for table in tables:
-            if table.form != "effects":
+            if table.form == "effects":
+                items = items_of(table.text)
+                found[table.name] = [Words([], things_in(it, short_names)) for it in items]
+            else:
                 found[table.name] = [words_of(row, near, short_names) for row in rows_of(table)]
     return found
 

@@ -35,8 +35,8 @@ def refusals(pages):
     yield from stopped(pages, "a pipe to put the page into", 6, [cave, TOUR, *bind], f"page: {pipe}",
                        pipe)
     folder = empty_path(pages)
-    yield from stopped(pages, "no `dot`", 2, [cave, TOUR, *bind], "page: there is no `dot`, which"
-                       " draws maps: install Graphviz", env=os.environ | {"PATH": folder})
+    yield from stopped(pages, "no `dot`", 2, [cave, TOUR, *bind], "page: there is no `dot`: install"
+                       " it, as by `apt-get install graphviz`", env=os.environ | {"PATH": folder})
     program, pages.program = pages.program, f"{pages.room}/no-program"
     yield from stopped(pages, "no program", 2, [cave, TOUR, *bind], "page: there is no program")
     pages.program = program

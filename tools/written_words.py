@@ -1,35 +1,43 @@
-"""The files of `play_rows` that have when each row applies, in the words of its page: a module.
+"""The files of `play_cover` that declare the tables of the rules, made of the pages: a module.
 
-Of each page, a file of the code and one of the definitions have the words of its tables, and on
-either side one more file says which table has which. All are made of the pages; nobody edits them.
+On either side one file has all tables, in the order of the pages: each with its name and the words
+of its rows. Of each page one more file has these words, table by table. Nobody edits them.
 """
 
 import re
+import textwrap
 
-import noted_rows
-
-CRATE = "crates/play_rows"
-DEFINITIONS = "Rattle.play_rows.specs"
+CRATE = "crates/play_cover"
+SPECS = "Rattle.play_cover.specs"
 # The formatter keeps a list on its line where it has no more letters between its brackets, and the
 # line no more in all.
 MAX_SHORT, MAX_LINE = 60, 100
 HEAD = "of {page} apply, in words. `tools/rule-words --write` makes this of the page."
 CODE = """\
-//! The rows of each table in words. `tools/rule-words --write` makes this of the pages.
+//! The tables of the rules, as the pages have them. `tools/rule-words --write` makes this of them.
 
 ghost use Rattle.std.specs.Prelude.{{◌≡◌, ◌<◌, length, map}};
-ghost use Rattle.play_rows.specs.RowWords.{{row_words}};
-ghost use Rattle.play_rows.specs.Tables as defined;
+ghost use Rattle.play_cover.specs.RuleTables.{{row_words, table_name}};
+ghost use Rattle.play_cover.specs.RuleTables as defined;
 
 {modules}
 
-use turn_scene::Table;
+use cave_world::Table;
 
-/// When each row of a table applies, in words.
-#[tactic(auto, unfolding(crate::specs::RowWords::row_words))]
-pub fn row_words(table: Table) -> &'static [&'static str]
-    ensures value {{ map (λ words. words.now) result.now ≡ row_words table }}
-    ensures within {{ length result.now < defined.ROW_END }}
+/// How many tables there are.
+pub const TABLE_COUNT: usize = {count};
+
+/// Each table, in the order of the pages.
+pub const EACH_TABLE: [Table; TABLE_COUNT] = [
+{tables}
+];
+
+/// What a table is called, and when each of its rows applies, in words.
+#[tactic(auto, unfolding(crate::specs::EachTable::declared))]
+pub fn table_name_and_words(table: Table) -> (&'static str, &'static [&'static str])
+    ensures name {{ result.0.now ≡ table_name table }}
+    ensures words {{ map (λ words. words.now) result.1.now ≡ row_words table }}
+    ensures within {{ length result.1.now < defined.ROW_END }}
 {{
     match table {{
 {cases}
@@ -37,14 +45,27 @@ pub fn row_words(table: Table) -> &'static [&'static str]
 }}
 """
 DEFINITION = """\
--- The rows of each table in words. `tools/rule-words --write` makes this of the pages.
-use Rattle.std.specs.Prelude.{{ℕ, List}}
-use Rattle.turn_scene.specs.rule_rows.declared.tables.Table.{{Table}}
-use Rattle.turn_scene.specs.rule_rows.declared.tables.Table.TheVariants as table
+-- The tables of the rules, as the pages have them. `tools/rule-words --write` makes this of them.
+use Rattle.std.specs.Prelude.{{ℕ, List, [], ◌∷◌, codes}}
+use Rattle.cave_world.specs.declared.tables.Table.{{Table}}
+use Rattle.cave_world.specs.declared.tables.Table.TheVariants as table
 {modules}
 
--- when each row of a table applies
-unfoldable pub row_words : Table → List (List ℕ)
+-- what a table is called, and when each of its rows applies, in words
+pub record RuleTable : Type 0 where
+  pub name : List ℕ
+  pub words : List (List ℕ)
+
+abbrev pub rule_table : List ℕ → List (List ℕ) → RuleTable
+rule_table name words = record {{ name = name; words = words }}
+
+-- each table, in the order of the pages
+abbrev pub tables : List Table
+tables =
+{tables}
+
+-- what is declared of each
+unfoldable pub declared : Table → RuleTable
 {cases}
 """
 
@@ -79,25 +100,47 @@ def definition_of(table, words):
 
 
 def files_of(page, tables):
-    """The two files of a page."""
+    """The two files of the words of a page."""
     head = HEAD.format(page=f"{page.upper()}.md")
-    code = [f"//! When the rows {head}\n", *(code_of(*it) for it in tables.items())]
+    words = {table: rows for table, (_, rows) in tables.items()}
+    code = [f"//! When the rows {head}\n", *(code_of(*it) for it in words.items())]
     imports = "use Rattle.std.specs.Prelude.{ℕ, List, [], ◌∷◌, codes}\n"
     definitions = [f"-- When the rows {head}\n{imports}"]
-    definitions += (definition_of(*it) for it in tables.items())
-    yield f"{CRATE}/src/row_words/{page}.rt", "\n".join(code)
+    definitions += (definition_of(*it) for it in words.items())
+    yield f"{CRATE}/src/each_table/{page}.rt", "\n".join(code)
     yield f"{CRATE}/specs/{page.capitalize()}Words.antt", "\n".join(definitions)
 
 
-def files(words):
-    """The text of each file by its path, of the words of each table by page."""
-    pages = {page_of(path): tables for path, tables in words.items()}
+def case_in_code(page, table, name):
+    """What the code says of a table."""
+    return f"        Table::{table} => ({quoted(name)}, &{page}::{words_of(table).upper()}),"
+
+
+def case_in_definitions(page, table, name):
+    """And what the definitions say of it."""
+    return f"declared table.{table} = rule_table (codes {quoted(name)}) {page}.{words_of(table)}"
+
+
+def files(shown):
+    """The text of each file by its path, of each page's tables, each with its name and words."""
+    pages = {page_of(path): tables for path, tables in shown.items()}
     for page, tables in pages.items():
         yield from files_of(page, tables)
-    pairs = [(page, table) for page, tables in pages.items() for table in tables]
+    named = {page: {it: name for it, (name, _) in tables.items()} for page, tables in pages.items()}
+    listed = [(page, *it) for page, tables in named.items() for it in tables.items()]
     modules = "\n".join(f"mod {page};" for page in sorted(pages))
-    arms = (f"        Table::{it} => &{page}::{words_of(it).upper()}," for page, it in pairs)
-    yield f"{CRATE}/src/row_words.rt", CODE.format(modules=modules, cases="\n".join(arms))
-    modules = "\n".join(f"use {DEFINITIONS}.{it.capitalize()}Words as {it}" for it in pages)
-    cases = (f"row_words table.{it} = {page}.{words_of(it)}" for page, it in pairs)
-    yield f"{CRATE}/specs/RowWords.antt", DEFINITION.format(modules=modules, cases="\n".join(cases))
+    yield f"{CRATE}/src/each_table.rt", CODE.format(
+        modules=modules,
+        count=len(listed),
+        tables="\n".join(f"    Table::{table}," for _, table, _ in listed),
+        cases="\n".join(case_in_code(*it) for it in listed),
+    )
+    modules = "\n".join(f"use {SPECS}.{it.capitalize()}Words as {it}" for it in pages)
+    # no line begins with the sign
+    order = " ".join([*(f"table.{table}\xa0∷" for _, table, _ in listed), "[]"])
+    order = textwrap.fill(order, MAX_LINE, initial_indent="    ", subsequent_indent="    ")
+    yield f"{CRATE}/specs/EachTable.antt", DEFINITION.format(
+        modules=modules,
+        tables=order.replace("\xa0", " "),
+        cases="\n".join(case_in_definitions(*it) for it in listed),
+    )

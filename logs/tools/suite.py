@@ -3,6 +3,7 @@
     from suite import RUN, TOP
 
 The script has no name of a module, so it is loaded by its path. `TOP` is the folder above `logs/`.
+Modules of `tools/` can be imported after this one.
 """
 
 import os
@@ -21,3 +22,4 @@ def load():
 
 
 RUN = load()
+sys.path.append(f"{TOP}/tools")

@@ -8,7 +8,7 @@ use Rattle.std.proofs.lemmas.Bool.{false≢true, ne_eqb}
 use Rattle.std.proofs.lemmas.List.Folds.{length-prefix_len, list_all_at}
 use Rattle.std.proofs.lemmas.List.{take_rest}
 use Rattle.std.proofs.lemmas.Option.{slice_get-get_or, slice_get_within}
-use Rattle.base_limits.specs.Limits.{MAX_LINE_BYTES}
+use Rattle.base_lines.specs.Limits.{MAX_LINE_BYTES}
 use Rattle.base_lines.proofs.FirstLines.{lines_ended}
 use Rattle.base_lines.specs.Line.{is_line, is_line_byte, is_printable, line_fault}
 

@@ -2,4 +2,5 @@ pub mod Bytes
 pub mod Prefixes
 pub mod Line
 pub mod LogLine
-pub use Rattle.base_limits.specs as base_limits
+pub mod Limits
+pub mod Numbers

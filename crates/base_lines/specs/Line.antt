@@ -4,7 +4,7 @@ use Rattle.std.specs.Prelude.{nat_le, if◌then◌else◌, is_none, List, length
 use Rattle.std.specs.Prelude.{None, Some}
 use Rattle.std.specs.List.{list_all, prefix_len}
 use Rattle.std.specs.Str.Lines.{lines}
-use Rattle.base_limits.specs.Limits.{MAX_LINE_BYTES}
+use Rattle.base_lines.specs.Limits.{MAX_LINE_BYTES}
 use Rattle.base_lines.specs.declared.line.LineFault.{LineFault}
 use Rattle.base_lines.specs.declared.line.LineFault.TheVariants.{TooLong, BadByte}
 use Rattle.base_lines.specs.declared.line_flaw.LineFlaw.{LineFlaw}

@@ -3,7 +3,7 @@ use Rattle.std.specs.Prelude.{ℕ, Bool, false, ◌≡◌, ◌≤◌, ◌==◌, 
 use Rattle.std.specs.Prelude.{bytes_eq, List, [], Option, Some, None, length, take, drop, codes}
 use Rattle.std.specs.Prelude.{if◌then◌else◌, IsTrue, ◌||◌}
 use Rattle.std.specs.List.{list_all}
-use Rattle.base_limits.specs.Limits.{MAX_DIGITS, MAX_SEED}
+use Rattle.base_lines.specs.Limits.{MAX_DIGITS, MAX_SEED}
 use Rattle.base_lines.specs.Bytes.{is_blank, is_all_blank, is_digit, prefix_while, after_prefix}
 use Rattle.base_lines.specs.Bytes.{number_of}
 use Rattle.base_lines.specs.declared.log_line.LogLine.{LogLine}

@@ -2,7 +2,7 @@
 
 ghost use Rattle.std.specs.Prelude.{◌≡◌, ◌≤◌, IsTrue, length};
 ghost use Rattle.std.specs.List.{list_all, prefix_len};
-ghost use Rattle.base_limits.specs.Limits.{MAX_DIGITS};
+ghost use Rattle.base_lines.specs.Limits.{MAX_DIGITS};
 ghost use Rattle.base_lines.specs.Bytes.{is_blank, is_nonblank, is_all_blank, is_digit};
 ghost use Rattle.base_lines.specs.Bytes.{prefix_while, after_prefix, number_of};
 

@@ -1,18 +1,16 @@
-//! Texts and their lines, apart from any cave: bytes and blanks, the lines of a text, what a line
-//! of a log may be, and the meter that counts the lines that a play steps over.
+//! What users hand in, before anybody asks what it means: limits, the numbers of things, and the lines
+//! and words of any text.
 #![tactic(auto)]
 
 pub mod bytes;
+pub mod limits;
 pub mod line;
 pub mod line_flaw;
 pub mod lines;
 pub mod log_line;
 pub mod meter;
+pub mod numbers;
 
-pub use base_limits::{
-    MAX_EVERY, MAX_INPUT_BYTES, MAX_SEED, USUAL_EVERY, is_bad_every, is_full_log, is_large_input,
-    is_large_seed, is_long_log, is_long_number, with_digit,
-};
 pub use line::{LineFault, check_line};
 pub use line_flaw::{LineFlaw, split_log_line};
 pub use lines::split_line;

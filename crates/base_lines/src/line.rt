@@ -2,7 +2,7 @@ ghost use Rattle.std.specs.Prelude.{◌≡◌, ◌↔◌, None, Some, IsTrue, Is
 ghost use Rattle.std.specs.List.{list_all};
 ghost use Rattle.base_lines.specs.Line.{line_fault, is_line, is_line_byte, is_printable};
 
-use base_limits::is_long_line;
+use crate::limits::is_long_line;
 use thiserror::Error;
 
 /// Why a line isn't allowed in a log.

@@ -6,9 +6,9 @@ ghost use Rattle.std.specs.Str.Lines.{lines};
 ghost use Rattle.base_lines.specs.Line.{flaw_of, is_line_byte, is_printable, StartsWithLine};
 ghost use Rattle.base_lines.specs.Line.{StartsWithFlaw};
 
+use crate::limits::is_long_line;
 use crate::line::{check_line, is_line_byte, is_printable};
 use crate::lines::split_line;
-use base_limits::is_long_line;
 use thiserror::Error;
 
 /// Why a line isn't allowed in a log.

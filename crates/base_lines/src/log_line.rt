@@ -5,7 +5,7 @@ ghost use Rattle.base_lines.specs.LogLine.{log_line, is_comment, is_skipped, see
 ghost use Rattle.base_lines.specs.LogLine.{IsLogLine};
 
 use crate::bytes::{is_all_blank, number_of, skip_blanks, split_digits};
-use base_limits::{is_large_seed, is_long_number};
+use crate::limits::{is_large_seed, is_long_number};
 
 /// The byte that begins a comment.
 const COMMENT_MARK: u8 = b'#';

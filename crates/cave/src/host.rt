@@ -3,8 +3,7 @@
 
 ghost use Rattle.std.specs.Prelude.{None};
 
-use play_file::{FileBeside, replace};
-use play_program::{Message, System};
+use play_program::{FileBeside, Message, System, replace};
 use std::fs::File;
 use std::io::ErrorKind;
 use std::{env, io};

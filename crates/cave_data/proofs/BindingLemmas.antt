@@ -19,7 +19,7 @@ use Rattle.data_rows.specs.declared.binding.Key.{Key}
 use Rattle.data_rows.specs.declared.binding.Key.TheVariants.{RoleKey, PlaceKey, LettersKey}
 use Rattle.data_rows.specs.declared.binding.Binding.{Binding}
 use Rattle.cave_data.specs.declared.bindings.Bindings.{Bindings}
-use Rattle.data_rows.specs.base_lines.LogLine.{is_skipped}
+use Rattle.base_lines.specs.LogLine.{is_skipped}
 use Rattle.data_rows.specs.BindingLines.{binding_row, binding_at, bindings_of}
 use Rattle.cave_data.specs.Bindings.{role_value, place_value, role_key, place_key, letters_key}
 use Rattle.cave_data.specs.Bindings.{letters_value, latest, value_of}

@@ -9,7 +9,7 @@ use Rattle.data_rows.specs.declared.error.Cause.{Cause}
 use Rattle.data_rows.specs.declared.error.BindingFlaw.TheVariants.{Repeated}
 use Rattle.data_rows.specs.declared.error.Cause.TheVariants.{BadBinding}
 use Rattle.data_rows.specs.declared.binding.Binding.{Binding}
-use Rattle.data_rows.specs.base_lines.LogLine.{is_skipped}
+use Rattle.base_lines.specs.LogLine.{is_skipped}
 use Rattle.data_rows.specs.BindingLines.{binding_row, binding_at, bindings_of}
 use Rattle.data_rows.specs.BindingGrammar.{IsBindingLine, HasBindings, no_lines, skipped_line}
 use Rattle.data_rows.specs.BindingGrammar.{binding_line}

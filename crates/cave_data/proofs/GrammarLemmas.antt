@@ -13,7 +13,7 @@ use Rattle.data_rows.specs.declared.error.Section.{Section}
 use Rattle.data_rows.specs.declared.number.Number.TheVariants.{Natural, Negative}
 use Rattle.data_rows.specs.declared.position.Position.{Position}
 use Rattle.data_rows.specs.declared.position.Position.TheVariants.{Outside, Inside, After}
-use Rattle.data_rows.specs.base_lines.Bytes.{is_all_blank}
+use Rattle.base_lines.specs.Bytes.{is_all_blank}
 use Rattle.data_rows.specs.Rows.{Entry, entry_in}
 use Rattle.data_rows.specs.Grammar.{position_after_heading, closes}
 use Rattle.data_rows.specs.Grammar.{position_after_line, position_after, entry_at}

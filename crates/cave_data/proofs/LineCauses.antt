@@ -17,7 +17,7 @@ use Rattle.data_rows.specs.declared.error.Section.TheVariants as section
 use Rattle.data_rows.specs.declared.number.Number.TheVariants.{Negative}
 use Rattle.data_rows.specs.declared.position.Position.{Position}
 use Rattle.data_rows.specs.declared.position.Position.TheVariants.{Outside, Inside, After}
-use Rattle.data_rows.specs.base_lines.Bytes.{is_all_blank}
+use Rattle.base_lines.specs.Bytes.{is_all_blank}
 use Rattle.data_rows.specs.Rows.{Entry, TextLine, Way, ConditionRow, entry_in}
 use Rattle.data_rows.specs.Grammar.{position_after_heading, closes, position_after, entry_here}
 use Rattle.data_rows.specs.Grammar.{entry_at, entries}

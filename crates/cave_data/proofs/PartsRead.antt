@@ -24,7 +24,7 @@ use Rattle.data_rows.proofs.ReadParts.{read-may, list-read, read-list, read-all,
 use Rattle.data_rows.proofs.ReadParts.{read-some, word-read, read-word}
 use Rattle.data_rows.proofs.RowLemmas.{entry-read, read-entry}
 use Rattle.cave_data.specs.LowestCause.{HasParts, IsInRange}
-use Rattle.data_rows.specs.data_numbers.Numbers.{LAST_PLACE, LAST_HINT}
+use Rattle.base_lines.specs.Numbers.{LAST_PLACE, LAST_HINT}
 
 -- whether the numbers and words of a row of the section are read
 abbrev pub reads_parts : Section → List ℕ → Bool

@@ -26,7 +26,7 @@ use Rattle.data_rows.specs.declared.binding.Key.{Key}
 use Rattle.data_rows.specs.declared.binding.Key.TheVariants.{RoleKey, PlaceKey, LettersKey}
 use Rattle.data_rows.specs.declared.binding.Binding.{Binding}
 use Rattle.cave_data.specs.declared.bindings.Bindings.{Bindings}
-use Rattle.data_rows.specs.base_lines.Bytes.{is_all_blank}
+use Rattle.base_lines.specs.Bytes.{is_all_blank}
 use Rattle.data_rows.specs.Fields.{fields, natural}
 use Rattle.data_rows.specs.Role.{ROLE_NAMES}
 use Rattle.data_rows.specs.PlaceRole.{PLACE_NAMES}
@@ -35,7 +35,7 @@ use Rattle.data_rows.specs.Rows.{within, second_place, placement_row, entry_in, 
 use Rattle.data_rows.specs.Rows.{word_row, object_line, default_row, condition_row, hint_row}
 use Rattle.data_rows.specs.Grammar.{closes, position_after_line, entry_here, entry_at, entries_from}
 use Rattle.data_rows.specs.Grammar.{entries}
-use Rattle.data_rows.specs.base_lines.LogLine.{is_skipped}
+use Rattle.base_lines.specs.LogLine.{is_skipped}
 use Rattle.data_rows.specs.BindingLines.{two_fields, bound_within, role_binding}
 use Rattle.data_rows.specs.BindingGrammar.{position_of_name}
 use Rattle.data_rows.specs.BindingLines.{place_binding, letters_binding, binding_of, binding_row}

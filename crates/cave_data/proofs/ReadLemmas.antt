@@ -10,7 +10,7 @@ use Rattle.std.specs.Cmp.{nat_cmp_total}
 use Rattle.std.specs.FinMap as fin
 use Rattle.std.proofs.lemmas.Bool.{ltb-false, le-ltb}
 use Rattle.std.proofs.lemmas.List.{append_assoc, append-nil}
-use Rattle.data_rows.specs.base_limits.Limits.{MAX_INPUT_BYTES}
+use Rattle.base_lines.specs.Limits.{MAX_INPUT_BYTES}
 use Rattle.data_rows.specs.declared.error.FaultSite.TheVariants as site
 use Rattle.data_rows.specs.declared.error.CaveError.{CaveError}
 use Rattle.data_rows.specs.declared.position.Position.TheVariants.{Outside}

@@ -13,7 +13,7 @@ use Rattle.data_rows.specs.declared.position.Position.{Position}
 use Rattle.data_rows.specs.declared.position.Position.TheVariants.{Outside, Inside, After}
 use Rattle.cave_data.specs.declared.reader.Tables.{Tables}
 use Rattle.cave_data.specs.declared.reader.DatabaseReader.{DatabaseReader}
-use Rattle.data_rows.specs.base_lines.Bytes.{is_all_blank}
+use Rattle.base_lines.specs.Bytes.{is_all_blank}
 use Rattle.data_rows.specs.Rows.{◌>>=◌, Entry, entry_in}
 use Rattle.data_rows.specs.Grammar.{position_after_heading, closes, position_after_row}
 use Rattle.data_rows.specs.Grammar.{position_after_line, position_after, entry_here, entry_at}

@@ -10,7 +10,7 @@ use Rattle.data_rows.specs.declared.binding.Key.TheVariants.{RoleKey, PlaceKey, 
 use Rattle.data_rows.specs.declared.binding.Binding.{Binding}
 use Rattle.cave_data.specs.declared.bindings.Bindings.{Bindings}
 use Rattle.data_rows.specs.Rows.{◌>>=◌}
-use Rattle.data_rows.specs.base_lines.LogLine.{is_skipped}
+use Rattle.base_lines.specs.LogLine.{is_skipped}
 use Rattle.data_rows.specs.BindingLines.{binding_row}
 
 abbrev pub bound_to : Bindings → Key → Option ℕ

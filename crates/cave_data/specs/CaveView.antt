@@ -9,7 +9,7 @@ use Rattle.std.specs.List.{find}
 use Rattle.data_rows.specs.declared.rows.Placement.{Placement}
 use Rattle.data_rows.specs.declared.rows.Hint.{Hint}
 use Rattle.data_rows.specs.Rows.{Going, WordEntry}
-use Rattle.data_rows.specs.data_numbers.Numbers.{LAST_NAMED, LAST_PROP}
+use Rattle.base_lines.specs.Numbers.{LAST_NAMED, LAST_PROP}
 
 -- a class of players: its greatest score and its text
 pub record ClassEntry : Type 0 where

@@ -12,7 +12,7 @@ use Rattle.data_rows.specs.declared.error.FaultSite.TheVariants as site
 use Rattle.data_rows.specs.declared.error.CaveError.{CaveError}
 use Rattle.data_rows.specs.declared.position.Position.{Position}
 use Rattle.data_rows.specs.declared.position.Position.TheVariants.{Outside, Inside, After}
-use Rattle.data_rows.specs.base_lines.Bytes.{is_all_blank}
+use Rattle.base_lines.specs.Bytes.{is_all_blank}
 use Rattle.cave_data.specs.Texts.{object_after, object_after_lines}
 use Rattle.data_rows.specs.Rows.{Entry, Way, Word, ObjectLine, ClassLine, entry_in}
 use Rattle.data_rows.specs.Grammar.{position_after_heading, closes, position_after, entry_at}

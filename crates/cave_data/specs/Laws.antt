@@ -12,7 +12,7 @@ use Rattle.data_rows.specs.Rows.{Entry, TextLine}
 use Rattle.cave_data.specs.Texts.{line_text, by_object}
 use Rattle.data_rows.specs.SectionRows.{way_of, object_line_of, long_line_of, short_line_of}
 use Rattle.data_rows.specs.SectionRows.{message_line_of}
-use Rattle.data_rows.specs.data_numbers.Numbers.{LAST_NAMED}
+use Rattle.base_lines.specs.Numbers.{LAST_NAMED}
 
 abbrev pub has_number : ℕ → TextLine → Bool
 has_number n line = line.number == n

@@ -19,6 +19,4 @@ pub mod Laws
 pub mod Cave
 pub mod Limits
 pub mod Ranges
-pub use Rattle.data_rows.specs.base_lines as base_lines
-pub use Rattle.data_rows.specs.data_numbers as data_numbers
 pub use Rattle.data_rows.specs as data_rows

@@ -4,7 +4,7 @@ use Rattle.std.specs.Ordering.{nat_cmp}
 use Rattle.std.specs.FinMap as map
 use Rattle.data_rows.specs.declared.rows.Placement.{Placement}
 use Rattle.cave_data.specs.declared.bindings.Bindings.{Bindings}
-use Rattle.data_rows.specs.data_numbers.Numbers.{LAST_PLACE, LAST_MESSAGE}
+use Rattle.base_lines.specs.Numbers.{LAST_PLACE, LAST_MESSAGE}
 
 abbrev pub IsPlace : ℕ → Type 0
 IsPlace n = (1 ≤ n) × (n ≤ LAST_PLACE)

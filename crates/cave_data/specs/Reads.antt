@@ -4,7 +4,7 @@ use Rattle.std.specs.Prelude.{length, Option, Some, None, unwrap_or}
 use Rattle.std.specs.Option.{option_or}
 use Rattle.std.specs.Str.Lines.{lines}
 use Rattle.std.specs.FinMap.{get}
-use Rattle.data_rows.specs.base_limits.Limits.{MAX_INPUT_BYTES}
+use Rattle.base_lines.specs.Limits.{MAX_INPUT_BYTES}
 use Rattle.data_rows.specs.declared.error.Cause.TheVariants.{TooLarge}
 use Rattle.data_rows.specs.declared.error.FaultSite.{FaultSite}
 use Rattle.data_rows.specs.declared.error.FaultSite.TheVariants as site

@@ -10,7 +10,7 @@ use Rattle.data_rows.specs.declared.position.Position.TheVariants.{Outside, Insi
 use Rattle.cave_data.specs.declared.reader.Tables.{Tables}
 use Rattle.cave_data.specs.declared.reader.DatabaseReader.{DatabaseReader}
 use Rattle.cave_data.specs.CaveView.{ClassEntry}
-use Rattle.data_rows.specs.base_lines.Bytes.{is_all_blank}
+use Rattle.base_lines.specs.Bytes.{is_all_blank}
 use Rattle.data_rows.specs.Rows.{◌>>=◌, Entry, TextLine, LongLine, ShortLine, Way, Word, ObjectLine}
 use Rattle.data_rows.specs.Rows.{MessageLine, PlacementRow, DefaultRow, ConditionRow, ClassLine}
 use Rattle.data_rows.specs.Rows.{HintRow, MagicLine, entry_in}

@@ -4,7 +4,7 @@ use Rattle.std.specs.Prelude.{List, [], ◌∷◌, ◌++◌, reverse, fold, Opti
 use Rattle.std.specs.List.{flat_map}
 use Rattle.data_rows.specs.Rows.{TextLine}
 use Rattle.cave_data.specs.Printing.{printed_text}
-use Rattle.data_rows.specs.data_numbers.Numbers.{LAST_NAMED}
+use Rattle.base_lines.specs.Numbers.{LAST_NAMED}
 
 -- a line with the line feed that ends it
 abbrev pub line_text : TextLine → List ℕ

@@ -9,11 +9,12 @@ ghost use Rattle.cave_data.specs.Faults.{FaultIs};
 ghost use Rattle.data_rows.specs.Answers.{Leaves};
 
 use crate::database::error_at;
-use crate::tables::Table;
+use crate::tables::ByNumber;
+use base_lines::{is_skipped, split_line};
 use data_rows::binding::{Binding, Key, binding_row};
 use data_rows::place_role::PLACE_NAMES;
 use data_rows::role::ROLE_NAMES;
-use data_rows::{BindingFlaw, Cause, CaveError, FaultSite, is_skipped, split_line};
+use data_rows::{BindingFlaw, Cause, CaveError, FaultSite};
 use std::alloc::Global;
 
 const LAST_ROLE: u16 = ROLE_NAMES.len() as u16 - 1;
@@ -23,8 +24,8 @@ const LAST_PLACE_ROLE: u16 = PLACE_NAMES.len() as u16 - 1;
 /// What bindings say.
 #[derive(Drop)]
 pub struct Bindings {
-    pub roles: Table<u16>,
-    pub places: Table<u16>,
+    pub roles: ByNumber<u16>,
+    pub places: ByNumber<u16>,
     pub letters: Option<u16>,
 }
 
@@ -34,8 +35,8 @@ impl Bindings {
         ensures { result ≡ no_bindings }
     {
         Self {
-            roles: Table::with_room(alloc, LAST_ROLE),
-            places: Table::with_room(alloc, LAST_PLACE_ROLE),
+            roles: ByNumber::with_room(alloc, LAST_ROLE),
+            places: ByNumber::with_room(alloc, LAST_PLACE_ROLE),
             letters: None,
         }
     }

@@ -3,7 +3,7 @@ ghost use Rattle.std.specs.Prelude.{◌≡◌, All, option_map, map, length, nat
 ghost use Rattle.std.specs.Prelude.{MatchOption, MatchResult, None, unwrap_or, []};
 ghost use Rattle.std.specs.Str.Lines.{lines};
 ghost use Rattle.std.specs.FinMap.{get};
-ghost use Rattle.data_rows.specs.base_limits.Limits.{MAX_INPUT_BYTES};
+ghost use Rattle.base_lines.specs.Limits.{MAX_INPUT_BYTES};
 ghost use Rattle.cave_data.specs.CaveView.{name_of, look_of, ways_from, cond_of, placement_of};
 ghost use Rattle.cave_data.specs.CaveView.{default_message, CaveView, class_of};
 ghost use Rattle.cave_data.specs.Bindings.{default_place};
@@ -27,14 +27,14 @@ use crate::bindings::{Bindings, read_bindings};
 use crate::classes::{Classes, Rating};
 use crate::database::read_database;
 use crate::reader::Tables;
-use crate::tables::Table;
+use crate::tables::ByNumber;
 use crate::texts::Texts;
 use crate::ways::Ways;
 use crate::words::WordTable;
+use base_lines::limits::is_large_input;
+use base_lines::numbers::{LAST_NAMED, LAST_PROP};
 use data_rows::rows::Placement;
-use data_rows::{
-    Cause, CaveError, FaultSite, Hint, LAST_NAMED, LAST_PROP, PlaceRole, Role, Row, is_large_input,
-};
+use data_rows::{Cause, CaveError, FaultSite, Hint, PlaceRole, Role, Row};
 use std::alloc::Global;
 use std::marker::Model;
 
@@ -62,13 +62,13 @@ pub struct Cave {
     words: WordTable,
     objects: Texts,
     messages: Texts,
-    placements: Table<Placement>,
-    defaults: Table<u16>,
-    conditions: Table<u32>,
+    placements: ByNumber<Placement>,
+    defaults: ByNumber<u16>,
+    conditions: ByNumber<u32>,
     classes: Classes,
-    hints: Table<Hint>,
-    roles: Table<u16>,
-    places: Table<u16>,
+    hints: ByNumber<Hint>,
+    roles: ByNumber<u16>,
+    places: ByNumber<u16>,
     letters: u8,
 }
 

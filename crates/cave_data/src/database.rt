@@ -7,7 +7,8 @@ ghost use Rattle.data_rows.specs.Grammar.{entries};
 ghost use Rattle.cave_data.specs.Steps.{tables_of};
 
 use crate::reader::{DatabaseReader, Tables};
-use data_rows::{Cause, CaveError, FaultSite, Position, split_line};
+use base_lines::split_line;
+use data_rows::{Cause, CaveError, FaultSite, Position};
 use std::alloc::Global;
 
 /// The part of a database that a position is in.

@@ -16,11 +16,8 @@ mod words;
 
 pub use cave::Cave;
 pub use classes::Rating;
-pub use data_rows::place_role::PLACE_NAMES;
-pub use data_rows::role::ROLE_NAMES;
 pub use data_rows::{
-    BindingFlaw, Cause, CaveError, Condition, Destination, Expected, FaultSite, Hint, LAST_OBJECT,
-    LAST_PLACE, LineFault, LogLine, Meter, PlaceRole, Position, Role, Row, Section, Special, Steps,
-    WORDS_PER_CLASS, WordRow, check_line, skip_blanks, split_line, split_word,
+    BindingFlaw, Cause, CaveError, Condition, Destination, FaultSite, Hint, PlaceRole, Role, Row,
+    Section, Special, WordRow,
 };
 pub use words::WordTable;

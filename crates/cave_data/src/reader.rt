@@ -2,22 +2,23 @@
 ghost use Rattle.std.specs.Prelude.{◌≡◌, ◌&&◌, nat_lt, nat_le};
 ghost use Rattle.data_rows.specs.Answers.{Answers, Leaves};
 ghost use Rattle.cave_data.specs.Steps.{row_step, advance, no_tables};
-ghost use Rattle.data_rows.specs.data_numbers.Numbers as defined;
+ghost use Rattle.base_lines.specs.Numbers as defined;
 
 use crate::classes::{Classes, MAX_CLASSES};
-use crate::tables::{Table, mark};
+use crate::tables::{ByNumber, mark};
 use crate::texts::Texts;
 use crate::ways::Ways;
 use crate::words::{MAX_WORDS, WordTable};
+use base_lines::bytes::is_all_blank;
+use base_lines::numbers::{
+    LAST_ACTION, LAST_HINT, LAST_MESSAGE, LAST_NAMED, LAST_OBJECT, LAST_PLACE, LAST_PROP,
+};
 use data_rows::field_rows::{
     condition_row, default_row, hint_row, object_line, placement_row, text_line, way_row, word_row,
 };
 use data_rows::position::{after_heading, closes};
 use data_rows::rows::Placement;
-use data_rows::{
-    Cause, Hint, LAST_ACTION, LAST_HINT, LAST_MESSAGE, LAST_NAMED, LAST_OBJECT, LAST_PLACE,
-    LAST_PROP, Position, Section, is_all_blank,
-};
+use data_rows::{Cause, Hint, Position, Section};
 use std::alloc::Global;
 
 /// The most ways out of places.
@@ -36,11 +37,11 @@ pub struct Tables {
     pub objects: Texts,
     pub object: u8,
     pub messages: Texts,
-    pub placements: Table<Placement>,
-    pub defaults: Table<u16>,
-    pub conditions: Table<u32>,
+    pub placements: ByNumber<Placement>,
+    pub defaults: ByNumber<u16>,
+    pub conditions: ByNumber<u32>,
     pub classes: Classes,
-    pub hints: Table<Hint>,
+    pub hints: ByNumber<Hint>,
 }
 
 /// Where the next line is, and the tables of the rows so far.
@@ -71,11 +72,11 @@ impl Tables {
             objects: Texts::with_room(alloc, LAST_OBJECT_TEXT),
             object: 0,
             messages: Texts::with_room(alloc, LAST_MESSAGE),
-            placements: Table::with_room(alloc, LAST_OBJECT),
-            defaults: Table::with_room(alloc, LAST_ACTION),
-            conditions: Table::with_room(alloc, LAST_PLACE),
+            placements: ByNumber::with_room(alloc, LAST_OBJECT),
+            defaults: ByNumber::with_room(alloc, LAST_ACTION),
+            conditions: ByNumber::with_room(alloc, LAST_PLACE),
             classes: Classes::new(alloc),
-            hints: Table::with_room(alloc, LAST_HINT),
+            hints: ByNumber::with_room(alloc, LAST_HINT),
         }
     }
 

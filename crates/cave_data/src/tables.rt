@@ -10,11 +10,11 @@ use std::marker::Model;
 
 /// Values by number.
 #[derive(Drop)]
-pub struct Table<T> {
+pub struct ByNumber<T> {
     slots: Slots<T>,
 }
 
-impl<T> Model for Table<T> {
+impl<T> Model for ByNumber<T> {
     ghost use Rattle.std.specs.Ordering.{nat_cmp};
     ghost use Rattle.std.specs.FinMap as map;
     ghost use Rattle.std.specs.Coded.{coded_ℕ};
@@ -28,7 +28,7 @@ impl<T> Model for Table<T> {
 }
 
 #[tactic(auto, using(crate::proofs::SlotChanges::slot_changes))]
-impl<T: Copy> Table<T> {
+impl<T: Copy> ByNumber<T> {
     /// A table with nothing in it, which takes room for the numbers up to the last at once.
     pub fn with_room(alloc: Global, last: u16) -> Self
         ensures { result ≡ empty }
@@ -62,7 +62,7 @@ impl<T: Copy> Table<T> {
 
 /// Sets the bit for each of the places.
 #[tactic(auto, unfolding(crate::specs::Tables::mark_bit))]
-pub fn mark(conditions: &mut Table<u32>, bit: u16, places: &[u16]) -> Result<(), AllocError>
+pub fn mark(conditions: &mut ByNumber<u32>, bit: u16, places: &[u16]) -> Result<(), AllocError>
     requires { bit < 32 }
     ensures { OnOk result (conditions.new ≡ fold (mark_bit bit) conditions.old places.now) }
 {

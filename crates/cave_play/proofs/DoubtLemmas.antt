@@ -8,8 +8,8 @@ use Rattle.std.proofs.lemmas.Result.{MatchResult-weaker}
 use Rattle.check_doubts.specs.Doubts.{doubts}
 use Rattle.check_doubts.specs.Listing.{doubts_text}
 use Rattle.check_doubts.specs.declared.listing.DoubtFiles.{DoubtFiles}
-use Rattle.data_bindings.specs.cave_data.CaveView.{CaveView}
-use Rattle.data_bindings.specs.cave_data.Reads.{Reads}
+use Rattle.cave_data.specs.CaveView.{CaveView}
+use Rattle.cave_data.specs.Reads.{Reads}
 use Rattle.cave_play.specs.Doubted.{IsDoubtsList, IsFirstDoubt, IsListed, IsReadOf, IsTaken}
 use Rattle.cave_play.specs.Doubted.{IsUnlisted, RunsDoubts}
 use Rattle.cave_play.specs.Stages.{cave_stages, first_decided}

@@ -8,21 +8,19 @@ use Rattle.std.specs.declared.option.Option.{Option}
 use Rattle.std.specs.Str.Lines.{lines}
 use Rattle.std.proofs.lemmas.Result.{IfErr-at_err}
 use Rattle.cave_data.proofs.ReadLemmas.{right_exactly}
-use Rattle.data_bindings.specs.cave_data.BindingFault.{first_binding_fault}
-use Rattle.data_bindings.specs.cave_data.CaveView.{CaveView}
-use Rattle.data_bindings.specs.cave_data.Faults.{FaultIs}
-use Rattle.data_bindings.specs.cave_data.FirstFault.{first_fault}
-use Rattle.data_bindings.specs.cave_data.Reads.{Reads, fault as cave_fault}
-use Rattle.data_bindings.specs.cave_data.Reads.{too_large_input as cave_too_large}
-use Rattle.data_bindings.specs.data_rows.declared.error.Cause.TheVariants as cause
-use Rattle.data_bindings.specs.data_rows.declared.error.CaveError.{CaveError}
-use Rattle.data_bindings.specs.data_rows.declared.error.FaultSite.TheVariants as site
-use Rattle.play_command.specs.base_lines.declared.line_flaw.LineFlaw.{LineFlaw}
+use Rattle.cave_data.specs.BindingFault.{first_binding_fault}
+use Rattle.cave_data.specs.CaveView.{CaveView}
+use Rattle.cave_data.specs.Faults.{FaultIs}
+use Rattle.cave_data.specs.FirstFault.{first_fault}
+use Rattle.cave_data.specs.Reads.{Reads, fault as cave_fault, too_large_input as cave_too_large}
+use Rattle.data_rows.specs.declared.error.Cause.TheVariants as cause
+use Rattle.data_rows.specs.declared.error.CaveError.{CaveError}
+use Rattle.data_rows.specs.declared.error.FaultSite.TheVariants as site
+use Rattle.base_lines.specs.declared.line_flaw.LineFlaw.{LineFlaw}
 use Rattle.cave_replay.specs.Opening.{open_fault, first_bad_line, or_game_fault}
 use Rattle.cave_replay.specs.declared.fault.OpenFault.{OpenFault}
 use Rattle.cave_replay.specs.declared.fault.OpenFault.TheVariants as session
-use Rattle.play_command.specs.base_limits.Limits.{MAX_SEED, MAX_EVERY, MAX_LOG_LINES}
-use Rattle.play_command.specs.base_limits.Limits.{MAX_INPUT_BYTES}
+use Rattle.base_lines.specs.Limits.{MAX_SEED, MAX_EVERY, MAX_LOG_LINES, MAX_INPUT_BYTES}
 use Rattle.replay_scripts.specs.Guards.{script_by}
 use Rattle.replay_scripts.specs.Script.{Applied}
 use Rattle.replay_scripts.specs.Views.{IsFaultOf}

@@ -1,15 +1,13 @@
 -- Two outputs of the same inputs are the same.
 use Rattle.std.proofs.Common.{◌≡◌, ℕ, Bool, true, false, List, subst, sym, ap, ◌∙◌}
 use Rattle.std.specs.Str.Lines.{lines}
-use Rattle.data_bindings.specs.cave_data.CaveView.{CaveView}
+use Rattle.cave_data.specs.CaveView.{CaveView}
 use Rattle.cave_data.proofs.ReadLemmas.{same_cave}
-use Rattle.play_command.specs.play_options.declared.editing.EditView.{EditView}
-use Rattle.play_command.specs.play_options.declared.editing.EditView.TheVariants.{Transcript, Play}
-use Rattle.play_command.specs.play_options.declared.editing.EditView.TheVariants.{Log, Reports}
-use Rattle.play_command.specs.play_options.declared.editing.EditView.TheVariants.{Steps, Score}
-use Rattle.play_command.specs.play_options.declared.editing.EditView.TheVariants.{FinalState, Table}
-use Rattle.play_command.specs.play_options.declared.editing.EditView.TheVariants.{Undo}
-use Rattle.cave_replay.specs.replay_edits.Edit.{Game, game_of}
+use Rattle.play_command.specs.declared.editing.EditView.{EditView}
+use Rattle.play_command.specs.declared.editing.EditView.TheVariants.{Transcript, Play, Log, Reports}
+use Rattle.play_command.specs.declared.editing.EditView.TheVariants.{Steps, Score, FinalState}
+use Rattle.play_command.specs.declared.editing.EditView.TheVariants.{Table, Undo}
+use Rattle.replay_edits.specs.Edit.{Game, game_of}
 use Rattle.replay_scripts.proofs.Grammar.{script_of-only}
 use Rattle.replay_scripts.specs.Guards.{IsScriptBy}
 use Rattle.replay_scripts.specs.Script.{Applied}

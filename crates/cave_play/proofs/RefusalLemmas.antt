@@ -3,30 +3,26 @@ use Rattle.std.proofs.Common.{◌≡◌, ℕ, ◌+◌, ◌-◌, ◌^◌, ◌≤�
 use Rattle.std.proofs.Common.{Option, None, Some, nat_lt, refl, ap, arith, le-ltb, subst}
 use Rattle.std.specs.Prelude.{⊤, if◌then◌else◌, nat_le, not}
 use Rattle.std.specs.Str.Lines.{lines}
-use Rattle.play_command.specs.base_limits.Limits.{MAX_INPUT_BYTES, MAX_LOG_LINES, MAX_SEED}
-use Rattle.play_command.specs.base_lines.Line.{is_line}
-use Rattle.play_command.specs.base_lines.declared.line_flaw.LineFlaw.{LineFlaw}
-use Rattle.replay_scripts.specs.Script.{Applied}
-use Rattle.cave_replay.specs.replay_edits.Edit.{Change, inserts, deletes, replaces, reseeds}
-use Rattle.cave_replay.specs.replay_edits.Edit.{log_after, Game, game_of, IsGame}
-use Rattle.cave_replay.specs.replay_edits.Faults.{fault_of, fault_of_all, first_of_two}
-use Rattle.cave_replay.specs.replay_edits.Faults.{log_after_all, or_group_meter_full}
+use Rattle.base_lines.specs.Limits.{MAX_INPUT_BYTES, MAX_LOG_LINES, MAX_SEED}
+use Rattle.base_lines.specs.Line.{is_line}
+use Rattle.base_lines.specs.declared.line_flaw.LineFlaw.{LineFlaw}
+use Rattle.replay_edits.specs.Edit.{Change, inserts, deletes, replaces, reseeds, log_after, Game}
+use Rattle.replay_edits.specs.Edit.{game_of, IsGame}
+use Rattle.replay_edits.specs.Faults.{fault_of, fault_of_all, first_of_two, log_after_all}
+use Rattle.replay_edits.specs.Faults.{or_group_meter_full}
 use Rattle.cave_replay.specs.Opening.{first_bad_line, or_game_fault}
-use Rattle.cave_replay.specs.replay_edits.declared.fault.EditFault.{EditFault}
-use Rattle.cave_replay.specs.replay_edits.declared.fault.EditFault.TheVariants.{NoSuchPlace}
-use Rattle.cave_replay.specs.replay_edits.declared.fault.EditFault.TheVariants.{BadLine, LogFull}
-use Rattle.cave_replay.specs.replay_edits.declared.fault.EditFault.TheVariants.{BadSeed}
-use Rattle.cave_replay.specs.replay_edits.declared.fault.GroupFault.{GroupFault}
+use Rattle.replay_edits.specs.declared.fault.EditFault.{EditFault}
+use Rattle.replay_edits.specs.declared.fault.EditFault.TheVariants.{NoSuchPlace, BadLine, LogFull}
+use Rattle.replay_edits.specs.declared.fault.EditFault.TheVariants.{BadSeed}
+use Rattle.replay_edits.specs.declared.fault.GroupFault.{GroupFault}
 use Rattle.cave_replay.specs.declared.fault.OpenFault.TheVariants as session
-use Rattle.replay_edits.proofs.Inverses.{IsFree-from_none, IsGame-apply_all, group_free}
-use Rattle.replay_edits.proofs.Inverses.{log-apply_all}
+use Rattle.replay_edits.proofs.Inverses.{IsFree-from_none, IsGame-apply_all, log-apply_all}
 use Rattle.cave_replay.proofs.Openings.{IsGame-from_no_fault}
 use Rattle.cave_play.specs.Judge.{large_seed, lines_fault, log_fault, or_too_many}
 use Rattle.cave_play.specs.Laws.{IsOfChange, RefusalsAreOfChanges}
-use Rattle.cave_play.specs.Output.{game_after_item, game_after_items, game_by}
-use Rattle.cave_play.specs.Refusal.{group_refusal, item_refusal}
-use Rattle.cave_play.specs.declared.refusal.RefusedItem.{RefusedItem}
-use Rattle.cave_play.proofs.GuardLemmas.{unrefused_item}
+use Rattle.play_edits.specs.Items.{game_after_items}
+use Rattle.play_edits.specs.Refusal.{group_refusal}
+use Rattle.play_edits.proofs.GameLemmas.{IsGame-after_all}
 use Rattle.cave_play.specs.declared.fault.LogFault.TheVariants as log
 use Rattle.cave_play.specs.declared.fault.PlayFault.{PlayFault}
 use Rattle.cave_play.specs.declared.fault.PlayFault.TheVariants as fault
@@ -59,28 +55,6 @@ IsGame-accepted bytes seed free fits =
     let valid = unrefused (nat_lt MAX_INPUT_BYTES (length bytes)) (fault.Log log.TooLarge) _ free in
     IsGame-from_no_fault 1 (lines bytes) seed
     (opened_after (first_bad_line (lines bytes) 1) (lines bytes) seed valid fits)
-
--- ---- and so can what items leave
-
-IsGame-by : (item : Applied) (game : Game) (refusal : Option RefusedItem)
-    → item_refusal item game.log ≡ refusal → IsGame game
-    → IsGame (game_by item refusal game)
-unfolding group_refusal
-IsGame-by item game (Some refused) is good = good
-IsGame-by item game None is good =
-    let accepted = (unrefused_item item game.log is).1 in
-    let free = (group_free item.changes game.log (2 ^ 64 - 1) accepted).0 in
-    IsGame-apply_all item.changes game good (IsFree-from_none item.changes game.log 0 free)
-
-pub IsGame-after : (item : Applied) (game : Game) → IsGame game → IsGame (game_after_item item game)
-unfolding game_after_item
-IsGame-after item game good = IsGame-by item game _ refl good
-
-IsGame-after_all : (items : List Applied) (game : Game) → IsGame game
-    → IsGame (game_after_items items game)
-IsGame-after_all [] game good = good
-IsGame-after_all (item ∷ items) game good =
-    IsGame-after_all items (game_after_item item game) (IsGame-after item game good)
 
 -- ---- what a change is refused for
 

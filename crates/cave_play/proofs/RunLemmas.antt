@@ -1,57 +1,37 @@
--- What a run prints, and how a run that failed ends.
+-- How a run that failed ends.
 use Rattle.std.proofs.Common.{◌≡◌, ℕ, Bool, true, false, List, [], ◌∷◌, ◌++◌, length, None, Some}
-use Rattle.std.proofs.Common.{Ok, Err, nat_lt, MatchResult, take, inl, inr, option_map, subst, refl}
+use Rattle.std.proofs.Common.{Ok, Err, nat_lt, MatchResult, take, inl, inr, option_map}
 use Rattle.std.specs.Prelude.{◌||◌, ◌==◌, if◌then◌else◌, Result}
 use Rattle.std.specs.Option.{option_or}
 use Rattle.std.specs.declared.option.Option.{Option}
 use Rattle.std.specs.Io.KnownBytes.{Appends, Keeps}
 use Rattle.std.specs.Str.Lines.{lines}
-use Rattle.data_bindings.specs.cave_data.CaveView.{CaveView}
-use Rattle.data_bindings.specs.cave_data.Reads.{fault as cave_fault}
-use Rattle.data_bindings.specs.data_rows.declared.error.CaveError.{CaveError}
-use Rattle.cave_replay.specs.replay_edits.Edit.{Game, game_of}
-use Rattle.cave_replay.specs.Play.{IsPlay}
-use Rattle.play_command.specs.base_lines.declared.line_flaw.LineFlaw.{LineFlaw}
+use Rattle.cave_data.specs.Reads.{fault as cave_fault}
+use Rattle.data_rows.specs.declared.error.CaveError.{CaveError}
+use Rattle.replay_edits.specs.Edit.{game_of}
+use Rattle.base_lines.specs.declared.line_flaw.LineFlaw.{LineFlaw}
 use Rattle.cave_replay.specs.Opening.{first_bad_line}
-use Rattle.play_command.specs.base_limits.Limits.{MAX_SEED, MAX_EVERY, MAX_LOG_LINES}
-use Rattle.play_command.specs.base_limits.Limits.{MAX_INPUT_BYTES}
-use Rattle.world_packed.specs.cave_world.declared.part.Part.{Part}
-use Rattle.world_packed.specs.cave_world.declared.state.State.{State}
-use Rattle.cave_turn.specs.turn_score.Score.{score_of, max_score_of}
+use Rattle.base_lines.specs.Limits.{MAX_SEED, MAX_EVERY, MAX_LOG_LINES, MAX_INPUT_BYTES}
 use Rattle.replay_scripts.specs.Guards.{script_by}
 use Rattle.replay_scripts.specs.Script.{Applied}
 use Rattle.replay_scripts.specs.declared.fault.ScriptRefusal.{ScriptRefusal}
 use Rattle.replay_scripts.specs.declared.fault.ScriptRefusal.TheVariants.{Malformed, Memory}
-use Rattle.cave_play.specs.Machine.{cave_rules, rendering_of}
 use Rattle.cave_play.specs.Judge.{cave_refusal, lines_fault, or_too_many, large_seed, every_fault, too_large}
 use Rattle.cave_play.specs.Judge.{input_size_fault, log_fault, script_fault, first_malformed}
 use Rattle.cave_play.proofs.StageLemmas.{first_is_found}
 use Rattle.cave_play.specs.Laws.{IsDecided}
-use Rattle.cave_play.specs.Output.{play_text}
 use Rattle.cave_play.specs.Run.{EndsBy, Runs, IsFoundIn}
 use Rattle.cave_play.specs.Stages.{Stage, first_decided}
 use Rattle.cave_play.specs.Stages.{cave_stages, log_stage, script_stage, strict_stage, play_stages}
 use Rattle.cave_play.specs.Stages.{edit_stages}
 use Rattle.cave_play.proofs.StrictLemmas.{unwritten_by_strict}
-use Rattle.play_command.specs.play_options.declared.editing.Editing.{Editing}
-use Rattle.cave_play.specs.Transcript.{transcript}
+use Rattle.play_command.specs.declared.editing.Editing.{Editing}
 use Rattle.cave_play.specs.declared.fault.Input.{Input}
 use Rattle.cave_play.specs.declared.fault.Input.TheVariants as input
 use Rattle.cave_play.specs.declared.fault.LogFault.TheVariants as log
 use Rattle.cave_play.specs.declared.fault.ScriptFault.TheVariants as script
 use Rattle.cave_play.specs.declared.fault.PlayFault.{PlayFault}
 use Rattle.cave_play.specs.declared.fault.PlayFault.TheVariants as fault
-
--- what is written of a play of the game is what playing the game prints
-pub transcript-played : (cave kept : CaveView) (game : Game) (opening : List Part)
-    (pieces : List (List Part)) (ticks : List Bool) (state : State)
-    → kept ≡ cave → IsPlay (cave_rules kept) game opening pieces ticks state
-    → transcript (rendering_of cave) opening game.log pieces ticks (score_of cave state)
-    (max_score_of cave) ≡ play_text cave game
-unfolding play_text
-transcript-played cave kept game opening pieces ticks state same played =
-    let here = subst (λ k. IsPlay (cave_rules k) game opening pieces ticks state) same played in
-    rw (here.opening_is, here.pieces_are, here.ticks_are, here.state_is) refl
 
 -- no stage decides that the output can't be written
 unwritten_by_none : None ≡ Some fault.Write → ⊥

@@ -7,7 +7,7 @@ use Rattle.std.specs.declared.option.Option.{Option}
 use Rattle.cave_play.specs.Run.{IsOutsideOf}
 use Rattle.cave_play.specs.Stages.{Stage, reading_stage, judging_stage, first_decided}
 use Rattle.cave_play.specs.Run.{IsFoundIn, Judges}
-use Rattle.cave_play.specs.Laws.{IsOutside, IsDecided}
+use Rattle.cave_play.specs.Laws.{IsFromOutside, IsDecided}
 use Rattle.cave_play.specs.declared.fault.Input.{Input}
 use Rattle.cave_play.specs.declared.fault.PlayFault.{PlayFault}
 use Rattle.cave_play.specs.declared.fault.PlayFault.TheVariants as fault
@@ -110,7 +110,8 @@ Judges-read input decides P (Err found) (inr rest) = inr rest
 
 -- ---- laws
 
-outside_of : (reads : Option Input) (found : PlayFault) → IsOutsideOf reads found → IsOutside found
+outside_of : (reads : Option Input) (found : PlayFault) → IsOutsideOf reads found
+    → IsFromOutside found
 outside_of reads fault.Memory outside = tt
 outside_of reads (fault.Read from) outside = tt
 outside_of reads (fault.Cave error clue) outside = absurd outside

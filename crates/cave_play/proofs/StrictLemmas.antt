@@ -5,33 +5,31 @@ use Rattle.std.specs.Prelude.{◌⊎◌, Result}
 use Rattle.std.specs.Option.{option_or}
 use Rattle.std.specs.declared.option.Option.{Option}
 use Rattle.std.proofs.lemmas.List.{drop_all}
-use Rattle.data_bindings.specs.cave_data.CaveView.{CaveView}
-use Rattle.cave_replay.specs.replay_edits.Edit.{Game}
+use Rattle.cave_data.specs.CaveView.{CaveView}
+use Rattle.replay_edits.specs.Edit.{Game}
 use Rattle.replay_scripts.specs.Guards.{script_by}
 use Rattle.replay_scripts.specs.Script.{Applied}
 use Rattle.replay_scripts.specs.Views.{applied_item}
 use Rattle.replay_scripts.specs.declared.script.Item.{Item}
 use Rattle.replay_scripts.specs.declared.fault.ScriptRefusal.{ScriptRefusal}
-use Rattle.cave_play.specs.Outcome.{IsOutcome, refusal_in}
-use Rattle.cave_play.specs.Output.{game_after_item}
-use Rattle.cave_play.specs.Refusal.{item_refusal}
+use Rattle.play_edits.specs.Outcome.{IsItemOutcome, refusal_in}
+use Rattle.play_edits.specs.Items.{game_after_item}
+use Rattle.play_edits.specs.Refusal.{item_refusal}
 use Rattle.cave_play.specs.Run.{IsFoundIn}
-use Rattle.cave_play.specs.Stages.{first_decided, judging_stage}
-use Rattle.cave_play.specs.Stages.{strict_stage}
+use Rattle.cave_play.specs.Stages.{first_decided, judging_stage, strict_stage}
 use Rattle.cave_play.specs.Strict.{fault_of_items, first_strict_fault, strict_fault}
 use Rattle.cave_play.specs.Strict.{strict_fault_by}
-use Rattle.cave_play.specs.declared.outcome.ItemOutcome.{ItemOutcome}
-use Rattle.cave_play.specs.declared.refusal.RefusedItem.{RefusedItem}
+use Rattle.play_edits.specs.declared.outcome.ItemOutcome.{ItemOutcome}
+use Rattle.play_edits.specs.declared.refusal.RefusedItem.{RefusedItem}
 use Rattle.cave_play.specs.declared.fault.PlayFault.{PlayFault}
 use Rattle.cave_play.specs.declared.fault.PlayFault.TheVariants as fault
-use Rattle.cave_play.proofs.EditLemmas.{applied_item-drop}
+use Rattle.play_edits.proofs.EditLemmas.{applied_item-drop, item_refusal-outcome}
 use Rattle.cave_play.proofs.StageLemmas.{first_decided-one}
-use Rattle.cave_play.proofs.ViewLemmas.{item_refusal-outcome}
 
 -- what came of an item says whether a strict run ends there
 pub strict_fault-outcome : (strict : Bool) (cave : CaveView) (every : ℕ) (item : Applied)
     (game : Game) (checkpoints : List ℕ) (outcome : ItemOutcome)
-    → IsOutcome cave every item game checkpoints outcome
+    → IsItemOutcome cave every item game checkpoints outcome
     → strict_fault strict item game ≡ strict_fault_by strict (refusal_in outcome)
 unfolding strict_fault
 strict_fault-outcome strict cave every item game checkpoints outcome is =

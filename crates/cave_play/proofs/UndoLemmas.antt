@@ -1,28 +1,27 @@
 -- What takes items back makes of the game what it was.
-use Rattle.std.proofs.Common.{◌≡◌, ℕ, ◌+◌, ◌-◌, Bool, true, false, List, [], ◌∷◌}
+use Rattle.std.proofs.Common.{◌≡◌, ℕ, Bool, true, false, List, [], ◌∷◌}
 use Rattle.std.proofs.Common.{◌++◌, map, reverse, Option, None, Some}
 use Rattle.std.proofs.Common.{sym, ap, subst, ◌∙◌, refl}
 use Rattle.std.specs.Option.{option_or}
 use Rattle.std.proofs.lemmas.List.{reverse-append}
-use Rattle.cave_replay.specs.replay_edits.Edit.{Change, Game, IsGame, apply_all, inverses_of}
-use Rattle.cave_replay.specs.replay_edits.Edit.{log_after}
+use Rattle.replay_edits.specs.Edit.{Change, Game, IsGame, apply_all, inverses_of, log_after}
 use Rattle.replay_scripts.specs.Guards.{IsScriptBy}
 use Rattle.replay_scripts.specs.Script.{Applied}
-use Rattle.replay_undo.specs.ScriptText.{Back}
-use Rattle.replay_undo.specs.ScriptText.{number_after}
-use Rattle.replay_undo.specs.ScriptText.{spelled_item, spelled_items}
-use Rattle.replay_undo.proofs.Spelled.{reads_back}
-use Rattle.cave_play.specs.Output.{game_after_item, game_after_items, game_by}
-use Rattle.cave_play.specs.Refusal.{first_unmet, group_refusal, item_refusal}
-use Rattle.cave_play.specs.declared.refusal.RefusedItem.{RefusedItem}
+use Rattle.replay_scripts.specs.ScriptText.{Back}
+use Rattle.replay_scripts.specs.ScriptText.{number_after}
+use Rattle.replay_scripts.specs.ScriptText.{spelled_item, spelled_items}
+use Rattle.replay_scripts.proofs.Spelled.{reads_back}
+use Rattle.play_edits.specs.Items.{game_after_item, game_after_items, game_left}
+use Rattle.play_edits.specs.Refusal.{first_unmet, group_refusal, item_refusal}
+use Rattle.play_edits.specs.declared.refusal.RefusedItem.{RefusedItem}
 use Rattle.cave_play.specs.Strict.{first_strict_fault, strict_fault, strict_fault_by}
-use Rattle.cave_play.specs.Undo.{IsUndo, back_if, back_of, backs_by, backs_of}
-use Rattle.cave_play.specs.Undo.{undo_text}
-use Rattle.cave_play.proofs.GuardLemmas.{item_refusal-met, unrefused_item}
-use Rattle.cave_play.proofs.RefusalLemmas.{IsGame-after}
+use Rattle.cave_play.specs.Views.{IsUndo}
+use Rattle.play_edits.specs.Undo.{back_if, back_of, backs_by, backs_of, undo_text}
+use Rattle.play_edits.proofs.GuardLemmas.{item_refusal-met, unrefused_item}
+use Rattle.play_edits.proofs.GameLemmas.{IsGame-after}
 use Rattle.cave_play.proofs.StageLemmas.{neither}
-use Rattle.cave_play.proofs.MetLemmas.{guards_met}
-use Rattle.cave_play.proofs.SayableLemmas.{back_accepted, back_again, spellable-all}
+use Rattle.play_edits.proofs.MetLemmas.{guards_met}
+use Rattle.play_edits.proofs.SayableLemmas.{back_accepted, back_again, spellable-all}
 
 -- the items of groups are accepted in the one game and give the other
 abbrev Undoes : ℕ → List (List Back) → Game → Game → Type 0
@@ -81,7 +80,7 @@ undoes-one guarded number changes from to accepted gives =
     item_refusal-met item from.log None met
     (ap (λ some. group_refusal some from.log) same ∙ accepted) in (
       ap (λ refusal. option_or (strict_fault_by true refusal) None) free,
-      ap (λ refusal. game_by item refusal from) free ∙ ap (λ some. apply_all some from) same
+      ap (λ refusal. game_left item refusal from) free ∙ ap (λ some. apply_all some from) same
           ∙ gives,
     )
 
@@ -91,15 +90,15 @@ undoes-item : (guarded : Bool) (item : Applied) (game : Game) → IsGame game
 unfolding back_of game_after_item
 undoes-item guarded item game good None accepted number =
     subst (λ refusal. Undoes number (reverse (back_if refusal (backs_by guarded
-    (inverses_of item.changes game) (game_by item refusal game).log)))
-    (game_by item refusal game) game) (sym accepted)
+    (inverses_of item.changes game) (game_left item refusal game).log)))
+    (game_left item refusal game) game) (sym accepted)
     (let met = (unrefused_item item game.log accepted).1 in
     undoes-one guarded number (inverses_of item.changes game) (apply_all item.changes game) game
     (back_accepted item game good met) (back_again item game good met))
 undoes-item guarded item game good (Some fault) refused number =
     subst (λ refusal. Undoes number (reverse (back_if refusal (backs_by guarded
-    (inverses_of item.changes game) (game_by item refusal game).log)))
-    (game_by item refusal game) game) (sym refused) (refl, refl)
+    (inverses_of item.changes game) (game_left item refusal game).log)))
+    (game_left item refusal game) game) (sym refused) (refl, refl)
 
 undoes-all : (guarded : Bool) (items : List Applied) (game : Game) → IsGame game → (number : ℕ)
     → Undoes number (reverse (backs_of guarded items game)) (game_after_items items game) game

@@ -3,53 +3,46 @@ use Rattle.std.proofs.Common.{◌≡◌, ℕ, Bool, List, [], ◌∷◌, ◌++�
 use Rattle.std.proofs.Common.{append-nil}
 use Rattle.std.specs.List.{sum_by}
 use Rattle.std.specs.Str.Lines.{lines}
-use Rattle.data_bindings.specs.cave_data.CaveView.{CaveView}
-use Rattle.play_command.specs.play_options.declared.editing.EditView.{EditView}
-use Rattle.play_command.specs.play_options.declared.editing.EditView.TheVariants.{Transcript, Play}
-use Rattle.play_command.specs.play_options.declared.editing.EditView.TheVariants.{Log, Reports}
-use Rattle.play_command.specs.play_options.declared.editing.EditView.TheVariants.{Steps, Score}
-use Rattle.play_command.specs.play_options.declared.editing.EditView.TheVariants.{FinalState, Table}
-use Rattle.play_command.specs.play_options.declared.editing.EditView.TheVariants.{Undo}
-use Rattle.world_packed.specs.replay_marks.Spacing.{IsSpaced}
+use Rattle.cave_data.specs.CaveView.{CaveView}
+use Rattle.play_command.specs.declared.editing.EditView.{EditView}
+use Rattle.play_command.specs.declared.editing.EditView.TheVariants.{Transcript, Play, Log, Reports}
+use Rattle.play_command.specs.declared.editing.EditView.TheVariants.{Steps, Score, FinalState}
+use Rattle.play_command.specs.declared.editing.EditView.TheVariants.{Table, Undo}
+use Rattle.replay_checkpoints.specs.Spacing.{IsSpaced}
 use Rattle.cave_replay.specs.LogText.{log_text}
-use Rattle.cave_replay.specs.replay_edits.Edit.{Game, IsGame}
+use Rattle.replay_edits.specs.Edit.{Game, IsGame}
 use Rattle.replay_scripts.specs.Script.{Applied}
-use Rattle.replay_undo.specs.ScriptText.{Back, script_text}
-use Rattle.cave_play.specs.Edits.{ReadsBack, kept_for, text_at_end, text_at_start, text_of_item}
-use Rattle.cave_play.specs.Undo.{backs_of}
+use Rattle.replay_scripts.specs.ScriptText.{Back, script_text}
+use Rattle.play_edits.specs.Edits.{LogReadsBack, kept_for, text_at_end, text_at_start, text_of_item}
+use Rattle.play_edits.specs.Undo.{backs_of}
+use Rattle.play_edits.proofs.EditLemmas.{item_refusal-outcome}
 use Rattle.cave_play.proofs.UndoLemmas.{undo-whole}
-use Rattle.cave_play.specs.Output.{final_state_text, game_after_item, game_after_items, play_text}
-use Rattle.cave_play.specs.Output.{report, report_by, reports}
-use Rattle.cave_play.specs.Refusal.{item_refusal}
-use Rattle.cave_play.specs.Outcome.{AreOutcomes, IsOutcome, lines_in, played_in, refusal_in}
-use Rattle.cave_play.specs.Score.{score_text}
-use Rattle.cave_play.specs.Steps.{steps_text}
-use Rattle.cave_play.specs.Views.{IsViewOf, text_of_items, totals_line}
-use Rattle.cave_play.specs.declared.outcome.ItemOutcome.{ItemOutcome}
-use Rattle.cave_play.specs.declared.outcome.ItemOutcome.TheVariants.{Refused, Replayed}
+use Rattle.play_machine.specs.FinalState.{final_state_text}
+use Rattle.play_edits.specs.Items.{game_after_item, game_after_items, item_report, item_report_by}
+use Rattle.play_edits.specs.Items.{reports}
+use Rattle.play_machine.specs.Transcript.{play_text}
+use Rattle.play_edits.specs.Outcome.{AreOutcomes, lines_in, played_in, refusal_in}
+use Rattle.play_machine.specs.Score.{score_text}
+use Rattle.play_machine.specs.Steps.{steps_text}
+use Rattle.cave_play.specs.Views.{IsViewOf}
+use Rattle.play_edits.specs.Accounts.{text_of_items, totals_line}
+use Rattle.play_edits.specs.declared.outcome.ItemOutcome.{ItemOutcome}
 
--- what came of an item says whether it was refused
-pub item_refusal-outcome : (cave : CaveView) (every : ℕ) (item : Applied) (game : Game)
-    (checkpoints : List ℕ) (outcome : ItemOutcome)
-    → IsOutcome cave every item game checkpoints outcome
-    → item_refusal item game.log ≡ refusal_in outcome
-item_refusal-outcome cave every item game checkpoints (Refused refused) is = is
-item_refusal-outcome cave every item game checkpoints (Replayed replay) is = is.accepted
-
--- so what is written of items for a transcript are their reports
+-- what is written of items for a transcript are their reports
 told-reports : (cave : CaveView) (every : ℕ) (items : List Applied) (game : Game)
     (checkpoints : List ℕ) (outcomes : List ItemOutcome)
     → AreOutcomes cave every items game checkpoints outcomes
     → text_of_items (text_of_item Transcript cave) items game outcomes ≡ reports items game
-unfolding report
+unfolding item_report
 told-reports cave every [] game checkpoints outcomes came = refl
 told-reports cave every (item ∷ items) game checkpoints [] came = absurd came
 told-reports cave every (item ∷ items) game checkpoints (outcome ∷ outcomes)
     (is, (after, left, others)) =
     let rest = told-reports cave every items (game_after_item item game) after outcomes others in
     let same = item_refusal-outcome cave every item game checkpoints outcome is in
-    ap (λ t. report_by item (refusal_in outcome) ++ t) rest
-    ∙ ap (λ refusal. report_by item refusal ++ reports items (game_after_item item game)) (sym same)
+    ap (λ t. item_report_by item (refusal_in outcome) ++ t) rest
+    ∙ ap (λ refusal. item_report_by item refusal ++ reports items (game_after_item item game))
+    (sym same)
 
 -- and for a log, a play alone or a state, nothing is written of them
 told-nothing : (tell : Applied → Game → ItemOutcome → List ℕ)
@@ -72,7 +65,7 @@ pub told-whole : (view : EditView) (cave : CaveView) (every : ℕ) (items : List
     → text ≡ text_at_start view ++ text_of_items (text_of_item view cave) items game outcomes
     → played ≡ sum_by played_in outcomes → lines ≡ sum_by lines_in outcomes
     → whole ≡ text ++ text_at_end view cave (game_after_items items game) played lines backs
-    → ReadsBack view (game_after_items items game).log
+    → LogReadsBack view (game_after_items items game).log
     → backs ≡ reverse (kept_for view (backs_of guarded items game)) → IsGame game
     → IsViewOf view cave every game guarded items whole
 told-whole Transcript cave every items game guarded opened outcomes played counted backs text whole spaced came

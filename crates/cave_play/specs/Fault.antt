@@ -1,7 +1,7 @@
 -- What a fault of a run says.
 use Rattle.std.specs.Prelude.{ℕ, Option, None, Some, nat_lt, if◌then◌else◌}
-use Rattle.data_bindings.specs.data_rows.declared.error.FaultSite.{FaultSite}
-use Rattle.data_bindings.specs.data_rows.declared.error.FaultSite.TheVariants as site
+use Rattle.data_rows.specs.declared.error.FaultSite.{FaultSite}
+use Rattle.data_rows.specs.declared.error.FaultSite.TheVariants as site
 use Rattle.check_doubts.specs.declared.flaw.Source.{Source}
 use Rattle.check_doubts.specs.declared.flaw.Source.TheVariants.{Database, Bindings}
 use Rattle.cave_play.specs.declared.fault.Input.{Input}

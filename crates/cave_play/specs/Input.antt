@@ -2,7 +2,7 @@
 use Rattle.std.specs.Prelude.{◌≡◌, ℕ, ◌+◌, ◌<◌, ⊤, Bool, true, false, List, ◌++◌, length, Option}
 use Rattle.std.specs.Prelude.{None, Some, []}
 use Rattle.std.specs.Io.KnownBytes.{Consumes, IsAtEnd}
-use Rattle.play_command.specs.base_limits.Limits.{MAX_INPUT_BYTES}
+use Rattle.base_lines.specs.Limits.{MAX_INPUT_BYTES}
 use Rattle.cave_play.specs.declared.input.InputFault.{InputFault}
 use Rattle.cave_play.specs.declared.input.InputFault.TheVariants.{Unreadable, TooLarge, Memory}
 use Rattle.cave_play.specs.declared.inputs.InputReader.{InputReader}

@@ -2,15 +2,14 @@
 use Rattle.std.specs.Prelude.{ℕ, Bool, List, length, nat_lt, ◌||◌, ◌==◌, if◌then◌else◌, Option}
 use Rattle.std.specs.Prelude.{None, Some, option_map, Result, Err}
 use Rattle.std.specs.Str.Lines.{lines}
-use Rattle.check_clues.specs.Clues.{clue_of}
-use Rattle.data_bindings.specs.cave_data.Reads.{fault as cave_fault}
-use Rattle.data_bindings.specs.data_rows.declared.error.Cause.TheVariants as cause
-use Rattle.data_bindings.specs.data_rows.declared.error.CaveError.{CaveError}
-use Rattle.data_bindings.specs.data_rows.declared.error.FaultSite.TheVariants as site
+use Rattle.check_tables.specs.Clues.{clue_of}
+use Rattle.cave_data.specs.Reads.{fault as cave_fault}
+use Rattle.data_rows.specs.declared.error.Cause.TheVariants as cause
+use Rattle.data_rows.specs.declared.error.CaveError.{CaveError}
+use Rattle.data_rows.specs.declared.error.FaultSite.TheVariants as site
 use Rattle.cave_replay.specs.Opening.{first_bad_line}
-use Rattle.play_command.specs.base_lines.declared.line_flaw.LineFlaw.{LineFlaw}
-use Rattle.play_command.specs.base_limits.Limits.{MAX_SEED, MAX_EVERY, MAX_LOG_LINES}
-use Rattle.play_command.specs.base_limits.Limits.{MAX_INPUT_BYTES}
+use Rattle.base_lines.specs.declared.line_flaw.LineFlaw.{LineFlaw}
+use Rattle.base_lines.specs.Limits.{MAX_SEED, MAX_EVERY, MAX_LOG_LINES, MAX_INPUT_BYTES}
 use Rattle.cave_replay.specs.declared.fault.OpenFault.{OpenFault}
 use Rattle.cave_replay.specs.declared.fault.OpenFault.TheVariants as session
 use Rattle.replay_scripts.specs.Guards.{script_by}

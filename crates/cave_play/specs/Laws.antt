@@ -1,26 +1,25 @@
 -- Laws of the order in which faults are found, of what edits are refused for, and that the inputs
 -- have one output at most.
-use Rattle.std.specs.Prelude.{◌≡◌, ℕ, ◌⊎◌, ⊤, List, [], None, Some, Bool, take, slice_get}
-use Rattle.std.specs.List.{AllByRecursion}
+use Rattle.std.specs.Prelude.{◌≡◌, ℕ, ◌⊎◌, ⊤, List, None, Some, Bool}
 use Rattle.std.specs.Str.Lines.{lines}
-use Rattle.replay_scripts.specs.Script.{Applied, Expectation, guarded_by}
-use Rattle.cave_replay.specs.replay_edits.Edit.{Change, Game, game_of}
-use Rattle.cave_replay.specs.replay_edits.Faults.{fault_of_all, log_after_all}
-use Rattle.cave_replay.specs.replay_edits.declared.fault.EditFault.{EditFault}
-use Rattle.cave_replay.specs.replay_edits.declared.fault.EditFault.TheVariants.{MeterFull, Memory}
-use Rattle.cave_replay.specs.replay_edits.declared.fault.GroupFault.{GroupFault}
+use Rattle.replay_scripts.specs.Script.{Applied}
+use Rattle.replay_edits.specs.Edit.{game_of}
+use Rattle.replay_edits.specs.declared.fault.EditFault.{EditFault}
+use Rattle.replay_edits.specs.declared.fault.EditFault.TheVariants.{MeterFull, Memory}
+use Rattle.replay_edits.specs.declared.fault.GroupFault.{GroupFault}
 use Rattle.cave_play.specs.Judge.{inputs_fault, large_seed, log_fault}
-use Rattle.cave_play.specs.Output.{game_after_item, game_after_items, IsChecked, IsPlayed}
-use Rattle.cave_play.specs.Refusal.{group_refusal}
+use Rattle.play_edits.specs.Items.{game_after_items}
+use Rattle.cave_play.specs.Output.{IsChecked, IsPlayed}
+use Rattle.play_edits.specs.Refusal.{group_refusal}
 use Rattle.cave_play.specs.Run.{IsFoundIn, AtMostOne}
 use Rattle.cave_play.specs.Stages.{Stage, first_decided}
 use Rattle.cave_play.specs.Stages.{cave_stages}
 use Rattle.cave_play.specs.declared.fault.PlayFault.{PlayFault}
 use Rattle.cave_play.specs.declared.fault.PlayFault.TheVariants as fault
-use Rattle.play_command.specs.play_options.declared.editing.EditView.{EditView}
-use Rattle.play_command.specs.play_options.declared.views.CheckView.{CheckView}
-use Rattle.play_command.specs.play_options.declared.editing.EditView.TheVariants as asked
-use Rattle.play_command.specs.play_options.declared.views.PlayView.{PlayView}
+use Rattle.play_command.specs.declared.editing.EditView.{EditView}
+use Rattle.play_command.specs.declared.views.CheckView.{CheckView}
+use Rattle.play_command.specs.declared.editing.EditView.TheVariants as asked
+use Rattle.play_command.specs.declared.views.PlayView.{PlayView}
 use Rattle.cave_play.specs.Views.{IsEdited}
 
 -- a database and its bindings have one output of a check at most
@@ -61,32 +60,15 @@ OneEditedOutput =
     (record { seed = seed; every = far; view = view; strict = second; guarded = guarded }) other
     → one ≡ other
 
--- A log meets a guard among changes: where none of those before it is refused, the log that they
--- leave has the guard's text at its place.
-abbrev pub IsMet : List Change → List (List ℕ) → Expectation → Type 0
-IsMet changes log guard =
-    fault_of_all (take guard.after changes) log 0 ≡ None
-    → slice_get (log_after_all (take guard.after changes) log) guard.place ≡ Some guard.text
-
--- where its guards are met, an item makes of a game what it makes without them; where one isn't,
--- the game stays
-abbrev pub GuardsRefuseAlone : Type 0
-GuardsRefuseAlone =
-    (item : Applied) (game : Game)
-    → (AllByRecursion (IsMet item.changes game.log) item.guards
-    → game_after_item item game ≡ game_after_item (guarded_by [] item) game)
-    × (¬ AllByRecursion (IsMet item.changes game.log) item.guards
-    → game_after_item item game ≡ game)
-
 -- a fault that no bytes decide
-abbrev pub IsOutside : PlayFault → Type 0
-IsOutside (fault.Read from) = ⊤
-IsOutside fault.Memory = ⊤
-IsOutside _ = ⊥
+abbrev pub IsFromOutside : PlayFault → Type 0
+IsFromOutside (fault.Read from) = ⊤
+IsFromOutside fault.Memory = ⊤
+IsFromOutside _ = ⊥
 
 -- the fault comes from outside, or is the first that a stage decides
 abbrev pub IsDecided : List Stage → PlayFault → Type 0
-IsDecided stages found = IsOutside found ⊎ (first_decided stages ≡ Some found)
+IsDecided stages found = IsFromOutside found ⊎ (first_decided stages ≡ Some found)
 
 -- each fault that is found is so
 abbrev pub FirstIsFound : Type 0

@@ -2,13 +2,13 @@
 use Rattle.std.specs.Prelude.{Bool, List, [], ◌∷◌, Option, None, Some, Result, Ok, Err}
 use Rattle.std.specs.Prelude.{if◌then◌else◌}
 use Rattle.std.specs.Option.{option_or}
-use Rattle.cave_replay.specs.replay_edits.Edit.{Game}
+use Rattle.replay_edits.specs.Edit.{Game}
 use Rattle.replay_scripts.specs.Script.{Applied}
 use Rattle.replay_scripts.specs.declared.fault.ScriptRefusal.{ScriptRefusal}
-use Rattle.cave_play.specs.Output.{game_after_item}
-use Rattle.cave_play.specs.Refusal.{item_refusal}
+use Rattle.play_edits.specs.Items.{game_after_item}
+use Rattle.play_edits.specs.Refusal.{item_refusal}
 use Rattle.cave_play.specs.declared.fault.ScriptFault.TheVariants as script
-use Rattle.cave_play.specs.declared.refusal.RefusedItem.{RefusedItem}
+use Rattle.play_edits.specs.declared.refusal.RefusedItem.{RefusedItem}
 use Rattle.cave_play.specs.declared.fault.PlayFault.{PlayFault}
 use Rattle.cave_play.specs.declared.fault.PlayFault.TheVariants as fault
 

@@ -4,12 +4,12 @@ ghost use Rattle.std.specs.Prelude.{◌≡◌};
 ghost use Rattle.cave_play.specs.declared.fault.PlayFault.TheVariants.{Memory};
 ghost use Rattle.cave_play.specs.Fault.{status_of, input_from, input_of, faulty_line};
 
-use crate::refusal::Refusal;
-use check_clues::Clue;
+use base_lines::LineFlaw;
 use check_doubts::{Doubt, Source};
-use data_bindings::{CaveError, Expected, FaultSite};
-use play_command::LineFlaw;
-use replay_scripts::Flaw;
+use check_tables::Clue;
+use data_rows::{CaveError, Expected, FaultSite};
+use play_edits::Refusal;
+use replay_scripts::ScriptFlaw;
 use std::alloc::AllocError;
 use std::{fmt, io};
 use thiserror::Error;
@@ -64,7 +64,7 @@ pub enum ScriptFault {
     TooLarge,
     /// The line with this number, from 1, is malformed.
     #[error("{1}")]
-    Malformed(usize, Flaw),
+    Malformed(usize, ScriptFlaw),
     /// The item of the line with this number is refused, where the run is strict.
     #[error("{1}")]
     Refused(usize, Refusal),

@@ -2,11 +2,11 @@
 
 ghost use Rattle.std.specs.Prelude.{◌≡◌, ℕ, ◌<◌, ◌≤◌, List, length, true, false, IfOk, IfErr};
 ghost use Rattle.std.specs.Prelude.{MatchResult, vec_len};
-ghost use Rattle.play_command.specs.base_limits.Limits as defined;
+ghost use Rattle.base_lines.specs.Limits as defined;
 ghost use Rattle.cave_play.specs.declared.input.InputFault.TheVariants.{Memory};
 ghost use Rattle.cave_play.specs.Input.{Says, IsInputFault, Gives, Exceeds};
 
-use play_command::MAX_INPUT_BYTES;
+use base_lines::limits::MAX_INPUT_BYTES;
 use std::alloc::{AllocError, Global};
 use std::io::Read;
 use thiserror::Error;

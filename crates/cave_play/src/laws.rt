@@ -2,7 +2,6 @@
 //! determine the output. Each is the contract of a function that does nothing.
 
 ghost use Rattle.cave_play.specs.Laws.{CavesAreJudgedWhole, FirstIsFound, RefusalsAreOfChanges};
-ghost use Rattle.cave_play.specs.Laws.{GuardsRefuseAlone};
 ghost use Rattle.cave_play.specs.Laws.{OneCheckedOutput, OneEditedOutput, OnePlayedOutput};
 
 /// A fault that is found comes from outside, or is the first that a stage decides.
@@ -18,11 +17,6 @@ pub fn caves_are_judged_whole()
 /// No item of a script is refused for a full meter or for lack of memory.
 pub fn refusals_are_of_changes()
     ensures { RefusalsAreOfChanges }
-{}
-
-/// Guards can but refuse: where they are met, an item does what it does without them.
-pub fn guards_refuse_alone()
-    ensures { GuardsRefuseAlone }
 {}
 
 /// A database and its bindings have one output of a check at most.

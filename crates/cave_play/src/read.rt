@@ -1,14 +1,14 @@
 //! Reading the inputs of a run.
 
 ghost use Rattle.std.specs.Prelude.{◌≡◌, ℕ, ◌≤◌, ◌<◌, ◌⊎◌, List, length, None, Some, MatchResult};
-ghost use Rattle.play_command.specs.base_limits.Limits.{MAX_INPUT_BYTES};
+ghost use Rattle.base_lines.specs.Limits.{MAX_INPUT_BYTES};
 ghost use Rattle.cave_play.specs.Input.{Says};
 ghost use Rattle.cave_play.specs.Judge.{too_large};
 ghost use Rattle.cave_play.specs.Run.{IsOutsideOf};
 
 use crate::fault::{Input, LogFault, PlayFault, ScriptFault};
 use crate::input::{InputFault, read_input};
-use data_bindings::{Cause, CaveError, FaultSite};
+use data_rows::{Cause, CaveError, FaultSite};
 use std::alloc::Global;
 use std::io::Read;
 

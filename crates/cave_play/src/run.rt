@@ -3,7 +3,7 @@
 
 ghost use Rattle.std.specs.Prelude.{◌≡◌, ℕ, List, [], ◌∷◌, None};
 ghost use Rattle.std.specs.Str.Lines.{lines};
-ghost use Rattle.cave_replay.specs.replay_edits.Edit.{game_of};
+ghost use Rattle.replay_edits.specs.Edit.{game_of};
 ghost use Rattle.cave_play.specs.Input.{Says, InputTexts, AreTextsOf};
 ghost use Rattle.cave_play.specs.Judge.{large_seed, every_fault};
 ghost use Rattle.cave_play.specs.Output.{IsChecked, IsPlayed, play_view_text};
@@ -16,14 +16,15 @@ use crate::edits::edit_session;
 use crate::fault::PlayFault;
 use crate::inputs::Inputs;
 use crate::judge::{check_every, check_seed, play_log, read_cave};
-use crate::machine::CaveMachine;
 use crate::output::write_output;
 use crate::views::{check_text, play_view_text};
-use data_bindings::Cave;
-use play_command::{CheckView, Editing, MAX_EVERY, PlayView};
+use base_lines::limits::MAX_EVERY;
+use cave_data::Cave;
+use cave_words::Lexicon;
+use play_command::{CheckView, Editing, PlayView};
+use play_machine::CaveMachine;
 use std::alloc::Global;
 use std::io::{Read, Write};
-use world_packed::Lexicon;
 
 // A cave is let go by a call, and not at the end of a block: the checker then goes through its
 // tables once, and not in each function that has a cave. So nothing fails between its reading and

@@ -2,21 +2,19 @@
 
 ghost use Rattle.std.specs.Prelude.{◌≡◌, ◌++◌, MatchResult, OnOk};
 ghost use Rattle.cave_play.specs.Output.{cave_line, check_text, play_view_text};
-ghost use Rattle.cave_turn.specs.turn_score.Score.{max_score_of};
+ghost use Rattle.turn_ends.specs.Score.{max_score_of};
 
 use crate::fault::PlayFault;
-use crate::final_state::push_final_state;
-use crate::machine::CaveMachine;
-use crate::score::push_score;
-use crate::steps::push_steps;
-use crate::transcript::{push_cave_line, push_play};
+use cave_data::Cave;
 use cave_replay::Session;
-use cave_turn::{Rules, max_score};
+use cave_words::Lexicon;
 use check_tables::{push_names, push_unused};
-use data_bindings::{Cave, push_bindings};
+use data_bindings::push_bindings;
 use play_command::{CheckView, PlayView};
+use play_machine::{CaveMachine, push_final_state, push_play, push_score, push_steps};
 use std::alloc::{AllocError, Global};
-use world_packed::Lexicon;
+use turn_ends::max_score;
+use turn_scene::Rules;
 
 pub(crate) fn check_text(alloc: Global, cave: &Cave, view: CheckView) -> Result<Vec<u8>, PlayFault>
     ensures told { MatchResult result (λ text. text.items ≡ check_text view cave.now)
@@ -40,6 +38,14 @@ fn push_maximum(alloc: Global, cave: &Cave, text: &mut Vec<u8>) -> Result<(), Al
     let lexicon = Lexicon::build(alloc, cave)?;
     let most = max_score(&Rules::of(cave, &lexicon));
     push_cave_line(alloc, text, most)
+}
+
+/// Appends the line that says that a database is a cave.
+fn push_cave_line(alloc: Global, text: &mut Vec<u8>, most: u32) -> Result<(), AllocError>
+    ensures { OnOk result (text.new.items ≡ text.old.items ++ cave_line most) }
+{
+    let line = format!(in alloc; "cave ok, maximum {most}\n")?;
+    text.extend_from_slice(line.as_bytes())
 }
 
 /// What is asked for of the play that a session of the machine holds.

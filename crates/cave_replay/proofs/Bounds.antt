@@ -3,8 +3,8 @@ use Rattle.std.proofs.Common.{◌≡◌, ℕ, ◌+◌, ◌-◌, ◌<◌, ◌≤�
 use Rattle.std.proofs.Common.{Contains, ◌∙◌, arith, suc, zero}
 use Rattle.std.proofs.lemmas.Bool.{cases_lt}
 use Rattle.std.proofs.lemmas.List.{get_or_default}
-use Rattle.replay_marks.specs.Spacing.{IsSpaced}
-use Rattle.replay_marks.proofs.Counts.{place_within}
+use Rattle.replay_checkpoints.specs.Spacing.{IsSpaced}
+use Rattle.replay_checkpoints.proofs.Counts.{place_within}
 use Rattle.cave_replay.specs.Replay.{Revision, NoneMetBefore, IsWithinBound}
 use Rattle.cave_replay.proofs.Revisions.{HasCheckpoints, IsLastIndex, IsUnderway, AgreesIn}
 use Rattle.cave_replay.proofs.Revisions.{image_in}

@@ -9,10 +9,10 @@ use Rattle.std.proofs.lemmas.List.{append_assoc, map-append, take-map, drop-map,
 use Rattle.std.proofs.lemmas.List.{drop_all, length-map}
 use Rattle.std.proofs.lemmas.List.Elements.{All-append, All-take, All-drop}
 use Rattle.std.proofs.lemmas.Bool.{cases_lt}
-use Rattle.replay_marks.specs.Marks.{MarksView, CheckpointsView, places_before, states_before}
-use Rattle.replay_marks.specs.Marks.{next_place, after_shift}
-use Rattle.replay_marks.proofs.Counts.{place_within}
-use Rattle.replay_marks.proofs.NextPlaceLemmas.{states_joined_follow}
+use Rattle.replay_checkpoints.specs.Marks.{MarksView, CheckpointsView, places_before, states_before}
+use Rattle.replay_checkpoints.specs.Marks.{next_place, after_shift}
+use Rattle.replay_checkpoints.proofs.Counts.{place_within}
+use Rattle.replay_checkpoints.proofs.NextPlaceLemmas.{states_joined_follow}
 use Rattle.cave_replay.specs.Play.{MachineRules, state_after, texts_of, ticks_of}
 use Rattle.replay_edits.specs.Edit.{Game}
 use Rattle.cave_replay.specs.Agreement.{state_at, image, AgreesAt}

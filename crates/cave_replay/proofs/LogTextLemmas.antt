@@ -9,9 +9,9 @@ use Rattle.std.proofs.lemmas.Bool.{ne_eqb}
 use Rattle.std.proofs.lemmas.List.Elements.{All-head, All-tail}
 use Rattle.std.proofs.lemmas.List.Sums.{AllPass-from_list_all}
 use Rattle.std.proofs.lemmas.List.Splits.{slice_split_at}
-use Rattle.replay_edits.specs.base_lines.Line.{is_line_byte, line_fault, is_line}
-use Rattle.replay_edits.specs.base_lines.declared.line.LineFault.TheVariants.{TooLong, BadByte}
-use Rattle.replay_edits.specs.base_limits.Limits.{MAX_LINE_BYTES}
+use Rattle.base_lines.specs.Line.{is_line_byte, line_fault, is_line}
+use Rattle.base_lines.specs.declared.line.LineFault.TheVariants.{TooLong, BadByte}
+use Rattle.base_lines.specs.Limits.{MAX_LINE_BYTES}
 use Rattle.cave_replay.specs.LogText.{log_text}
 
 abbrev is_feed : ℕ → Bool

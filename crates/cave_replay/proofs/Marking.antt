@@ -5,9 +5,9 @@ use Rattle.std.proofs.Common.{zero, subst}
 use Rattle.std.specs.Prelude.{slice_index, slice_get}
 use Rattle.std.proofs.lemmas.List.{length-map, get_or-map, get_or-take}
 use Rattle.std.proofs.lemmas.List.Elements.{All-get_or, All-nil, All-cons, All-push}
-use Rattle.replay_marks.specs.Marks.{MarksView, CheckpointsView, is_far, places_before}
-use Rattle.replay_marks.specs.Marks.{states_before}
-use Rattle.replay_marks.proofs.NextPlaceLemmas.{states_before_follow}
+use Rattle.replay_checkpoints.specs.Marks.{MarksView, CheckpointsView, is_far, places_before}
+use Rattle.replay_checkpoints.specs.Marks.{states_before}
+use Rattle.replay_checkpoints.proofs.NextPlaceLemmas.{states_before_follow}
 use Rattle.cave_replay.specs.Replay.{AreStates, IsMarking}
 
 -- what is read at an index is the item there

@@ -3,11 +3,11 @@ use Rattle.std.proofs.Common.{◌≡◌, ℕ, ◌+◌, List, [], ◌∷◌, leng
 use Rattle.std.proofs.Common.{Bool, true, false, cond, All, IsTrue, eqb, ltb, ◌||◌}
 use Rattle.std.proofs.lemmas.List.Elements.{All-nil, All-cons}
 use Rattle.std.proofs.lemmas.Bool.{eqb-false, ltb-false}
-use Rattle.replay_edits.specs.base_lines.Line.{is_line, flaw_of}
-use Rattle.replay_edits.specs.base_lines.declared.line_flaw.LineFlaw.{LineFlaw}
+use Rattle.base_lines.specs.Line.{is_line, flaw_of}
+use Rattle.base_lines.specs.declared.line_flaw.LineFlaw.{LineFlaw}
 use Rattle.cave_replay.specs.declared.fault.OpenFault.{OpenFault}
 use Rattle.cave_replay.specs.declared.fault.OpenFault.TheVariants.{BadEvery, LogFull, BadSeed}
-use Rattle.replay_edits.specs.base_limits.Limits.{MAX_LOG_LINES, MAX_SEED, MAX_EVERY}
+use Rattle.base_lines.specs.Limits.{MAX_LOG_LINES, MAX_SEED, MAX_EVERY}
 use Rattle.replay_edits.specs.Edit.{game_of, IsGame}
 use Rattle.cave_replay.specs.Opening.{first_bad_line, game_fault, or_game_fault, open_fault}
 use Rattle.cave_replay.specs.Playthrough.{IsDistance}

@@ -4,7 +4,7 @@ use Rattle.std.proofs.Common.{◌∷◌, length, refl, ap, ◌∙◌, arith, Opt
 use Rattle.std.specs.Prelude.{MatchOption}
 use Rattle.std.specs.Option.{option_map}
 use Rattle.replay_edits.specs.LineText.{LineText}
-use Rattle.replay_marks.specs.Spacing.{IsSpaced}
+use Rattle.replay_checkpoints.specs.Spacing.{IsSpaced}
 use Rattle.cave_replay.specs.declared.ready_edits.ReadyEdits.{ReadyEdits}
 use Rattle.cave_replay.specs.Play.{MachineRules}
 use Rattle.replay_edits.specs.Edit.{log_of, Game, game_of, IsGame, Change, log_after, margins_of}

@@ -1,7 +1,7 @@
 -- What the proofs know of a revision.
 use Rattle.std.proofs.Common.{◌≡◌, ℕ, ◌+◌, ◌-◌, ◌<◌, ◌≤◌, List, length}
 use Rattle.std.specs.Prelude.{slice_index}
-use Rattle.replay_marks.specs.Spacing.{IsSpaced}
+use Rattle.replay_checkpoints.specs.Spacing.{IsSpaced}
 use Rattle.cave_replay.specs.Agreement.{AgreesAt, image}
 use Rattle.cave_replay.specs.Replay.{Revision, IsShift}
 

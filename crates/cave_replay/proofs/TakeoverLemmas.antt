@@ -8,8 +8,8 @@ use Rattle.std.specs.Option.{option_map, ForSome}
 use Rattle.std.proofs.Math.Seq.{take-length}
 use Rattle.std.proofs.lemmas.Bool.{cases_lt}
 use Rattle.std.proofs.lemmas.List.{get_or_default}
-use Rattle.replay_marks.specs.Spacing.{IsSpaced}
-use Rattle.replay_marks.specs.Marks.{MarksView, CheckpointsView}
+use Rattle.replay_checkpoints.specs.Spacing.{IsSpaced}
+use Rattle.replay_checkpoints.specs.Marks.{MarksView, CheckpointsView}
 use Rattle.cave_replay.specs.Play.{MachineRules, state_after, texts_of, ticks_of}
 use Rattle.cave_replay.specs.declared.ready_edits.ReadyEdits.{ReadyEdits}
 use Rattle.replay_edits.specs.Edit.{game_of, log_of, IsGame, Change, apply_all, margins_of}

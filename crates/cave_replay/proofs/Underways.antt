@@ -4,7 +4,7 @@ use Rattle.std.proofs.Common.{arith, suc, zero}
 use Rattle.std.specs.Prelude.{slice_index}
 use Rattle.std.specs.List.Sorted.{IsStrictlyIncreasing}
 use Rattle.std.proofs.lemmas.Bool.{cases_lt}
-use Rattle.replay_marks.proofs.Counts.{place_within}
+use Rattle.replay_checkpoints.proofs.Counts.{place_within}
 use Rattle.cave_replay.specs.Replay.{Revision, states_of_old, states_of_new, ComesAndAgrees, Passes}
 use Rattle.cave_replay.specs.Replay.{MetAt, MetNowhere}
 use Rattle.cave_replay.proofs.Bounds.{underway_none}

@@ -12,5 +12,6 @@ pub mod Session
 pub mod Table
 pub mod Tails
 pub mod Takeover
-pub use Rattle.replay_edits.specs.base_lines as base_lines
+pub use Rattle.base_lines.specs as base_lines
+pub use Rattle.replay_checkpoints.specs as replay_checkpoints
 pub use Rattle.replay_edits.specs as replay_edits

@@ -1,13 +1,13 @@
 -- The first fault of what a session is opened with.
 use Rattle.std.specs.Prelude.{◌≡◌, ℕ, ◌+◌, ◌||◌, ◌==◌, nat_lt, if◌then◌else◌, List, [], ◌∷◌, length}
 use Rattle.std.specs.Prelude.{Option, None, Some, MatchOption, Result}
-use Rattle.replay_edits.specs.base_lines.Line.{is_line, flaw_of}
-use Rattle.replay_edits.specs.base_lines.declared.line_flaw.LineFlaw.{LineFlaw}
+use Rattle.base_lines.specs.Line.{is_line, flaw_of}
+use Rattle.base_lines.specs.declared.line_flaw.LineFlaw.{LineFlaw}
 use Rattle.cave_replay.specs.declared.fault.OpenFault.{OpenFault}
 use Rattle.cave_replay.specs.declared.fault.OpenFault.TheVariants as cause
 use Rattle.replay_edits.specs.Faults.{IsFaultOr}
 use Rattle.cave_replay.specs.Report.{RisesByAtMost}
-use Rattle.replay_edits.specs.base_limits.Limits.{MAX_LOG_LINES, MAX_SEED, MAX_EVERY}
+use Rattle.base_lines.specs.Limits.{MAX_LOG_LINES, MAX_SEED, MAX_EVERY}
 
 -- the number of the first line that isn't valid in a log, and what is wrong with it, where the
 -- lines are numbered from `number` on

@@ -1,12 +1,12 @@
 -- What a session keeps: a game, its play, and the states at its checkpoints.
 use Rattle.std.specs.Prelude.{◌≡◌, ℕ, ◌<◌, ◌≤◌, Bool, List, length, map}
-use Rattle.replay_marks.specs.Marks.{CheckpointsView}
+use Rattle.replay_checkpoints.specs.Marks.{CheckpointsView}
 use Rattle.cave_replay.specs.declared.playthrough.Playthrough.{Playthrough}
 use Rattle.cave_replay.specs.Play.{MachineRules, IsPlay}
 use Rattle.replay_edits.specs.Edit.{Game, game_in, log_of, IsGame}
 use Rattle.cave_replay.specs.Agreement.{state_at}
 use Rattle.cave_replay.specs.Replay.{AreStates}
-use Rattle.replay_edits.specs.base_limits.Limits.{MAX_EVERY}
+use Rattle.base_lines.specs.Limits.{MAX_EVERY}
 
 -- a distance that checkpoints may have
 pub record IsDistance (every : ℕ) : Type 0 where

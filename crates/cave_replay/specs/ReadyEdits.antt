@@ -7,7 +7,7 @@ use Rattle.cave_replay.specs.declared.segment.OldPlay.{OldPlay}
 use Rattle.cave_replay.specs.declared.segment.Segment.{Segment}
 use Rattle.cave_replay.specs.declared.playthrough.Playthrough.{Playthrough}
 use Rattle.cave_replay.specs.declared.replay.Rerun.{Rerun}
-use Rattle.replay_marks.specs.Marks.{MarksView}
+use Rattle.replay_checkpoints.specs.Marks.{MarksView}
 use Rattle.cave_replay.specs.Play.{MachineRules}
 use Rattle.replay_edits.specs.Edit.{Game, game_of, log_of, IsGame, margins_of, Change, changes_of}
 use Rattle.replay_edits.specs.Edit.{apply_all, inverses_of}

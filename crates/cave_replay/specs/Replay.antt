@@ -2,7 +2,7 @@
 use Rattle.std.specs.Prelude.{◌≡◌, ℕ, ◌+◌, ◌-◌, ◌<◌, ◌≤◌, ◌++◌, ◌⊎◌, Bool, List, [], ◌∷◌, length}
 use Rattle.std.specs.Prelude.{Option, None, MatchOption, map, take, drop, slice_index, All}
 use Rattle.std.specs.Option.{option_map}
-use Rattle.replay_marks.specs.Marks.{MarksView, CheckpointsView, IsBegunAt}
+use Rattle.replay_checkpoints.specs.Marks.{MarksView, CheckpointsView, IsBegunAt}
 use Rattle.cave_replay.specs.declared.replay.Rerun.{Rerun}
 use Rattle.cave_replay.specs.declared.segment.Segment.{Segment}
 use Rattle.cave_replay.specs.Play.{MachineRules, texts_of, ticks_of}

@@ -2,7 +2,7 @@
 use Rattle.std.specs.Prelude.{◌≡◌, ℕ, ◌+◌, ◌-◌, ◌<◌, ◌≤◌, List, ◌++◌, length, take, slice_index}
 use Rattle.std.specs.Prelude.{Option, Some, None, MatchOption, vec_len, vec_capacity}
 use Rattle.std.specs.List.{splice}
-use Rattle.replay_marks.specs.Marks.{MarksView, CheckpointsView, IsBegunAt, places_met, states_met}
+use Rattle.replay_checkpoints.specs.Marks.{MarksView, CheckpointsView, IsBegunAt, places_met, states_met}
 use Rattle.cave_replay.specs.declared.playthrough.Playthrough.{Playthrough}
 use Rattle.cave_replay.specs.declared.replay.Rerun.{Rerun}
 use Rattle.cave_replay.specs.ReadyEdits.{new_game}

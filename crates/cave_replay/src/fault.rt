@@ -1,6 +1,6 @@
 ghost use Rattle.std.specs.Prelude.{◌≡◌};
 
-use replay_edits::LineFlaw;
+use base_lines::LineFlaw;
 use std::alloc::AllocError;
 use thiserror::Error;
 

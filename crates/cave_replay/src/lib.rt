@@ -17,13 +17,13 @@ mod takeover;
 mod tick_counts;
 mod workspace;
 
+pub use base_lines::bytes::number_of;
+pub use base_lines::{LineFault, LineFlaw, Meter, Steps, check_line};
 pub use fault::OpenFault;
 pub use machine::{Machine, Started, Stepped};
 pub use played_lines::{PlayedLine, PlayedLines};
-pub use replay_edits::{
-    Edit, EditFault, GroupFault, LineFault, LineFlaw, LineText, Meter, Steps, check_line, number_of,
-};
-pub use replay_marks::{KeptState, Whole};
+pub use replay_checkpoints::{KeptState, Whole};
+pub use replay_edits::{Edit, EditFault, GroupFault, LineText};
 pub use report::{GroupReport, Report};
 pub use session::Session;
 pub use tick_counts::TickCounts;

@@ -6,7 +6,9 @@ ghost use Rattle.replay_edits.specs.Edit.{log_of};
 ghost use Rattle.cave_replay.specs.Opening.{first_bad_line, open_fault, IsAnswerToOpen};
 
 use crate::fault::OpenFault;
-use replay_edits::{LineFlaw, LineText, is_bad_every, is_large_seed, is_long_log, split_log_line};
+use base_lines::limits::{is_bad_every, is_large_seed, is_long_log};
+use base_lines::{LineFlaw, split_log_line};
+use replay_edits::LineText;
 use std::alloc::{AllocError, Global};
 
 /// Copies of lines, unless memory was refused for one of them.

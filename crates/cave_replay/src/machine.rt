@@ -1,9 +1,9 @@
 ghost use Rattle.std.specs.Prelude.{◌≡◌, ◌+◌, ◌^◌, ◌<◌, ◌↔◌, IfOk, OnOk, IsTrue};
-ghost use Rattle.replay_edits.specs.base_lines.Line.{is_line};
+ghost use Rattle.base_lines.specs.Line.{is_line};
 ghost use Rattle.cave_replay.specs.Play.{MachineRules};
 
-use replay_edits::Steps;
-use replay_marks::KeptState;
+use base_lines::Steps;
+use replay_checkpoints::KeptState;
 use std::alloc::{AllocError, Global};
 
 /// What a machine begins with: its first state, and the piece that greets.

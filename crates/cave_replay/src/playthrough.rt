@@ -1,5 +1,5 @@
 ghost use Rattle.std.specs.Prelude.{◌≡◌, ◌+◌, ◌^◌, ◌<◌, length, IfOk, OnOk};
-ghost use Rattle.replay_marks.specs.Spacing.{IsSpaced};
+ghost use Rattle.replay_checkpoints.specs.Spacing.{IsSpaced};
 ghost use Rattle.replay_edits.specs.Edit.{IsGame, game_in};
 ghost use Rattle.cave_replay.specs.Playthrough.{IsDistance, kept_game, KeepsPlay};
 ghost use Rattle.cave_replay.specs.Report.{RisesByAtMost};
@@ -7,8 +7,8 @@ ghost use Rattle.cave_replay.specs.Report.{RisesByAtMost};
 use crate::machine::Machine;
 use crate::segment::{Segment, play_line};
 use crate::workspace::Workspace;
+use replay_checkpoints::{Checkpoints, Marks};
 use replay_edits::LineText;
-use replay_marks::{Checkpoints, Marks};
 use std::alloc::AllocError;
 
 /// A game, its play, and the states at its checkpoints and at its end.

@@ -5,11 +5,11 @@ ghost use Rattle.replay_edits.specs.Faults.{group_fault, IsAnswerTo};
 ghost use Rattle.cave_replay.specs.ReadyEdits.{log_after_edits, new_game, IsReady, AreEditsOf};
 ghost use Rattle.cave_replay.specs.ReadyEdits.{MayMove};
 
+use replay_checkpoints::splice;
 use replay_edits::new_line::take_lines;
 use replay_edits::outcome::find_outcome;
 use replay_edits::plan::plan_group;
 use replay_edits::{Edit, GroupFault, LineText, NewLine};
-use replay_marks::splice;
 use std::alloc::Global;
 
 /// Edits of a game that are accepted and not made yet.

@@ -1,7 +1,7 @@
 ghost use Rattle.std.specs.Prelude.{◌≡◌, ◌≢◌, ◌+◌, ◌<◌, ◌≤◌, length, slice_index, IfOk, OnOk};
 ghost use Rattle.std.specs.Prelude.{OnErr, MatchOption, Option};
 ghost use Rattle.std.specs.Option.{option_map};
-ghost use Rattle.replay_marks.specs.Marks.{IsBegunAt};
+ghost use Rattle.replay_checkpoints.specs.Marks.{IsBegunAt};
 ghost use Rattle.replay_edits.specs.Edit.{changes_of, apply_all};
 ghost use Rattle.cave_replay.specs.ReadyEdits.{AreEditsOf, IsRerunOf};
 ghost use Rattle.replay_edits.specs.Faults.{group_fault, steps_left, IsAnswerTo, TakesBack};
@@ -16,8 +16,9 @@ use crate::report::GroupReport;
 use crate::segment::{OldPlay, Segment, play_changed};
 use crate::takeover::{make_room, take_over};
 use crate::workspace::Workspace;
-use replay_edits::{Edit, GroupFault, Steps};
-use replay_marks::{Marks, last_to};
+use base_lines::Steps;
+use replay_checkpoints::{Marks, last_to};
+use replay_edits::{Edit, GroupFault};
 use std::alloc::{AllocError, Global};
 
 /// Makes the edits in what is kept, and replays it once. All of them are made, or none.

@@ -1,19 +1,19 @@
 ghost use Rattle.std.specs.Prelude.{◌≡◌, ℕ, ◌+◌, ◌-◌, ◌^◌, ◌<◌, ◌≤◌, ◌↔◌, length, slice_index};
 ghost use Rattle.std.specs.Prelude.{IfOk, OnOk, IsTrue, None, Some};
-ghost use Rattle.replay_edits.specs.base_lines.Line.{is_line};
+ghost use Rattle.base_lines.specs.Line.{is_line};
 ghost use Rattle.replay_edits.specs.Edit.{log_of};
 ghost use Rattle.cave_replay.specs.ReadyEdits.{log_after_edits, IsReady, MayReplay, IsReplayed};
 ghost use Rattle.cave_replay.specs.ReadyEdits.{ready_revision};
 ghost use Rattle.cave_replay.specs.Replay.{AreStates, IsMarking, IsNextIndex, PlaysLine};
 ghost use Rattle.cave_replay.specs.Replay.{IsWithinBound, segment_view};
 ghost use Rattle.cave_replay.specs.Report.{RisesByAtMost};
-ghost use Rattle.replay_edits.specs.base_limits.Limits.{MAX_LOG_LINES};
+ghost use Rattle.base_lines.specs.Limits.{MAX_LOG_LINES};
 
 use crate::machine::Machine;
 use crate::ready_edits::ReadyEdits;
 use crate::workspace::Workspace;
+use replay_checkpoints::{Checkpoints, KeptState, Marks, first_from};
 use replay_edits::LineText;
-use replay_marks::{Checkpoints, KeptState, Marks, first_from};
 use std::alloc::AllocError;
 
 /// Lines that were played from a checkpoint on: what was said, which ticked, and the new marks.

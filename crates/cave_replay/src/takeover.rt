@@ -1,6 +1,6 @@
 ghost use Rattle.std.specs.Prelude.{◌≡◌, ◌<◌, ◌≤◌, length, MatchOption, OnOk, vec_len};
 ghost use Rattle.std.specs.Option.{ForSome};
-ghost use Rattle.replay_marks.specs.Marks.{IsBegunAt};
+ghost use Rattle.replay_checkpoints.specs.Marks.{IsBegunAt};
 ghost use Rattle.cave_replay.specs.Playthrough.{KeepsAll};
 ghost use Rattle.replay_edits.specs.Edit.{changes_of};
 ghost use Rattle.cave_replay.specs.ReadyEdits.{MayMove};
@@ -12,8 +12,8 @@ use crate::machine::Machine;
 use crate::playthrough::Playthrough;
 use crate::replay::Rerun;
 use crate::segment::Segment;
+use replay_checkpoints::{Checkpoints, KeptState, Marks, splice};
 use replay_edits::Edit;
-use replay_marks::{Checkpoints, KeptState, Marks, splice};
 use std::alloc::AllocError;
 
 /// Takes room for what a rerun brings, which is to be taken over. What is kept stays as it is.

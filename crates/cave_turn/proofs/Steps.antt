@@ -1,6 +1,6 @@
 -- One object more falls.
 use Rattle.std.proofs.Common.{◌≡◌, ℕ, zero, suc, ◌-◌, ◌<◌, refl, sym, arith}
-use Rattle.cave_verbs.specs.verb_commands.turn_rules.Effects.{for_each_down_from}
+use Rattle.turn_scene.specs.Effects.{for_each_down_from}
 
 -- of the numbers from one down it comes first
 first-down : {S : Type 0} (n : ℕ) (what : ℕ → S → S) (s : S) → 0 < n

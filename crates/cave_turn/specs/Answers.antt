@@ -1,26 +1,26 @@
 -- What an answer to an open question does.
 use Rattle.std.specs.Prelude.{ℕ, pos, Bool, true, false, ◌||◌, not, if◌then◌else◌, List, [], ◌∷◌}
 use Rattle.std.specs.Prelude.{None, option_map, unwrap_or, codes}
-use Rattle.turn_text.specs.data_rows.declared.role.Role.TheVariants as role
-use Rattle.turn_text.specs.cave_data.CaveView.{CaveView}
-use Rattle.turn_text.specs.cave_words.Words.{is_written, words_of}
-use Rattle.turn_text.specs.cave_world.State.{CLUE_HINT, INSTRUCTIONS_HINT}
-use Rattle.turn_text.specs.cave_world.declared.ending.Ending.TheVariants as ending_is
-use Rattle.turn_text.specs.cave_world.declared.ending.Question.{Question}
-use Rattle.turn_text.specs.cave_world.declared.ending.Question.TheVariants as question
-use Rattle.turn_text.specs.cave_world.declared.state.State.{State}
-use Rattle.turn_begin.specs.turn_scene.Scene.{Scene, scene_at_start, after_saying, with_state}
-use Rattle.turn_begin.specs.rule_rows.declared.tables.Table.TheVariants as table
-use Rattle.cave_verbs.specs.verb_commands.turn_rules.Rows.{Effect, always, deed, by_rows_about}
-use Rattle.cave_verbs.specs.verb_commands.turn_rules.Rows.{after_all, noted, note_row}
-use Rattle.cave_verbs.specs.verb_commands.turn_rules.Tests.{start}
-use Rattle.cave_verbs.specs.verb_commands.turn_rules.Effects.{say, take_hint, set_charge}
-use Rattle.turn_moves.specs.turn_ends.Endings.{end_as}
-use Rattle.turn_moves.specs.turn_ends.Questions.{is_dragon, after_question, question_row}
-use Rattle.turn_hints.specs.Hints.{price_rows, give_rows}
+use Rattle.data_rows.specs.declared.role.Role.TheVariants as role
+use Rattle.cave_data.specs.CaveView.{CaveView}
+use Rattle.cave_words.specs.Words.{is_written, words_of}
+use Rattle.cave_world.specs.State.{CLUE_HINT, INSTRUCTIONS_HINT}
+use Rattle.cave_world.specs.declared.ending.Ending.TheVariants as ending_is
+use Rattle.cave_world.specs.declared.ending.Question.{Question}
+use Rattle.cave_world.specs.declared.ending.Question.TheVariants as question
+use Rattle.cave_world.specs.declared.state.State.{State}
+use Rattle.turn_scene.specs.Scene.{Scene, scene_at_start}
+use Rattle.cave_world.specs.declared.tables.Table.TheVariants as table
+use Rattle.turn_scene.specs.Rows.{Test, Effect, Row, always, deed, plain_row, otherwise, by_table}
+use Rattle.turn_scene.specs.Rows.{by_rows_about, after_all, noted, note_row}
+use Rattle.turn_scene.specs.Tests.{start}
+use Rattle.turn_scene.specs.Effects.{in_scene, change, say, take_hint, set_charge}
+use Rattle.turn_ends.specs.Endings.{end_as}
+use Rattle.turn_ends.specs.Questions.{is_dragon, after_question, question_row}
+use Rattle.turn_clocks.specs.Hints.{price_rows, give_rows}
 use Rattle.cave_turn.specs.Dragon.{fight}
 use Rattle.cave_turn.specs.Effects.{arrive}
-use Rattle.cave_turn.specs.Finish.{end_of_turn}
+use Rattle.cave_turn.specs.Finish.{after_end_of_turn}
 use Rattle.cave_turn.specs.Revival.{come_back, bury}
 use Rattle.cave_turn.specs.declared.answers.Answer.{Answer}
 use Rattle.cave_turn.specs.declared.answers.Answer.TheVariants.{Yes, No, Neither}
@@ -59,7 +59,7 @@ answers_to question.Quit = (quit, say role.Ok ∷ [])
 answers_to question.ScoreQuit = (quit, say role.Ok ∷ [])
 answers_to question.Die = (come_back, bury)
 answers_to (question.Hint h) =
-    (by_rows_about (always h) (noted table.HintPrice price_rows) ∷ [], say role.Ok ∷ [])
+    (by_rows_about (always h) price_rows ∷ [], say role.Ok ∷ [])
 answers_to (question.Take h) =
     (by_rows_about (always h) (noted table.HintGiven give_rows) ∷ [], say role.Ok ∷ [])
 answers_to question.Oyster =
@@ -74,11 +74,48 @@ abbrev pub after_no : CaveView → Question → Scene → Scene
 after_no cave q p =
     (after_all (note_row table.No (question_row q) ∷ (answers_to q).1) (deed cave q p)).scene
 
--- what is neither leaves the question open, and its message is said again
-abbrev pub reply_scene : CaveView → Question → Answer → Scene → Scene
-reply_scene cave q Yes p = after_yes cave q (with_state (without_question p.state) p)
-reply_scene cave q No p = after_no cave q (with_state (without_question p.state) p)
-reply_scene cave q Neither p = after_question cave q (after_saying role.Answer p)
+abbrev pub is_yes : Answer → Bool
+is_yes Yes = true
+is_yes _ = false
+
+abbrev pub is_no : Answer → Bool
+is_no No = true
+is_no _ = false
+
+-- what is answered, and how
+pub record Reply : Type 0 where
+  pub question : Question
+  pub answer : Answer
+
+abbrev pub reply : Question → Answer → Reply
+reply q answer = record { question = q; answer = answer }
+
+abbrev pub says_yes : Test Reply
+says_yes d = is_yes d.about.answer
+
+abbrev pub says_no : Test Reply
+says_no d = is_no d.about.answer
+
+abbrev pub do_yes : Effect Reply
+do_yes d = in_scene (after_yes d.cave d.about.question d.scene) d
+
+abbrev pub do_no : Effect Reply
+do_no d = in_scene (after_no d.cave d.about.question d.scene) d
+
+-- the message of the question is said again
+abbrev pub repeat_question : Effect Reply
+repeat_question d = in_scene (after_question d.cave d.about.question d.scene) d
+
+-- yes and no close the question; what is neither leaves it open
+unfoldable pub reply_rows : List (Row Reply (Unit {0}))
+reply_rows =
+    plain_row (says_yes ∷ []) (change without_question ∷ do_yes ∷ [])
+    ∷ plain_row (says_no ∷ []) (change without_question ∷ do_no ∷ [])
+    ∷ otherwise (say role.Answer ∷ repeat_question ∷ [])
+
+abbrev pub after_reply : CaveView → Question → Answer → Scene → Scene
+after_reply cave q answer p =
+    (by_table table.Replies reply_rows (deed cave (reply q answer) p)).scene
 
 -- a hint that is offered, or its price
 abbrev pub is_of_hint : Question → Bool
@@ -87,16 +124,12 @@ is_of_hint (question.Take h) = true
 is_of_hint _ = false
 
 -- an answer about a hint doesn't end the turn as other answers do
-abbrev pub end_of_answer : CaveView → Question → Scene → Scene
-end_of_answer cave q p = if is_of_hint q then p else end_of_turn cave p
+abbrev pub after_end_of_answer : CaveView → Question → Scene → Scene
+after_end_of_answer cave q p = if is_of_hint q then p else after_end_of_turn cave p
 
 unfoldable pub after_answer : CaveView → Question → List ℕ → State → Scene
 after_answer cave q line s =
-    end_of_answer cave q (reply_scene cave q (answer_in cave line) (scene_at_start false s))
-
-abbrev pub is_yes : Answer → Bool
-is_yes Yes = true
-is_yes _ = false
+    after_end_of_answer cave q (after_reply cave q (answer_in cave line) (scene_at_start false s))
 
 -- a line answers a question; to the one whether to fight the dragon with bare hands only yes is an
 -- answer, and any other line is a command

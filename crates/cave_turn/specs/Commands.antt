@@ -1,45 +1,44 @@
 -- What a command does.
-use Rattle.std.specs.Prelude.{ℕ, pos, ◌-ℤ◌, Bool, true, false, ◌==◌, if◌then◌else◌, List, [], ◌∷◌}
-use Rattle.std.specs.Prelude.{Option, Some, None, is_some}
+use Rattle.std.specs.Prelude.{ℕ, pos, ◌-ℤ◌, Bool, true, false, ◌==◌, not, List, [], ◌∷◌, Option}
+use Rattle.std.specs.Prelude.{Some, None, is_some}
 use Rattle.std.specs.Int.{int_min}
-use Rattle.turn_text.specs.data_rows.declared.role.Role.TheVariants as role
-use Rattle.turn_text.specs.cave_data.CaveView.{CaveView}
-use Rattle.turn_text.specs.cave_words.Words.{words_of}
-use Rattle.turn_text.specs.cave_words.declared.named.Named.TheVariants as name
-use Rattle.turn_text.specs.cave_words.declared.words.Words.{Words}
-use Rattle.turn_text.specs.cave_world.Sight.{dark}
-use Rattle.turn_text.specs.cave_world.declared.dwarves.Knife.{Knife}
-use Rattle.turn_text.specs.cave_world.declared.dwarves.Knife.TheVariants as knife
-use Rattle.turn_text.specs.cave_world.declared.state.State.{State}
-use Rattle.turn_text.specs.cave_world.declared.ending.Ending.TheVariants.{Quit}
-use Rattle.turn_text.specs.cave_world.declared.part.Part.TheVariants as part
-use Rattle.turn_text.specs.cave_world.declared.part.WordLine.TheVariants as line
-use Rattle.turn_moves.specs.turn_ends.Endings.{after_end}
-use Rattle.turn_moves.specs.turn_ends.Questions.{after_ask}
-use Rattle.turn_moves.specs.Arrival.{after_arrival, description_anew}
+use Rattle.data_rows.specs.declared.role.Role.TheVariants as role
+use Rattle.cave_data.specs.CaveView.{CaveView}
+use Rattle.cave_words.specs.Words.{words_of}
+use Rattle.cave_words.specs.declared.named.Named.TheVariants as name
+use Rattle.cave_words.specs.declared.words.Words.{Words}
+use Rattle.cave_world.specs.Sight.{dark}
+use Rattle.cave_world.specs.declared.dwarves.Knife.{Knife}
+use Rattle.cave_world.specs.declared.dwarves.Knife.TheVariants as knife
+use Rattle.cave_world.specs.declared.state.State.{State}
+use Rattle.cave_world.specs.declared.ending.Ending.TheVariants.{Quit}
+use Rattle.cave_world.specs.declared.part.Part.TheVariants as part
+use Rattle.cave_world.specs.declared.part.WordLine.TheVariants as line
+use Rattle.turn_ends.specs.Endings.{after_end}
+use Rattle.turn_ends.specs.Questions.{after_ask}
+use Rattle.turn_moves.specs.Arrival.{after_arrival, after_description}
 use Rattle.turn_moves.specs.Journeys.{journey_by_request}
-use Rattle.turn_begin.specs.turn_scene.Scene.{Scene, scene_at_start, after_telling, after_saying}
-use Rattle.turn_begin.specs.turn_scene.Scene.{with_state, after_draw, happens, thing}
-use Rattle.turn_begin.specs.turn_things.Effects.{with_talk, with_dwarves}
-use Rattle.turn_begin.specs.rule_rows.declared.tables.Table.TheVariants as table
-use Rattle.cave_verbs.specs.verb_commands.turn_rules.Rows.{Deed, Act, Test, Row, act_of, deed}
-use Rattle.cave_verbs.specs.verb_commands.turn_rules.Rows.{plain_row, chance_row, otherwise}
-use Rattle.cave_verbs.specs.verb_commands.turn_rules.Rows.{answer_row, otherwise_row, always}
-use Rattle.cave_verbs.specs.verb_commands.turn_rules.Rows.{by_table, act_by_table}
-use Rattle.cave_verbs.specs.verb_commands.turn_rules.Tests.{percent}
-use Rattle.cave_verbs.specs.verb_commands.turn_rules.Effects.{say}
-use Rattle.cave_verbs.specs.verb_commands.Rows.{command_of}
-use Rattle.cave_verbs.specs.verb_commands.Effects.{after_default}
-use Rattle.cave_verbs.specs.verb_commands.Verbs.{verb_of}
-use Rattle.cave_verbs.specs.verb_commands.declared.next.Next.{Next}
-use Rattle.cave_verbs.specs.verb_commands.declared.next.Next.TheVariants as next_is
-use Rattle.cave_verbs.specs.verb_commands.declared.command.Command.{Command}
-use Rattle.cave_verbs.specs.verb_commands.declared.verb.Verb.{Verb}
+use Rattle.turn_scene.specs.Scene.{Scene, scene_at_start, after_telling, after_saying, with_state}
+use Rattle.turn_scene.specs.Scene.{after_draw, happens, thing}
+use Rattle.turn_scene.specs.Parts.{with_talk, with_dwarves}
+use Rattle.cave_world.specs.declared.tables.Table.TheVariants as table
+use Rattle.turn_scene.specs.Rows.{Deed, Act, Test, Row, act_of, deed, plain_row, chance_row}
+use Rattle.turn_scene.specs.Rows.{otherwise, answer_row, otherwise_row, always, by_table}
+use Rattle.turn_scene.specs.Rows.{act_by_table}
+use Rattle.turn_scene.specs.Tests.{percent}
+use Rattle.turn_scene.specs.Effects.{say, change}
+use Rattle.cave_verbs.specs.Rows.{command_of}
+use Rattle.cave_verbs.specs.Effects.{after_default}
+use Rattle.cave_verbs.specs.Verbs.{verb_of}
+use Rattle.cave_verbs.specs.declared.next.Next.{Next}
+use Rattle.cave_verbs.specs.declared.next.Next.TheVariants as next_is
+use Rattle.cave_verbs.specs.declared.command.Command.{Command}
+use Rattle.cave_verbs.specs.declared.verb.Verb.{Verb}
 use Rattle.cave_verbs.specs.Acting.{act, next_of_step}
 use Rattle.turn_clocks.specs.Clocks.{run_clocks}
 use Rattle.turn_clocks.specs.declared.clocks.Clocks.{Clocks}
 use Rattle.turn_clocks.specs.declared.clocks.Clocks.TheVariants as clocks
-use Rattle.cave_turn.specs.Finish.{end_of_turn}
+use Rattle.cave_turn.specs.Finish.{after_end_of_turn}
 use Rattle.cave_turn.specs.Request.{read_words}
 use Rattle.cave_turn.specs.declared.request.HalfCommand.{HalfCommand}
 use Rattle.cave_turn.specs.declared.request.Request.{Request}
@@ -51,65 +50,77 @@ abbrev pub with_magic_waiting : State → State
 with_magic_waiting s =
     with_talk (record (s.talk) { magic = int_min (pos 0) (pos 0 -ℤ s.talk.magic) }) s
 
--- a knife that was thrown elsewhere is forgotten
-abbrev pub kept_knife : ℕ → Knife → Knife
-kept_knife here (knife.At place) = if place == here then knife.At place else knife.Unthrown
-kept_knife here other = other
-
 abbrev pub with_knife : Knife → State → State
 with_knife k s = with_dwarves (record (s.dwarves) { knife = k }) s
 
-unfoldable pub begin_command : State → State
-begin_command s =
-    let t = with_magic_waiting s in with_knife (kept_knife t.trail.here t.dwarves.knife) t
+-- a knife lies at another place than this
+abbrev pub is_elsewhere : ℕ → Knife → Bool
+is_elsewhere here (knife.At place) = not (place == here)
+is_elsewhere here _ = false
+
+abbrev pub knife_elsewhere : Test (Unit {0})
+knife_elsewhere d = is_elsewhere d.scene.state.trail.here d.scene.state.dwarves.knife
+
+-- a knife that was thrown elsewhere is forgotten
+unfoldable pub forget_knife_rows : List (Row (Unit {0}) (Unit {0}))
+forget_knife_rows =
+    plain_row (knife_elsewhere ∷ []) (change (with_knife knife.Unthrown) ∷ [])
+    ∷ []
+
+-- magic words wait, it is noted whether it is dark, and a knife elsewhere is forgotten
+unfoldable pub begin_command : CaveView → State → Scene
+begin_command cave s =
+    let t = with_magic_waiting s in
+    let p = scene_at_start (dark cave (thing cave name.Lamp) t) t in
+    (by_table table.KnifeForgotten forget_knife_rows (deed cave tt p)).scene
 
 unfoldable pub after_travel : CaveView → ℕ → Scene → Scene
 after_travel cave motion p =
     let j = journey_by_request cave motion p in after_arrival cave j.step j.scene
 
 -- what is said of a word that the cave doesn't have, by two draws, of which the first was made
-unfoldable pub puzzle_rows : List (Row Bool (Unit {0}))
-puzzle_rows =
+unfoldable pub unknown_word_rows : List (Row Bool (Unit {0}))
+unknown_word_rows =
     chance_row [] (percent 20) (say role.NoWord3 ∷ [])
     ∷ plain_row ((λ d. d.about) ∷ []) (say role.NoWord2 ∷ [])
     ∷ otherwise (say role.NoWord ∷ [])
 
 -- a draw is made before, whatever comes of it
-unfoldable pub after_puzzle : CaveView → Scene → Scene
-after_puzzle cave p =
-    (by_table table.UnknownWord puzzle_rows (deed cave (happens 20 p) (after_draw p))).scene
+unfoldable pub after_unknown_word : CaveView → Scene → Scene
+after_unknown_word cave p =
+    (by_table table.UnknownWord unknown_word_rows (deed cave (happens 20 p) (after_draw p))).scene
 
 abbrev pub after_vanished_knives : Scene → Scene
 after_vanished_knives p = after_saying role.Knife (with_state (with_knife knife.Vanished p.state) p)
 
 -- what follows what a verb did
-abbrev pub next_scene : CaveView → Next → Scene → Scene
-next_scene cave next_is.Describe p = description_anew cave p
-next_scene cave (next_is.Arrive place) p = after_arrival cave place p
-next_scene cave (next_is.Ask question) p = after_ask cave question p
-next_scene cave (next_is.End how) p = after_end cave how p
-next_scene cave _ p = p
+abbrev pub after_next : CaveView → Next → Scene → Scene
+after_next cave next_is.Describe p = after_description cave p
+after_next cave (next_is.Arrive place) p = after_arrival cave place p
+after_next cave (next_is.Ask question) p = after_ask cave question p
+after_next cave (next_is.End how) p = after_end cave how p
+after_next cave _ p = p
 
 -- a verb is done by the first of its rows that fits, and then what follows
-unfoldable pub done_by_verb : CaveView → Command → Scene → Act Next
-done_by_verb cave command p =
+unfoldable pub do_verb : CaveView → Command → Scene → Act Next
+do_verb cave command p =
     let a = act cave command p in let next = next_of_step a.step in
-    act_of (next_scene cave next a.scene) next
+    act_of (after_next cave next a.scene) next
 
 -- an action that has rules is done by them; of another it is said what the cave says of it
-abbrev pub done_by_action : CaveView → Option Verb → ℕ → ℕ → List ℕ → Scene → Act Next
-done_by_action cave (Some v) number x word p = done_by_verb cave (command_of v x word) p
-done_by_action cave None number x word p = act_of (after_default cave number p) next_is.Stay
+abbrev pub do_action : CaveView → Option Verb → ℕ → ℕ → List ℕ → Scene → Act Next
+do_action cave (Some v) number x word p = do_verb cave (command_of v x word) p
+do_action cave None number x word p = act_of (after_default cave number p) next_is.Stay
 
 -- what was read is done
-abbrev pub done_by_request : CaveView → Request → Scene → Act Next
-done_by_request cave request.Unknown p = act_of (after_puzzle cave p) next_is.Stay
-done_by_request cave (request.Motion motion) p = act_of (after_travel cave motion p) next_is.Stay
-done_by_request cave (request.Tell told) p = act_of (after_telling told p) next_is.Stay
-done_by_request cave request.Knives p = act_of (after_vanished_knives p) next_is.Stay
-done_by_request cave (request.Act number x word) p =
-    done_by_action cave (verb_of number) number x word p
-done_by_request cave (request.WhatToDo word) p =
+abbrev pub do_request : CaveView → Request → Scene → Act Next
+do_request cave request.Unknown p = act_of (after_unknown_word cave p) next_is.Stay
+do_request cave (request.Motion motion) p = act_of (after_travel cave motion p) next_is.Stay
+do_request cave (request.Tell told) p = act_of (after_telling told p) next_is.Stay
+do_request cave request.Knives p = act_of (after_vanished_knives p) next_is.Stay
+do_request cave (request.Act number x word) p =
+    do_action cave (verb_of number) number x word p
+do_request cave (request.WhatToDo word) p =
     act_of (after_telling (part.Word line.WhatToDo word) p) next_is.Stay
 
 -- what was read, and what followed
@@ -155,11 +166,14 @@ abbrev pub said_so_far : Deed Done → Option HalfCommand
 said_so_far d = Some d.about.understood.half
 
 -- what is kept for the next command
-unfoldable pub half_command_kept : Deed Done → Act (Option HalfCommand)
-half_command_kept d = act_by_table table.HalfCommand
-    (answer_row (asks_for_object ∷ []) verb_alone
+abbrev pub half_command_rows : List (Row Done (Option HalfCommand))
+half_command_rows =
+    answer_row (asks_for_object ∷ []) verb_alone
     ∷ answer_row (asks_for_verb ∷ []) said_so_far
-    ∷ answer_row (unknown_word ∷ []) said_so_far ∷ [])
+    ∷ answer_row (unknown_word ∷ []) said_so_far ∷ []
+
+unfoldable pub keep_half_command : Deed Done → Act (Option HalfCommand)
+keep_half_command d = act_by_table table.HalfCommand half_command_rows
     (otherwise_row [] (always None)) d
 
 -- what is kept is remembered; where nothing is, the object that was read is the last one
@@ -168,38 +182,37 @@ after_remembering None x s = with_talk (record (s.talk) { verb = None; object = 
 after_remembering (Some half) x s =
     with_talk (record (s.talk) { verb = half.verb; object = half.object }) s
 
-unfoldable pub kept_scene : Option HalfCommand → ℕ → Scene → Scene
-kept_scene kept x p = with_state (after_remembering kept x p.state) p
+unfoldable pub after_keeping : Option HalfCommand → ℕ → Scene → Scene
+after_keeping kept x p = with_state (after_remembering kept x p.state) p
 
-unfoldable pub scene_of_understood : CaveView → Understood → Scene → Scene
-scene_of_understood cave u p =
-    let a = done_by_request cave u.request p in
-    let kept = half_command_kept (deed cave (done u a.step) a.scene) in
-    kept_scene kept.step u.half.object kept.scene
+unfoldable pub after_understood : CaveView → Understood → Scene → Scene
+after_understood cave u p =
+    let a = do_request cave u.request p in
+    let kept = keep_half_command (deed cave (done u a.step) a.scene) in
+    after_keeping kept.step u.half.object kept.scene
 
 -- an input line has a first word
-abbrev pub scene_of_words : CaveView → Option (List ℕ) → Option (List ℕ) → Scene → Scene
-scene_of_words cave None next p = p
-scene_of_words cave (Some word) next p =
-    let read = read_words cave word next p in scene_of_understood cave read.step read.scene
+abbrev pub after_words : CaveView → Option (List ℕ) → Option (List ℕ) → Scene → Scene
+after_words cave None next p = p
+after_words cave (Some word) next p =
+    let read = read_words cave word next p in after_understood cave read.step read.scene
 
 -- a command that isn't read leaves nothing for the next line
-abbrev pub unread_scene : Scene → Scene
-unread_scene p = kept_scene None 0 p
+abbrev pub after_unread : Scene → Scene
+after_unread p = after_keeping None 0 p
 
 -- what the clocks leave of a command: it is read, or the player gave up, or is where the cave
 -- closed
 abbrev pub after_clocks : CaveView → Words → Clocks → Scene → Scene
-after_clocks cave words clocks.GoOn p = scene_of_words cave words.first words.second p
-after_clocks cave words clocks.GaveUp p = unread_scene (after_end cave Quit p)
-after_clocks cave words (clocks.Closed place) p = unread_scene (after_arrival cave place p)
+after_clocks cave words clocks.GoOn p = after_words cave words.first words.second p
+after_clocks cave words clocks.GaveUp p = after_unread (after_end cave Quit p)
+after_clocks cave words (clocks.Closed place) p = after_unread (after_arrival cave place p)
 
-unfoldable pub clocks_scene : CaveView → Words → Scene → Scene
-clocks_scene cave words p = let t = run_clocks cave p in after_clocks cave words t.step t.scene
+unfoldable pub after_timed_words : CaveView → Words → Scene → Scene
+after_timed_words cave words p = let t = run_clocks cave p in after_clocks cave words t.step t.scene
 
 -- a command begins, the clocks run, its words are done, and the turn ends
-unfoldable pub command_scene : CaveView → List ℕ → State → Scene
-command_scene cave line s =
-    let t = begin_command s in
-    let p = scene_at_start (dark cave (thing cave name.Lamp) t) t in
-    end_of_turn cave (clocks_scene cave (words_of cave.letters line) p)
+unfoldable pub after_command : CaveView → List ℕ → State → Scene
+after_command cave line s =
+    after_end_of_turn cave
+    (after_timed_words cave (words_of cave.letters line) (begin_command cave s))

@@ -1,21 +1,17 @@
 -- The dragon that is fought with bare hands.
 use Rattle.std.specs.Prelude.{ℕ, ◌+◌, ◌/◌, List, [], ◌∷◌}
-use Rattle.turn_text.specs.data_numbers.Numbers.{LAST_OBJECT}
-use Rattle.turn_text.specs.cave_data.CaveView.{CaveView}
-use Rattle.turn_text.specs.cave_words.declared.named.Named.TheVariants as name
-use Rattle.turn_text.specs.world_objects.Objects.{is_first_at}
-use Rattle.turn_text.specs.cave_world.declared.ending.Question.{Question}
-use Rattle.turn_begin.specs.turn_scene.Scene.{Scene}
-use Rattle.turn_begin.specs.turn_things.Props.{DRAGON_DEAD, DRAGON_DYING, RUG_FREE}
-use Rattle.turn_begin.specs.rule_rows.declared.tables.Table.TheVariants as table
-use Rattle.cave_verbs.specs.verb_commands.turn_rules.Rows.{Deed, Act, Test, Effect, Row, Thing}
-use Rattle.cave_verbs.specs.verb_commands.turn_rules.Rows.{deed, plain_row, answer_row, always}
-use Rattle.cave_verbs.specs.verb_commands.turn_rules.Rows.{otherwise_row, act_by_table, after_all}
-use Rattle.cave_verbs.specs.verb_commands.turn_rules.Rows.{by_table}
-use Rattle.cave_verbs.specs.verb_commands.turn_rules.Tests.{the, it, here, either, both, there_is}
-use Rattle.cave_verbs.specs.verb_commands.turn_rules.Tests.{home_of, second_home_of}
-use Rattle.cave_verbs.specs.verb_commands.turn_rules.Effects.{look, set_prop, fix, loosen, move}
-use Rattle.cave_verbs.specs.verb_commands.turn_rules.Effects.{in_scene, for_each_from}
+use Rattle.base_lines.specs.Numbers.{LAST_OBJECT}
+use Rattle.cave_data.specs.CaveView.{CaveView}
+use Rattle.cave_words.specs.declared.named.Named.TheVariants as name
+use Rattle.world_objects.specs.Objects.{is_first_at}
+use Rattle.cave_world.specs.declared.ending.Question.{Question}
+use Rattle.turn_scene.specs.Scene.{Scene}
+use Rattle.turn_scene.specs.Props.{DRAGON_DEAD, DRAGON_DYING, RUG_FREE}
+use Rattle.cave_world.specs.declared.tables.Table.TheVariants as table
+use Rattle.turn_scene.specs.Rows.{Deed, Act, Test, Effect, Row, Thing, deed, plain_row, answer_row}
+use Rattle.turn_scene.specs.Rows.{always, otherwise_row, act_by_table, after_all, by_table}
+use Rattle.turn_scene.specs.Tests.{the, it, here, either, both, there_is, home_of, second_home_of}
+use Rattle.turn_scene.specs.Effects.{look, set_prop, fix, loosen, move, in_scene, for_each_from}
 use Rattle.cave_turn.specs.Effects.{arrive, stand}
 
 module _ {C : Type 0} where
@@ -31,11 +27,14 @@ half_way d = (home_of dragon d + second_home_of dragon d) / 2
 
 -- where the dragon is once it is dead: between its two homes; if one of them is no place, at the
 -- other, and if neither is one, where the player is
-unfoldable pub lair : Deed Question → Act ℕ
-lair d = act_by_table table.Lair
-    (answer_row (there_is (home_of dragon) ∷ there_is (second_home_of dragon) ∷ []) half_way
+abbrev pub lair_rows : List (Row Question ℕ)
+lair_rows =
+    answer_row (there_is (home_of dragon) ∷ there_is (second_home_of dragon) ∷ []) half_way
     ∷ answer_row (there_is (home_of dragon) ∷ []) (home_of dragon)
-    ∷ answer_row (there_is (second_home_of dragon) ∷ []) (second_home_of dragon) ∷ [])
+    ∷ answer_row (there_is (second_home_of dragon) ∷ []) (second_home_of dragon) ∷ []
+
+unfoldable pub lair : Deed Question → Act ℕ
+lair d = act_by_table table.Lair lair_rows
     (otherwise_row [] here) d
 
 -- the object's first half is at a place, if there is the place

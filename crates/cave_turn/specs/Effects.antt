@@ -1,9 +1,9 @@
 -- What rows do to the scene by moves.
 use Rattle.std.specs.Prelude.{ℕ}
-use Rattle.turn_begin.specs.turn_scene.Scene.{scene_at_place}
-use Rattle.turn_moves.specs.Arrival.{after_arrival, description_anew}
-use Rattle.cave_verbs.specs.verb_commands.turn_rules.Rows.{Deed, Effect}
-use Rattle.cave_verbs.specs.verb_commands.turn_rules.Effects.{in_scene, follow}
+use Rattle.turn_scene.specs.Scene.{scene_at_place}
+use Rattle.turn_moves.specs.Arrival.{after_arrival, after_description}
+use Rattle.turn_scene.specs.Rows.{Deed, Effect}
+use Rattle.turn_scene.specs.Effects.{in_scene, follow}
 
 module _ {C : Type 0} where
   -- the player arrives at a place
@@ -16,4 +16,4 @@ module _ {C : Type 0} where
 
   -- the place is described anew
   abbrev pub describe : Effect C
-  describe d = follow description_anew d
+  describe d = follow after_description d

@@ -1,44 +1,45 @@
 -- How a turn ends that leaves no question open.
-use Rattle.std.specs.Prelude.{ℕ, pos, ◌-ℤ◌, Bool, ◌&&◌, if◌then◌else◌, int_lt, List, []}
-use Rattle.std.specs.Prelude.{◌∷◌}
-use Rattle.turn_text.specs.data_numbers.Numbers.{LAST_OBJECT}
-use Rattle.turn_text.specs.cave_data.CaveView.{CaveView}
-use Rattle.turn_text.specs.cave_words.declared.named.Named.TheVariants as name
-use Rattle.turn_text.specs.world_objects.Objects.{Layout, is_carried, prop_of, with_prop}
-use Rattle.turn_text.specs.cave_world.declared.state.State.{State}
-use Rattle.turn_begin.specs.turn_scene.Scene.{Scene}
-use Rattle.turn_begin.specs.turn_things.Effects.{with_objects}
-use Rattle.turn_begin.specs.turn_things.Props.{OYSTER_WRITTEN_ON, UNSEEN}
-use Rattle.turn_begin.specs.rule_rows.declared.tables.Table.TheVariants as table
-use Rattle.turn_hints.specs.Hints.{after_hints}
-use Rattle.cave_verbs.specs.verb_commands.turn_rules.Rows.{Test, Thing, Row, deed, plain_row}
-use Rattle.cave_verbs.specs.verb_commands.turn_rules.Rows.{by_rows, by_table}
-use Rattle.cave_verbs.specs.verb_commands.turn_rules.Tests.{the, no, cave_closed, over}
-use Rattle.cave_verbs.specs.verb_commands.turn_rules.Effects.{look, change, follow, for_each_from}
+use Rattle.std.specs.Prelude.{ℕ, pos, ◌-ℤ◌, Bool, ◌&&◌, int_lt, List, [], ◌∷◌}
+use Rattle.base_lines.specs.Numbers.{LAST_OBJECT}
+use Rattle.cave_data.specs.CaveView.{CaveView}
+use Rattle.cave_words.specs.declared.named.Named.TheVariants as name
+use Rattle.world_objects.specs.Objects.{Layout, is_in_hands, prop_of}
+use Rattle.turn_scene.specs.Scene.{Scene}
+use Rattle.turn_scene.specs.Props.{OYSTER_WRITTEN_ON, UNSEEN}
+use Rattle.cave_world.specs.declared.tables.Table.TheVariants as table
+use Rattle.turn_clocks.specs.Hints.{after_hints}
+use Rattle.turn_scene.specs.Rows.{Test, Effect, Thing, Row, deed, plain_row, by_rows, by_table}
+use Rattle.turn_scene.specs.Tests.{the, no, cave_closed, over, it}
+use Rattle.turn_scene.specs.Effects.{look, set_prop, follow, for_each_from}
 
--- an object that is carried and shows nothing yet
-abbrev pub is_hidden_in_hand : Layout → ℕ → Bool
-is_hidden_in_hand o x = is_carried o x && int_lt (prop_of o x) (pos 0)
+-- an object that is in the hands and shows nothing yet
+abbrev pub is_hidden_in_hands : Layout → ℕ → Bool
+is_hidden_in_hands o x = is_in_hands o x && int_lt (prop_of o x) (pos 0)
 
-abbrev pub hides : Thing (Unit {0}) → Test (Unit {0})
-hides t d = is_hidden_in_hand d.scene.state.objects (t d)
+abbrev pub hides : {C : Type 0} → Thing C → Test C
+hides t d = is_hidden_in_hands d.scene.state.objects (t d)
 
--- an object in the hand shows what it is: prop v below 0 becomes -1 - v
-unfoldable pub layout_with_object_shown : ℕ → Layout → Layout
-layout_with_object_shown x o =
-    if is_hidden_in_hand o x then with_prop o x (UNSEEN -ℤ prop_of o x) else o
+-- prop v below 0 becomes -1 - v
+abbrev pub turn_prop : Effect ℕ
+turn_prop d = set_prop it (UNSEEN -ℤ prop_of d.scene.state.objects (it d)) d
 
--- all that is carried shows itself
-abbrev pub with_objects_shown : State → State
-with_objects_shown s =
-    with_objects (for_each_from 1 LAST_OBJECT layout_with_object_shown s.objects) s
+-- an object in the hands shows what it is
+unfoldable pub shown_rows : List (Row ℕ (Unit {0}))
+shown_rows = plain_row (hides it ∷ []) (turn_prop ∷ []) ∷ []
 
--- in a closed cave all that is carried shows itself, the oyster first what is written under it
+unfoldable pub after_object_shown : CaveView → ℕ → Scene → Scene
+after_object_shown cave x p = (by_table table.ObjectShown shown_rows (deed cave x p)).scene
+
+-- all that is in the hands shows itself
+abbrev pub after_all_shown : CaveView → Scene → Scene
+after_all_shown cave p = for_each_from 1 LAST_OBJECT (after_object_shown cave) p
+
+-- in a closed cave all that is in the hands shows itself, the oyster first what is written under it
 unfoldable pub hands_rows : List (Row (Unit {0}) (Unit {0}))
 hands_rows =
     plain_row (cave_closed ∷ hides (the name.Oyster) ∷ [])
-    (look (the name.Oyster) OYSTER_WRITTEN_ON ∷ change with_objects_shown ∷ [])
-    ∷ plain_row (cave_closed ∷ []) (change with_objects_shown ∷ [])
+    (look (the name.Oyster) OYSTER_WRITTEN_ON ∷ follow after_all_shown ∷ [])
+    ∷ plain_row (cave_closed ∷ []) (follow after_all_shown ∷ [])
     ∷ []
 
 -- after a question or the end of the game nothing more is done
@@ -48,5 +49,5 @@ end_rows =
     ∷ []
 
 -- a turn ends
-unfoldable pub end_of_turn : CaveView → Scene → Scene
-end_of_turn cave p = (by_rows end_rows (deed cave tt p)).scene
+unfoldable pub after_end_of_turn : CaveView → Scene → Scene
+after_end_of_turn cave p = (by_rows end_rows (deed cave tt p)).scene

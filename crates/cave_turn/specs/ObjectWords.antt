@@ -1,23 +1,22 @@
 -- What a word says that names an object.
-use Rattle.std.specs.Prelude.{ℕ, Bool, false, ◌==◌, [], ◌∷◌, Option, Some, None}
-use Rattle.turn_begin.specs.turn_scene.Scene.{is_called}
-use Rattle.turn_begin.specs.turn_things.Props.{PLANT_SMALL}
-use Rattle.turn_begin.specs.rule_rows.declared.tables.Table.TheVariants as table
-use Rattle.cave_verbs.specs.verb_commands.turn_rules.Rows.{Deed, Test, Thing, answer_row, always}
-use Rattle.cave_verbs.specs.verb_commands.turn_rules.Rows.{otherwise_row, Act, act_by_table}
-use Rattle.cave_verbs.specs.verb_commands.turn_rules.Tests.{the, either, both, in_hand, near}
-use Rattle.cave_verbs.specs.verb_commands.turn_rules.Tests.{is_here, other_prop, dwarf, in_bottle}
-use Rattle.cave_verbs.specs.verb_commands.turn_rules.Tests.{in_lake, at_one_of, at_from_to}
-use Rattle.cave_verbs.specs.verb_commands.Verbs.{verb_number}
-use Rattle.cave_verbs.specs.verb_commands.declared.verb.Verb.{Verb}
-use Rattle.cave_verbs.specs.verb_commands.declared.verb.Verb.TheVariants as verb
-use Rattle.turn_text.specs.cave_words.declared.named.Named.{Named}
-use Rattle.turn_text.specs.cave_words.declared.named.Named.TheVariants as name
-use Rattle.turn_text.specs.cave_world.Motions.{motion_number}
-use Rattle.turn_text.specs.cave_world.declared.motion.Motion.{Motion}
-use Rattle.turn_text.specs.cave_world.declared.motion.Motion.TheVariants as motion
-use Rattle.turn_text.specs.cave_world.declared.dwarves.Knife.{Knife}
-use Rattle.turn_text.specs.cave_world.declared.dwarves.Knife.TheVariants as knife
+use Rattle.std.specs.Prelude.{ℕ, Bool, false, ◌==◌, List, [], ◌∷◌, Option, Some, None}
+use Rattle.turn_scene.specs.Scene.{is_called}
+use Rattle.turn_scene.specs.Props.{PLANT_SMALL}
+use Rattle.cave_world.specs.declared.tables.Table.TheVariants as table
+use Rattle.turn_scene.specs.Rows.{Deed, Test, Thing, answer_row, always, otherwise_row, Act}
+use Rattle.turn_scene.specs.Rows.{Row, act_by_table}
+use Rattle.turn_scene.specs.Tests.{the, either, both, carried, near, is_here, other_prop, dwarf}
+use Rattle.turn_scene.specs.Tests.{in_bottle, in_lake, at_one_of, at_from_to}
+use Rattle.cave_verbs.specs.Verbs.{verb_number}
+use Rattle.cave_verbs.specs.declared.verb.Verb.{Verb}
+use Rattle.cave_verbs.specs.declared.verb.Verb.TheVariants as verb
+use Rattle.cave_words.specs.declared.named.Named.{Named}
+use Rattle.cave_words.specs.declared.named.Named.TheVariants as name
+use Rattle.cave_world.specs.Motions.{motion_number}
+use Rattle.cave_world.specs.declared.motion.Motion.{Motion}
+use Rattle.cave_world.specs.declared.motion.Motion.TheVariants as motion
+use Rattle.cave_world.specs.declared.dwarves.Knife.{Knife}
+use Rattle.cave_world.specs.declared.dwarves.Knife.TheVariants as knife
 use Rattle.cave_turn.specs.declared.object_words.NamedObject.{NamedObject}
 use Rattle.cave_turn.specs.declared.object_words.ObjectWord.{ObjectWord}
 use Rattle.cave_turn.specs.declared.object_words.ObjectWord.TheVariants.{Is, Leads, Knives, Unseen}
@@ -50,27 +49,30 @@ abbrev pub alone : Test NamedObject
 alone d = d.about.is_alone
 
 -- the word is an object
-abbrev pub stands_for : Thing NamedObject → Deed NamedObject → ObjectWord
-stands_for t d = Is (t d)
+abbrev pub object_meant : Thing NamedObject → Deed NamedObject → ObjectWord
+object_meant t d = Is (t d)
 
 -- the word is a motion
 abbrev pub leads : Motion → Deed NamedObject → ObjectWord
 leads m d = Leads (motion_number m)
 
 -- what the word of an object says
-unfoldable pub object_word : Deed NamedObject → Act ObjectWord
-object_word d = act_by_table table.ObjectWord
-    (answer_row (either (is_here object) (in_hand object) ∷ []) (stands_for object)
+abbrev pub object_word_rows : List (Row NamedObject ObjectWord)
+object_word_rows =
+    answer_row (either (is_here object) (carried object) ∷ []) (object_meant object)
     ∷ answer_row (word_names name.Grate ∷ at_one_of (1 ∷ 4 ∷ 7 ∷ []) ∷ []) (leads motion.Depression)
     ∷ answer_row (word_names name.Grate ∷ at_from_to 10 14 ∷ []) (leads motion.Entrance)
-    ∷ answer_row (word_names name.Dwarf ∷ dwarf ∷ []) (stands_for object)
+    ∷ answer_row (word_names name.Dwarf ∷ dwarf ∷ []) (object_meant object)
     ∷ answer_row (either (both (in_bottle object) (near (the name.Bottle))) (in_lake object) ∷ [])
-    (stands_for object)
+    (object_meant object)
     ∷ answer_row (word_names name.Plant ∷ is_here (the name.SecondPlant)
-    ∷ other_prop (the name.SecondPlant) PLANT_SMALL ∷ []) (stands_for (the name.SecondPlant))
+    ∷ other_prop (the name.SecondPlant) PLANT_SMALL ∷ []) (object_meant (the name.SecondPlant))
     ∷ answer_row (word_names name.Knife ∷ is_knife_here ∷ []) (always Knives)
     ∷ answer_row (word_names name.Rod ∷ near (the name.SecondRod) ∷ [])
-    (stands_for (the name.SecondRod))
+    (object_meant (the name.SecondRod))
     ∷ answer_row (either (by_verb verb.Find) (by_verb verb.Inventory) ∷ alone ∷ [])
-    (stands_for object) ∷ [])
+    (object_meant object) ∷ []
+
+unfoldable pub object_word : Deed NamedObject → Act ObjectWord
+object_word d = act_by_table table.ObjectWord object_word_rows
     (otherwise_row [] (always Unseen)) d

@@ -1,31 +1,30 @@
 -- What the words of a line say, with what was said before.
 use Rattle.std.specs.Prelude.{ℕ, Bool, true, false, ◌==◌, codes, List, [], ◌∷◌, Option, Some, None}
 use Rattle.std.specs.Prelude.{is_some, option_map, unwrap_or}
-use Rattle.turn_text.specs.data_rows.declared.role.Role.{Role}
-use Rattle.turn_text.specs.data_rows.declared.role.Role.TheVariants as role
-use Rattle.turn_text.specs.cave_data.CaveView.{CaveView}
-use Rattle.turn_text.specs.cave_words.Meanings.{meaning, same_class}
-use Rattle.turn_text.specs.cave_words.Words.{is_written, word_of}
-use Rattle.turn_text.specs.cave_words.declared.meaning.Class.{Class}
-use Rattle.turn_text.specs.cave_words.declared.meaning.Class.TheVariants as class
-use Rattle.turn_text.specs.cave_words.declared.meaning.Meaning.{Meaning}
-use Rattle.turn_text.specs.cave_words.declared.named.Named.TheVariants as name
-use Rattle.turn_text.specs.cave_world.declared.motion.Motion.{Motion as NamedMotion}
-use Rattle.turn_text.specs.cave_world.Motions.{motion_number}
-use Rattle.turn_text.specs.cave_world.declared.motion.Motion.TheVariants as motion
-use Rattle.turn_text.specs.cave_world.declared.part.Part.TheVariants as part
-use Rattle.turn_text.specs.cave_world.declared.part.WordLine.TheVariants as line
-use Rattle.turn_text.specs.cave_world.declared.talk.Talk.{Talk}
-use Rattle.turn_begin.specs.turn_scene.Scene.{Scene, or_no_object}
-use Rattle.turn_begin.specs.rule_rows.declared.tables.Table.TheVariants as table
-use Rattle.cave_verbs.specs.verb_commands.turn_rules.Rows.{Deed, Test, Effect, deed, row_then}
-use Rattle.cave_verbs.specs.verb_commands.turn_rules.Rows.{answer_row, otherwise_row, Act, act_of}
-use Rattle.cave_verbs.specs.verb_commands.turn_rules.Rows.{answer_by_table}
-use Rattle.cave_verbs.specs.verb_commands.turn_rules.Tests.{the, no, either, both, is_here, in_lake}
-use Rattle.cave_verbs.specs.verb_commands.Verbs.{verb_number}
-use Rattle.cave_verbs.specs.verb_commands.declared.verb.Verb.{Verb}
-use Rattle.cave_verbs.specs.verb_commands.declared.verb.Verb.TheVariants as verb
-use Rattle.cave_verbs.specs.verb_commands.turn_rules.Effects.{in_scene}
+use Rattle.data_rows.specs.declared.role.Role.{Role}
+use Rattle.data_rows.specs.declared.role.Role.TheVariants as role
+use Rattle.cave_data.specs.CaveView.{CaveView}
+use Rattle.cave_words.specs.Meanings.{meaning, same_class}
+use Rattle.cave_words.specs.Words.{is_written, word_of}
+use Rattle.cave_words.specs.declared.meaning.Class.{Class}
+use Rattle.cave_words.specs.declared.meaning.Class.TheVariants as class
+use Rattle.cave_words.specs.declared.meaning.Meaning.{Meaning}
+use Rattle.cave_words.specs.declared.named.Named.TheVariants as name
+use Rattle.cave_world.specs.declared.motion.Motion.{Motion as NamedMotion}
+use Rattle.cave_world.specs.Motions.{motion_number}
+use Rattle.cave_world.specs.declared.motion.Motion.TheVariants as motion
+use Rattle.cave_world.specs.declared.part.Part.TheVariants as part
+use Rattle.cave_world.specs.declared.part.WordLine.TheVariants as line
+use Rattle.cave_world.specs.declared.talk.Talk.{Talk}
+use Rattle.turn_scene.specs.Scene.{Scene, or_no_object}
+use Rattle.cave_world.specs.declared.tables.Table.TheVariants as table
+use Rattle.turn_scene.specs.Rows.{Deed, Test, Effect, deed, row_then, answer_row, otherwise_row}
+use Rattle.turn_scene.specs.Rows.{Act, Row, act_of, answer_by_table}
+use Rattle.turn_scene.specs.Tests.{the, no, either, both, is_here, in_lake}
+use Rattle.cave_verbs.specs.Verbs.{verb_number}
+use Rattle.cave_verbs.specs.declared.verb.Verb.{Verb}
+use Rattle.cave_verbs.specs.declared.verb.Verb.TheVariants as verb
+use Rattle.turn_scene.specs.Effects.{in_scene}
 use Rattle.cave_turn.specs.ObjectWords.{is_verb_of, object_word}
 use Rattle.cave_turn.specs.declared.object_words.ObjectWord.{ObjectWord}
 use Rattle.cave_turn.specs.declared.object_words.ObjectWord.TheVariants as object_is
@@ -169,13 +168,16 @@ object_alone d =
     let found = object_comes_to true d in by_object_alone found.step (in_scene found.scene d)
 
 -- a word that no other follows
-unfoldable pub word_alone : Deed Phrase → Act Understood
-word_alone d = answer_by_table table.WordAlone
-    (answer_row (no has_meaning ∷ []) (asks_for request.Unknown)
+abbrev pub word_alone_rows : List (Row Phrase (Act Understood))
+word_alone_rows =
+    answer_row (no has_meaning ∷ []) (asks_for request.Unknown)
     ∷ answer_row (means class.Motion ∷ []) travels
     ∷ answer_row (means class.Special ∷ []) tells_message
     ∷ answer_row (means class.Object ∷ []) object_alone
-    ∷ answer_row (means class.Action ∷ of_action verb.Say ∷ []) acts_alone ∷ [])
+    ∷ answer_row (means class.Action ∷ of_action verb.Say ∷ []) acts_alone ∷ []
+
+unfoldable pub word_alone : Deed Phrase → Act Understood
+word_alone d = answer_by_table table.WordAlone word_alone_rows
     (otherwise_row (take_verb ∷ []) acts_by_verb) d
 
 -- into water
@@ -183,18 +185,24 @@ abbrev pub into_water : Test Phrase
 into_water = either (next_word_is (codes "STREA")) (next_word_is (codes "WATER"))
 
 -- the word after ENTER
+abbrev pub word_entered_rows : List (Row Phrase (Act Understood))
+word_entered_rows =
+    answer_row (into_water ∷ in_lake (the name.Water) ∷ []) (says role.FeetWet)
+    ∷ answer_row (into_water ∷ []) (says role.Where) ∷ []
+
 unfoldable pub word_entered : Deed Phrase → Act Understood
-word_entered d = answer_by_table table.WordEntered
-    (answer_row (into_water ∷ in_lake (the name.Water) ∷ []) (says role.FeetWet)
-    ∷ answer_row (into_water ∷ []) (says role.Where) ∷ [])
+word_entered d = answer_by_table table.WordEntered word_entered_rows
     (otherwise_row (read_next ∷ []) word_alone) d
 
 -- a word that is said aloud
-unfoldable pub word_aloud : Deed Phrase → Act Understood
-word_aloud d = answer_by_table table.WordAloud
-    (answer_row (means class.Motion ∷ either (of_motion motion.Xyzzy)
+abbrev pub word_aloud_rows : List (Row Phrase (Act Understood))
+word_aloud_rows =
+    answer_row (means class.Motion ∷ either (of_motion motion.Xyzzy)
     (either (of_motion motion.Plugh) (of_motion motion.Plover)) ∷ []) word_alone
-    ∷ answer_row (means class.Action ∷ of_action verb.Foo ∷ []) word_alone ∷ [])
+    ∷ answer_row (means class.Action ∷ of_action verb.Foo ∷ []) word_alone ∷ []
+
+unfoldable pub word_aloud : Deed Phrase → Act Understood
+word_aloud d = answer_by_table table.WordAloud word_aloud_rows
     (otherwise_row [] echoes) d
 
 abbrev pub by_object_before : ObjectWord → Deed Phrase → Act Understood
@@ -206,13 +214,16 @@ object_before d =
     let found = object_comes_to false d in by_object_before found.step (in_scene found.scene d)
 
 -- a word that another follows
-unfoldable pub word_before : Deed Phrase → Act Understood
-word_before d = answer_by_table table.WordBefore
-    (answer_row (no has_meaning ∷ []) (asks_for request.Unknown)
+abbrev pub word_before_rows : List (Row Phrase (Act Understood))
+word_before_rows =
+    answer_row (no has_meaning ∷ []) (asks_for request.Unknown)
     ∷ answer_row (means class.Motion ∷ []) travels
     ∷ answer_row (means class.Special ∷ []) tells_message
     ∷ answer_row (means class.Object ∷ []) object_before
-    ∷ row_then (means class.Action ∷ of_action verb.Say ∷ []) (read_next ∷ []) word_aloud ∷ [])
+    ∷ row_then (means class.Action ∷ of_action verb.Say ∷ []) (read_next ∷ []) word_aloud ∷ []
+
+unfoldable pub word_before : Deed Phrase → Act Understood
+word_before d = answer_by_table table.WordBefore word_before_rows
     (otherwise_row (take_verb ∷ read_next ∷ []) word_alone) d
 
 -- water or oil is poured over a plant or a door that is here
@@ -223,18 +234,24 @@ pours_over d =
     (both (next_word_is (codes "DOOR")) (is_here (the name.Door)))) d
 
 -- two words that are put together
+abbrev pub two_words_rows : List (Row Phrase (Act Understood))
+two_words_rows =
+    answer_row (word_is (codes "ENTER") ∷ []) word_entered
+    ∷ row_then (pours_over ∷ []) (put_pour ∷ []) word_before ∷ []
+
 unfoldable pub two_words : Deed Phrase → Act Understood
-two_words d = answer_by_table table.TwoWords
-    (answer_row (word_is (codes "ENTER") ∷ []) word_entered
-    ∷ row_then (pours_over ∷ []) (put_pour ∷ []) word_before ∷ [])
+two_words d = answer_by_table table.TwoWords two_words_rows
     (otherwise_row [] word_before) d
 
 -- after SAY alone a word is said, and of two words SAY is forgotten
-unfoldable pub words_of_line : Deed Phrase → Act Understood
-words_of_line d = answer_by_table table.Words
-    (row_then (after_say ∷ has_next ∷ []) (forget_verb ∷ []) two_words
+abbrev pub line_rows : List (Row Phrase (Act Understood))
+line_rows =
+    row_then (after_say ∷ has_next ∷ []) (forget_verb ∷ []) two_words
     ∷ answer_row (after_say ∷ []) word_aloud
-    ∷ answer_row (has_next ∷ []) two_words ∷ [])
+    ∷ answer_row (has_next ∷ []) two_words ∷ []
+
+unfoldable pub words_of_line : Deed Phrase → Act Understood
+words_of_line d = answer_by_table table.Words line_rows
     (otherwise_row [] word_alone) d
 
 -- the words of a line, with the half command that the game remembers

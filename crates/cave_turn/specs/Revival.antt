@@ -1,22 +1,19 @@
 -- How a player comes back from death.
 use Rattle.std.specs.Prelude.{ℕ, nat_le, List, [], ◌∷◌}
-use Rattle.turn_text.specs.data_numbers.Numbers.{LAST_OBJECT}
-use Rattle.turn_text.specs.data_rows.declared.role.Role.TheVariants as role
-use Rattle.turn_text.specs.cave_data.CaveView.{CaveView}
-use Rattle.turn_text.specs.cave_words.declared.named.Named.TheVariants as name
-use Rattle.turn_text.specs.cave_world.declared.ending.Ending.TheVariants.{Killed}
-use Rattle.turn_text.specs.cave_world.declared.ending.Question.{Question}
-use Rattle.turn_text.specs.cave_world.State.{LIVES}
-use Rattle.turn_moves.specs.turn_ends.Endings.{count_death, end_as}
-use Rattle.cave_verbs.specs.verb_commands.turn_rules.Rows.{Test, Effect, Row, deed, plain_row}
-use Rattle.cave_verbs.specs.verb_commands.turn_rules.Rows.{otherwise, by_table}
-use Rattle.cave_verbs.specs.verb_commands.turn_rules.Tests.{the, it, is_it, in_hand, carries}
-use Rattle.cave_verbs.specs.verb_commands.turn_rules.Tests.{deaths, start, older, building}
-use Rattle.cave_verbs.specs.verb_commands.turn_rules.Effects.{in_scene, move, put_player, say}
-use Rattle.cave_verbs.specs.verb_commands.turn_rules.Effects.{set_prop, for_each_down_from}
-use Rattle.turn_begin.specs.turn_scene.Scene.{Scene}
-use Rattle.turn_begin.specs.turn_things.Props.{LAMP_OFF}
-use Rattle.turn_begin.specs.rule_rows.declared.tables.Table.TheVariants as table
+use Rattle.base_lines.specs.Numbers.{LAST_OBJECT}
+use Rattle.data_rows.specs.declared.role.Role.TheVariants as role
+use Rattle.cave_data.specs.CaveView.{CaveView}
+use Rattle.cave_words.specs.declared.named.Named.TheVariants as name
+use Rattle.cave_world.specs.declared.ending.Ending.TheVariants.{Killed}
+use Rattle.cave_world.specs.declared.ending.Question.{Question}
+use Rattle.cave_world.specs.State.{LIVES}
+use Rattle.turn_ends.specs.Endings.{count_death, end_as}
+use Rattle.turn_scene.specs.Rows.{Test, Effect, Row, deed, plain_row, otherwise, by_table}
+use Rattle.turn_scene.specs.Tests.{the, it, is_it, carried, in_hands, deaths, start, older, building}
+use Rattle.turn_scene.specs.Effects.{in_scene, move, put_player, say, set_prop, for_each_down_from}
+use Rattle.turn_scene.specs.Scene.{Scene}
+use Rattle.turn_scene.specs.Props.{LAMP_OFF}
+use Rattle.cave_world.specs.declared.tables.Table.TheVariants as table
 use Rattle.cave_turn.specs.Effects.{describe}
 
 -- what is said of a first, a second, a third revival
@@ -29,14 +26,14 @@ reborn_rows =
 -- a lamp that the player carries is put out
 unfoldable pub put_out_rows : List (Row Question (Unit {0}))
 put_out_rows =
-    plain_row (in_hand (the name.Lamp) ∷ []) (set_prop (the name.Lamp) LAMP_OFF ∷ []) ∷ []
+    plain_row (carried (the name.Lamp) ∷ []) (set_prop (the name.Lamp) LAMP_OFF ∷ []) ∷ []
 
--- what a dead player carried falls: the lamp where the game begins, all else at the older place of
--- the trail, which each death but one at place 0 sets to where things are left
+-- what a dead player had in the hands falls: the lamp where the game begins, all else at the older
+-- place of the trail, which each death but one at place 0 sets to where things are left
 unfoldable pub fall_rows : List (Row ℕ (Unit {0}))
 fall_rows =
-    plain_row (carries it ∷ is_it name.Lamp ∷ []) (move it start ∷ [])
-    ∷ plain_row (carries it ∷ []) (move it older ∷ [])
+    plain_row (in_hands it ∷ is_it name.Lamp ∷ []) (move it start ∷ [])
+    ∷ plain_row (in_hands it ∷ []) (move it older ∷ [])
     ∷ []
 
 unfoldable pub after_fall : CaveView → ℕ → Scene → Scene

@@ -1,22 +1,22 @@
 -- What a line of a log makes of a game.
 use Rattle.std.specs.Prelude.{ℕ, Bool, true, false, if◌then◌else◌, List, [], ◌∷◌, Option, Some}
 use Rattle.std.specs.Prelude.{None}
-use Rattle.turn_text.specs.base_lines.LogLine.{log_line}
-use Rattle.turn_text.specs.base_lines.declared.log_line.LogLine.{LogLine}
-use Rattle.turn_text.specs.base_lines.declared.log_line.LogLine.TheVariants as kind
-use Rattle.turn_text.specs.data_rows.declared.role.Role.TheVariants as role
-use Rattle.turn_text.specs.cave_data.CaveView.{CaveView}
-use Rattle.turn_text.specs.cave_words.Stream.{stream_of_seed}
-use Rattle.turn_text.specs.cave_world.declared.ending.Ending.{Ending}
-use Rattle.turn_text.specs.cave_world.declared.ending.Question.{Question}
-use Rattle.turn_text.specs.cave_world.declared.part.Part.{Part}
-use Rattle.turn_text.specs.cave_world.declared.part.Part.TheVariants as part
-use Rattle.turn_text.specs.cave_world.declared.state.State.{State}
-use Rattle.turn_begin.specs.turn_scene.Scene.{Scene}
-use Rattle.turn_begin.specs.Begin.{begun_state}
-use Rattle.turn_begin.specs.rule_rows.declared.tables.RuleRow.{RuleRow}
+use Rattle.base_lines.specs.LogLine.{log_line}
+use Rattle.base_lines.specs.declared.log_line.LogLine.{LogLine}
+use Rattle.base_lines.specs.declared.log_line.LogLine.TheVariants as kind
+use Rattle.data_rows.specs.declared.role.Role.TheVariants as role
+use Rattle.cave_data.specs.CaveView.{CaveView}
+use Rattle.cave_words.specs.Stream.{stream_of_seed}
+use Rattle.cave_world.specs.declared.ending.Ending.{Ending}
+use Rattle.cave_world.specs.declared.ending.Question.{Question}
+use Rattle.cave_world.specs.declared.part.Part.{Part}
+use Rattle.cave_world.specs.declared.part.Part.TheVariants as part
+use Rattle.cave_world.specs.declared.state.State.{State}
+use Rattle.turn_scene.specs.Scene.{Scene}
+use Rattle.turn_ends.specs.Begin.{begun_state}
+use Rattle.cave_world.specs.declared.tables.RuleRow.{RuleRow}
 use Rattle.cave_turn.specs.Answers.{after_answer, answers, without_question}
-use Rattle.cave_turn.specs.Commands.{command_scene}
+use Rattle.cave_turn.specs.Commands.{after_command}
 
 -- the state after a line, what the line says, and whether it is a turn of the game
 pub record Turn : Type 0 where
@@ -37,8 +37,8 @@ abbrev pub turn_of_input : CaveView → List ℕ → Option Ending → Option Qu
 turn_of_input cave line (Some ending) question s = silent_turn s
 turn_of_input cave line None (Some question) s =
     if answers cave line question then turn_of false (after_answer cave question line s)
-    else turn_of true (command_scene cave line (without_question s))
-turn_of_input cave line None None s = turn_of true (command_scene cave line s)
+    else turn_of true (after_command cave line (without_question s))
+turn_of_input cave line None None s = turn_of true (after_command cave line s)
 
 abbrev pub with_seed : State → ℕ → State
 with_seed s seed = record s { stream = stream_of_seed seed }
@@ -58,8 +58,8 @@ abbrev pub rows_of_input : CaveView → List ℕ → Option Ending → Option Qu
 rows_of_input cave line (Some ending) question s = []
 rows_of_input cave line None (Some question) s =
     if answers cave line question then (after_answer cave question line s).rows
-    else (command_scene cave line (without_question s)).rows
-rows_of_input cave line None None s = (command_scene cave line s).rows
+    else (after_command cave line (without_question s)).rows
+rows_of_input cave line None None s = (after_command cave line s).rows
 
 abbrev pub rows_on_log_line : CaveView → List ℕ → LogLine → State → List RuleRow
 rows_on_log_line cave line kind.Input s = rows_of_input cave line s.ending s.question s

@@ -1,28 +1,31 @@
 ghost use Rattle.std.specs.Prelude.{◌≡◌, ◌+◌, ◌<◌, ◌≤◌, [], pos};
 ghost use Rattle.arrayvec.specs.ArrayVec.{array_vec_len};
-ghost use Rattle.turn_begin.specs.turn_scene.Bounds.{GoesOnSaying, HasRoom, MovesOnSaying};
-ghost use Rattle.turn_begin.specs.turn_scene.Bounds.{parts_of_arrival, parts_of_end};
-ghost use Rattle.turn_begin.specs.turn_scene.Bounds.{parts_of_finish, parts_of_question};
-ghost use Rattle.turn_begin.specs.turn_scene.Bounds.{parts_of_answer};
-ghost use Rattle.turn_begin.specs.turn_scene.Scene.{scene_of, cave_of};
-ghost use Rattle.turn_text.specs.cave_world.State as defined_state;
-ghost use Rattle.turn_moves.specs.turn_ends.Questions.{is_dragon};
-ghost use Rattle.cave_verbs.specs.verb_commands.turn_rules.Rows.{Does};
-ghost use Rattle.cave_verbs.specs.verb_commands.turn_rules.Effects.{with_charge};
+ghost use Rattle.turn_scene.specs.Bounds.{GoesOnSaying, HasRoom, MovesOnSaying, parts_of_arrival};
+ghost use Rattle.turn_scene.specs.Bounds.{parts_of_end, parts_of_finish, parts_of_question};
+ghost use Rattle.turn_scene.specs.Bounds.{parts_of_answer};
+ghost use Rattle.turn_scene.specs.Scene.{scene_of, cave_of};
+ghost use Rattle.cave_world.specs.State as defined_state;
+ghost use Rattle.turn_ends.specs.Questions.{is_dragon};
+ghost use Rattle.turn_scene.specs.Rows.{Does};
+ghost use Rattle.turn_scene.specs.Effects.{with_charge};
 ghost use Rattle.cave_turn.specs.Answers as defined;
 ghost use Rattle.cave_turn.specs.Answers.{answer_of, answer_in, quit, after_yes, after_no};
-ghost use Rattle.cave_turn.specs.Answers.{reply_scene, is_of_hint, end_of_answer, after_answer};
+ghost use Rattle.cave_turn.specs.Answers.{after_reply, is_of_hint, after_end_of_answer};
+ghost use Rattle.cave_turn.specs.Answers.{after_answer};
 ghost use Rattle.cave_turn.specs.Answers.{answers, without_question, is_yes};
 
 use crate::dragon::fight;
 use crate::finish::end_turn;
 use crate::revival::{bury, come_back};
-use turn_begin::{RowNotes, Rules, Scene, Table, start_place};
-use turn_hints::{give_hint, price};
-use turn_moves::{arrive, end, question_row, tell_question};
-use turn_text::{
-    CLUE_HINT, Charge, Ending, HintNumber, INSTRUCTIONS_HINT, Out, Question, Role, State, Word,
+use cave_words::Word;
+use cave_world::{
+    CLUE_HINT, Charge, Ending, HintNumber, INSTRUCTIONS_HINT, Out, Question, RowNotes, State, Table,
 };
+use data_rows::Role;
+use turn_clocks::{give_hint, price};
+use turn_ends::{end, question_row, tell_question};
+use turn_moves::arrive;
+use turn_scene::{Rules, Scene, start_place};
 
 /// What a line says to a question.
 #[derive(Clone, Copy, Debug, PartialEq, Eq)]
@@ -154,6 +157,7 @@ fn say_no<N: RowNotes>(rules: &Rules<'_>, question: &Question, scene: &mut Scene
     }
 }
 
+#[tactic(auto, unfolding(crate::specs::Answers::reply_rows))]
 fn take_reply<N: RowNotes>(
     rules: &Rules<'_>,
     question: &Question,
@@ -162,19 +166,22 @@ fn take_reply<N: RowNotes>(
 )
     requires { HasRoom (parts_of_arrival scene.old.left + 1) scene.old }
     ensures scene { scene_of N.rows scene.new
-        ≡ reply_scene (cave_of rules.now) question.now answer (scene_of N.rows scene.old) }
+        ≡ after_reply (cave_of rules.now) question.now answer (scene_of N.rows scene.old) }
     ensures says { MovesOnSaying (parts_of_arrival scene.old.left + 1) scene.old scene.new }
 {
     match answer {
         Answer::Yes => {
+            scene.note(Table::Replies, 1);
             close_question(scene.state);
             say_yes(rules, question, scene)
         }
         Answer::No => {
+            scene.note(Table::Replies, 2);
             close_question(scene.state);
             say_no(rules, question, scene)
         }
         Answer::Neither => {
+            scene.note(Table::Replies, 3);
             scene.say(Role::Answer);
             tell_question(rules, question, scene)
         }
@@ -191,7 +198,7 @@ fn is_of_hint(question: &Question) -> bool
 fn end_answer<N: RowNotes>(rules: &Rules<'_>, question: &Question, scene: &mut Scene<'_, N>)
     requires { HasRoom (parts_of_finish + parts_of_question) scene.old }
     ensures scene { scene_of N.rows scene.new
-        ≡ end_of_answer (cave_of rules.now) question.now (scene_of N.rows scene.old) }
+        ≡ after_end_of_answer (cave_of rules.now) question.now (scene_of N.rows scene.old) }
     ensures says { GoesOnSaying parts_of_finish scene.old scene.new }
 {
     if !is_of_hint(question) {

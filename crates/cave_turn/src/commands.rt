@@ -1,34 +1,36 @@
-ghost use Rattle.std.specs.Prelude.{◌≡◌, ◌+◌, ◌<◌, ◌≤◌, []};
+ghost use Rattle.std.specs.Prelude.{◌≡◌, ◌+◌, ◌<◌, ◌≤◌, [], ◌∷◌};
 ghost use Rattle.arrayvec.specs.ArrayVec.{array_vec_len};
-ghost use Rattle.turn_begin.specs.turn_scene.Bounds.{GoesOnSaying, HasRoom, MovesOnSaying};
-ghost use Rattle.turn_begin.specs.turn_scene.Bounds.{parts_of_journey, parts_of_arrival};
-ghost use Rattle.turn_begin.specs.turn_scene.Bounds.{parts_of_command, room_of_request};
-ghost use Rattle.turn_begin.specs.turn_scene.Bounds.{parts_of_request, parts_of_timed_request};
-ghost use Rattle.turn_begin.specs.turn_scene.Bounds.{room_of_timed_request};
-ghost use Rattle.turn_begin.specs.turn_scene.Scene.{scene_of, cave_of};
-ghost use Rattle.cave_turn.specs.Commands.{with_magic_waiting, kept_knife, begin_command};
-ghost use Rattle.cave_turn.specs.Commands.{after_travel, after_puzzle, after_vanished_knives};
-ghost use Rattle.cave_turn.specs.Commands.{next_scene, done, half_command_kept, done_by_verb};
-ghost use Rattle.cave_turn.specs.Commands.{done_by_request, after_remembering, kept_scene};
-ghost use Rattle.cave_turn.specs.Commands.{scene_of_understood, scene_of_words, unread_scene};
-ghost use Rattle.cave_turn.specs.Commands.{after_clocks, clocks_scene, command_scene};
-ghost use Rattle.cave_turn.specs.Commands.{done_by_action};
-ghost use Rattle.cave_verbs.specs.verb_commands.Verbs.{verb_of};
-ghost use Rattle.cave_verbs.specs.verb_commands.turn_rules.Rows.{act_of, deed};
-ghost use Rattle.turn_text.specs.cave_data.CaveView.{CaveView};
+ghost use Rattle.turn_scene.specs.Bounds.{GoesOnSaying, HasRoom, MovesOnSaying, parts_of_journey};
+ghost use Rattle.turn_scene.specs.Bounds.{parts_of_arrival, parts_of_command, room_of_request};
+ghost use Rattle.turn_scene.specs.Bounds.{parts_of_request, parts_of_timed_request};
+ghost use Rattle.turn_scene.specs.Bounds.{room_of_timed_request};
+ghost use Rattle.turn_scene.specs.Scene.{scene_of, cave_of};
+ghost use Rattle.cave_turn.specs.Commands.{with_magic_waiting, is_elsewhere, forget_knife_rows};
+ghost use Rattle.cave_turn.specs.Commands.{after_travel, after_unknown_word, after_vanished_knives};
+ghost use Rattle.cave_turn.specs.Commands.{after_next, done, keep_half_command, do_verb};
+ghost use Rattle.cave_turn.specs.Commands.{do_request, after_remembering, after_keeping};
+ghost use Rattle.cave_turn.specs.Commands.{after_understood, after_words, after_unread};
+ghost use Rattle.cave_turn.specs.Commands.{after_clocks, after_timed_words, after_command};
+ghost use Rattle.cave_turn.specs.Commands.{do_action};
+ghost use Rattle.cave_verbs.specs.Verbs.{verb_of};
+ghost use Rattle.turn_scene.specs.Rows.{act_of, deed, Does, by_table};
+ghost use Rattle.cave_world.specs.declared.tables.Table.TheVariants as table;
+ghost use Rattle.cave_data.specs.CaveView.{CaveView};
 
 use crate::finish::end_turn;
 use crate::request::{HalfCommand, Request, Understood, read_words};
 use cave_verbs::{Command, Next, Verb, act, tell_default};
-use turn_begin::{RowNotes, Rules, Scene, Table};
+use cave_words::{Named, Word, Words};
+use cave_world::{Ending, Knife, Magic, Out, Part, RowNotes, State, Table, WordLine};
+use data_rows::Role;
 use turn_clocks::{Clocks, run_clocks};
-use turn_moves::{arrive, ask, describe_here, end, journey_by_request};
-use turn_text::{
-    Ending, Knife, Magic, Named, Object, Out, Part, Place, Role, State, Word, WordLine, Words,
-};
+use turn_ends::{ask, end};
+use turn_moves::{arrive, describe_here, journey_by_request};
+use turn_scene::{Rules, Scene};
+use world_objects::{Object, Place};
 
 /// Does what a line commands.
-#[tactic(auto, unfolding(crate::specs::Commands::command_scene))]
+#[tactic(auto, unfolding(crate::specs::Commands::after_command, crate::specs::Commands::begin_command))]
 pub fn command<N: RowNotes>(
     rules: &Rules<'_>,
     line: &[u8],
@@ -38,16 +40,17 @@ pub fn command<N: RowNotes>(
 )
     requires parts { out.old.items ≡ [] }
     requires rows { N.rows notes.old ≡ [] }
-    ensures state { (command_scene (cave_of rules.now) line.now state.old).state ≡ state.new }
-    ensures parts { (command_scene (cave_of rules.now) line.now state.old).parts ≡ out.new.items }
-    ensures rows { (command_scene (cave_of rules.now) line.now state.old).rows ≡ N.rows notes.new }
+    ensures state { (after_command (cave_of rules.now) line.now state.old).state ≡ state.new }
+    ensures parts { (after_command (cave_of rules.now) line.now state.old).parts ≡ out.new.items }
+    ensures rows { (after_command (cave_of rules.now) line.now state.old).rows ≡ N.rows notes.new }
     ensures few { array_vec_len out.new ≤ parts_of_command }
 {
-    begin_command(state);
+    wait_for_magic(state);
     let was_dark = state.dark(rules.cave, rules.thing(Named::Lamp));
     let words = rules.words_of(line);
     let mut scene = Scene::open(state, out, notes, was_dark);
-    do_by_clocks(rules, words, &mut scene);
+    forget_knife(rules, &mut scene);
+    do_timed_words(rules, words, &mut scene);
     end_turn(rules, &mut scene);
 }
 
@@ -59,28 +62,26 @@ fn wait_for_magic(state: &mut State)
     state.talk.magic = Magic::new((-magic).min(0));
 }
 
-fn kept_knife(here: Place, knife: Knife) -> Knife
-    ensures { result ≡ kept_knife here knife }
+/// Whether a knife lies at another place than this.
+fn is_elsewhere(here: Place, knife: Knife) -> bool
+    ensures { result ≡ is_elsewhere here knife }
 {
     match knife {
-        Knife::At(place) => {
-            if place == here {
-                Knife::At(place)
-            } else {
-                Knife::Unthrown
-            }
-        }
-        Knife::Unthrown => Knife::Unthrown,
-        Knife::Vanished => Knife::Vanished,
+        Knife::At(place) => place != here,
+        Knife::Unthrown | Knife::Vanished => false,
     }
 }
 
-#[tactic(auto, unfolding(crate::specs::Commands::begin_command))]
-fn begin_command(state: &mut State)
-    ensures { state.new ≡ begin_command state.old }
+/// A knife that was thrown elsewhere is forgotten.
+#[tactic(auto, unfolding(crate::specs::Commands::forget_knife_rows))]
+fn forget_knife<N: RowNotes>(rules: &Rules<'_>, scene: &mut Scene<'_, N>)
+    ensures rows { Does N.rows (by_table table.KnifeForgotten forget_knife_rows ∷ []) 0 rules.now tt
+        scene.old scene.new }
 {
-    wait_for_magic(state);
-    state.dwarves.knife = kept_knife(state.trail.here, state.dwarves.knife);
+    if is_elsewhere(scene.state.trail.here, scene.state.dwarves.knife) {
+        scene.note(Table::KnifeForgotten, 1);
+        scene.state.dwarves.knife = Knife::Unthrown;
+    }
 }
 
 #[tactic(auto, unfolding(crate::specs::Commands::after_travel))]
@@ -96,11 +97,11 @@ fn travel_by<N: RowNotes>(rules: &Rules<'_>, motion: u16, scene: &mut Scene<'_, 
 }
 
 /// The cave doesn't have the word.
-#[tactic(auto, unfolding(crate::specs::Commands::after_puzzle, crate::specs::Commands::puzzle_rows))]
-fn puzzle<N: RowNotes>(rules: &Rules<'_>, scene: &mut Scene<'_, N>)
+#[tactic(auto, unfolding(crate::specs::Commands::after_unknown_word, crate::specs::Commands::unknown_word_rows))]
+fn tell_unknown_word<N: RowNotes>(rules: &Rules<'_>, scene: &mut Scene<'_, N>)
     requires { HasRoom 1 scene.old }
     ensures scene { scene_of N.rows scene.new
-        ≡ after_puzzle (cave_of rules.now) (scene_of N.rows scene.old) }
+        ≡ after_unknown_word (cave_of rules.now) (scene_of N.rows scene.old) }
     ensures says { GoesOnSaying 1 scene.old scene.new }
 {
     let first = scene.happens(20);
@@ -120,7 +121,7 @@ fn puzzle<N: RowNotes>(rules: &Rules<'_>, scene: &mut Scene<'_, N>)
 }
 
 /// It is said that the knives vanished.
-fn tell_of_knives<N: RowNotes>(scene: &mut Scene<'_, N>)
+fn tell_vanished_knives<N: RowNotes>(scene: &mut Scene<'_, N>)
     requires { HasRoom 1 scene.old }
     ensures scene { scene_of N.rows scene.new ≡ after_vanished_knives (scene_of N.rows scene.old) }
     ensures says { GoesOnSaying 1 scene.old scene.new }
@@ -133,7 +134,7 @@ fn tell_of_knives<N: RowNotes>(scene: &mut Scene<'_, N>)
 fn do_next<N: RowNotes>(rules: &Rules<'_>, next: &Next, scene: &mut Scene<'_, N>)
     requires { HasRoom (parts_of_arrival scene.old.left) scene.old }
     ensures scene { scene_of N.rows scene.new
-        ≡ next_scene (cave_of rules.now) next.now (scene_of N.rows scene.old) }
+        ≡ after_next (cave_of rules.now) next.now (scene_of N.rows scene.old) }
     ensures says { MovesOnSaying (parts_of_arrival scene.old.left) scene.old scene.new }
 {
     match next {
@@ -146,11 +147,11 @@ fn do_next<N: RowNotes>(rules: &Rules<'_>, next: &Next, scene: &mut Scene<'_, N>
 }
 
 /// A verb is done by the first of its rows that fits, and then what follows, which is returned.
-#[tactic(auto, unfolding(crate::specs::Commands::done_by_verb))]
+#[tactic(auto, unfolding(crate::specs::Commands::do_verb))]
 fn do_verb<N: RowNotes>(rules: &Rules<'_>, command: Command, scene: &mut Scene<'_, N>) -> Next
     requires { HasRoom (room_of_request scene.old.left) scene.old }
     ensures scene { act_of (scene_of N.rows scene.new) result
-        ≡ done_by_verb (cave_of rules.now) command (scene_of N.rows scene.old) }
+        ≡ do_verb (cave_of rules.now) command (scene_of N.rows scene.old) }
     ensures says { MovesOnSaying (parts_of_request scene.old.left) scene.old scene.new }
 {
     let next = act(rules, command, scene);
@@ -168,7 +169,7 @@ fn do_action<N: RowNotes>(
 ) -> Next
     requires { HasRoom (room_of_request scene.old.left) scene.old }
     ensures scene { act_of (scene_of N.rows scene.new) result
-        ≡ done_by_action (cave_of rules.now) (verb_of number) number object word
+        ≡ do_action (cave_of rules.now) (verb_of number) number object word
         (scene_of N.rows scene.old) }
     ensures says { MovesOnSaying (parts_of_request scene.old.left) scene.old scene.new }
 {
@@ -185,12 +186,12 @@ fn do_action<N: RowNotes>(
 fn do_request<N: RowNotes>(rules: &Rules<'_>, request: &Request, scene: &mut Scene<'_, N>) -> Next
     requires { HasRoom (room_of_request scene.old.left) scene.old }
     ensures scene { act_of (scene_of N.rows scene.new) result
-        ≡ done_by_request (cave_of rules.now) request.now (scene_of N.rows scene.old) }
+        ≡ do_request (cave_of rules.now) request.now (scene_of N.rows scene.old) }
     ensures says { MovesOnSaying (parts_of_request scene.old.left) scene.old scene.new }
 {
     match request {
         Request::Unknown => {
-            puzzle(rules, scene);
+            tell_unknown_word(rules, scene);
             Next::Stay
         }
         Request::Motion(motion) => {
@@ -202,7 +203,7 @@ fn do_request<N: RowNotes>(rules: &Rules<'_>, request: &Request, scene: &mut Sce
             Next::Stay
         }
         Request::Knives => {
-            tell_of_knives(scene);
+            tell_vanished_knives(scene);
             Next::Stay
         }
         Request::Act(number, object, word) => do_action(rules, *number, *object, *word, scene),
@@ -215,14 +216,14 @@ fn do_request<N: RowNotes>(rules: &Rules<'_>, request: &Request, scene: &mut Sce
 
 /// What is kept for the next command: the verb that asks what it is to be done to, or what was said
 /// so far.
-#[tactic(auto, unfolding(crate::specs::Commands::half_command_kept))]
-fn half_command_kept<N: RowNotes>(
+#[tactic(auto, unfolding(crate::specs::Commands::keep_half_command))]
+fn keep_half_command<N: RowNotes>(
     understood: &Understood,
     next: &Next,
     scene: &mut Scene<'_, N>,
 ) -> Option<HalfCommand>
     ensures kept { (cave : CaveView) → act_of (scene_of N.rows scene.new) result
-        ≡ half_command_kept
+        ≡ keep_half_command
         (deed cave (done understood.now next.now) (scene_of N.rows scene.old)) }
     ensures says { GoesOnSaying 0 scene.old scene.new }
 {
@@ -273,15 +274,15 @@ fn remember_command(kept: Option<HalfCommand>, object: Object, state: &mut State
 }
 
 /// What was read is carried out, and what is left of it is remembered.
-#[tactic(auto, unfolding(crate::specs::Commands::scene_of_understood, crate::specs::Commands::kept_scene))]
+#[tactic(auto, unfolding(crate::specs::Commands::after_understood, crate::specs::Commands::after_keeping))]
 fn do_understood<N: RowNotes>(rules: &Rules<'_>, understood: &Understood, scene: &mut Scene<'_, N>)
     requires { HasRoom (room_of_request scene.old.left) scene.old }
     ensures scene { scene_of N.rows scene.new
-        ≡ scene_of_understood (cave_of rules.now) understood.now (scene_of N.rows scene.old) }
+        ≡ after_understood (cave_of rules.now) understood.now (scene_of N.rows scene.old) }
     ensures says { MovesOnSaying (parts_of_request scene.old.left) scene.old scene.new }
 {
     let next = do_request(rules, &understood.request, scene);
-    let kept = half_command_kept(understood, &next, scene);
+    let kept = keep_half_command(understood, &next, scene);
     remember_command(kept, understood.half.object, scene.state);
 }
 
@@ -289,7 +290,7 @@ fn do_understood<N: RowNotes>(rules: &Rules<'_>, understood: &Understood, scene:
 fn do_words<N: RowNotes>(rules: &Rules<'_>, words: Words, scene: &mut Scene<'_, N>)
     requires { HasRoom (room_of_request scene.old.left) scene.old }
     ensures scene { scene_of N.rows scene.new
-        ≡ scene_of_words (cave_of rules.now) words.first words.second (scene_of N.rows scene.old) }
+        ≡ after_words (cave_of rules.now) words.first words.second (scene_of N.rows scene.old) }
     ensures says { MovesOnSaying (parts_of_request scene.old.left) scene.old scene.new }
 {
     match words.first {
@@ -302,9 +303,9 @@ fn do_words<N: RowNotes>(rules: &Rules<'_>, words: Words, scene: &mut Scene<'_, 
 }
 
 /// A command that isn't read leaves nothing for the next line.
-#[tactic(auto, unfolding(crate::specs::Commands::kept_scene))]
+#[tactic(auto, unfolding(crate::specs::Commands::after_keeping))]
 fn leave_unread<N: RowNotes>(scene: &mut Scene<'_, N>)
-    ensures scene { scene_of N.rows scene.new ≡ unread_scene (scene_of N.rows scene.old) }
+    ensures scene { scene_of N.rows scene.new ≡ after_unread (scene_of N.rows scene.old) }
     ensures says { GoesOnSaying 0 scene.old scene.new }
 {
     remember_command(None, Object::none(), scene.state);
@@ -336,11 +337,11 @@ fn go_on_after_clocks<N: RowNotes>(
 }
 
 /// The clocks run, and the words of the line are done.
-#[tactic(auto, unfolding(crate::specs::Commands::clocks_scene))]
-fn do_by_clocks<N: RowNotes>(rules: &Rules<'_>, words: Words, scene: &mut Scene<'_, N>)
+#[tactic(auto, unfolding(crate::specs::Commands::after_timed_words))]
+fn do_timed_words<N: RowNotes>(rules: &Rules<'_>, words: Words, scene: &mut Scene<'_, N>)
     requires { HasRoom (room_of_timed_request scene.old.left) scene.old }
     ensures scene { scene_of N.rows scene.new
-        ≡ clocks_scene (cave_of rules.now) words (scene_of N.rows scene.old) }
+        ≡ after_timed_words (cave_of rules.now) words (scene_of N.rows scene.old) }
     ensures says { MovesOnSaying (parts_of_timed_request scene.old.left) scene.old scene.new }
 {
     let clocks = run_clocks(rules, scene);

@@ -1,18 +1,19 @@
 ghost use Rattle.std.specs.Prelude.{◌≡◌, ◌+◌};
-ghost use Rattle.turn_text.specs.data_numbers.Numbers.{LAST_OBJECT};
-ghost use Rattle.turn_text.specs.cave_world.declared.ending.Question.TheVariants as question_is;
-ghost use Rattle.turn_begin.specs.turn_scene.Bounds.{GoesOnSaying, HasRoom, MovesOnSaying};
-ghost use Rattle.turn_begin.specs.turn_scene.Bounds.{parts_of_arrival};
-ghost use Rattle.turn_begin.specs.turn_scene.Scene.{scene_of, cave_of};
-ghost use Rattle.cave_verbs.specs.verb_commands.turn_rules.Rows.{after_all, deed, PlaysBy};
-ghost use Rattle.cave_verbs.specs.verb_commands.turn_rules.Effects.{for_each_from};
+ghost use Rattle.base_lines.specs.Numbers.{LAST_OBJECT};
+ghost use Rattle.cave_world.specs.declared.ending.Question.TheVariants as question_is;
+ghost use Rattle.turn_scene.specs.Bounds.{GoesOnSaying, HasRoom, MovesOnSaying, parts_of_arrival};
+ghost use Rattle.turn_scene.specs.Scene.{scene_of, cave_of};
+ghost use Rattle.turn_scene.specs.Rows.{after_all, deed, PlaysBy};
+ghost use Rattle.turn_scene.specs.Effects.{for_each_from};
 ghost use Rattle.cave_turn.specs.Dragon.{lair, by_dragon, after_gather, after_settle, fight};
 
-use turn_begin::{
-    DRAGON_DEAD, DRAGON_DYING, RUG_FREE, RowNotes, Rules, Scene, Table, home, second_home,
-};
+use cave_words::Named;
+use cave_world::{RowNotes, Table};
 use turn_moves::arrive;
-use turn_text::{Anchor, Named, OBJECTS, Object, Place, Prop};
+use turn_scene::props::{DRAGON_DEAD, DRAGON_DYING, RUG_FREE};
+use turn_scene::{Rules, Scene, home, second_home};
+use world_objects::object::OBJECTS;
+use world_objects::{Anchor, Object, Place, Prop};
 
 /// Where the dead dragon is: between its two homes, at its only one, or where the player is.
 #[tactic(auto, unfolding(crate::specs::Dragon::lair))]
@@ -81,7 +82,7 @@ fn gather<N: RowNotes>(rules: &Rules<'_>, lair: Place, scene: &mut Scene<'_, N>)
 }
 
 /// The dragon lies in its lair, with its rug and all that was there, and the player is there too.
-#[tactic(auto, unfolding(crate::specs::Dragon::after_settle, crate::specs::Dragon::settle, crate::specs::state_with_player_at))]
+#[tactic(auto, unfolding(crate::specs::Dragon::after_settle, crate::specs::Dragon::settle, cave_world::specs::State::state_with_player_at))]
 fn settle<N: RowNotes>(rules: &Rules<'_>, lair: Place, scene: &mut Scene<'_, N>)
     requires { HasRoom (parts_of_arrival scene.old.left) scene.old }
     ensures scene { scene_of N.rows scene.new

@@ -10,7 +10,13 @@ pub mod request;
 pub mod revival;
 pub mod turns;
 
-pub use turn_begin::{RowNotes, RuleRow, Rules, Table, Unnoted, begun_state};
-pub use turn_moves::{max_score, score};
-pub use turn_text::{Cave, Lexicon, Meter, Object, Out, Part, State, render};
+pub use base_lines::Meter;
+pub use cave_data::Cave;
+pub use cave_words::Lexicon;
+pub use cave_world::{Out, Part, RowNotes, RuleRow, State, Table, Unnoted};
+pub use turn_ends::max_score;
+pub use turn_ends::scores::score;
+pub use turn_scene::Rules;
+pub use turn_text::render;
 pub use turns::{Turned, note_rows_on_line, start, take_line, turn};
+pub use world_objects::Object;

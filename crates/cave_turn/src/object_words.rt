@@ -1,21 +1,21 @@
 ghost use Rattle.std.specs.Prelude.{◌≡◌, ◌==◌, ◌∷◌, [], pos};
-ghost use Rattle.turn_begin.specs.turn_scene.Scene.{cave_of, scene_of};
-ghost use Rattle.turn_text.specs.cave_words.declared.named.Named.TheVariants as name;
-ghost use Rattle.cave_verbs.specs.verb_commands.declared.verb.Verb.TheVariants as verb_is;
-ghost use Rattle.cave_verbs.specs.verb_commands.turn_rules.Rows.{all_hold, deed, PlaysBy};
-ghost use Rattle.cave_verbs.specs.verb_commands.turn_rules.Tests.{the, either, both, in_hand, near};
-ghost use Rattle.cave_verbs.specs.verb_commands.turn_rules.Tests.{is_here, other_prop, dwarf};
-ghost use Rattle.cave_verbs.specs.verb_commands.turn_rules.Tests.{in_bottle, in_lake, at_one_of};
-ghost use Rattle.cave_verbs.specs.verb_commands.turn_rules.Tests.{at_from_to};
+ghost use Rattle.turn_scene.specs.Scene.{cave_of, scene_of};
+ghost use Rattle.cave_words.specs.declared.named.Named.TheVariants as name;
+ghost use Rattle.cave_verbs.specs.declared.verb.Verb.TheVariants as verb_is;
+ghost use Rattle.turn_scene.specs.Rows.{all_hold, deed, PlaysBy};
+ghost use Rattle.turn_scene.specs.Tests.{the, either, both, carried, near, is_here, other_prop};
+ghost use Rattle.turn_scene.specs.Tests.{dwarf, in_bottle, in_lake, at_one_of, at_from_to};
 ghost use Rattle.cave_turn.specs.ObjectWords.{object, word_names, is_knife_at, is_knife_here};
 ghost use Rattle.cave_turn.specs.ObjectWords.{is_verb_of, by_verb, alone, object_word};
 
 use cave_verbs::Verb;
-use turn_begin::{
-    PLANT_SMALL, RowNotes, Rules, Scene, Table, has_other_prop, is_dwarf_here, is_in_hand,
-    is_liquid, is_near, lake, liquid,
+use cave_words::Named;
+use cave_world::{Knife, Motion, RowNotes, Table};
+use turn_scene::props::PLANT_SMALL;
+use turn_scene::{
+    Rules, Scene, has_other_prop, is_carried, is_dwarf_here, is_liquid, is_near, lake, liquid,
 };
-use turn_text::{Knife, Motion, Named, Object, Place};
+use world_objects::{Object, Place};
 
 /// What a word says that names an object.
 #[derive(Clone, Copy, Debug, PartialEq, Eq)]
@@ -90,10 +90,10 @@ pub fn object_word<N: RowNotes>(
 }
 
 fn is_there<N: RowNotes>(rules: &Rules<'_>, about: &NamedObject, scene: &Scene<'_, N>) -> bool
-    ensures { result ≡ either (is_here object) (in_hand object)
+    ensures { result ≡ either (is_here object) (carried object)
         (deed (cave_of rules.now) about.now (scene_of N.rows scene.now)) }
 {
-    scene.state.at(about.object) || is_in_hand(rules, scene.state, about.object)
+    scene.state.at(about.object) || is_carried(rules, scene.state, about.object)
 }
 
 /// On the way to the cave the grate's word leads to it. The places are those before the building,

@@ -1,17 +1,20 @@
 ghost use Rattle.std.specs.Prelude.{◌≡◌, ◌==◌, ◌||◌, Some, None};
-ghost use Rattle.turn_begin.specs.turn_scene.Scene.{cave_of, scene_of};
-ghost use Rattle.turn_begin.specs.turn_scene.Bounds.{GoesOnSaying};
-ghost use Rattle.turn_text.specs.cave_world.declared.motion.Motion.TheVariants as motion_is;
-ghost use Rattle.turn_text.specs.cave_world.Motions.{motion_number};
-ghost use Rattle.cave_verbs.specs.verb_commands.turn_rules.Rows.{deed, PlaysBy, act_of};
+ghost use Rattle.turn_scene.specs.Scene.{cave_of, scene_of};
+ghost use Rattle.turn_scene.specs.Bounds.{GoesOnSaying};
+ghost use Rattle.cave_world.specs.declared.motion.Motion.TheVariants as motion_is;
+ghost use Rattle.cave_world.specs.Motions.{motion_number};
+ghost use Rattle.turn_scene.specs.Rows.{deed, PlaysBy, act_of};
 ghost use Rattle.cave_turn.specs.Request.{half_command_of, phrase, said_word, by_object_alone};
 ghost use Rattle.cave_turn.specs.Request.{word_alone, word_aloud, by_object_before, word_before};
 ghost use Rattle.cave_turn.specs.Request.{pours_over, pour_in, word_entered, two_words, read_words};
 
 use crate::object_words::{NamedObject, ObjectWord, is_verb_of, object_word};
 use cave_verbs::Verb;
-use turn_begin::{RowNotes, Rules, Scene, Table, is_liquid, lake, or_no_object};
-use turn_text::{Class, Meaning, Motion, Named, Object, Part, Role, Talk, Word, WordLine};
+use cave_words::{Class, Meaning, Named, Word};
+use cave_world::{Motion, Part, RowNotes, Table, Talk, WordLine};
+use data_rows::Role;
+use turn_scene::{Rules, Scene, is_liquid, lake, or_no_object};
+use world_objects::Object;
 
 /// Half a command: what was said of it before its other half.
 #[derive(Clone, Copy, Debug, PartialEq, Eq)]

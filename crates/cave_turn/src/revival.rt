@@ -1,22 +1,26 @@
 //! How a player comes back from death.
 
 ghost use Rattle.std.specs.Prelude.{◌≡◌, ◌+◌, [], ◌∷◌};
-ghost use Rattle.turn_text.specs.data_numbers.Numbers.{LAST_OBJECT};
-ghost use Rattle.turn_text.specs.cave_world.declared.ending.Question.TheVariants as question_is;
-ghost use Rattle.turn_begin.specs.turn_scene.Bounds.{GoesOnSaying, HasRoom, MovesOnSaying};
-ghost use Rattle.turn_begin.specs.turn_scene.Bounds.{parts_of_arrival, parts_of_end};
-ghost use Rattle.turn_begin.specs.turn_scene.Scene.{scene_of, cave_of};
-ghost use Rattle.turn_begin.specs.rule_rows.declared.tables.Table.TheVariants as table;
-ghost use Rattle.cave_verbs.specs.verb_commands.turn_rules.Rows.{Does, after_all, deed, by_table};
+ghost use Rattle.base_lines.specs.Numbers.{LAST_OBJECT};
+ghost use Rattle.cave_world.specs.declared.ending.Question.TheVariants as question_is;
+ghost use Rattle.turn_scene.specs.Bounds.{GoesOnSaying, HasRoom, MovesOnSaying, parts_of_arrival};
+ghost use Rattle.turn_scene.specs.Bounds.{parts_of_end};
+ghost use Rattle.turn_scene.specs.Scene.{scene_of, cave_of};
+ghost use Rattle.cave_world.specs.declared.tables.Table.TheVariants as table;
+ghost use Rattle.turn_scene.specs.Rows.{Does, after_all, deed, by_table};
 ghost use Rattle.cave_turn.specs.Revival.{reborn_rows, put_out_rows, after_fall, revive};
-ghost use Rattle.cave_verbs.specs.verb_commands.turn_rules.Effects.{for_each_down_from};
+ghost use Rattle.turn_scene.specs.Effects.{for_each_down_from};
 ghost use Rattle.cave_turn.specs.Revival.{revival_rows, come_back, bury};
 
-use turn_begin::{
-    LAMP_OFF, RowNotes, Rules, Scene, Table, building_place, is_in_hand, start_place,
-};
-use turn_moves::{count_death, describe_here, end};
-use turn_text::{Ending, LIVES, Named, OBJECTS, Object, Prop, Role};
+use cave_words::Named;
+use cave_world::{Ending, LIVES, RowNotes, Table};
+use data_rows::Role;
+use turn_ends::{count_death, end};
+use turn_moves::describe_here;
+use turn_scene::props::LAMP_OFF;
+use turn_scene::{Rules, Scene, building_place, is_carried, start_place};
+use world_objects::object::OBJECTS;
+use world_objects::{Object, Prop};
 
 /// What is said of a first, a second, a third revival.
 #[tactic(auto, unfolding(crate::specs::Revival::reborn_rows))]
@@ -48,13 +52,13 @@ fn put_out_lamp<N: RowNotes>(rules: &Rules<'_>, scene: &mut Scene<'_, N>)
         question_is.Die scene.old scene.new }
 {
     let lamp = rules.thing(Named::Lamp);
-    if is_in_hand(rules, scene.state, lamp) {
+    if is_carried(rules, scene.state, lamp) {
         scene.note(Table::LampPutOut, 1);
         scene.state.objects.set_prop(lamp, Prop::new(LAMP_OFF));
     }
 }
 
-/// An object that was carried falls: the lamp where the game begins, all else at the older place of
+/// An object in the hands falls: the lamp where the game begins, all else at the older place of
 /// the trail, which a death sets to where it leaves things, except a death at place 0.
 #[tactic(auto, unfolding(crate::specs::Revival::after_fall, crate::specs::Revival::fall_rows))]
 fn let_fall<N: RowNotes>(rules: &Rules<'_>, object: Object, scene: &mut Scene<'_, N>)
@@ -62,7 +66,7 @@ fn let_fall<N: RowNotes>(rules: &Rules<'_>, object: Object, scene: &mut Scene<'_
         ≡ after_fall (cave_of rules.now) object (scene_of N.rows scene.old) }
     ensures says { GoesOnSaying 0 scene.old scene.new }
 {
-    if !scene.state.objects.is_carried(object) {
+    if !scene.state.objects.is_in_hands(object) {
         return;
     }
     if rules.is(object, Named::Lamp) {
@@ -75,7 +79,7 @@ fn let_fall<N: RowNotes>(rules: &Rules<'_>, object: Object, scene: &mut Scene<'_
     scene.state.move_to(object, older);
 }
 
-/// What was carried falls, the last object first.
+/// What was in the hands falls, the last object first.
 fn leave_belongings<N: RowNotes>(rules: &Rules<'_>, scene: &mut Scene<'_, N>)
     ensures scene { scene_of N.rows scene.new
         ≡ for_each_down_from LAST_OBJECT (after_fall (cave_of rules.now))
@@ -88,7 +92,7 @@ fn leave_belongings<N: RowNotes>(rules: &Rules<'_>, scene: &mut Scene<'_, N>)
     }
 }
 
-/// The player is back, without what was carried, and a lamp that was carried is out.
+/// The player is back with empty hands, and a lamp that was carried is out.
 #[tactic(auto, unfolding(crate::specs::Revival::revive))]
 fn revive<N: RowNotes>(rules: &Rules<'_>, scene: &mut Scene<'_, N>)
     requires { HasRoom (parts_of_arrival scene.old.left) scene.old }

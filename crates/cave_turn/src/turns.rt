@@ -1,15 +1,20 @@
 ghost use Rattle.std.specs.Prelude.{◌≡◌, ◌+◌, ◌^◌, ◌<◌, ◌≤◌, [], false, IsTrue};
 ghost use Rattle.arrayvec.specs.ArrayVec.{array_vec_len};
-ghost use Rattle.turn_text.specs.base_lines.Line.{is_line};
-ghost use Rattle.turn_begin.specs.turn_scene.Bounds.{parts_of_turn};
-ghost use Rattle.turn_begin.specs.turn_scene.Scene.{cave_of};
+ghost use Rattle.base_lines.specs.Line.{is_line};
+ghost use Rattle.turn_scene.specs.Bounds.{parts_of_turn};
+ghost use Rattle.turn_scene.specs.Scene.{cave_of};
 ghost use Rattle.cave_turn.specs.Turns.{start_of_game, turn_on_line, turn_of_input, rows_on_line};
 ghost use Rattle.cave_turn.specs.Turns.{rows_of_input};
 
 use crate::answers::{answers, close_question, take_answer};
 use crate::commands::command;
-use turn_begin::{RowNotes, Rules, Unnoted, begun_state};
-use turn_text::{Cave, LogLine, Meter, Out, Part, Role, State, Stream};
+use base_lines::{LogLine, Meter};
+use cave_data::Cave;
+use cave_words::Stream;
+use cave_world::{Out, Part, RowNotes, State, Unnoted};
+use data_rows::Role;
+use turn_ends::begun_state;
+use turn_scene::Rules;
 
 /// Plays a line of a log in the state itself. Returns whether it is a turn of the game.
 pub fn take_line(

@@ -3,18 +3,17 @@ use Rattle.std.proofs.Common.{◌≡◌, ℕ, ◌<◌, ◌≤◌, zero, suc, tru
 use Rattle.std.proofs.Common.{not}
 use Rattle.std.proofs.lemmas.Bool.{true≢false, false≢true}
 use Rattle.std.specs.Prelude.{◌||◌, ◌&&◌, Option, Some, None, option_and_then}
-use Rattle.verb_commands.specs.cave_data.CaveView.{CaveView}
-use Rattle.verb_commands.specs.cave_words.Named.{object_named, object_of_word, next_object}
-use Rattle.verb_commands.specs.cave_words.Named.{word_of_name}
-use Rattle.verb_commands.specs.cave_words.declared.named.Named.TheVariants as name
-use Rattle.verb_commands.specs.cave_world.declared.state.State.{State}
-use Rattle.verb_commands.specs.turn_scene.Scene.{or_no_object, thing, object_called, is_called}
-use Rattle.verb_commands.specs.turn_things.Reach.{is_in_hand, is_near}
-use Rattle.verb_commands.specs.turn_things.Liquids.{liquid_of, is_liquid}
-use Rattle.verb_commands.specs.world_objects.Objects.{is_carried, is_first_at, spot_of}
-use Rattle.verb_commands.specs.Verbs.{is_verb}
-use Rattle.verb_commands.specs.declared.verb.Verb.{Verb}
-use Rattle.verb_commands.specs.declared.verb.Verb.TheVariants as verb
+use Rattle.cave_data.specs.CaveView.{CaveView}
+use Rattle.cave_words.specs.Named.{object_named, object_of_word, next_object, word_of_name}
+use Rattle.cave_words.specs.declared.named.Named.TheVariants as name
+use Rattle.cave_world.specs.declared.state.State.{State}
+use Rattle.turn_scene.specs.Scene.{or_no_object, thing, object_called, is_called}
+use Rattle.turn_scene.specs.Reach.{is_carried, is_near}
+use Rattle.turn_scene.specs.Liquids.{liquid_of, is_liquid}
+use Rattle.world_objects.specs.Objects.{is_in_hands, is_first_at, spot_of}
+use Rattle.cave_verbs.specs.Verbs.{is_verb}
+use Rattle.cave_verbs.specs.declared.verb.Verb.{Verb}
+use Rattle.cave_verbs.specs.declared.verb.Verb.TheVariants as verb
 use Rattle.cave_verbs.specs.Ranks.{take_rank, drop_rank, bare_rank, rank}
 
 -- the bottle is no liquid
@@ -66,7 +65,7 @@ drop_falls cave x y rod second = let other = second-rod cave in grind (arith, ot
 
 -- nothing that isn't there is near
 nothing-near : (cave : CaveView) (s : State) → is_near cave s 0 ≡ false
-unfolding is_near is_in_hand is_called is_carried is_first_at spot_of
+unfolding is_near is_carried is_called is_in_hands is_first_at spot_of
 nothing-near cave s = refl
 
 pub near-there : (cave : CaveView) (s : State) (x : ℕ) → is_near cave s x ≡ true → (x == 0) ≡ false
@@ -74,16 +73,16 @@ near-there cave s zero h = absurd (true≢false (sym h ∙ nothing-near cave s))
 near-there cave s (suc x) h = grind arith
 
 -- nor is it in the hand
-nothing-in_hand : (cave : CaveView) (s : State) → is_in_hand cave s 0 ≡ false
-unfolding is_in_hand is_called is_carried spot_of
-nothing-in_hand cave s = refl
+nothing-carried : (cave : CaveView) (s : State) → is_carried cave s 0 ≡ false
+unfolding is_carried is_called is_in_hands spot_of
+nothing-carried cave s = refl
 
-held-there : (cave : CaveView) (s : State) (x : ℕ) → is_in_hand cave s x ≡ true → (x == 0) ≡ false
-held-there cave s zero h = absurd (true≢false (sym h ∙ nothing-in_hand cave s))
+held-there : (cave : CaveView) (s : State) (x : ℕ) → is_carried cave s x ≡ true → (x == 0) ≡ false
+held-there cave s zero h = absurd (true≢false (sym h ∙ nothing-carried cave s))
 held-there cave s (suc x) h = grind arith
 
 -- from no object to one in the hand the rank of READ falls
-pub read_falls : (cave : CaveView) (s : State) (x : ℕ) → is_in_hand cave s x ≡ true
+pub read_falls : (cave : CaveView) (s : State) (x : ℕ) → is_carried cave s x ≡ true
     → suc (bare_rank x) ≤ 1
 read_falls cave s x held = let there = held-there cave s x held in grind (arith, there)
 

@@ -4,8 +4,8 @@ use Rattle.std.proofs.Common.{◌∙◌, refl, arith}
 use Rattle.std.specs.List.{filter, range_with_len}
 use Rattle.std.proofs.lemmas.List.{map-id, append-nil}
 use Rattle.std.proofs.lemmas.List.FromFn.{filter_of_map_range_with_len_more}
-use Rattle.verb_commands.specs.cave_data.CaveView.{CaveView}
-use Rattle.verb_commands.specs.cave_world.declared.state.State.{State}
+use Rattle.cave_data.specs.CaveView.{CaveView}
+use Rattle.cave_world.specs.declared.state.State.{State}
 use Rattle.cave_verbs.specs.Finding.{is_in_inventory, listed_up_to}
 
 filter_more : (p : ℕ → Bool) (n : ℕ)

@@ -1,17 +1,17 @@
 -- What a verb does by its rules, and by those that it goes on with.
 use Rattle.std.specs.Prelude.{ℕ, ◌==◌, if◌then◌else◌, List, suc, zero}
-use Rattle.verb_commands.specs.cave_data.CaveView.{CaveView}
-use Rattle.verb_commands.specs.turn_scene.Scene.{Scene}
-use Rattle.verb_commands.specs.turn_rules.Rows.{Deed, Act, deed, noted}
-use Rattle.verb_commands.specs.Rows.{going_on, VerbRow, first_fitting}
-use Rattle.verb_commands.specs.declared.next.Next.{Next}
-use Rattle.verb_commands.specs.declared.next.Next.TheVariants.{Stay}
-use Rattle.verb_commands.specs.declared.next.Step.{Step}
-use Rattle.verb_commands.specs.declared.next.Step.TheVariants.{Done, GoOn}
-use Rattle.verb_commands.specs.declared.command.Command.{Command}
-use Rattle.verb_commands.specs.declared.verb.Verb.{Verb}
-use Rattle.verb_commands.specs.declared.verb.Verb.TheVariants as verb
-use Rattle.verb_commands.specs.rule_rows.declared.tables.Table.TheVariants as table
+use Rattle.cave_data.specs.CaveView.{CaveView}
+use Rattle.turn_scene.specs.Scene.{Scene}
+use Rattle.turn_scene.specs.Rows.{Deed, Act, deed, noted}
+use Rattle.cave_verbs.specs.Rows.{going_on, VerbRow, first_fitting}
+use Rattle.cave_verbs.specs.declared.next.Next.{Next}
+use Rattle.cave_verbs.specs.declared.next.Next.TheVariants.{Stay}
+use Rattle.cave_verbs.specs.declared.next.VerbStep.{VerbStep}
+use Rattle.cave_verbs.specs.declared.next.VerbStep.TheVariants.{Done, GoOn}
+use Rattle.cave_verbs.specs.declared.command.Command.{Command}
+use Rattle.cave_verbs.specs.declared.verb.Verb.{Verb}
+use Rattle.cave_verbs.specs.declared.verb.Verb.TheVariants as verb
+use Rattle.cave_world.specs.declared.tables.Table.TheVariants as table
 use Rattle.cave_verbs.specs.Blasting.{blast_rows}
 use Rattle.cave_verbs.specs.Breaking.{break_rows, wake_rows}
 use Rattle.cave_verbs.specs.Dropping.{drop_rows}
@@ -60,31 +60,31 @@ rows_of verb.Read = (noted table.BareRead bare_read_rows, noted table.Read read_
 rows_of verb.Break = (bare_rows, noted table.Break break_rows)
 rows_of verb.Wake = (bare_rows, noted table.Wake wake_rows)
 
-unfoldable pub act_bare : Deed Command → Act Step
+unfoldable pub act_bare : Deed Command → Act VerbStep
 act_bare d = first_fitting (rows_of d.about.verb).0 d
 
-unfoldable pub act_on : Deed Command → Act Step
+unfoldable pub act_on : Deed Command → Act VerbStep
 act_on d = first_fitting (rows_of d.about.verb).1 d
 
 -- what a verb does by its own rules
-abbrev pub act_once : Deed Command → Act Step
+abbrev pub act_once : Deed Command → Act VerbStep
 act_once d = if d.about.object == 0 then act_bare d else act_on d
 
 -- what a verb does with those that it goes on with, so many at most
-unfoldable pub act_within : ℕ → Deed Command → Act Step
+unfoldable pub act_within : ℕ → Deed Command → Act VerbStep
 act_within zero d = act_once d
 act_within (suc left) d =
     let a = act_once d in
-    elim a.step as (λ _. Act Step) [
+    elim a.step as (λ _. Act VerbStep) [
       | Done next ↦ a
       | GoOn v x ↦ act_within left (deed d.cave (going_on d.about v x) a.scene)
     ]
 
 -- what follows in the end
-abbrev pub next_of_step : Step → Next
+abbrev pub next_of_step : VerbStep → Next
 next_of_step (Done next) = next
 next_of_step (GoOn v x) = Stay
 
 -- what is commanded is done; no verb goes on more than three times
-unfoldable pub act : CaveView → Command → Scene → Act Step
+unfoldable pub act : CaveView → Command → Scene → Act VerbStep
 act cave command p = act_within 3 (deed cave command p)

@@ -1,14 +1,14 @@
 -- BLAST, with an object or without one.
 use Rattle.std.specs.Prelude.{List, [], ◌∷◌}
-use Rattle.verb_commands.specs.data_rows.declared.place_role.PlaceRole.TheVariants as place
-use Rattle.verb_commands.specs.data_rows.declared.role.Role.TheVariants as role
-use Rattle.verb_commands.specs.cave_world.declared.ending.Ending.TheVariants as ending
-use Rattle.verb_commands.specs.turn_things.Props.{UNSEEN}
-use Rattle.verb_commands.specs.turn_rules.Effects.{say}
-use Rattle.verb_commands.specs.turn_rules.Rows.{row_then, otherwise_then}
-use Rattle.verb_commands.specs.turn_rules.Tests.{no, near, prop_up_to, cave_closed, player_at}
-use Rattle.verb_commands.specs.Effects.{default}
-use Rattle.verb_commands.specs.Rows.{VerbRow, row, ends}
+use Rattle.data_rows.specs.declared.place_role.PlaceRole.TheVariants as place
+use Rattle.data_rows.specs.declared.role.Role.TheVariants as role
+use Rattle.cave_world.specs.declared.ending.Ending.TheVariants as ending
+use Rattle.turn_scene.specs.Props.{UNSEEN}
+use Rattle.turn_scene.specs.Effects.{say}
+use Rattle.turn_scene.specs.Rows.{row_then, otherwise_then}
+use Rattle.turn_scene.specs.Tests.{no, near, prop_up_to, cave_closed, player_at}
+use Rattle.cave_verbs.specs.Effects.{default}
+use Rattle.cave_verbs.specs.Rows.{VerbRow, row, ends}
 use Rattle.cave_verbs.specs.Things.{second_rod}
 
 unfoldable pub blast_rows : List VerbRow

@@ -1,16 +1,16 @@
 -- BREAK and WAKE.
 use Rattle.std.specs.Prelude.{List, [], ◌∷◌}
-use Rattle.verb_commands.specs.data_rows.declared.role.Role.TheVariants as role
-use Rattle.verb_commands.specs.cave_words.declared.named.Named.TheVariants as name
-use Rattle.verb_commands.specs.cave_world.declared.ending.Ending.TheVariants as ending
-use Rattle.verb_commands.specs.turn_things.Props.{VASE_BROKEN, VASE_WHOLE}
-use Rattle.verb_commands.specs.turn_rules.Effects.{say, fix, set_prop}
-use Rattle.verb_commands.specs.turn_rules.Putting.{lay_down}
-use Rattle.verb_commands.specs.turn_rules.Rows.{row_then, otherwise_then}
-use Rattle.verb_commands.specs.turn_rules.Tests.{prop, cave_closed}
-use Rattle.verb_commands.specs.Effects.{default}
-use Rattle.verb_commands.specs.Rows.{VerbRow, row, ends, stays}
-use Rattle.verb_commands.specs.Tests.{x, is}
+use Rattle.data_rows.specs.declared.role.Role.TheVariants as role
+use Rattle.cave_words.specs.declared.named.Named.TheVariants as name
+use Rattle.cave_world.specs.declared.ending.Ending.TheVariants as ending
+use Rattle.turn_scene.specs.Props.{VASE_BROKEN, VASE_WHOLE}
+use Rattle.turn_scene.specs.Effects.{say, fix, set_prop}
+use Rattle.turn_scene.specs.Putting.{lay_down}
+use Rattle.turn_scene.specs.Rows.{row_then, otherwise_then}
+use Rattle.turn_scene.specs.Tests.{prop, cave_closed}
+use Rattle.cave_verbs.specs.Effects.{default}
+use Rattle.cave_verbs.specs.Rows.{VerbRow, row, ends, stays}
+use Rattle.cave_verbs.specs.Tests.{x, is}
 
 unfoldable pub break_rows : List VerbRow
 break_rows =

@@ -1,28 +1,27 @@
 -- DROP.
 use Rattle.std.specs.Prelude.{List, [], ◌∷◌}
-use Rattle.verb_commands.specs.data_rows.declared.role.Role.TheVariants as role
-use Rattle.verb_commands.specs.cave_words.declared.named.Named.TheVariants as name
-use Rattle.verb_commands.specs.cave_world.declared.ending.Ending.TheVariants as ending
-use Rattle.verb_commands.specs.turn_things.Props.{BATTERIES_FRESH, BIRD_FREE, DRAGON_ALIVE}
-use Rattle.verb_commands.specs.turn_things.Props.{SNAKE_GONE, TROLL_FLED, VASE_BREAKING}
-use Rattle.verb_commands.specs.turn_things.Props.{VASE_BROKEN, VASE_ON_PILLOW, VASE_WHOLE}
-use Rattle.verb_commands.specs.turn_rules.Effects.{say, look, bring, destroy, fix, set_prop}
-use Rattle.verb_commands.specs.turn_rules.Putting.{put}
-use Rattle.verb_commands.specs.turn_rules.Troll.{troll_goes}
-use Rattle.verb_commands.specs.turn_rules.Losses.{lose_to_snake}
-use Rattle.verb_commands.specs.turn_rules.Rows.{row_then, otherwise_then}
-use Rattle.verb_commands.specs.turn_rules.Tests.{no, in_hand, near, is_here, prop, cave_closed}
-use Rattle.verb_commands.specs.turn_rules.Tests.{away_from_home}
-use Rattle.verb_commands.specs.Effects.{default}
-use Rattle.verb_commands.specs.Rows.{VerbRow, row, ends, does, stays}
-use Rattle.verb_commands.specs.declared.verb.Verb.TheVariants as verb
-use Rattle.verb_commands.specs.Tests.{x, is}
+use Rattle.data_rows.specs.declared.role.Role.TheVariants as role
+use Rattle.cave_words.specs.declared.named.Named.TheVariants as name
+use Rattle.cave_world.specs.declared.ending.Ending.TheVariants as ending
+use Rattle.turn_scene.specs.Props.{BATTERIES_FRESH, BIRD_FREE, DRAGON_ALIVE, SNAKE_GONE}
+use Rattle.turn_scene.specs.Props.{TROLL_FLED, VASE_BREAKING, VASE_BROKEN, VASE_ON_PILLOW}
+use Rattle.turn_scene.specs.Props.{VASE_WHOLE}
+use Rattle.turn_scene.specs.Effects.{say, look, bring, destroy, fix, set_prop}
+use Rattle.turn_scene.specs.Putting.{put}
+use Rattle.turn_scene.specs.Troll.{troll_goes}
+use Rattle.turn_scene.specs.Losses.{lose_to_snake}
+use Rattle.turn_scene.specs.Rows.{row_then, otherwise_then}
+use Rattle.turn_scene.specs.Tests.{no, carried, near, is_here, prop, cave_closed, away_from_home}
+use Rattle.cave_verbs.specs.Effects.{default}
+use Rattle.cave_verbs.specs.Rows.{VerbRow, row, ends, does, stays}
+use Rattle.cave_verbs.specs.declared.verb.Verb.TheVariants as verb
+use Rattle.cave_verbs.specs.Tests.{x, is}
 use Rattle.cave_verbs.specs.Things.{batteries, dragon, pillow, second_rod, snake, troll, vending}
 
 unfoldable pub drop_rows : List VerbRow
 drop_rows =
-    row_then (is name.Rod ∷ no (in_hand x) ∷ in_hand second_rod ∷ []) [] (does verb.Drop second_rod)
-    ∷ row (no (in_hand x) ∷ []) (default ∷ [])
+    row_then (is name.Rod ∷ no (carried x) ∷ carried second_rod ∷ []) [] (does verb.Drop second_rod)
+    ∷ row (no (carried x) ∷ []) (default ∷ [])
     ∷ row_then (is name.Bird ∷ near snake ∷ cave_closed ∷ [])
     (say role.BirdSnake ∷ say role.Disturbed ∷ []) (ends ending.Killed)
     ∷ row (is name.Bird ∷ near snake ∷ [])

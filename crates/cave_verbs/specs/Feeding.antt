@@ -1,23 +1,22 @@
 -- FEED and EAT.
 use Rattle.std.specs.Prelude.{◌+◌, min, List, [], ◌∷◌}
-use Rattle.verb_commands.specs.data_rows.declared.role.Role.TheVariants as role
-use Rattle.verb_commands.specs.cave_words.declared.named.Named.{Named}
-use Rattle.verb_commands.specs.cave_words.declared.named.Named.TheVariants as name
-use Rattle.verb_commands.specs.cave_world.Limits.{MAX_ANGER}
-use Rattle.verb_commands.specs.cave_world.declared.state.State.{State}
-use Rattle.verb_commands.specs.turn_scene.Scene.{is_one_of}
-use Rattle.verb_commands.specs.turn_things.Props.{AXE_FREE, BEAR_DEAD, BEAR_FED, BEAR_WILD}
-use Rattle.verb_commands.specs.turn_things.Props.{BIRD_FREE, DRAGON_ALIVE}
-use Rattle.verb_commands.specs.turn_things.Effects.{with_dwarves}
-use Rattle.verb_commands.specs.turn_rules.Effects.{change, say, destroy, loosen, set_prop, lose_one}
-use Rattle.verb_commands.specs.turn_rules.Rows.{Test, row_then, otherwise_then}
-use Rattle.verb_commands.specs.turn_rules.Tests.{no, either, near, prop, other_prop}
-use Rattle.verb_commands.specs.turn_rules.Tests.{cave_closed}
-use Rattle.verb_commands.specs.Effects.{default, ask_what}
-use Rattle.verb_commands.specs.Rows.{VerbRow, row, keeps, does, stays}
-use Rattle.verb_commands.specs.declared.verb.Verb.TheVariants as verb
-use Rattle.verb_commands.specs.Tests.{x, is}
-use Rattle.verb_commands.specs.declared.command.Command.{Command}
+use Rattle.data_rows.specs.declared.role.Role.TheVariants as role
+use Rattle.cave_words.specs.declared.named.Named.{Named}
+use Rattle.cave_words.specs.declared.named.Named.TheVariants as name
+use Rattle.cave_world.specs.Limits.{MAX_ANGER}
+use Rattle.cave_world.specs.declared.state.State.{State}
+use Rattle.turn_scene.specs.Scene.{is_one_of}
+use Rattle.turn_scene.specs.Props.{AXE_FREE, BEAR_DEAD, BEAR_FED, BEAR_WILD, BIRD_FREE}
+use Rattle.turn_scene.specs.Props.{DRAGON_ALIVE}
+use Rattle.turn_scene.specs.Parts.{with_dwarves}
+use Rattle.turn_scene.specs.Effects.{change, say, destroy, loosen, set_prop, lose_one}
+use Rattle.turn_scene.specs.Rows.{Test, row_then, otherwise_then}
+use Rattle.turn_scene.specs.Tests.{no, either, near, prop, other_prop, cave_closed}
+use Rattle.cave_verbs.specs.Effects.{default, ask_what}
+use Rattle.cave_verbs.specs.Rows.{VerbRow, row, keeps, does, stays}
+use Rattle.cave_verbs.specs.declared.verb.Verb.TheVariants as verb
+use Rattle.cave_verbs.specs.Tests.{x, is}
+use Rattle.cave_verbs.specs.declared.command.Command.{Command}
 use Rattle.cave_verbs.specs.Things.{axe, bird, food}
 
 abbrev pub is_any : List Named → Test Command

@@ -1,30 +1,28 @@
 -- FIND and INVENTORY.
 use Rattle.std.specs.Prelude.{ℕ, Bool, ◌==◌, ◌&&◌, not, List, [], ◌∷◌, ◌++◌, length, map, filter}
 use Rattle.std.specs.List.{range_with_len}
-use Rattle.verb_commands.specs.data_numbers.Numbers.{LAST_OBJECT}
-use Rattle.verb_commands.specs.data_rows.declared.role.Role.TheVariants as role
-use Rattle.verb_commands.specs.cave_data.CaveView.{CaveView}
-use Rattle.verb_commands.specs.cave_words.declared.named.Named.TheVariants as name
-use Rattle.verb_commands.specs.cave_world.declared.part.Part.TheVariants as part
-use Rattle.verb_commands.specs.cave_world.declared.state.State.{State}
-use Rattle.verb_commands.specs.turn_scene.Scene.{is_called, Scene}
-use Rattle.verb_commands.specs.turn_things.Reach.{is_in_hand}
-use Rattle.verb_commands.specs.turn_rules.Rows.{Deed, Test, Effect, Row, plain_row}
-use Rattle.verb_commands.specs.turn_rules.Rows.{otherwise_then, by_table}
-use Rattle.verb_commands.specs.turn_rules.Effects.{in_scene, say}
-use Rattle.verb_commands.specs.turn_rules.Tests.{in_hand, is_here, dwarf, cave_closed}
-use Rattle.verb_commands.specs.turn_rules.Tests.{in_bottle, in_lake}
-use Rattle.verb_commands.specs.Rows.{VerbRow, row, stays}
-use Rattle.verb_commands.specs.Effects.{default}
-use Rattle.verb_commands.specs.Tests.{x, is}
-use Rattle.verb_commands.specs.declared.command.Command.{Command}
-use Rattle.verb_commands.specs.rule_rows.declared.tables.Table.TheVariants as table
+use Rattle.base_lines.specs.Numbers.{LAST_OBJECT}
+use Rattle.data_rows.specs.declared.role.Role.TheVariants as role
+use Rattle.cave_data.specs.CaveView.{CaveView}
+use Rattle.cave_words.specs.declared.named.Named.TheVariants as name
+use Rattle.cave_world.specs.declared.part.Part.TheVariants as part
+use Rattle.cave_world.specs.declared.state.State.{State}
+use Rattle.turn_scene.specs.Scene.{is_called, Scene}
+use Rattle.turn_scene.specs.Reach.{is_carried}
+use Rattle.turn_scene.specs.Rows.{Deed, Test, Effect, Row, plain_row, otherwise_then, by_table}
+use Rattle.turn_scene.specs.Effects.{in_scene, say}
+use Rattle.turn_scene.specs.Tests.{carried, is_here, dwarf, cave_closed, in_bottle, in_lake}
+use Rattle.cave_verbs.specs.Rows.{VerbRow, row, stays}
+use Rattle.cave_verbs.specs.Effects.{default}
+use Rattle.cave_verbs.specs.Tests.{x, is}
+use Rattle.cave_verbs.specs.declared.command.Command.{Command}
+use Rattle.cave_world.specs.declared.tables.Table.TheVariants as table
 use Rattle.cave_verbs.specs.Things.{bear, bottle}
 
 -- FIND an object, and INVENTORY of one
 unfoldable pub find_rows : List VerbRow
 find_rows =
-    row (in_hand x ∷ []) (say role.HeldIt ∷ [])
+    row (carried x ∷ []) (say role.HeldIt ∷ [])
     ∷ row (cave_closed ∷ []) (say role.Around ∷ [])
     ∷ row (is_here x ∷ []) (say role.HereIt ∷ [])
     ∷ row (in_bottle x ∷ is_here bottle ∷ []) (say role.HereIt ∷ [])
@@ -34,7 +32,7 @@ find_rows =
 
 -- what the inventory lists is carried, and isn't the bear
 abbrev pub is_in_inventory : CaveView → State → ℕ → Bool
-is_in_inventory cave s x = is_in_hand cave s x && not (is_called cave x name.Bear)
+is_in_inventory cave s x = is_carried cave s x && not (is_called cave x name.Bear)
 
 -- of the objects from 1 on so many, those that the inventory lists
 unfoldable pub listed_up_to : CaveView → State → ℕ → List ℕ
@@ -55,7 +53,7 @@ name_them d = in_scene (after_naming (objects_listed d) d.scene) d
 
 -- it is said that the bear follows, if the player has it
 unfoldable pub bear_along_rows : List (Row Command (Unit {0}))
-bear_along_rows = plain_row (in_hand bear ∷ []) (say role.BearFollows ∷ []) ∷ []
+bear_along_rows = plain_row (carried bear ∷ []) (say role.BearFollows ∷ []) ∷ []
 
 abbrev pub tell_bear : Effect Command
 tell_bear = by_table table.BearAlong bear_along_rows

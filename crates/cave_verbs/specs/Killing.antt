@@ -1,23 +1,23 @@
 -- KILL.
 use Rattle.std.specs.Prelude.{ℕ, List, [], ◌∷◌}
-use Rattle.verb_commands.specs.data_rows.declared.role.Role.TheVariants as role
-use Rattle.verb_commands.specs.cave_words.declared.named.Named.TheVariants as name
-use Rattle.verb_commands.specs.cave_world.declared.ending.Ending.TheVariants as ending
-use Rattle.verb_commands.specs.cave_world.declared.ending.Question.TheVariants as question
-use Rattle.verb_commands.specs.turn_things.Props.{BEAR_DEAD, BEAR_WILD, BIRD_FREE, DRAGON_ALIVE}
-use Rattle.verb_commands.specs.turn_rules.Rows.{Deed, Test, row_then, otherwise_then}
-use Rattle.verb_commands.specs.turn_rules.Effects.{say, destroy, set_prop}
-use Rattle.verb_commands.specs.turn_rules.Losses.{lose_to_snake}
-use Rattle.verb_commands.specs.turn_rules.Tests.{no, either, both, there_is, near, is_here}
-use Rattle.verb_commands.specs.turn_rules.Tests.{prop, dwarf, cave_closed}
-use Rattle.verb_commands.specs.Choice.{candidate, objects_meant, several, first}
-use Rattle.verb_commands.specs.Rows.{VerbRow, row, keeps, poses, ends, does, stays}
-use Rattle.verb_commands.specs.Effects.{default, ask_what}
-use Rattle.verb_commands.specs.Verbs.{is_verb}
-use Rattle.verb_commands.specs.declared.verb.Verb.{Verb}
-use Rattle.verb_commands.specs.declared.verb.Verb.TheVariants as verb
-use Rattle.verb_commands.specs.Tests.{x, is}
-use Rattle.verb_commands.specs.declared.command.Command.{Command}
+use Rattle.data_rows.specs.declared.role.Role.TheVariants as role
+use Rattle.cave_words.specs.declared.named.Named.TheVariants as name
+use Rattle.cave_world.specs.declared.ending.Ending.TheVariants as ending
+use Rattle.cave_world.specs.declared.ending.Question.TheVariants as question
+use Rattle.turn_scene.specs.Props.{BEAR_DEAD, BEAR_WILD, BIRD_FREE, DRAGON_ALIVE}
+use Rattle.turn_scene.specs.Rows.{Deed, Test, row_then, otherwise_then}
+use Rattle.turn_scene.specs.Effects.{say, destroy, set_prop}
+use Rattle.turn_scene.specs.Losses.{lose_to_snake}
+use Rattle.turn_scene.specs.Tests.{no, either, both, there_is, near, is_here, prop, dwarf}
+use Rattle.turn_scene.specs.Tests.{cave_closed}
+use Rattle.cave_verbs.specs.Choice.{candidate, objects_meant, several, first}
+use Rattle.cave_verbs.specs.Rows.{VerbRow, row, keeps, poses, ends, does, stays}
+use Rattle.cave_verbs.specs.Effects.{default, ask_what}
+use Rattle.cave_verbs.specs.Verbs.{is_verb}
+use Rattle.cave_verbs.specs.declared.verb.Verb.{Verb}
+use Rattle.cave_verbs.specs.declared.verb.Verb.TheVariants as verb
+use Rattle.cave_verbs.specs.Tests.{x, is}
+use Rattle.cave_verbs.specs.declared.command.Command.{Command}
 use Rattle.cave_verbs.specs.Things.{bear, bird, clam, dragon, oyster, snake, troll}
 
 -- the player's own verb, which may have gone on to this one

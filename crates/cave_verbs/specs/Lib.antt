@@ -16,4 +16,12 @@ pub mod Taking
 pub mod Things
 pub mod Throwing
 pub mod Waving
-pub use Rattle.verb_commands.specs as verb_commands
+pub mod Choice
+pub mod Effects
+pub mod Room
+pub mod Rows
+pub mod Tests
+pub mod Verbs
+pub use Rattle.data_rows.specs as data_rows
+pub use Rattle.cave_world.specs as cave_world
+pub use Rattle.turn_scene.specs as turn_scene

@@ -1,15 +1,15 @@
 -- ON and OFF.
 use Rattle.std.specs.Prelude.{List, [], ◌∷◌}
-use Rattle.verb_commands.specs.data_rows.declared.role.Role.TheVariants as role
-use Rattle.verb_commands.specs.cave_world.Sight.{LAMP_ON}
-use Rattle.verb_commands.specs.turn_things.Props.{LAMP_OFF}
-use Rattle.verb_commands.specs.turn_rules.Effects.{say, set_prop}
-use Rattle.verb_commands.specs.turn_rules.Rows.{Row, plain_row, row_then, otherwise_then, by_table}
-use Rattle.verb_commands.specs.turn_rules.Tests.{no, near, lamp_dead, was_dark, in_the_dark}
-use Rattle.verb_commands.specs.Effects.{default}
-use Rattle.verb_commands.specs.Rows.{VerbRow, row, describes, stays}
-use Rattle.verb_commands.specs.declared.command.Command.{Command}
-use Rattle.verb_commands.specs.rule_rows.declared.tables.Table.TheVariants as table
+use Rattle.data_rows.specs.declared.role.Role.TheVariants as role
+use Rattle.cave_world.specs.Sight.{LAMP_ON}
+use Rattle.turn_scene.specs.Props.{LAMP_OFF}
+use Rattle.turn_scene.specs.Effects.{say, set_prop}
+use Rattle.turn_scene.specs.Rows.{Row, plain_row, row_then, otherwise_then, by_table}
+use Rattle.turn_scene.specs.Tests.{no, near, lamp_dead, was_dark, in_the_dark}
+use Rattle.cave_verbs.specs.Effects.{default}
+use Rattle.cave_verbs.specs.Rows.{VerbRow, row, describes, stays}
+use Rattle.cave_verbs.specs.declared.command.Command.{Command}
+use Rattle.cave_world.specs.declared.tables.Table.TheVariants as table
 use Rattle.cave_verbs.specs.Things.{lamp}
 
 unfoldable pub on_rows : List VerbRow

@@ -1,20 +1,20 @@
 -- FOO, the first of the magic words that are said one after another.
 use Rattle.std.specs.Prelude.{ℕ, ℤ, pos, ◌-ℤ◌, ◌==◌, not, List, [], ◌∷◌}
 use Rattle.std.specs.Ordering.{int_eq}
-use Rattle.verb_commands.specs.data_rows.declared.role.Role.TheVariants as role
-use Rattle.verb_commands.specs.cave_world.declared.state.State.{State}
-use Rattle.verb_commands.specs.turn_things.SpecialWords.{special}
-use Rattle.verb_commands.specs.turn_things.Props.{EGGS_APPEARING, EGGS_ELSEWHERE, EGGS_VANISHING}
-use Rattle.verb_commands.specs.turn_things.Props.{TROLL_CALM, TROLL_RETURNING}
-use Rattle.verb_commands.specs.turn_things.Effects.{with_talk}
-use Rattle.verb_commands.specs.turn_rules.Rows.{Deed, Test, Effect, Row, plain_row, otherwise}
-use Rattle.verb_commands.specs.turn_rules.Rows.{otherwise_then, by_table}
-use Rattle.verb_commands.specs.turn_rules.Effects.{in_state, say, set_prop, look, move}
-use Rattle.verb_commands.specs.turn_rules.Tests.{no, either, there_is, in_hand, prop, nowhere}
-use Rattle.verb_commands.specs.turn_rules.Tests.{at_home, player_at_home, home_of, near}
-use Rattle.verb_commands.specs.Rows.{VerbRow, row, stays}
-use Rattle.verb_commands.specs.declared.command.Command.{Command}
-use Rattle.verb_commands.specs.rule_rows.declared.tables.Table.TheVariants as table
+use Rattle.data_rows.specs.declared.role.Role.TheVariants as role
+use Rattle.cave_world.specs.declared.state.State.{State}
+use Rattle.turn_scene.specs.SpecialWords.{special}
+use Rattle.turn_scene.specs.Props.{EGGS_APPEARING, EGGS_ELSEWHERE, EGGS_VANISHING, TROLL_CALM}
+use Rattle.turn_scene.specs.Props.{TROLL_RETURNING}
+use Rattle.turn_scene.specs.Parts.{with_talk}
+use Rattle.turn_scene.specs.Rows.{Deed, Test, Effect, Row, plain_row, otherwise, otherwise_then}
+use Rattle.turn_scene.specs.Rows.{by_table}
+use Rattle.turn_scene.specs.Effects.{in_state, say, set_prop, look, move}
+use Rattle.turn_scene.specs.Tests.{no, either, there_is, carried, prop, nowhere, at_home}
+use Rattle.turn_scene.specs.Tests.{player_at_home, home_of, near}
+use Rattle.cave_verbs.specs.Rows.{VerbRow, row, stays}
+use Rattle.cave_verbs.specs.declared.command.Command.{Command}
+use Rattle.cave_world.specs.declared.tables.Table.TheVariants as table
 use Rattle.cave_verbs.specs.Things.{eggs, troll}
 
 -- the number of the word that was just read among the special words; 0 if it is none of them
@@ -67,7 +67,7 @@ bare_foo_rows =
     ∷ row (no is_last ∷ []) (remember ∷ say role.Ok ∷ [])
     ∷ row (no (there_is eggs) ∷ []) (begin_anew ∷ say role.Magic ∷ [])
     ∷ row (at_home eggs ∷ []) (begin_anew ∷ say role.Magic ∷ [])
-    ∷ row (in_hand eggs ∷ player_at_home eggs ∷ []) (begin_anew ∷ say role.Magic ∷ [])
+    ∷ row (carried eggs ∷ player_at_home eggs ∷ []) (begin_anew ∷ say role.Magic ∷ [])
     ∷ row (nowhere eggs ∷ nowhere troll ∷ prop troll TROLL_CALM ∷ [])
     (begin_anew ∷ set_prop troll TROLL_RETURNING ∷ by_table table.Eggs eggs_rows
     ∷ move eggs (home_of eggs) ∷ [])

@@ -1,27 +1,25 @@
 -- OPEN and LOCK.
 use Rattle.std.specs.Prelude.{ℕ, List, [], ◌∷◌}
-use Rattle.verb_commands.specs.data_rows.declared.place_role.PlaceRole.TheVariants as place
-use Rattle.verb_commands.specs.data_rows.declared.role.Role.TheVariants as role
-use Rattle.verb_commands.specs.cave_words.declared.named.Named.TheVariants as name
-use Rattle.verb_commands.specs.turn_things.Props.{BEAR_DEAD, BEAR_FREE, BEAR_WILD, CHAIN_LOCKED}
-use Rattle.verb_commands.specs.turn_things.Props.{CHAIN_UNLOCKED, DOOR_OILED, GRATE_LOCKED}
-use Rattle.verb_commands.specs.turn_things.Props.{GRATE_UNLOCKED}
-use Rattle.verb_commands.specs.turn_rules.Rows.{Deed, Test, Thing, row_then, otherwise_then}
-use Rattle.verb_commands.specs.turn_rules.Effects.{say, bring, destroy, fix, loosen, set_prop}
-use Rattle.verb_commands.specs.turn_rules.Effects.{send}
-use Rattle.verb_commands.specs.turn_rules.Putting.{lay_down}
-use Rattle.verb_commands.specs.turn_rules.Panic.{panic}
-use Rattle.verb_commands.specs.turn_rules.Tests.{no, either, there_is, in_hand, near, is_here}
-use Rattle.verb_commands.specs.turn_rules.Tests.{prop, other_prop, cave_closing, away_from_home}
-use Rattle.verb_commands.specs.Choice.{candidate, objects_meant, first}
-use Rattle.verb_commands.specs.Rows.{VerbRow, row, keeps, stays}
-use Rattle.verb_commands.specs.Effects.{default, ask_what}
-use Rattle.verb_commands.specs.declared.verb.Verb.TheVariants as verb
-use Rattle.verb_commands.specs.Tests.{x, is}
-use Rattle.verb_commands.specs.Verbs.{is_verb}
-use Rattle.verb_commands.specs.declared.next.Step.{Step}
-use Rattle.verb_commands.specs.declared.next.Step.TheVariants.{GoOn}
-use Rattle.verb_commands.specs.declared.command.Command.{Command}
+use Rattle.data_rows.specs.declared.place_role.PlaceRole.TheVariants as place
+use Rattle.data_rows.specs.declared.role.Role.TheVariants as role
+use Rattle.cave_words.specs.declared.named.Named.TheVariants as name
+use Rattle.turn_scene.specs.Props.{BEAR_DEAD, BEAR_FREE, BEAR_WILD, CHAIN_LOCKED, CHAIN_UNLOCKED}
+use Rattle.turn_scene.specs.Props.{DOOR_OILED, GRATE_LOCKED, GRATE_UNLOCKED}
+use Rattle.turn_scene.specs.Rows.{Deed, Test, Thing, row_then, otherwise_then}
+use Rattle.turn_scene.specs.Effects.{say, bring, destroy, fix, loosen, set_prop, send}
+use Rattle.turn_scene.specs.Putting.{lay_down}
+use Rattle.turn_scene.specs.Panic.{panic}
+use Rattle.turn_scene.specs.Tests.{no, either, there_is, carried, near, is_here, prop, other_prop}
+use Rattle.turn_scene.specs.Tests.{cave_closing, away_from_home}
+use Rattle.cave_verbs.specs.Choice.{candidate, objects_meant, first}
+use Rattle.cave_verbs.specs.Rows.{VerbRow, row, keeps, stays}
+use Rattle.cave_verbs.specs.Effects.{default, ask_what}
+use Rattle.cave_verbs.specs.declared.verb.Verb.TheVariants as verb
+use Rattle.cave_verbs.specs.Tests.{x, is}
+use Rattle.cave_verbs.specs.Verbs.{is_verb}
+use Rattle.cave_verbs.specs.declared.next.VerbStep.{VerbStep}
+use Rattle.cave_verbs.specs.declared.next.VerbStep.TheVariants.{GoOn}
+use Rattle.cave_verbs.specs.declared.command.Command.{Command}
 use Rattle.cave_verbs.specs.Things.{bear, chain, clam, door, grate, keys, oyster, pearl, trident}
 
 abbrev pub is_opening : Test Command
@@ -31,7 +29,7 @@ abbrev pub is_locking : Test Command
 is_locking d = is_verb d.about.verb verb.Lock
 
 -- it goes on with the same verb and an object
-abbrev pub does_it_to : Thing Command → Deed Command → Step
+abbrev pub does_it_to : Thing Command → Deed Command → VerbStep
 does_it_to t d = GoOn d.about.verb (t d)
 
 -- what could be meant where the command names nothing, of which the first is: the grate or the door
@@ -54,10 +52,10 @@ bare_open_rows =
 unfoldable pub open_rows : List VerbRow
 open_rows =
     row (either (is name.Clam) (is name.Oyster) ∷ is_locking ∷ []) (say role.LockWhat ∷ [])
-    ∷ row (is name.Clam ∷ no (in_hand trident) ∷ []) (say role.ClamTool ∷ [])
-    ∷ row (is name.Oyster ∷ no (in_hand trident) ∷ []) (say role.OysterTool ∷ [])
-    ∷ row (is name.Clam ∷ in_hand x ∷ []) (say role.ClamHeld ∷ [])
-    ∷ row (is name.Oyster ∷ in_hand x ∷ []) (say role.OysterHeld ∷ [])
+    ∷ row (is name.Clam ∷ no (carried trident) ∷ []) (say role.ClamTool ∷ [])
+    ∷ row (is name.Oyster ∷ no (carried trident) ∷ []) (say role.OysterTool ∷ [])
+    ∷ row (is name.Clam ∷ carried x ∷ []) (say role.ClamHeld ∷ [])
+    ∷ row (is name.Oyster ∷ carried x ∷ []) (say role.OysterHeld ∷ [])
     ∷ row (is name.Clam ∷ [])
     (destroy x ∷ bring oyster ∷ send pearl place.Culdesac ∷ say role.Pearl ∷ [])
     ∷ row (is name.Oyster ∷ []) (say role.OysterOpen ∷ [])

@@ -2,25 +2,25 @@
 use Rattle.std.specs.Prelude.{ℕ, pos, ◌+ℤ◌, int_div, ◌==◌, ◌||◌, if◌then◌else◌, List, [], ◌∷◌}
 use Rattle.std.specs.Prelude.{unwrap_or}
 use Rattle.std.specs.Int.{int_rem_euclid}
-use Rattle.verb_commands.specs.data_rows.declared.role.Role.TheVariants as role
-use Rattle.verb_commands.specs.cave_data.CaveView.{CaveView}
-use Rattle.verb_commands.specs.cave_words.declared.named.Named.{Named}
-use Rattle.verb_commands.specs.cave_words.declared.named.Named.TheVariants as name
-use Rattle.verb_commands.specs.world_objects.Objects.{prop_of}
-use Rattle.verb_commands.specs.cave_world.declared.state.State.{State}
-use Rattle.verb_commands.specs.turn_scene.Scene.{is_called}
-use Rattle.verb_commands.specs.turn_things.Liquids.{liquid_of}
-use Rattle.verb_commands.specs.turn_things.Props.{BOTTLE_EMPTY, BOTTLE_OF_OIL, BOTTLE_OF_WATER}
-use Rattle.verb_commands.specs.turn_things.Props.{DOOR_OILED, DOOR_RUSTY, VASE_BROKEN}
-use Rattle.verb_commands.specs.turn_rules.Effects.{say, look, bring, fix, set_prop}
-use Rattle.verb_commands.specs.turn_rules.Rows.{Test, Effect, Thing, row_then, otherwise_then}
-use Rattle.verb_commands.specs.turn_rules.Tests.{no, either, both, there_is, in_hand, near}
-use Rattle.verb_commands.specs.turn_rules.Tests.{is_here, in_bottle, bottle_full, in_lake, lake}
-use Rattle.verb_commands.specs.Effects.{default, ask_what}
-use Rattle.verb_commands.specs.Rows.{VerbRow, row, keeps, again, does, stays}
-use Rattle.verb_commands.specs.declared.verb.Verb.TheVariants as verb
-use Rattle.verb_commands.specs.Tests.{x, no_object, is}
-use Rattle.verb_commands.specs.declared.command.Command.{Command}
+use Rattle.data_rows.specs.declared.role.Role.TheVariants as role
+use Rattle.cave_data.specs.CaveView.{CaveView}
+use Rattle.cave_words.specs.declared.named.Named.{Named}
+use Rattle.cave_words.specs.declared.named.Named.TheVariants as name
+use Rattle.world_objects.specs.Objects.{prop_of}
+use Rattle.cave_world.specs.declared.state.State.{State}
+use Rattle.turn_scene.specs.Scene.{is_called}
+use Rattle.turn_scene.specs.Liquids.{liquid_of}
+use Rattle.turn_scene.specs.Props.{BOTTLE_EMPTY, BOTTLE_OF_OIL, BOTTLE_OF_WATER, DOOR_OILED}
+use Rattle.turn_scene.specs.Props.{DOOR_RUSTY, VASE_BROKEN}
+use Rattle.turn_scene.specs.Effects.{say, look, bring, fix, set_prop}
+use Rattle.turn_scene.specs.Rows.{Test, Effect, Thing, row_then, otherwise_then}
+use Rattle.turn_scene.specs.Tests.{no, either, both, there_is, carried, near, is_here, in_bottle}
+use Rattle.turn_scene.specs.Tests.{bottle_full, in_lake, lake}
+use Rattle.cave_verbs.specs.Effects.{default, ask_what}
+use Rattle.cave_verbs.specs.Rows.{VerbRow, row, keeps, again, does, stays}
+use Rattle.cave_verbs.specs.declared.verb.Verb.TheVariants as verb
+use Rattle.cave_verbs.specs.Tests.{x, no_object, is}
+use Rattle.cave_verbs.specs.declared.command.Command.{Command}
 use Rattle.cave_verbs.specs.Things.{bottle, door, oil, plant, second_plant, water}
 
 -- what is poured: what is in the bottle, where that or nothing is named; 0 for a liquid without a
@@ -62,7 +62,7 @@ water_at_hand = both (in_bottle water) (near bottle)
 unfoldable pub pour_rows : List VerbRow
 pour_rows =
     row_then (either no_object (is name.Bottle) ∷ no bottle_full ∷ []) (ask_what ∷ []) keeps
-    ∷ row (no (in_hand what_is_poured) ∷ []) (default ∷ [])
+    ∷ row (no (carried what_is_poured) ∷ []) (default ∷ [])
     ∷ row (no (pours name.Water) ∷ no (pours name.Oil) ∷ []) (say role.CantPour ∷ [])
     ∷ row (is_here door ∷ pours name.Oil ∷ [])
     (empty_bottle ∷ set_prop door DOOR_OILED ∷ say role.DoorOiled ∷ [])
@@ -89,7 +89,7 @@ bare_fill_rows =
 unfoldable pub fill_rows : List VerbRow
 fill_rows =
     row (is name.Vase ∷ no lake ∷ []) (say role.VaseDry ∷ [])
-    ∷ row (is name.Vase ∷ no (in_hand x) ∷ []) (say role.NotHeld ∷ [])
+    ∷ row (is name.Vase ∷ no (carried x) ∷ []) (say role.NotHeld ∷ [])
     ∷ row (is name.Vase ∷ []) (say role.VaseBreak ∷ set_prop x VASE_BROKEN ∷ fix x ∷ bring x ∷ [])
     ∷ row (no (is name.Bottle) ∷ []) (default ∷ [])
     ∷ row (bottle_full ∷ []) (say role.BottleFull ∷ [])

@@ -1,13 +1,13 @@
 -- How often a verb can go on with another verb or object: each time the rank falls, so each chain
 -- ends.
 use Rattle.std.specs.Prelude.{ℕ, suc, ◌==◌, ◌||◌, if◌then◌else◌}
-use Rattle.verb_commands.specs.cave_data.CaveView.{CaveView}
-use Rattle.verb_commands.specs.cave_words.declared.named.Named.TheVariants as name
-use Rattle.verb_commands.specs.turn_scene.Scene.{is_called}
-use Rattle.verb_commands.specs.declared.next.Step.{Step}
-use Rattle.verb_commands.specs.declared.next.Step.TheVariants.{Done, GoOn}
-use Rattle.verb_commands.specs.declared.verb.Verb.{Verb}
-use Rattle.verb_commands.specs.declared.verb.Verb.TheVariants as verb
+use Rattle.cave_data.specs.CaveView.{CaveView}
+use Rattle.cave_words.specs.declared.named.Named.TheVariants as name
+use Rattle.turn_scene.specs.Scene.{is_called}
+use Rattle.cave_verbs.specs.declared.next.VerbStep.{VerbStep}
+use Rattle.cave_verbs.specs.declared.next.VerbStep.TheVariants.{Done, GoOn}
+use Rattle.cave_verbs.specs.declared.verb.Verb.{Verb}
+use Rattle.cave_verbs.specs.declared.verb.Verb.TheVariants as verb
 
 -- TAKE goes on from no object to one, and from a liquid to the bottle, or to FILL it
 abbrev pub take_rank : CaveView → ℕ → ℕ
@@ -35,6 +35,6 @@ rank cave verb.Feed x = 0
 rank cave _ x = bare_rank x
 
 -- a verb that goes on is above what it goes on with
-abbrev pub rank_of : CaveView → Step → ℕ
+abbrev pub rank_of : CaveView → VerbStep → ℕ
 rank_of cave (Done next) = 0
 rank_of cave (GoOn v x) = suc (rank cave v x)

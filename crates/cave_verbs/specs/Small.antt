@@ -1,14 +1,14 @@
 -- Verbs of few rules, and verbs that have none of their own.
 use Rattle.std.specs.Prelude.{true, List, [], ◌∷◌}
-use Rattle.verb_commands.specs.data_rows.declared.role.Role.TheVariants as role
-use Rattle.verb_commands.specs.cave_world.declared.ending.Question.TheVariants as question
-use Rattle.verb_commands.specs.cave_world.declared.state.State.{State}
-use Rattle.verb_commands.specs.turn_things.Effects.{with_talk}
-use Rattle.verb_commands.specs.turn_rules.Effects.{change, say}
-use Rattle.verb_commands.specs.turn_rules.Rows.{otherwise_then}
-use Rattle.verb_commands.specs.turn_rules.Tests.{MAX_DETAILS}
-use Rattle.verb_commands.specs.Effects.{default, ask_what}
-use Rattle.verb_commands.specs.Rows.{VerbRow, keeps, poses, stays}
+use Rattle.data_rows.specs.declared.role.Role.TheVariants as role
+use Rattle.cave_world.specs.declared.ending.Question.TheVariants as question
+use Rattle.cave_world.specs.declared.state.State.{State}
+use Rattle.turn_scene.specs.Parts.{with_talk}
+use Rattle.turn_scene.specs.Effects.{change, say}
+use Rattle.turn_scene.specs.Rows.{otherwise_then}
+use Rattle.turn_scene.specs.Tests.{MAX_DETAILS}
+use Rattle.cave_verbs.specs.Effects.{default, ask_what}
+use Rattle.cave_verbs.specs.Rows.{VerbRow, keeps, poses, stays}
 
 -- a verb that needs an object and has none
 unfoldable pub bare_rows : List VerbRow

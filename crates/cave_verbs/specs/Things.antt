@@ -1,8 +1,8 @@
 -- The objects that rows of verbs name.
-use Rattle.verb_commands.specs.cave_words.declared.named.Named.TheVariants as name
-use Rattle.verb_commands.specs.turn_rules.Rows.{Thing}
-use Rattle.verb_commands.specs.turn_rules.Tests.{the}
-use Rattle.verb_commands.specs.declared.command.Command.{Command}
+use Rattle.cave_words.specs.declared.named.Named.TheVariants as name
+use Rattle.turn_scene.specs.Rows.{Thing}
+use Rattle.turn_scene.specs.Tests.{the}
+use Rattle.cave_verbs.specs.declared.command.Command.{Command}
 
 abbrev pub axe : Thing Command
 axe = the name.Axe

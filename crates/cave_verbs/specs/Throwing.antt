@@ -2,27 +2,24 @@
 use Rattle.std.specs.Prelude.{ℕ, ◌+◌, false, ◌==◌, min, List, [], ◌∷◌, take, Option, Some, None}
 use Rattle.std.specs.Prelude.{slice_index_or, slice_set}
 use Rattle.std.specs.List.{position}
-use Rattle.verb_commands.specs.data_rows.declared.role.Role.TheVariants as role
-use Rattle.verb_commands.specs.cave_words.declared.named.Named.TheVariants as name
-use Rattle.verb_commands.specs.cave_world.Limits.{MAX_KILLS, PIRATE}
-use Rattle.verb_commands.specs.cave_world.State.{no_dwarf}
-use Rattle.verb_commands.specs.cave_world.declared.dwarves.Dwarf.{Dwarf}
-use Rattle.verb_commands.specs.cave_world.declared.state.State.{State}
-use Rattle.verb_commands.specs.turn_things.Reach.{is_dwarf_at}
-use Rattle.verb_commands.specs.turn_things.Props.{AXE_BY_BEAR, BEAR_WILD, DRAGON_ALIVE}
-use Rattle.verb_commands.specs.turn_things.Effects.{with_dwarves}
-use Rattle.verb_commands.specs.turn_rules.Rows.{Test, Effect, row_then, row_by_draw, always}
-use Rattle.verb_commands.specs.turn_rules.Rows.{otherwise_then}
-use Rattle.verb_commands.specs.turn_rules.Effects.{in_state, say, bring, destroy, fix, juggle}
-use Rattle.verb_commands.specs.turn_rules.Effects.{set_prop}
-use Rattle.verb_commands.specs.turn_rules.Troll.{troll_goes}
-use Rattle.verb_commands.specs.turn_rules.Tests.{no, in_hand, near, is_here, prop, dwarf}
-use Rattle.verb_commands.specs.turn_rules.Tests.{treasure, one_in}
-use Rattle.verb_commands.specs.Rows.{VerbRow, row, again, does}
-use Rattle.verb_commands.specs.Effects.{default}
-use Rattle.verb_commands.specs.declared.verb.Verb.TheVariants as verb
-use Rattle.verb_commands.specs.Tests.{x, is}
-use Rattle.verb_commands.specs.declared.command.Command.{Command}
+use Rattle.data_rows.specs.declared.role.Role.TheVariants as role
+use Rattle.cave_words.specs.declared.named.Named.TheVariants as name
+use Rattle.cave_world.specs.Limits.{MAX_KILLS, PIRATE}
+use Rattle.cave_world.specs.State.{no_dwarf}
+use Rattle.cave_world.specs.declared.dwarves.Dwarf.{Dwarf}
+use Rattle.cave_world.specs.declared.state.State.{State}
+use Rattle.turn_scene.specs.Reach.{is_dwarf_at}
+use Rattle.turn_scene.specs.Props.{AXE_BY_BEAR, BEAR_WILD, DRAGON_ALIVE}
+use Rattle.turn_scene.specs.Parts.{with_dwarves}
+use Rattle.turn_scene.specs.Rows.{Test, Effect, row_then, row_by_draw, always, otherwise_then}
+use Rattle.turn_scene.specs.Effects.{in_state, say, bring, destroy, fix, juggle, set_prop}
+use Rattle.turn_scene.specs.Troll.{troll_goes}
+use Rattle.turn_scene.specs.Tests.{no, carried, near, is_here, prop, dwarf, treasure, one_in}
+use Rattle.cave_verbs.specs.Rows.{VerbRow, row, again, does}
+use Rattle.cave_verbs.specs.Effects.{default}
+use Rattle.cave_verbs.specs.declared.verb.Verb.TheVariants as verb
+use Rattle.cave_verbs.specs.Tests.{x, is}
+use Rattle.cave_verbs.specs.declared.command.Command.{Command}
 use Rattle.cave_verbs.specs.Things.{bear, dragon, second_rod, troll}
 
 abbrev pub killed_dwarf : Dwarf → Dwarf
@@ -53,9 +50,9 @@ is_first_kill d = d.scene.state.dwarves.kills == 0
 -- an axe that is thrown at a dwarf misses in one of three cases
 unfoldable pub throw_rows : List VerbRow
 throw_rows =
-    row_then (is name.Rod ∷ no (in_hand x) ∷ in_hand second_rod ∷ [])
+    row_then (is name.Rod ∷ no (carried x) ∷ carried second_rod ∷ [])
     [] (does verb.Throw second_rod)
-    ∷ row (no (in_hand x) ∷ []) (default ∷ [])
+    ∷ row (no (carried x) ∷ []) (default ∷ [])
     ∷ row (treasure x ∷ is_here troll ∷ []) (destroy x ∷ troll_goes ∷ say role.TrollPaid ∷ [])
     ∷ row_then (is name.Food ∷ near bear ∷ []) [] (does verb.Feed bear)
     ∷ row_then (no (is name.Axe) ∷ []) [] (does verb.Drop x)

@@ -1,15 +1,15 @@
 -- WAVE and RUB.
 use Rattle.std.specs.Prelude.{pos, ◌-ℤ◌, List, [], ◌∷◌}
-use Rattle.verb_commands.specs.data_rows.declared.role.Role.TheVariants as role
-use Rattle.verb_commands.specs.cave_words.declared.named.Named.TheVariants as name
-use Rattle.verb_commands.specs.world_objects.Objects.{prop_of}
-use Rattle.verb_commands.specs.turn_rules.Effects.{say, look, set_prop}
-use Rattle.verb_commands.specs.turn_rules.Rows.{Effect, Thing, otherwise_then}
-use Rattle.verb_commands.specs.turn_rules.Tests.{no, both, in_hand, is_here, cave_closing}
-use Rattle.verb_commands.specs.Effects.{default}
-use Rattle.verb_commands.specs.Rows.{VerbRow, row, stays}
-use Rattle.verb_commands.specs.Tests.{x, is}
-use Rattle.verb_commands.specs.declared.command.Command.{Command}
+use Rattle.data_rows.specs.declared.role.Role.TheVariants as role
+use Rattle.cave_words.specs.declared.named.Named.TheVariants as name
+use Rattle.world_objects.specs.Objects.{prop_of}
+use Rattle.turn_scene.specs.Effects.{say, look, set_prop}
+use Rattle.turn_scene.specs.Rows.{Effect, Thing, otherwise_then}
+use Rattle.turn_scene.specs.Tests.{no, both, carried, is_here, cave_closing}
+use Rattle.cave_verbs.specs.Effects.{default}
+use Rattle.cave_verbs.specs.Rows.{VerbRow, row, stays}
+use Rattle.cave_verbs.specs.Tests.{x, is}
+use Rattle.cave_verbs.specs.declared.command.Command.{Command}
 use Rattle.cave_verbs.specs.Things.{fissure, rod, second_rod}
 
 -- a prop becomes 1 less what it was
@@ -22,9 +22,9 @@ look_at_flip t d = look t (pos 2 -ℤ prop_of d.scene.state.objects (t d)) d
 
 unfoldable pub wave_rows : List VerbRow
 wave_rows =
-    row (no (in_hand x) ∷ no (both (is name.Rod) (in_hand second_rod)) ∷ [])
+    row (no (carried x) ∷ no (both (is name.Rod) (carried second_rod)) ∷ [])
     (say role.NotHeld ∷ [])
-    ∷ row (is name.Rod ∷ is_here fissure ∷ in_hand rod ∷ no cave_closing ∷ [])
+    ∷ row (is name.Rod ∷ is_here fissure ∷ carried rod ∷ no cave_closing ∷ [])
     (flip fissure ∷ look_at_flip fissure ∷ [])
     ∷ otherwise_then (default ∷ []) stays
 

@@ -1,30 +1,35 @@
 ghost use Rattle.std.specs.Prelude.{◌≡◌, ◌+◌, ◌<◌, ◌≤◌};
-ghost use Rattle.verb_commands.specs.turn_scene.Bounds.{GoesOnSaying, HasRoom, parts_of_goings_on};
-ghost use Rattle.verb_commands.specs.turn_scene.Bounds.{parts_of_inventory, parts_of_verb};
-ghost use Rattle.verb_commands.specs.turn_scene.Scene.{scene_of, cave_of};
-ghost use Rattle.verb_commands.specs.declared.next.Step.TheVariants.{Done};
-ghost use Rattle.verb_commands.specs.Rows.{ActsBy};
-ghost use Rattle.verb_commands.specs.turn_rules.Rows.{act_of, deed};
-ghost use Rattle.verb_commands.specs.Room.{parts_by};
+ghost use Rattle.turn_scene.specs.Bounds.{GoesOnSaying, HasRoom, parts_of_goings_on};
+ghost use Rattle.turn_scene.specs.Bounds.{parts_of_inventory, parts_of_verb};
+ghost use Rattle.turn_scene.specs.Scene.{scene_of, cave_of};
+ghost use Rattle.cave_verbs.specs.declared.next.VerbStep.TheVariants.{Done};
+ghost use Rattle.cave_verbs.specs.Rows.{ActsBy};
+ghost use Rattle.turn_scene.specs.Rows.{act_of, deed};
+ghost use Rattle.cave_verbs.specs.Room.{parts_by};
 ghost use Rattle.cave_verbs.specs.Acting.{act, act_bare, act_on, act_once, act_within};
 ghost use Rattle.cave_verbs.specs.Ranks.{rank, rank_of};
 
 use crate::blasting::blast;
 use crate::breaking::{break_object, wake};
+use crate::command::Command;
 use crate::dropping::drop_object;
 use crate::feeding::{eat, eat_what_is_here, feed};
 use crate::finding::{find, inventory};
 use crate::killing::{kill, kill_what_is_here};
 use crate::light::{turn_off, turn_on};
 use crate::magic::foo;
+use crate::next::{Next, VerbStep};
 use crate::opening::{open, open_what_is_here};
 use crate::pouring::{drink, fill, fill_what, pour};
 use crate::reading::{read, read_what_is_here};
 use crate::small::brief;
 use crate::taking::{take, take_what_is_here};
 use crate::throwing::throw;
+use crate::verb::Verb;
 use crate::waving::{rub, wave};
-use verb_commands::{Command, Next, Question, Role, RowNotes, Rules, Scene, Step, Verb};
+use cave_world::{Question, RowNotes};
+use data_rows::Role;
+use turn_scene::{Rules, Scene};
 
 /// Does what is commanded, and returns what follows.
 #[tactic(auto, using(crate::proofs::Falls::few_ranks), unfolding(crate::specs::Acting::act))]
@@ -40,7 +45,7 @@ pub fn act<N: RowNotes>(rules: &Rules<'_>, command: Command, scene: &mut Scene<'
 
 /// Does a verb that is done to no object.
 #[tactic(auto, unfolding(crate::specs::Acting::act_bare, crate::specs::Small::bare_rows, crate::specs::Small::nothing_rows, crate::specs::Small::bare_quit_rows, crate::specs::Small::bare_score_rows))]
-fn act_bare<N: RowNotes>(rules: &Rules<'_>, command: Command, scene: &mut Scene<'_, N>) -> Step
+fn act_bare<N: RowNotes>(rules: &Rules<'_>, command: Command, scene: &mut Scene<'_, N>) -> VerbStep
     requires bare { command.object ≡ 0 }
     requires room { HasRoom parts_of_inventory scene.old }
     ensures rules { ActsBy N.rows act_bare rules.now command scene.old scene.new result }
@@ -50,20 +55,20 @@ fn act_bare<N: RowNotes>(rules: &Rules<'_>, command: Command, scene: &mut Scene<
     match command.verb {
         Verb::Take => take_what_is_here(rules, command, scene),
         Verb::Open | Verb::Lock => open_what_is_here(rules, command, scene),
-        Verb::Nothing => Step::Done(Next::say(Role::Ok, scene)),
-        Verb::On => Step::Done(turn_on(rules, command, scene)),
-        Verb::Off => Step::Done(turn_off(rules, command, scene)),
+        Verb::Nothing => VerbStep::Done(Next::say(Role::Ok, scene)),
+        Verb::On => VerbStep::Done(turn_on(rules, command, scene)),
+        Verb::Off => VerbStep::Done(turn_off(rules, command, scene)),
         Verb::Kill => kill_what_is_here(rules, command, scene),
-        Verb::Pour => Step::Done(pour(rules, command, scene)),
+        Verb::Pour => VerbStep::Done(pour(rules, command, scene)),
         Verb::Eat => eat_what_is_here(rules, command, scene),
-        Verb::Drink => Step::Done(drink(rules, command, scene)),
-        Verb::Quit => Step::Done(Next::Ask(Question::Quit)),
-        Verb::Inventory => Step::Done(inventory(rules, command, scene)),
+        Verb::Drink => VerbStep::Done(drink(rules, command, scene)),
+        Verb::Quit => VerbStep::Done(Next::Ask(Question::Quit)),
+        Verb::Inventory => VerbStep::Done(inventory(rules, command, scene)),
         Verb::Fill => fill_what(rules, command, scene),
-        Verb::Blast => Step::Done(blast(rules, command, scene)),
-        Verb::Score => Step::Done(Next::Ask(Question::ScoreQuit)),
-        Verb::Foo => Step::Done(foo(rules, command, scene)),
-        Verb::Brief => Step::Done(brief(rules, command, scene)),
+        Verb::Blast => VerbStep::Done(blast(rules, command, scene)),
+        Verb::Score => VerbStep::Done(Next::Ask(Question::ScoreQuit)),
+        Verb::Foo => VerbStep::Done(foo(rules, command, scene)),
+        Verb::Brief => VerbStep::Done(brief(rules, command, scene)),
         Verb::Read => read_what_is_here(rules, command, scene),
         Verb::Drop
         | Verb::Say
@@ -74,13 +79,13 @@ fn act_bare<N: RowNotes>(rules: &Rules<'_>, command: Command, scene: &mut Scene<
         | Verb::Find
         | Verb::Feed
         | Verb::Break
-        | Verb::Wake => Step::Done(command.ask_what(rules, scene)),
+        | Verb::Wake => VerbStep::Done(command.ask_what(rules, scene)),
     }
 }
 
 /// Does a verb that is done to an object.
 #[tactic(auto, unfolding(crate::specs::Acting::act_on, crate::specs::Small::nothing_rows, crate::specs::Small::other_rows))]
-fn act_on<N: RowNotes>(rules: &Rules<'_>, command: Command, scene: &mut Scene<'_, N>) -> Step
+fn act_on<N: RowNotes>(rules: &Rules<'_>, command: Command, scene: &mut Scene<'_, N>) -> VerbStep
     requires object { 0 < command.object }
     requires room { HasRoom parts_of_inventory scene.old }
     ensures rules { ActsBy N.rows act_on rules.now command scene.old scene.new result }
@@ -90,32 +95,32 @@ fn act_on<N: RowNotes>(rules: &Rules<'_>, command: Command, scene: &mut Scene<'_
     match command.verb {
         Verb::Take => take(rules, command, scene),
         Verb::Drop => drop_object(rules, command, scene),
-        Verb::Open | Verb::Lock => Step::Done(open(rules, command, scene)),
-        Verb::Nothing => Step::Done(Next::say(Role::Ok, scene)),
-        Verb::On => Step::Done(turn_on(rules, command, scene)),
-        Verb::Off => Step::Done(turn_off(rules, command, scene)),
-        Verb::Wave => Step::Done(wave(rules, command, scene)),
-        Verb::Kill => Step::Done(kill(rules, command, scene)),
-        Verb::Pour => Step::Done(pour(rules, command, scene)),
-        Verb::Eat => Step::Done(eat(rules, command, scene)),
-        Verb::Drink => Step::Done(drink(rules, command, scene)),
-        Verb::Rub => Step::Done(rub(rules, command, scene)),
+        Verb::Open | Verb::Lock => VerbStep::Done(open(rules, command, scene)),
+        Verb::Nothing => VerbStep::Done(Next::say(Role::Ok, scene)),
+        Verb::On => VerbStep::Done(turn_on(rules, command, scene)),
+        Verb::Off => VerbStep::Done(turn_off(rules, command, scene)),
+        Verb::Wave => VerbStep::Done(wave(rules, command, scene)),
+        Verb::Kill => VerbStep::Done(kill(rules, command, scene)),
+        Verb::Pour => VerbStep::Done(pour(rules, command, scene)),
+        Verb::Eat => VerbStep::Done(eat(rules, command, scene)),
+        Verb::Drink => VerbStep::Done(drink(rules, command, scene)),
+        Verb::Rub => VerbStep::Done(rub(rules, command, scene)),
         Verb::Throw => throw(rules, command, scene),
-        Verb::Find | Verb::Inventory => Step::Done(find(rules, command, scene)),
-        Verb::Feed => Step::Done(feed(rules, command, scene)),
-        Verb::Fill => Step::Done(fill(rules, command, scene)),
-        Verb::Blast => Step::Done(blast(rules, command, scene)),
-        Verb::Read => Step::Done(read(rules, command, scene)),
-        Verb::Break => Step::Done(break_object(rules, command, scene)),
-        Verb::Wake => Step::Done(wake(rules, command, scene)),
+        Verb::Find | Verb::Inventory => VerbStep::Done(find(rules, command, scene)),
+        Verb::Feed => VerbStep::Done(feed(rules, command, scene)),
+        Verb::Fill => VerbStep::Done(fill(rules, command, scene)),
+        Verb::Blast => VerbStep::Done(blast(rules, command, scene)),
+        Verb::Read => VerbStep::Done(read(rules, command, scene)),
+        Verb::Break => VerbStep::Done(break_object(rules, command, scene)),
+        Verb::Wake => VerbStep::Done(wake(rules, command, scene)),
         Verb::Say | Verb::Calm | Verb::Quit | Verb::Score | Verb::Foo | Verb::Brief => {
-            Step::Done(command.say_default(rules, scene))
+            VerbStep::Done(command.say_default(rules, scene))
         }
     }
 }
 
 /// Does a verb by its own rules.
-fn act_once<N: RowNotes>(rules: &Rules<'_>, command: Command, scene: &mut Scene<'_, N>) -> Step
+fn act_once<N: RowNotes>(rules: &Rules<'_>, command: Command, scene: &mut Scene<'_, N>) -> VerbStep
     requires room { HasRoom parts_of_inventory scene.old }
     ensures rules { ActsBy N.rows act_once rules.now command scene.old scene.new result }
     ensures ranks { rank_of (cave_of rules.now) result
@@ -149,8 +154,8 @@ fn act_within<N: RowNotes>(
         ..
     } = command;
     match act_once(rules, command, scene) {
-        Step::Done(next) => next,
-        Step::GoOn(verb, object) => {
+        VerbStep::Done(next) => next,
+        VerbStep::GoOn(verb, object) => {
             let command = Command {
                 verb,
                 object,

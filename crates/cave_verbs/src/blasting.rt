@@ -1,13 +1,16 @@
-ghost use Rattle.verb_commands.specs.turn_scene.Bounds.{HasRoom};
-ghost use Rattle.verb_commands.specs.Rows.{DoneByRows};
-ghost use Rattle.verb_commands.specs.turn_rules.Rows.{noted};
-ghost use Rattle.verb_commands.specs.rule_rows.declared.tables.Table.TheVariants as table;
+ghost use Rattle.turn_scene.specs.Bounds.{HasRoom};
+ghost use Rattle.cave_verbs.specs.Rows.{DoneByRows};
+ghost use Rattle.turn_scene.specs.Rows.{noted};
+ghost use Rattle.cave_world.specs.declared.tables.Table.TheVariants as table;
 ghost use Rattle.cave_verbs.specs.Blasting.{blast_rows};
 
-use verb_commands::{
-    Command, Ending, Named, Next, PlaceRole, Role, RowNotes, Rules, Scene, Table, UNSEEN,
-    has_prop_up_to, is_near, is_place, place_named,
-};
+use crate::command::Command;
+use crate::next::Next;
+use cave_words::Named;
+use cave_world::{Ending, RowNotes, Table};
+use data_rows::{PlaceRole, Role};
+use turn_scene::props::UNSEEN;
+use turn_scene::{Rules, Scene, has_prop_up_to, is_near, is_place, place_named};
 
 /// BLAST, with an object or without one.
 #[tactic(auto, unfolding(crate::specs::Blasting::blast_rows))]

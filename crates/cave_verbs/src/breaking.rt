@@ -1,13 +1,17 @@
-ghost use Rattle.verb_commands.specs.turn_scene.Bounds.{HasRoom, parts_of_row};
-ghost use Rattle.verb_commands.specs.Rows.{DoneByRows};
-ghost use Rattle.verb_commands.specs.turn_rules.Rows.{noted};
-ghost use Rattle.verb_commands.specs.rule_rows.declared.tables.Table.TheVariants as table;
+ghost use Rattle.turn_scene.specs.Bounds.{HasRoom, parts_of_row};
+ghost use Rattle.cave_verbs.specs.Rows.{DoneByRows};
+ghost use Rattle.turn_scene.specs.Rows.{noted};
+ghost use Rattle.cave_world.specs.declared.tables.Table.TheVariants as table;
 ghost use Rattle.cave_verbs.specs.Breaking.{break_rows, wake_rows};
 
-use verb_commands::{
-    Anchor, Command, Named, Next, Prop, Role, RowNotes, Rules, Scene, Table, VASE_BROKEN,
-    VASE_WHOLE, has_prop, lay_down,
-};
+use crate::command::Command;
+use crate::next::Next;
+use cave_words::Named;
+use cave_world::{RowNotes, Table};
+use data_rows::Role;
+use turn_scene::props::{VASE_BROKEN, VASE_WHOLE};
+use turn_scene::{Rules, Scene, has_prop, lay_down};
+use world_objects::{Anchor, Prop};
 
 /// BREAK an object.
 #[tactic(auto, unfolding(crate::specs::Breaking::break_rows))]

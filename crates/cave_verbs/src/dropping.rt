@@ -1,21 +1,30 @@
 ghost use Rattle.std.specs.Prelude.{◌≤◌, IsTrue};
-ghost use Rattle.verb_commands.specs.cave_words.declared.named.Named.TheVariants as name;
-ghost use Rattle.verb_commands.specs.turn_scene.Scene.{is_called, cave_of, thing};
-ghost use Rattle.verb_commands.specs.turn_things.Homes.{is_home_elsewhere};
-ghost use Rattle.verb_commands.specs.turn_things.Reach.{is_in_hand, is_near};
-ghost use Rattle.verb_commands.specs.turn_scene.Bounds.{HasRoom, parts_of_row};
-ghost use Rattle.verb_commands.specs.Rows.{ByRows, DoneByRows, noted_after};
-ghost use Rattle.verb_commands.specs.turn_rules.Rows.{noted};
-ghost use Rattle.verb_commands.specs.rule_rows.declared.tables.Table.TheVariants as table;
+ghost use Rattle.cave_words.specs.declared.named.Named.TheVariants as name;
+ghost use Rattle.turn_scene.specs.Scene.{is_called, cave_of, thing};
+ghost use Rattle.turn_scene.specs.Homes.{is_home_elsewhere};
+ghost use Rattle.turn_scene.specs.Reach.{is_carried, is_near};
+ghost use Rattle.turn_scene.specs.Bounds.{HasRoom, parts_of_row};
+ghost use Rattle.cave_verbs.specs.Rows.{ByRows, DoneByRows, noted_after};
+ghost use Rattle.turn_scene.specs.Rows.{noted};
+ghost use Rattle.cave_world.specs.declared.tables.Table.TheVariants as table;
 ghost use Rattle.cave_verbs.specs.Ranks.{rank_of, drop_rank};
 ghost use Rattle.cave_verbs.specs.Dropping.{drop_rows};
 
-use verb_commands::{
-    Anchor, BATTERIES_FRESH, BIRD_FREE, Command, DRAGON_ALIVE, Named, Next, Prop, Role, RowNotes,
-    Rules, SNAKE_GONE, Scene, Step, TROLL_FLED, Table, VASE_BREAKING, VASE_BROKEN, VASE_ON_PILLOW,
-    VASE_WHOLE, Verb, has_prop, is_home_elsewhere, is_in_hand, is_near, lose_to_snake, put_down,
+use crate::command::Command;
+use crate::next::{Next, VerbStep};
+use crate::verb::Verb;
+use cave_words::Named;
+use cave_world::{RowNotes, Table};
+use data_rows::Role;
+use turn_scene::props::{
+    BATTERIES_FRESH, BIRD_FREE, DRAGON_ALIVE, SNAKE_GONE, TROLL_FLED, VASE_BREAKING, VASE_BROKEN,
+    VASE_ON_PILLOW, VASE_WHOLE,
+};
+use turn_scene::{
+    Rules, Scene, has_prop, is_carried, is_home_elsewhere, is_near, lose_to_snake, put_down,
     remove_troll,
 };
+use world_objects::{Anchor, Prop};
 
 /// The bird drives the snake away; in the closed cave it wakes the dwarves.
 #[tactic(auto, unfolding(crate::specs::Dropping::drop_rows))]
@@ -25,7 +34,7 @@ fn drop_bird_by_snake<N: RowNotes>(
     scene: &mut Scene<'_, N>,
 ) -> Next
     requires room { HasRoom parts_of_row scene.old }
-    requires held { IsTrue (is_in_hand (cave_of rules.now) scene.old.state.now command.object) }
+    requires held { IsTrue (is_carried (cave_of rules.now) scene.old.state.now command.object) }
     requires bird { IsTrue (is_called (cave_of rules.now) command.object name.Bird) }
     requires snake { let cave = cave_of rules.now in
         IsTrue (is_near cave scene.old.state.now (thing cave name.Snake)) }
@@ -77,7 +86,7 @@ pub fn drop_object<N: RowNotes>(
     rules: &Rules<'_>,
     command: Command,
     scene: &mut Scene<'_, N>,
-) -> Step
+) -> VerbStep
     requires { HasRoom parts_of_row scene.old }
     ensures row { ByRows N.rows (noted table.Drop drop_rows) rules.now command scene.old scene.new
         result }
@@ -85,17 +94,17 @@ pub fn drop_object<N: RowNotes>(
         rank_of cave result ≤ drop_rank cave command.object }
 {
     let x = command.object;
-    if !is_in_hand(rules, scene.state, x) {
+    if !is_carried(rules, scene.state, x) {
         let second_rod = rules.thing(Named::SecondRod);
-        if rules.is(x, Named::Rod) && is_in_hand(rules, scene.state, second_rod) {
+        if rules.is(x, Named::Rod) && is_carried(rules, scene.state, second_rod) {
             scene.note(Table::Drop, 1);
-            return Step::GoOn(Verb::Drop, second_rod);
+            return VerbStep::GoOn(Verb::Drop, second_rod);
         }
         scene.note(Table::Drop, 2);
-        return Step::Done(command.say_default(rules, scene));
+        return VerbStep::Done(command.say_default(rules, scene));
     }
     if rules.is(x, Named::Bird) && is_near(rules, scene.state, rules.thing(Named::Snake)) {
-        return Step::Done(drop_bird_by_snake(rules, command, scene));
+        return VerbStep::Done(drop_bird_by_snake(rules, command, scene));
     }
     if rules.is(x, Named::Coins) && is_near(rules, scene.state, rules.thing(Named::Vending)) {
         scene.note(Table::Drop, 5);
@@ -104,7 +113,7 @@ pub fn drop_object<N: RowNotes>(
         let here = scene.state.trail.here;
         scene.state.move_to(batteries, here);
         scene.look(batteries, BATTERIES_FRESH);
-        return Step::Done(Next::Stay);
+        return VerbStep::Done(Next::Stay);
     }
     let dragon = rules.thing(Named::Dragon);
     if rules.is(x, Named::Bird)
@@ -116,7 +125,7 @@ pub fn drop_object<N: RowNotes>(
         scene.state.destroy(x);
         scene.state.objects.set_prop(x, Prop::new(BIRD_FREE));
         lose_to_snake(rules, scene);
-        return Step::Done(Next::Stay);
+        return VerbStep::Done(Next::Stay);
     }
     let troll = rules.thing(Named::Troll);
     if rules.is(x, Named::Bear) && scene.state.at(troll) {
@@ -125,14 +134,14 @@ pub fn drop_object<N: RowNotes>(
         remove_troll(rules, scene);
         scene.state.objects.set_prop(troll, Prop::new(TROLL_FLED));
         put_down(rules, x, scene);
-        return Step::Done(Next::Stay);
+        return VerbStep::Done(Next::Stay);
     }
     let pillow = rules.thing(Named::Pillow);
     if rules.is(x, Named::Vase) && is_home_elsewhere(rules, scene.state, pillow) {
-        return Step::Done(drop_vase(rules, command, scene));
+        return VerbStep::Done(drop_vase(rules, command, scene));
     }
     scene.note(Table::Drop, 10);
     scene.say(Role::Ok);
     put_down(rules, x, scene);
-    Step::Done(Next::Stay)
+    VerbStep::Done(Next::Stay)
 }

@@ -1,18 +1,22 @@
 ghost use Rattle.std.specs.Prelude.{◌≤◌, IsTrue};
-ghost use Rattle.verb_commands.specs.cave_words.declared.named.Named.TheVariants as name;
-ghost use Rattle.verb_commands.specs.turn_scene.Bounds.{HasRoom, parts_of_row};
-ghost use Rattle.verb_commands.specs.Rows.{ByRows, DoneByRows, noted_after};
-ghost use Rattle.verb_commands.specs.turn_scene.Scene.{is_called, cave_of};
-ghost use Rattle.verb_commands.specs.turn_rules.Rows.{noted};
-ghost use Rattle.verb_commands.specs.rule_rows.declared.tables.Table.TheVariants as table;
+ghost use Rattle.cave_words.specs.declared.named.Named.TheVariants as name;
+ghost use Rattle.turn_scene.specs.Bounds.{HasRoom, parts_of_row};
+ghost use Rattle.cave_verbs.specs.Rows.{ByRows, DoneByRows, noted_after};
+ghost use Rattle.turn_scene.specs.Scene.{is_called, cave_of};
+ghost use Rattle.turn_scene.specs.Rows.{noted};
+ghost use Rattle.cave_world.specs.declared.tables.Table.TheVariants as table;
 ghost use Rattle.cave_verbs.specs.Ranks.{rank_of};
 ghost use Rattle.cave_verbs.specs.Feeding.{feed_rows, bare_eat_rows, eat_rows};
 
-use verb_commands::{
-    AXE_FREE, Anchor, BEAR_DEAD, BEAR_FED, BEAR_WILD, BIRD_FREE, Command, DRAGON_ALIVE, Named,
-    Next, Prop, Role, RowNotes, Rules, Scene, Step, Table, Verb, has_other_prop, has_prop, is_near,
-    lose_one,
-};
+use crate::command::Command;
+use crate::next::{Next, VerbStep};
+use crate::verb::Verb;
+use cave_words::Named;
+use cave_world::{RowNotes, Table};
+use data_rows::Role;
+use turn_scene::props::{AXE_FREE, BEAR_DEAD, BEAR_FED, BEAR_WILD, BIRD_FREE, DRAGON_ALIVE};
+use turn_scene::{Rules, Scene, has_other_prop, has_prop, is_near, lose_one};
+use world_objects::{Anchor, Prop};
 
 /// Living beings that are no food.
 const LIVING: [Named; 8] = [
@@ -104,7 +108,7 @@ pub fn eat_what_is_here<N: RowNotes>(
     rules: &Rules<'_>,
     command: Command,
     scene: &mut Scene<'_, N>,
-) -> Step
+) -> VerbStep
     requires { HasRoom parts_of_row scene.old }
     ensures row { ByRows N.rows (noted table.BareEat bare_eat_rows) rules.now command scene.old
         scene.new result }
@@ -113,10 +117,10 @@ pub fn eat_what_is_here<N: RowNotes>(
     let food = rules.thing(Named::Food);
     if is_near(rules, scene.state, food) {
         scene.note(Table::BareEat, 1);
-        return Step::GoOn(Verb::Eat, food);
+        return VerbStep::GoOn(Verb::Eat, food);
     }
     scene.note(Table::BareEat, 2);
-    Step::Done(command.ask_what(rules, scene))
+    VerbStep::Done(command.ask_what(rules, scene))
 }
 
 /// EAT an object.

@@ -1,18 +1,22 @@
 ghost use Rattle.std.specs.Prelude.{◌≡◌, ◌+◌, [], ◌∷◌, length};
-ghost use Rattle.verb_commands.specs.data_numbers.Numbers.{LAST_OBJECT};
-ghost use Rattle.verb_commands.specs.turn_scene.Bounds.{GoesOnSaying, HasRoom, parts_of_inventory};
-ghost use Rattle.verb_commands.specs.turn_scene.Scene.{scene_of, cave_of};
-ghost use Rattle.verb_commands.specs.Rows.{DoneByRow, DoneByRows, row};
-ghost use Rattle.verb_commands.specs.turn_rules.Rows.{noted};
-ghost use Rattle.verb_commands.specs.rule_rows.declared.tables.Table.TheVariants as table;
+ghost use Rattle.base_lines.specs.Numbers.{LAST_OBJECT};
+ghost use Rattle.turn_scene.specs.Bounds.{GoesOnSaying, HasRoom, parts_of_inventory};
+ghost use Rattle.turn_scene.specs.Scene.{scene_of, cave_of};
+ghost use Rattle.cave_verbs.specs.Rows.{DoneByRow, DoneByRows, row};
+ghost use Rattle.turn_scene.specs.Rows.{noted};
+ghost use Rattle.cave_world.specs.declared.tables.Table.TheVariants as table;
 ghost use Rattle.cave_verbs.specs.Finding.{find_rows, bare_inventory_rows, is_in_inventory};
 ghost use Rattle.cave_verbs.specs.Finding.{listed_up_to, after_naming, tell_bear};
 
+use crate::command::Command;
+use crate::next::Next;
 use arrayvec::ArrayVec;
-use verb_commands::{
-    Command, Named, Next, OBJECTS, Object, Part, Role, RowNotes, Rules, Scene, State, Table,
-    is_dwarf_here, is_in_hand, is_liquid, lake, liquid,
-};
+use cave_words::Named;
+use cave_world::{Part, RowNotes, State, Table};
+use data_rows::Role;
+use turn_scene::{Rules, Scene, is_carried, is_dwarf_here, is_liquid, lake, liquid};
+use world_objects::Object;
+use world_objects::object::OBJECTS;
 
 /// FIND an object, or INVENTORY of one.
 #[tactic(auto, unfolding(crate::specs::Finding::find_rows))]
@@ -22,7 +26,7 @@ pub fn find<N: RowNotes>(rules: &Rules<'_>, command: Command, scene: &mut Scene<
         scene.new result }
 {
     let x = command.object;
-    let (row, role) = if is_in_hand(rules, scene.state, x) {
+    let (row, role) = if is_carried(rules, scene.state, x) {
         (1, Role::HeldIt)
     } else if scene.state.closing.is_closed {
         (2, Role::Around)
@@ -47,7 +51,7 @@ pub fn find<N: RowNotes>(rules: &Rules<'_>, command: Command, scene: &mut Scene<
 fn is_in_inventory(rules: &Rules<'_>, state: &State, object: Object) -> bool
     ensures { result ≡ is_in_inventory (cave_of rules.now) state.now object }
 {
-    is_in_hand(rules, state, object) && !rules.is(object, Named::Bear)
+    is_carried(rules, state, object) && !rules.is(object, Named::Bear)
 }
 
 /// The objects that the inventory lists, ascending.
@@ -83,7 +87,7 @@ fn tell_bear<N: RowNotes>(rules: &Rules<'_>, command: Command, scene: &mut Scene
     ensures row { DoneByRow N.rows (row [] (tell_bear ∷ [])) rules.now command scene.old scene.new
         result }
 {
-    if is_in_hand(rules, scene.state, rules.thing(Named::Bear)) {
+    if is_carried(rules, scene.state, rules.thing(Named::Bear)) {
         scene.note(Table::BearAlong, 1);
         scene.say(Role::BearFollows);
     }

@@ -1,18 +1,23 @@
 ghost use Rattle.std.specs.Prelude.{◌≡◌, ◌≤◌};
-ghost use Rattle.verb_commands.specs.turn_scene.Bounds.{HasRoom, parts_of_row};
-ghost use Rattle.verb_commands.specs.turn_scene.Scene.{scene_of, cave_of};
-ghost use Rattle.verb_commands.specs.Rows.{ByRows, DoneByRows};
-ghost use Rattle.verb_commands.specs.turn_rules.Rows.{deed, noted};
-ghost use Rattle.verb_commands.specs.rule_rows.declared.tables.Table.TheVariants as table;
+ghost use Rattle.turn_scene.specs.Bounds.{HasRoom, parts_of_row};
+ghost use Rattle.turn_scene.specs.Scene.{scene_of, cave_of};
+ghost use Rattle.cave_verbs.specs.Rows.{ByRows, DoneByRows};
+ghost use Rattle.turn_scene.specs.Rows.{deed, noted};
+ghost use Rattle.cave_world.specs.declared.tables.Table.TheVariants as table;
 ghost use Rattle.cave_verbs.specs.Ranks.{rank_of};
 ghost use Rattle.cave_verbs.specs.Killing.{foes, prey, bare_kill_rows, kill_rows};
 
+use crate::choice::{Meant, add_meant, first, several};
+use crate::command::Command;
+use crate::next::{Next, VerbStep};
+use crate::verb::Verb;
 use arrayvec::ArrayVec;
-use verb_commands::choice::{Meant, add_meant, first, several};
-use verb_commands::{
-    BEAR_DEAD, BEAR_WILD, BIRD_FREE, Command, DRAGON_ALIVE, Named, Next, Prop, Question, Role,
-    RowNotes, Rules, Scene, Step, Table, Verb, has_prop, is_dwarf_here, is_near, lose_to_snake,
-};
+use cave_words::Named;
+use cave_world::{Question, RowNotes, Table};
+use data_rows::Role;
+use turn_scene::props::{BEAR_DEAD, BEAR_WILD, BIRD_FREE, DRAGON_ALIVE};
+use turn_scene::{Rules, Scene, has_prop, is_dwarf_here, is_near, lose_to_snake};
+use world_objects::Prop;
 
 /// The foes that the player could mean.
 fn foes<N: RowNotes>(rules: &Rules<'_>, command: &Command, scene: &Scene<'_, N>) -> Meant
@@ -57,7 +62,7 @@ pub fn kill_what_is_here<N: RowNotes>(
     rules: &Rules<'_>,
     command: Command,
     scene: &mut Scene<'_, N>,
-) -> Step
+) -> VerbStep
     requires { HasRoom parts_of_row scene.old }
     ensures row { ByRows N.rows (noted table.BareKill bare_kill_rows) rules.now command scene.old
         scene.new result }
@@ -66,25 +71,25 @@ pub fn kill_what_is_here<N: RowNotes>(
     let foes = foes(rules, &command, scene);
     if several(foes.as_slice()) {
         scene.note(Table::BareKill, 1);
-        return Step::Done(command.ask_what(rules, scene));
+        return VerbStep::Done(command.ask_what(rules, scene));
     }
     let foe = first(foes.as_slice());
     if !foe.is_none() {
         scene.note(Table::BareKill, 2);
-        return Step::GoOn(Verb::Kill, foe);
+        return VerbStep::GoOn(Verb::Kill, foe);
     }
     let prey = prey(rules, &command, scene);
     if several(prey.as_slice()) {
         scene.note(Table::BareKill, 3);
-        return Step::Done(command.ask_what(rules, scene));
+        return VerbStep::Done(command.ask_what(rules, scene));
     }
     let game = first(prey.as_slice());
     if !game.is_none() {
         scene.note(Table::BareKill, 4);
-        return Step::GoOn(Verb::Kill, game);
+        return VerbStep::GoOn(Verb::Kill, game);
     }
     scene.note(Table::BareKill, 5);
-    Step::Done(Next::say(Role::NoneToKill, scene))
+    VerbStep::Done(Next::say(Role::NoneToKill, scene))
 }
 
 /// KILL an object.

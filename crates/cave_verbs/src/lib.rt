@@ -1,25 +1,33 @@
-//! The verbs: what each does by the first of its rows that fits.
+//! The verbs: what a command is, and what each verb does by the first of its rows that fits.
 #![tactic(auto)]
 
 pub mod acting;
 pub mod blasting;
 pub mod breaking;
+pub mod choice;
+pub mod command;
 pub mod dropping;
 pub mod feeding;
 pub mod finding;
 pub mod killing;
 pub mod light;
 pub mod magic;
+pub mod next;
 pub mod opening;
 pub mod pouring;
 pub mod reading;
 pub mod small;
 pub mod taking;
 pub mod throwing;
+pub mod verb;
 pub mod waving;
 
 pub use acting::act;
-pub use verb_commands::{
-    Cave, Command, Ending, Lexicon, Named, Next, NoRules, Object, Out, Place, Question, RowNotes,
-    Rules, Scene, State, Table, Verb, tell_default,
-};
+pub use cave_data::Cave;
+pub use cave_words::{Lexicon, Named};
+pub use cave_world::{Ending, Out, Question, RowNotes, State, Table};
+pub use command::{Command, tell_default};
+pub use next::{Next, VerbStep};
+pub use turn_scene::{Rules, Scene};
+pub use verb::{NoRules, Verb};
+pub use world_objects::{Object, Place};

@@ -1,12 +1,17 @@
-ghost use Rattle.verb_commands.specs.turn_scene.Bounds.{HasRoom, parts_of_row};
-ghost use Rattle.verb_commands.specs.Rows.{DoneByRows};
-ghost use Rattle.verb_commands.specs.turn_rules.Rows.{noted};
-ghost use Rattle.verb_commands.specs.rule_rows.declared.tables.Table.TheVariants as table;
+ghost use Rattle.turn_scene.specs.Bounds.{HasRoom, parts_of_row};
+ghost use Rattle.cave_verbs.specs.Rows.{DoneByRows};
+ghost use Rattle.turn_scene.specs.Rows.{noted};
+ghost use Rattle.cave_world.specs.declared.tables.Table.TheVariants as table;
 ghost use Rattle.cave_verbs.specs.Light.{on_rows, off_rows};
 
-use verb_commands::{
-    Command, LAMP_OFF, LAMP_ON, Named, Next, Prop, Role, RowNotes, Rules, Scene, Table, is_near,
-};
+use crate::command::Command;
+use crate::next::Next;
+use cave_words::Named;
+use cave_world::{LAMP_ON, RowNotes, Table};
+use data_rows::Role;
+use turn_scene::props::LAMP_OFF;
+use turn_scene::{Rules, Scene, is_near};
+use world_objects::Prop;
 
 /// ON, whatever it is done to.
 #[tactic(auto, unfolding(crate::specs::Light::on_rows))]

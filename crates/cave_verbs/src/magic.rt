@@ -1,22 +1,29 @@
 ghost use Rattle.std.specs.Prelude.{◌≡◌, ◌<◌, ◌-ℤ◌, not, pos, [], ◌∷◌};
 ghost use Rattle.std.specs.Ordering.{int_eq};
-ghost use Rattle.verb_commands.specs.turn_scene.Bounds.{HasRoom};
-ghost use Rattle.verb_commands.specs.declared.next.Next.TheVariants.{Stay};
-ghost use Rattle.verb_commands.specs.Rows.{DoneByRows};
-ghost use Rattle.verb_commands.specs.turn_rules.Rows.{Does, by_table, noted};
-ghost use Rattle.verb_commands.specs.turn_rules.Effects.{move};
-ghost use Rattle.verb_commands.specs.turn_rules.Tests.{home_of};
-ghost use Rattle.verb_commands.specs.data_rows.Rows.{WORDS_PER_CLASS};
-ghost use Rattle.verb_commands.specs.cave_world.Limits.{IsMagic};
-ghost use Rattle.verb_commands.specs.rule_rows.declared.tables.Table.TheVariants as table;
+ghost use Rattle.turn_scene.specs.Bounds.{HasRoom};
+ghost use Rattle.cave_verbs.specs.declared.next.Next.TheVariants.{Stay};
+ghost use Rattle.cave_verbs.specs.Rows.{DoneByRows};
+ghost use Rattle.turn_scene.specs.Rows.{Does, by_table, noted};
+ghost use Rattle.turn_scene.specs.Effects.{move};
+ghost use Rattle.turn_scene.specs.Tests.{home_of};
+ghost use Rattle.data_rows.specs.Rows.{WORDS_PER_CLASS};
+ghost use Rattle.cave_world.specs.Limits.{IsMagic};
+ghost use Rattle.cave_world.specs.declared.tables.Table.TheVariants as table;
 ghost use Rattle.cave_verbs.specs.Magic.{bare_foo_rows, eggs_rows, with_magic};
 ghost use Rattle.cave_verbs.specs.Things.{eggs};
 
-use verb_commands::{
-    Command, EGGS_APPEARING, EGGS_ELSEWHERE, EGGS_VANISHING, Magic, Named, Next, Prop, Role,
-    RowNotes, Rules, Scene, State, TROLL_CALM, TROLL_RETURNING, Table, has_prop, home, is_at_home,
-    is_home_here, is_in_hand, is_near, special,
+use crate::command::Command;
+use crate::next::Next;
+use cave_words::Named;
+use cave_world::{Magic, RowNotes, State, Table};
+use data_rows::Role;
+use turn_scene::props::{
+    EGGS_APPEARING, EGGS_ELSEWHERE, EGGS_VANISHING, TROLL_CALM, TROLL_RETURNING,
 };
+use turn_scene::{
+    Rules, Scene, has_prop, home, is_at_home, is_carried, is_home_here, is_near, special,
+};
+use world_objects::Prop;
 
 /// How far the player has come with the magic words.
 fn magic_of(state: &State) -> i16
@@ -117,7 +124,7 @@ pub fn foo<N: RowNotes>(rules: &Rules<'_>, command: Command, scene: &mut Scene<'
         set_magic(scene.state, 0);
         return Next::say(Role::Magic, scene);
     }
-    if is_in_hand(rules, scene.state, eggs) && is_home_here(rules, scene.state, eggs) {
+    if is_carried(rules, scene.state, eggs) && is_home_here(rules, scene.state, eggs) {
         scene.note(Table::BareFoo, 6);
         set_magic(scene.state, 0);
         return Next::say(Role::Magic, scene);

@@ -1,24 +1,33 @@
 ghost use Rattle.std.specs.Prelude.{◌≡◌, ◌≤◌, ◌||◌, IsTrue};
-ghost use Rattle.verb_commands.specs.cave_words.declared.named.Named.TheVariants as name;
-ghost use Rattle.verb_commands.specs.turn_scene.Scene.{is_called, cave_of, scene_of};
-ghost use Rattle.verb_commands.specs.turn_scene.Bounds.{HasRoom, parts_of_row};
-ghost use Rattle.verb_commands.specs.Rows.{ByRows, DoneByRows, noted_after};
-ghost use Rattle.verb_commands.specs.turn_rules.Effects.{after_sending};
-ghost use Rattle.verb_commands.specs.turn_rules.Rows.{deed, noted};
-ghost use Rattle.verb_commands.specs.Verbs.{is_verb};
-ghost use Rattle.verb_commands.specs.declared.verb.Verb.TheVariants as verb_is;
-ghost use Rattle.verb_commands.specs.rule_rows.declared.tables.Table.TheVariants as table;
+ghost use Rattle.cave_words.specs.declared.named.Named.TheVariants as name;
+ghost use Rattle.turn_scene.specs.Scene.{is_called, cave_of, scene_of};
+ghost use Rattle.turn_scene.specs.Bounds.{HasRoom, parts_of_row};
+ghost use Rattle.cave_verbs.specs.Rows.{ByRows, DoneByRows, noted_after};
+ghost use Rattle.turn_scene.specs.Effects.{after_sending};
+ghost use Rattle.turn_scene.specs.Rows.{deed, noted};
+ghost use Rattle.cave_verbs.specs.Verbs.{is_verb};
+ghost use Rattle.cave_verbs.specs.declared.verb.Verb.TheVariants as verb_is;
+ghost use Rattle.cave_world.specs.declared.tables.Table.TheVariants as table;
 ghost use Rattle.cave_verbs.specs.Ranks.{rank_of};
 ghost use Rattle.cave_verbs.specs.Opening.{bare_open_rows, locks, open_rows};
 
+use crate::choice::{Meant, add_meant, first};
+use crate::command::Command;
+use crate::next::{Next, VerbStep};
+use crate::verb::Verb;
 use arrayvec::ArrayVec;
-use verb_commands::choice::{Meant, add_meant, first};
-use verb_commands::{
-    Anchor, BEAR_DEAD, BEAR_FREE, BEAR_WILD, CHAIN_LOCKED, CHAIN_UNLOCKED, Command, DOOR_OILED,
-    GRATE_LOCKED, GRATE_UNLOCKED, Named, Next, Object, Place, PlaceRole, Prop, Role, RowNotes,
-    Rules, Scene, State, Step, Table, Verb, has_other_prop, has_prop, is_home_elsewhere,
-    is_in_hand, is_near, lay_down, place_named, start_panic,
+use cave_words::Named;
+use cave_world::{RowNotes, State, Table};
+use data_rows::{PlaceRole, Role};
+use turn_scene::props::{
+    BEAR_DEAD, BEAR_FREE, BEAR_WILD, CHAIN_LOCKED, CHAIN_UNLOCKED, DOOR_OILED, GRATE_LOCKED,
+    GRATE_UNLOCKED,
 };
+use turn_scene::{
+    Rules, Scene, has_other_prop, has_prop, is_carried, is_home_elsewhere, is_near, lay_down,
+    place_named, start_panic,
+};
+use world_objects::{Anchor, Object, Place, Prop};
 
 /// What the player could mean who names nothing: the grate or the door that is here, the oyster or
 /// the clam at hand.
@@ -44,7 +53,7 @@ pub fn open_what_is_here<N: RowNotes>(
     rules: &Rules<'_>,
     command: Command,
     scene: &mut Scene<'_, N>,
-) -> Step
+) -> VerbStep
     requires room { HasRoom parts_of_row scene.old }
     requires verb { IsTrue (is_verb command.verb verb_is.Open
         || is_verb command.verb verb_is.Lock) }
@@ -57,18 +66,18 @@ pub fn open_what_is_here<N: RowNotes>(
     let is_chain_near = is_near(rules, scene.state, chain);
     if !meant.is_none() && is_chain_near {
         scene.note(Table::BareOpen, 1);
-        return Step::Done(command.ask_what(rules, scene));
+        return VerbStep::Done(command.ask_what(rules, scene));
     }
     if !meant.is_none() {
         scene.note(Table::BareOpen, 2);
-        return Step::GoOn(command.verb, meant);
+        return VerbStep::GoOn(command.verb, meant);
     }
     if is_chain_near {
         scene.note(Table::BareOpen, 3);
-        return Step::GoOn(command.verb, chain);
+        return VerbStep::GoOn(command.verb, chain);
     }
     scene.note(Table::BareOpen, 4);
-    Step::Done(Next::say(Role::NoLock, scene))
+    VerbStep::Done(Next::say(Role::NoLock, scene))
 }
 
 /// An object is moved to a place, if there is the place.
@@ -92,16 +101,16 @@ fn open_shell<N: RowNotes>(rules: &Rules<'_>, command: Command, scene: &mut Scen
 {
     let x = command.object;
     let is_clam = rules.is(x, Named::Clam);
-    let has_trident = is_in_hand(rules, scene.state, rules.thing(Named::Trident));
+    let has_trident = is_carried(rules, scene.state, rules.thing(Named::Trident));
     let (row, role) = if command.verb.is(Verb::Lock) {
         (1, Role::LockWhat)
     } else if is_clam && !has_trident {
         (2, Role::ClamTool)
     } else if !has_trident {
         (3, Role::OysterTool)
-    } else if is_clam && is_in_hand(rules, scene.state, x) {
+    } else if is_clam && is_carried(rules, scene.state, x) {
         (4, Role::ClamHeld)
-    } else if is_in_hand(rules, scene.state, x) {
+    } else if is_carried(rules, scene.state, x) {
         (5, Role::OysterHeld)
     } else if is_clam {
         scene.state.destroy(x);

@@ -1,19 +1,25 @@
 ghost use Rattle.std.specs.Prelude.{◌≡◌, ◌+◌, ◌≤◌, ◌+ℤ◌, pos, int_div, []};
 ghost use Rattle.std.specs.Int.{int_rem_euclid};
-ghost use Rattle.verb_commands.specs.turn_scene.Bounds.{HasRoom, parts_of_row};
-ghost use Rattle.verb_commands.specs.Rows.{ByRows, DoneByRow, DoneByRows, again};
-ghost use Rattle.verb_commands.specs.turn_rules.Rows.{row_then, noted};
-ghost use Rattle.verb_commands.specs.turn_scene.Scene.{cave_of};
-ghost use Rattle.verb_commands.specs.rule_rows.declared.tables.Table.TheVariants as table;
+ghost use Rattle.turn_scene.specs.Bounds.{HasRoom, parts_of_row};
+ghost use Rattle.cave_verbs.specs.Rows.{ByRows, DoneByRow, DoneByRows, again};
+ghost use Rattle.turn_scene.specs.Rows.{row_then, noted};
+ghost use Rattle.turn_scene.specs.Scene.{cave_of};
+ghost use Rattle.cave_world.specs.declared.tables.Table.TheVariants as table;
 ghost use Rattle.cave_verbs.specs.Ranks.{rank_of};
 ghost use Rattle.cave_verbs.specs.Pouring.{poured_of, plant_watered, pour_rows, drink_rows};
 ghost use Rattle.cave_verbs.specs.Pouring.{bare_fill_rows, fill_rows};
 
-use verb_commands::{
-    Anchor, BOTTLE_EMPTY, BOTTLE_OF_OIL, BOTTLE_OF_WATER, Command, DOOR_OILED, DOOR_RUSTY, Named,
-    Next, Object, Prop, Role, RowNotes, Rules, Scene, State, Step, Table, VASE_BROKEN, Verb,
-    is_in_hand, is_liquid, is_near, lake, liquid,
+use crate::command::Command;
+use crate::next::{Next, VerbStep};
+use crate::verb::Verb;
+use cave_words::Named;
+use cave_world::{RowNotes, State, Table};
+use data_rows::Role;
+use turn_scene::props::{
+    BOTTLE_EMPTY, BOTTLE_OF_OIL, BOTTLE_OF_WATER, DOOR_OILED, DOOR_RUSTY, VASE_BROKEN,
 };
+use turn_scene::{Rules, Scene, is_carried, is_liquid, is_near, lake, liquid};
+use world_objects::{Anchor, Object, Prop};
 
 /// What is poured: of the bottle, and where nothing is named, what is in the bottle.
 fn poured(rules: &Rules<'_>, state: &State, object: Object) -> Object
@@ -76,7 +82,7 @@ pub fn pour<N: RowNotes>(rules: &Rules<'_>, command: Command, scene: &mut Scene<
         return command.ask_what(rules, scene);
     }
     let x = poured(rules, scene.state, command.object);
-    if !is_in_hand(rules, scene.state, x) {
+    if !is_carried(rules, scene.state, x) {
         scene.note(Table::Pour, 2);
         return command.say_default(rules, scene);
     }
@@ -156,7 +162,11 @@ pub fn drink<N: RowNotes>(rules: &Rules<'_>, command: Command, scene: &mut Scene
 
 /// FILL without an object.
 #[tactic(auto, unfolding(crate::specs::Pouring::bare_fill_rows), using(crate::proofs::Falls::fill_falls))]
-pub fn fill_what<N: RowNotes>(rules: &Rules<'_>, command: Command, scene: &mut Scene<'_, N>) -> Step
+pub fn fill_what<N: RowNotes>(
+    rules: &Rules<'_>,
+    command: Command,
+    scene: &mut Scene<'_, N>,
+) -> VerbStep
     requires { HasRoom parts_of_row scene.old }
     ensures row { ByRows N.rows (noted table.BareFill bare_fill_rows) rules.now command scene.old
         scene.new result }
@@ -165,10 +175,10 @@ pub fn fill_what<N: RowNotes>(rules: &Rules<'_>, command: Command, scene: &mut S
     let bottle = rules.thing(Named::Bottle);
     if is_near(rules, scene.state, bottle) {
         scene.note(Table::BareFill, 1);
-        return Step::GoOn(Verb::Fill, bottle);
+        return VerbStep::GoOn(Verb::Fill, bottle);
     }
     scene.note(Table::BareFill, 2);
-    Step::Done(command.ask_what(rules, scene))
+    VerbStep::Done(command.ask_what(rules, scene))
 }
 
 /// FILL an object.
@@ -183,7 +193,7 @@ pub fn fill<N: RowNotes>(rules: &Rules<'_>, command: Command, scene: &mut Scene<
     let lake_here = lake(rules, scene.state);
     let (row, role) = if is_vase && lake_here.is_none() {
         (1, Role::VaseDry)
-    } else if is_vase && !is_in_hand(rules, scene.state, x) {
+    } else if is_vase && !is_carried(rules, scene.state, x) {
         (2, Role::NotHeld)
     } else if is_vase {
         scene.state.objects.set_prop(x, Prop::new(VASE_BROKEN));

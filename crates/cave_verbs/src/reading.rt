@@ -1,18 +1,21 @@
 ghost use Rattle.std.specs.Prelude.{◌≡◌, ◌≤◌};
-ghost use Rattle.verb_commands.specs.turn_scene.Bounds.{HasRoom, parts_of_row};
-ghost use Rattle.verb_commands.specs.turn_scene.Scene.{scene_of, cave_of};
-ghost use Rattle.verb_commands.specs.Rows.{ByRows, DoneByRows};
-ghost use Rattle.verb_commands.specs.turn_rules.Rows.{deed, noted};
-ghost use Rattle.verb_commands.specs.rule_rows.declared.tables.Table.TheVariants as table;
+ghost use Rattle.turn_scene.specs.Bounds.{HasRoom, parts_of_row};
+ghost use Rattle.turn_scene.specs.Scene.{scene_of, cave_of};
+ghost use Rattle.cave_verbs.specs.Rows.{ByRows, DoneByRows};
+ghost use Rattle.turn_scene.specs.Rows.{deed, noted};
+ghost use Rattle.cave_world.specs.declared.tables.Table.TheVariants as table;
 ghost use Rattle.cave_verbs.specs.Ranks.{rank_of};
 ghost use Rattle.cave_verbs.specs.Reading.{papers, bare_read_rows, read_rows};
 
+use crate::choice::{Meant, add_meant, only};
+use crate::command::Command;
+use crate::next::{Next, VerbStep};
+use crate::verb::Verb;
 use arrayvec::ArrayVec;
-use verb_commands::choice::{Meant, add_meant, only};
-use verb_commands::{
-    CLUE_HINT, Command, HintNumber, Named, Next, Part, Question, Role, RowNotes, Rules, Scene,
-    Step, Table, Verb, WordLine, is_in_hand, is_near,
-};
+use cave_words::Named;
+use cave_world::{CLUE_HINT, HintNumber, Part, Question, RowNotes, Table, WordLine};
+use data_rows::Role;
+use turn_scene::{Rules, Scene, is_carried, is_near};
 
 /// The papers that the player could mean.
 fn papers<N: RowNotes>(rules: &Rules<'_>, command: &Command, scene: &Scene<'_, N>) -> Meant
@@ -35,7 +38,7 @@ pub fn read_what_is_here<N: RowNotes>(
     rules: &Rules<'_>,
     command: Command,
     scene: &mut Scene<'_, N>,
-) -> Step
+) -> VerbStep
     requires { HasRoom parts_of_row scene.old }
     ensures row { ByRows N.rows (noted table.BareRead bare_read_rows) rules.now command scene.old
         scene.new result }
@@ -43,20 +46,20 @@ pub fn read_what_is_here<N: RowNotes>(
 {
     if scene.state.dark(rules.cave, rules.thing(Named::Lamp)) {
         scene.note(Table::BareRead, 1);
-        return Step::Done(command.ask_what(rules, scene));
+        return VerbStep::Done(command.ask_what(rules, scene));
     }
     let oyster = rules.thing(Named::Oyster);
-    if scene.state.closing.is_closed && is_in_hand(rules, scene.state, oyster) {
+    if scene.state.closing.is_closed && is_carried(rules, scene.state, oyster) {
         scene.note(Table::BareRead, 2);
-        return Step::GoOn(Verb::Read, oyster);
+        return VerbStep::GoOn(Verb::Read, oyster);
     }
     let paper = only(papers(rules, &command, scene).as_slice());
     if !paper.is_none() {
         scene.note(Table::BareRead, 3);
-        return Step::GoOn(Verb::Read, paper);
+        return VerbStep::GoOn(Verb::Read, paper);
     }
     scene.note(Table::BareRead, 4);
-    Step::Done(command.ask_what(rules, scene))
+    VerbStep::Done(command.ask_what(rules, scene))
 }
 
 /// READ an object.
@@ -72,7 +75,7 @@ pub fn read<N: RowNotes>(rules: &Rules<'_>, command: Command, scene: &mut Scene<
         scene.tell(Part::Word(WordLine::NotSeen, command.word));
         return Next::Stay;
     }
-    let is_oyster_held = rules.is(x, Named::Oyster) && is_in_hand(rules, scene.state, x);
+    let is_oyster_held = rules.is(x, Named::Oyster) && is_carried(rules, scene.state, x);
     let (row, role) = if rules.is(x, Named::Magazine) {
         (2, Role::ReadMagazine)
     } else if rules.is(x, Named::Tablet) {

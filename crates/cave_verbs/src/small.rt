@@ -1,8 +1,12 @@
-ghost use Rattle.verb_commands.specs.turn_scene.Bounds.{HasRoom};
-ghost use Rattle.verb_commands.specs.Rows.{DoneByRows};
+ghost use Rattle.turn_scene.specs.Bounds.{HasRoom};
+ghost use Rattle.cave_verbs.specs.Rows.{DoneByRows};
 ghost use Rattle.cave_verbs.specs.Small.{bare_brief_rows};
 
-use verb_commands::{Command, Count, MAX_DETAILS, Next, Role, RowNotes, Rules, Scene};
+use crate::command::Command;
+use crate::next::Next;
+use cave_world::{Count, MAX_DETAILS, RowNotes};
+use data_rows::Role;
+use turn_scene::{Rules, Scene};
 
 /// BRIEF without an object.
 #[tactic(auto, unfolding(crate::specs::Small::bare_brief_rows))]

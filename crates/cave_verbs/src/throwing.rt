@@ -1,22 +1,28 @@
 ghost use Rattle.std.specs.Prelude.{◌≡◌, ◌≤◌, IsTrue};
 ghost use Rattle.std.specs.List.{position};
-ghost use Rattle.verb_commands.specs.turn_scene.Bounds.{HasRoom, parts_of_row};
-ghost use Rattle.verb_commands.specs.Rows.{ByRows, DoneByRows, noted_after};
-ghost use Rattle.verb_commands.specs.turn_scene.Scene.{cave_of};
-ghost use Rattle.verb_commands.specs.turn_things.Reach.{is_dwarf_at, is_dwarf_here};
-ghost use Rattle.verb_commands.specs.turn_things.Effects.{with_objects};
-ghost use Rattle.verb_commands.specs.world_objects.Objects.{after_move_to};
-ghost use Rattle.verb_commands.specs.declared.next.Next.TheVariants.{Arrive};
-ghost use Rattle.verb_commands.specs.turn_rules.Rows.{noted};
-ghost use Rattle.verb_commands.specs.rule_rows.declared.tables.Table.TheVariants as table;
+ghost use Rattle.turn_scene.specs.Bounds.{HasRoom, parts_of_row};
+ghost use Rattle.cave_verbs.specs.Rows.{ByRows, DoneByRows, noted_after};
+ghost use Rattle.turn_scene.specs.Scene.{cave_of};
+ghost use Rattle.turn_scene.specs.Reach.{is_dwarf_at, is_dwarf_here};
+ghost use Rattle.turn_scene.specs.Parts.{with_objects};
+ghost use Rattle.world_objects.specs.Objects.{after_move_to};
+ghost use Rattle.cave_verbs.specs.declared.next.Next.TheVariants.{Arrive};
+ghost use Rattle.turn_scene.specs.Rows.{noted};
+ghost use Rattle.cave_world.specs.declared.tables.Table.TheVariants as table;
 ghost use Rattle.cave_verbs.specs.Ranks.{rank_of, throw_rank};
 ghost use Rattle.cave_verbs.specs.Throwing.{with_one_killed, throw_rows};
 
-use verb_commands::{
-    AXE_BY_BEAR, Anchor, BEAR_WILD, Command, DRAGON_ALIVE, Dwarf, Named, Next, Object, PIRATE,
-    Place, Prop, Role, RowNotes, Rules, Scene, State, Step, Table, Verb, has_prop, is_dwarf_here,
-    is_in_hand, is_near, is_treasure, remove_troll,
+use crate::command::Command;
+use crate::next::{Next, VerbStep};
+use crate::verb::Verb;
+use cave_words::Named;
+use cave_world::{Dwarf, PIRATE, RowNotes, State, Table};
+use data_rows::Role;
+use turn_scene::props::{AXE_BY_BEAR, BEAR_WILD, DRAGON_ALIVE};
+use turn_scene::{
+    Rules, Scene, has_prop, is_carried, is_dwarf_here, is_near, is_treasure, remove_troll,
 };
+use world_objects::{Anchor, Object, Place, Prop};
 
 fn first_at(place: Place, dwarves: &[Dwarf]) -> Option<usize>
     ensures { result ≡ position (is_dwarf_at place) dwarves.now }
@@ -51,7 +57,7 @@ fn put_here(axe: Object, state: &mut State) -> Next
 }
 
 /// The axe is thrown at a dwarf: one number of three is drawn, and 0 is a miss.
-#[tactic(auto, unfolding(crate::specs::Throwing::throw_rows, verb_commands::specs::is_dwarf_here))]
+#[tactic(auto, unfolding(crate::specs::Throwing::throw_rows, turn_scene::specs::Reach::is_dwarf_here))]
 fn throw_axe_at_dwarf<N: RowNotes>(
     rules: &Rules<'_>,
     command: Command,
@@ -80,14 +86,14 @@ fn throw_axe_at_dwarf<N: RowNotes>(
 }
 
 #[tactic(auto, unfolding(crate::specs::Throwing::throw_rows))]
-fn throw_axe<N: RowNotes>(rules: &Rules<'_>, command: Command, scene: &mut Scene<'_, N>) -> Step
+fn throw_axe<N: RowNotes>(rules: &Rules<'_>, command: Command, scene: &mut Scene<'_, N>) -> VerbStep
     requires { HasRoom parts_of_row scene.old }
     ensures row { ByRows N.rows (noted_after table.Throw 5 throw_rows) rules.now command scene.old
         scene.new result }
     ensures ranks { rank_of (cave_of rules.now) result ≤ 2 }
 {
     if is_dwarf_here(scene.state) {
-        return Step::Done(throw_axe_at_dwarf(rules, command, scene));
+        return VerbStep::Done(throw_axe_at_dwarf(rules, command, scene));
     }
     let x = command.object;
     let dragon = rules.thing(Named::Dragon);
@@ -95,12 +101,12 @@ fn throw_axe<N: RowNotes>(rules: &Rules<'_>, command: Command, scene: &mut Scene
     if scene.state.at(dragon) && has_prop(scene.state, dragon, DRAGON_ALIVE) {
         scene.note(Table::Throw, 9);
         scene.say(Role::AxeDragon);
-        return Step::Done(put_here(x, scene.state));
+        return VerbStep::Done(put_here(x, scene.state));
     }
     if scene.state.at(rules.thing(Named::Troll)) {
         scene.note(Table::Throw, 10);
         scene.say(Role::AxeTroll);
-        return Step::Done(put_here(x, scene.state));
+        return VerbStep::Done(put_here(x, scene.state));
     }
     if is_near(rules, scene.state, bear) && has_prop(scene.state, bear, BEAR_WILD) {
         scene.note(Table::Throw, 11);
@@ -109,15 +115,15 @@ fn throw_axe<N: RowNotes>(rules: &Rules<'_>, command: Command, scene: &mut Scene
         scene.state.objects.anchor_to(x, Anchor::Fixed);
         scene.state.objects.set_prop(x, Prop::new(AXE_BY_BEAR));
         scene.state.objects.juggle(bear);
-        return Step::Done(Next::say(Role::AxeBear, scene));
+        return VerbStep::Done(Next::say(Role::AxeBear, scene));
     }
     scene.note(Table::Throw, 12);
-    Step::GoOn(Verb::Kill, Object::none())
+    VerbStep::GoOn(Verb::Kill, Object::none())
 }
 
 /// THROW an object.
 #[tactic(auto, unfolding(crate::specs::Throwing::throw_rows))]
-pub fn throw<N: RowNotes>(rules: &Rules<'_>, command: Command, scene: &mut Scene<'_, N>) -> Step
+pub fn throw<N: RowNotes>(rules: &Rules<'_>, command: Command, scene: &mut Scene<'_, N>) -> VerbStep
     requires { HasRoom parts_of_row scene.old }
     ensures row { ByRows N.rows (noted table.Throw throw_rows) rules.now command scene.old scene.new
         result }
@@ -126,28 +132,28 @@ pub fn throw<N: RowNotes>(rules: &Rules<'_>, command: Command, scene: &mut Scene
 {
     let x = command.object;
     let bear = rules.thing(Named::Bear);
-    if !is_in_hand(rules, scene.state, x) {
+    if !is_carried(rules, scene.state, x) {
         let second_rod = rules.thing(Named::SecondRod);
-        if rules.is(x, Named::Rod) && is_in_hand(rules, scene.state, second_rod) {
+        if rules.is(x, Named::Rod) && is_carried(rules, scene.state, second_rod) {
             scene.note(Table::Throw, 1);
-            return Step::GoOn(Verb::Throw, second_rod);
+            return VerbStep::GoOn(Verb::Throw, second_rod);
         }
         scene.note(Table::Throw, 2);
-        return Step::Done(command.say_default(rules, scene));
+        return VerbStep::Done(command.say_default(rules, scene));
     }
     if is_treasure(x) && scene.state.at(rules.thing(Named::Troll)) {
         scene.note(Table::Throw, 3);
         scene.state.destroy(x);
         remove_troll(rules, scene);
-        return Step::Done(Next::say(Role::TrollPaid, scene));
+        return VerbStep::Done(Next::say(Role::TrollPaid, scene));
     }
     if rules.is(x, Named::Food) && is_near(rules, scene.state, bear) {
         scene.note(Table::Throw, 4);
-        return Step::GoOn(Verb::Feed, bear);
+        return VerbStep::GoOn(Verb::Feed, bear);
     }
     if !rules.is(x, Named::Axe) {
         scene.note(Table::Throw, 5);
-        return Step::GoOn(Verb::Drop, x);
+        return VerbStep::GoOn(Verb::Drop, x);
     }
     throw_axe(rules, command, scene)
 }

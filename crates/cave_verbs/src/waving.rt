@@ -1,11 +1,17 @@
 ghost use Rattle.std.specs.Prelude.{◌≡◌, ◌-ℤ◌, pos};
-ghost use Rattle.verb_commands.specs.turn_scene.Bounds.{HasRoom, parts_of_row};
-ghost use Rattle.verb_commands.specs.Rows.{DoneByRows};
-ghost use Rattle.verb_commands.specs.turn_rules.Rows.{noted};
-ghost use Rattle.verb_commands.specs.rule_rows.declared.tables.Table.TheVariants as table;
+ghost use Rattle.turn_scene.specs.Bounds.{HasRoom, parts_of_row};
+ghost use Rattle.cave_verbs.specs.Rows.{DoneByRows};
+ghost use Rattle.turn_scene.specs.Rows.{noted};
+ghost use Rattle.cave_world.specs.declared.tables.Table.TheVariants as table;
 ghost use Rattle.cave_verbs.specs.Waving.{wave_rows, rub_rows};
 
-use verb_commands::{Command, Named, Next, Prop, Role, RowNotes, Rules, Scene, Table, is_in_hand};
+use crate::command::Command;
+use crate::next::Next;
+use cave_words::Named;
+use cave_world::{RowNotes, Table};
+use data_rows::Role;
+use turn_scene::{Rules, Scene, is_carried};
+use world_objects::Prop;
 
 fn flipped(prop: Prop) -> Prop
     ensures { result ≡ pos 1 -ℤ prop }
@@ -28,8 +34,8 @@ pub fn wave<N: RowNotes>(rules: &Rules<'_>, command: Command, scene: &mut Scene<
 {
     let x = command.object;
     let is_rod = rules.is(x, Named::Rod);
-    if !is_in_hand(rules, scene.state, x)
-        && !(is_rod && is_in_hand(rules, scene.state, rules.thing(Named::SecondRod)))
+    if !is_carried(rules, scene.state, x)
+        && !(is_rod && is_carried(rules, scene.state, rules.thing(Named::SecondRod)))
     {
         scene.note(Table::Wave, 1);
         return Next::say(Role::NotHeld, scene);
@@ -37,7 +43,7 @@ pub fn wave<N: RowNotes>(rules: &Rules<'_>, command: Command, scene: &mut Scene<
     let fissure = rules.thing(Named::Fissure);
     if is_rod
         && scene.state.at(fissure)
-        && is_in_hand(rules, scene.state, rules.thing(Named::Rod))
+        && is_carried(rules, scene.state, rules.thing(Named::Rod))
         && !scene.state.closing.is_closing
     {
         scene.note(Table::Wave, 2);

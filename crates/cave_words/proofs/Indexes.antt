@@ -8,7 +8,7 @@ use Rattle.std.specs.List.{slice_get}
 use Rattle.std.proofs.lemmas.Option.{get_or_from_slice_get, slice_get_within}
 use Rattle.std.proofs.lemmas.List.Sums.{fold_push}
 use Rattle.std.proofs.lemmas.Slice.Eq.{bytes_eq-Decides}
-use Rattle.cave_data.specs.data_rows.Rows.{WordEntry}
+use Rattle.data_rows.specs.Rows.{WordEntry}
 use Rattle.cave_words.specs.Lexicon.{Index, meanings_in}
 use Rattle.cave_words.specs.Meanings.{meaning_of, same_class, is_word, is_word_in, first_meaning}
 use Rattle.cave_words.specs.Meanings.{meaning_in_class, with_in_class, with_meaning, with_row}

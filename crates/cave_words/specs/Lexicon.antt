@@ -8,7 +8,7 @@ use Rattle.cave_words.specs.declared.meaning.Class.{Class}
 use Rattle.cave_words.specs.declared.meaning.Meaning.{Meaning}
 use Rattle.cave_words.specs.declared.named.Named.{Named}
 use Rattle.std.specs.Map.{lookup}
-use Rattle.cave_data.specs.data_rows.Rows.{WordEntry}
+use Rattle.data_rows.specs.Rows.{WordEntry}
 use Rattle.cave_words.specs.declared.meanings.Meanings.{Meanings}
 
 -- words with their meanings

@@ -2,7 +2,7 @@
 use Rattle.std.specs.Prelude.{ℕ, List, Option, Some, None, fold, unwrap_or, if◌then◌else◌, ◌/◌, ◌%◌}
 use Rattle.std.specs.Prelude.{Bool, ◌==◌, ◌&&◌, bytes_eq, option_map, find}
 use Rattle.std.specs.Option.{option_or}
-use Rattle.cave_data.specs.data_rows.Rows.{WordEntry, WORDS_PER_CLASS}
+use Rattle.data_rows.specs.Rows.{WordEntry, WORDS_PER_CLASS}
 use Rattle.cave_words.specs.declared.meaning.Class.{Class}
 use Rattle.cave_words.specs.declared.meaning.Class.TheVariants.{Motion, Object, Action, Special}
 use Rattle.cave_words.specs.declared.meaning.Meaning.{Meaning}

@@ -8,7 +8,7 @@ use Rattle.cave_words.specs.Words.{word_of, NAME_LETTERS}
 use Rattle.cave_words.specs.declared.meaning.Class.TheVariants.{Object}
 use Rattle.cave_words.specs.declared.named.Named.{Named}
 use Rattle.cave_words.specs.declared.named.Named.TheVariants as name
-use Rattle.cave_data.specs.data_numbers.Numbers.{LAST_OBJECT}
+use Rattle.base_lines.specs.Numbers.{LAST_OBJECT}
 
 -- the words of the names, in the order of their numbers
 abbrev pub names : List (List ℕ)

@@ -1,7 +1,7 @@
 -- The words of a line, and which letters of a word count.
 use Rattle.std.specs.Prelude.{ℕ, List, [], ◌∷◌, Option, Some, None, option_map, ◌-◌, Bool, bytes_eq}
 use Rattle.std.specs.Prelude.{◌++◌, map, take, length, replicate}
-use Rattle.cave_data.specs.base_lines.Bytes.{is_blank, is_nonblank, prefix_while, after_prefix}
+use Rattle.base_lines.specs.Bytes.{is_blank, is_nonblank, prefix_while, after_prefix}
 use Rattle.cave_words.specs.declared.words.Words.{Words}
 use Rattle.std.specs.Char.{to_ascii_uppercase}
 

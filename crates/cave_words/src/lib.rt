@@ -10,11 +10,9 @@ pub mod stream;
 pub mod word;
 pub mod words;
 
-pub use cave_data::cave::{DEFAULT_BUILDING, DEFAULT_DEEP, DEFAULT_OUTSIDE, DEFAULT_START};
-pub use cave_data::{
-    Cave, CaveError, Condition, Destination, Hint, LineFault, LogLine, Meter, PlaceRole, Rating,
-    Role, Row, Special, Steps, WORDS_PER_CLASS, check_line,
-};
+pub use base_lines::{LineFault, LogLine, Meter, Steps, check_line};
+pub use cave_data::{Cave, Rating};
+pub use data_rows::{CaveError, Special};
 pub use lexicon::Lexicon;
 pub use meaning::{Class, Meaning};
 pub use named::Named;

@@ -1,7 +1,7 @@
 //! What a word means: a number in one of four classes.
 ghost use Rattle.std.specs.Prelude.{◌≡◌};
 
-use cave_data::WORDS_PER_CLASS;
+use data_rows::WORDS_PER_CLASS;
 
 /// The kinds of things that a word can mean.
 #[derive(Clone, Copy, Debug, PartialEq, Eq)]

@@ -1,10 +1,10 @@
 ghost use Rattle.std.specs.Prelude.{◌≡◌, ◌≤◌, IsTrue, bytes_eq};
 ghost use Rattle.std.specs.List.{list_all};
-ghost use Rattle.cave_data.specs.base_lines.Bytes.{prefix_while, is_nonblank};
+ghost use Rattle.base_lines.specs.Bytes.{prefix_while, is_nonblank};
 ghost use Rattle.cave_words.specs.Words.{letters_that_count, word_of, is_written};
 ghost use Rattle.cave_words.specs.Words as defined;
 
-use cave_data::split_word;
+use base_lines::bytes::split_word;
 use std::hash::{Hash, Hasher};
 use std::marker::Model;
 

@@ -3,7 +3,7 @@ ghost use Rattle.cave_words.specs.Words.{word_of, MAX_LETTERS, NAME_LETTERS, fir
 ghost use Rattle.cave_words.specs.Words.{after_first_run, words_of};
 
 use crate::word::Word;
-use cave_data::{skip_blanks, split_word};
+use base_lines::bytes::{skip_blanks, split_word};
 
 /// The words of a line: at most two, the rest is ignored.
 #[derive(Clone, Copy, Debug, PartialEq, Eq)]

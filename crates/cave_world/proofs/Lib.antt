@@ -1,2 +1,2 @@
 pub mod Equality
-pub mod Ways
+pub mod Made

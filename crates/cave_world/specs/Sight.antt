@@ -1,8 +1,8 @@
 -- Light, and places with a forced motion.
 use Rattle.std.specs.Prelude.{ℕ, ℤ, pos, ◌/◌, ◌%◌, ◌^◌, Bool, false, ◌==◌, ◌&&◌, not, List, [], ◌∷◌}
 use Rattle.std.specs.Ordering.{int_eq}
-use Rattle.cave_words.specs.data_rows.Rows.{Going}
-use Rattle.cave_words.specs.cave_data.CaveView.{CaveView, ways_from, cond_of}
+use Rattle.data_rows.specs.Rows.{Going}
+use Rattle.cave_data.specs.CaveView.{CaveView, ways_from, cond_of}
 use Rattle.cave_world.specs.Motions.{any_motion}
 use Rattle.cave_world.specs.declared.state.State.{State}
 use Rattle.world_objects.specs.Objects.{is_at_hand, prop_of}

@@ -3,9 +3,9 @@ use Rattle.std.specs.Prelude.{ℕ, ◌+◌, ◌-◌, ◌%◌, Bool, true, false,
 use Rattle.std.specs.Prelude.{Some, is_some, replicate, slice_index_or, slice_set, length, pos}
 use Rattle.cave_world.specs.declared.state.State.{State}
 use Rattle.cave_world.specs.declared.ending.Question.TheVariants.{Welcome}
-use Rattle.world_objects.specs.Objects.{unplaced_objects, carried_objects, is_at_hand, is_carried}
+use Rattle.world_objects.specs.Objects.{unplaced_objects, objects_in_hands, is_at_hand, is_in_hands}
 use Rattle.world_objects.specs.Objects.{is_object_at}
-use Rattle.world_objects.specs.data_numbers.Numbers.{LAST_PLACE, LAST_HINT}
+use Rattle.base_lines.specs.Numbers.{LAST_PLACE, LAST_HINT}
 use Rattle.cave_world.specs.declared.lamp.Lamp.{Lamp}
 use Rattle.cave_world.specs.declared.closing.Closing.{Closing}
 use Rattle.cave_world.specs.declared.talk.Talk.{Talk}
@@ -41,21 +41,21 @@ asleep = record { anger = 0; kills = 0; knife = Unthrown; each = replicate dwarf
 unfoldable pub unused_hints : Hints
 unused_hints = record { turns = replicate LAST_HINT 0; is_taken = replicate LAST_HINT false }
 
--- the player carries the object
+-- the object is in the player's hands
 abbrev pub toting : State → ℕ → Bool
-toting s x = is_carried s.objects x
+toting s x = is_in_hands s.objects x
 
 -- a half of the object is where the player is
 abbrev pub at : State → ℕ → Bool
 at s x = is_object_at s.objects s.trail.here x
 
--- the player carries the object, or its first half is where the player is
+-- the object is in the player's hands, or its first half is where the player is
 abbrev pub here : State → ℕ → Bool
 here s x = is_at_hand s.objects s.trail.here x
 
--- how many objects the player carries
+-- how many objects are in the player's hands
 abbrev pub holding : State → ℕ
-holding s = length (carried_objects s.objects)
+holding s = length (objects_in_hands s.objects)
 
 -- a game begins: the player is at a place and is greeted, and nothing is placed yet
 unfoldable pub starting_state : ℕ → ℕ → State

@@ -1,9 +1,9 @@
 ghost use Rattle.std.specs.Prelude.{◌≡◌, ℕ, ◌+◌, ◌==◌, ◌<◌, ◌≤◌, ◌||◌, false, [], length, All};
 ghost use Rattle.std.specs.Prelude.{IsTrue, Some};
 ghost use Rattle.world_objects.specs.Lists.{halves_at, AreRelisted, object_of};
-ghost use Rattle.world_objects.specs.Objects.{is_listed, place_of_spot, spot_at, carried_objects};
+ghost use Rattle.world_objects.specs.Objects.{is_listed, place_of_spot, spot_at, objects_in_hands};
 ghost use Rattle.world_objects.specs.Objects.{is_gone, after_move_to, after_carry};
-ghost use Rattle.world_objects.specs.data_numbers.Numbers.{LAST_OBJECT};
+ghost use Rattle.base_lines.specs.Numbers.{LAST_OBJECT};
 ghost use Rattle.cave_world.specs.State.{toting, at, here, holding};
 
 use crate::state::State;
@@ -20,13 +20,13 @@ impl State {
         self.objects.is_gone(object)
     }
 
-    /// Whether the player carries an object.
+    /// Whether an object is in the player's hands.
     pub fn toting(&self, object: Object) -> bool
         ensures value { result ≡ toting self.now object }
         ensures unlisted { IsTrue result → 0 < object → (q : ℕ)
             → is_listed object (halves_at q self.now.objects.lists) ≡ false }
     {
-        self.objects.is_carried(object)
+        self.objects.is_in_hands(object)
     }
 
     /// Whether a half of an object is where the player is.
@@ -39,7 +39,7 @@ impl State {
         self.objects.is_object_at(self.trail.here, object)
     }
 
-    /// Whether the player carries an object, or its first half is where the player is.
+    /// Whether an object is in the player's hands, or its first half is where the player is.
     pub fn here(&self, object: Object) -> bool
         ensures value { result ≡ here self.now object }
         ensures listed { let halves = halves_at self.now.trail.here self.now.objects.lists in
@@ -48,19 +48,19 @@ impl State {
         self.objects.is_at_hand(self.trail.here, object)
     }
 
-    /// How many objects the player carries.
+    /// How many objects are in the player's hands.
     pub fn holding(&self) -> usize
         ensures value { result ≡ holding self.now }
         ensures within { result ≤ LAST_OBJECT }
     {
-        self.objects.count_carried()
+        self.objects.count_in_hands()
     }
 
-    /// The objects that the player carries, ascending.
-    pub fn carried(&self) -> ArrayVec<Object, OBJECTS>
-        ensures { result.items ≡ carried_objects self.now.objects }
+    /// The objects in the player's hands, ascending.
+    pub fn in_hands(&self) -> ArrayVec<Object, OBJECTS>
+        ensures { result.items ≡ objects_in_hands self.now.objects }
     {
-        self.objects.carried()
+        self.objects.in_hands()
     }
 
     /// The halves that are at a place, latest first. Each is of an object, and none is at place 0.
@@ -80,7 +80,7 @@ impl State {
         self.objects.is_bare(place)
     }
 
-    /// The player takes an object, if the player doesn't carry it yet.
+    /// The player takes an object, if it isn't in the hands yet.
     pub fn carry(&mut self, object: Object)
         ensures value { let s = self.old in
             self.new ≡ record s { objects = after_carry s.objects object } }

@@ -1,11 +1,11 @@
 ghost use Rattle.std.specs.Prelude.{◌≡◌, ◌≤◌};
 ghost use Rattle.cave_world.specs.State.{unused_hints, is_hint_taken, with_hint_taken};
-ghost use Rattle.world_objects.specs.data_numbers.Numbers as defined;
+ghost use Rattle.base_lines.specs.Numbers as defined;
 
 use crate::count::Count;
 use crate::state::State;
+use base_lines::numbers::LAST_HINT;
 use std::marker::Model;
-use world_objects::LAST_HINT;
 
 /// How many hints there may be.
 pub const HINTS: usize = LAST_HINT as usize;
@@ -27,7 +27,7 @@ pub struct HintNumber {
 
 impl Model for HintNumber {
     ghost use Rattle.std.specs.Prelude.{ℕ, ◌≤◌};
-    ghost use Rattle.world_objects.specs.data_numbers.Numbers as defined;
+    ghost use Rattle.base_lines.specs.Numbers as defined;
 
     ghost Value = { ℕ };
 

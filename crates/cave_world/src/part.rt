@@ -1,7 +1,8 @@
 ghost use Rattle.std.specs.Prelude.{◌≡◌};
 
 use arrayvec::ArrayVec;
-use cave_words::{Role, Word};
+use cave_words::Word;
+use data_rows::Role;
 use world_objects::Object;
 
 /// A line of the game's own, with a number.

@@ -3,7 +3,7 @@ ghost use Rattle.cave_world.specs.Sight.{has_condition, forced, dark};
 
 use crate::motion::Motion;
 use crate::state::State;
-use cave_words::Cave;
+use cave_data::Cave;
 use world_objects::{Object, Place};
 
 /// The bit of the places that have light.

@@ -1,16 +1,18 @@
-ghost use Rattle.std.specs.Prelude.{◌≡◌, ◌≤◌, ◌++◌, ◌∷◌, [], None, drop, length, map};
-ghost use Rattle.cave_words.specs.data_rows.RowViews.{going};
-ghost use Rattle.cave_words.specs.data_rows.Targets.{IsConditionWithin, EndsWithin};
+ghost use Rattle.std.specs.Prelude.{◌≡◌, ◌≤◌, ◌++◌, ◌∷◌, [], drop, length, map};
+ghost use Rattle.data_rows.specs.RowViews.{going};
+ghost use Rattle.data_rows.specs.Targets.{IsConditionWithin, EndsWithin};
 ghost use Rattle.cave_world.specs.Travel.{lists_motion, holds, after_condition, outcome_at};
-ghost use Rattle.cave_world.specs.Travel.{after_go, row_outcome, after_row, rows_to_try, first_way};
-ghost use Rattle.cave_world.specs.Travel.{from_listed, travel_by_rows, travel, row_condition};
-ghost use Rattle.cave_world.specs.Travel.{is_passed, count_unlisted, rows_tried, rows_tried_by, rows_tried_from};
-ghost use Rattle.rule_rows.specs.declared.tables.RuleRow.TheVariants as rule_row;
+ghost use Rattle.cave_world.specs.Travel.{after_go, row_outcome, after_trying_row, from_listed};
+ghost use Rattle.cave_world.specs.Travel.{travel_by_rows, travel, row_condition, is_passed};
+ghost use Rattle.cave_world.specs.Travel.{count_unlisted, rows_tried_by, rows_tried_from};
+ghost use Rattle.cave_world.specs.declared.tables.RuleRow.TheVariants as rule_row;
 
 use crate::motion::Motion;
+use crate::notes::{RowNotes, Unnoted};
 use crate::state::State;
-use cave_words::{Cave, Condition, Destination, Row, Special};
-use rule_rows::{RowNotes, RuleRow, Unnoted};
+use crate::tables::RuleRow;
+use cave_data::Cave;
+use data_rows::{Condition, Destination, Row, Special};
 use world_objects::{Object, Place};
 
 /// Where a motion leads.
@@ -55,7 +57,8 @@ pub fn note_travel<N: RowNotes>(
     travel_by_rows(cave.travel(here.number()), emerald, state, motion, notes)
 }
 
-fn lists(row: &Row, motion: u16) -> bool
+/// Whether a row of travel is for a motion: it lists the motion, or the one that stands for any.
+pub fn lists_motion(row: &Row, motion: u16) -> bool
     ensures { result ≡ lists_motion motion (going row.now) }
 {
     let any = Motion::Any.number();
@@ -72,7 +75,7 @@ impl State {
         match condition {
             Condition::Always | Condition::NotForDwarves => true,
             Condition::Chance(percent) => self.stream.pct(u32::from(percent)),
-            Condition::Carried(object) => self.toting(Object::new(object)),
+            Condition::InHands(object) => self.toting(Object::new(object)),
             Condition::AtHand(number) => {
                 let object = Object::new(number);
                 self.toting(object) || self.at(object)
@@ -103,7 +106,7 @@ impl State {
     }
 
     /// Tries a row of the place, and notes it: where it leads, unless it fails.
-    #[tactic(auto, unfolding(crate::specs::Travel::row_outcome, crate::specs::Travel::after_row))]
+    #[tactic(auto, unfolding(crate::specs::Travel::row_outcome, crate::specs::Travel::after_trying_row))]
     fn try_row<N: RowNotes>(
         &mut self,
         emerald: Object,
@@ -112,7 +115,7 @@ impl State {
         notes: &mut N,
     ) -> Option<Outcome>
         ensures value { result ≡ row_outcome self.old (going row.now) }
-        ensures after { self.new ≡ after_row emerald self.old (going row.now) }
+        ensures after { self.new ≡ after_trying_row emerald self.old (going row.now) }
         ensures noted { N.rows notes.new ≡ N.rows notes.old
             ++ rule_row.OfPlace self.old.trail.here number
             (holds (row_condition (going row.now)) self.old) ∷ [] }
@@ -137,35 +140,6 @@ fn is_passed(failed: Option<u32>, row: &Row) -> bool
     }
 }
 
-/// The way of the first row that leads somewhere, from that with a number on.
-#[tactic(auto, using(crate::proofs::Ways::passing))]
-fn first_way<N: RowNotes>(
-    rows: &[Row],
-    first: usize,
-    emerald: Object,
-    state: &mut State,
-    notes: &mut N,
-) -> Outcome
-    requires { first ≤ length rows.now }
-    ensures leads { record { state = state.new; outcome = result }
-        ≡ first_way emerald state.old (rows_to_try (map going (drop first rows.now))) }
-    ensures tries { N.rows notes.new ≡ N.rows notes.old
-        ++ rows_tried emerald state.old None first (map going (drop first rows.now)) }
-{
-    let mut failed = None;
-    for number in first..rows.len() {
-        let row = &rows[number];
-        if is_passed(failed, row) {
-            continue;
-        }
-        if let Some(outcome) = state.try_row(emerald, row, number, notes) {
-            return outcome;
-        }
-        failed = Some(row.target);
-    }
-    Outcome::NoWay
-}
-
 /// How many rows stand before the first that lists the motion.
 fn count_unlisted(rows: &[Row], motion: u16) -> usize
     ensures value { result ≡ count_unlisted motion (map going rows.now) }
@@ -173,14 +147,14 @@ fn count_unlisted(rows: &[Row], motion: u16) -> usize
     ensures listed { map going (drop result rows.now) ≡ from_listed motion (map going rows.now) }
 {
     for (i, row) in rows.iter().enumerate() {
-        if lists(row, motion) {
+        if lists_motion(row, motion) {
             return i;
         }
     }
     rows.len()
 }
 
-/// Where a motion leads by the rows of a place, in the order of the file.
+/// Where a motion leads by the rows of a place, tried in the order of the file.
 #[tactic(auto, unfolding(crate::specs::Travel::travel_by_rows, crate::specs::Travel::rows_tried_by))]
 fn travel_by_rows<N: RowNotes>(
     rows: &[Row],
@@ -195,8 +169,18 @@ fn travel_by_rows<N: RowNotes>(
         ++ rows_tried_by emerald motion state.old (map going rows.now) }
 {
     let first = count_unlisted(rows, motion);
-    if first == rows.len() {
-        return Outcome::NoMotion;
+    let mut outcome = Outcome::NoMotion;
+    let mut failed = None;
+    for number in first..rows.len() {
+        let row = &rows[number];
+        if is_passed(failed, row) {
+            continue;
+        }
+        if let Some(leads) = state.try_row(emerald, row, number, notes) {
+            return leads;
+        }
+        outcome = Outcome::NoWay;
+        failed = Some(row.target);
     }
-    first_way(rows, first, emerald, state, notes)
+    outcome
 }

@@ -2,12 +2,10 @@
 use Rattle.std.proofs.Common.{◌≡◌, ℕ, ◌+◌, ◌<◌, List, [], ◌∷◌, ◌++◌, length, drop, get_or, take}
 use Rattle.std.proofs.Common.{sym}
 use Rattle.std.proofs.lemmas.List.{append_assoc, drop_more, take_more}
-use Rattle.check_tables.specs.cave_data.CaveView.{CaveView}
+use Rattle.cave_data.specs.CaveView.{CaveView}
 use Rattle.check_doubts.specs.Doubts.{doubts_from, doubts_of_row}
 use Rattle.check_doubts.specs.declared.flaw.Doubt.{Doubt}
-use Rattle.check_doubts.specs.declared.mark.MarkedRow.{MarkedRow}
-use Rattle.check_doubts.specs.declared.by_line.WayLine.{WayLine}
-use Rattle.check_doubts.specs.WayLines.{way_lines_at, way_lines_from}
+use Rattle.data_bindings.specs.declared.mark.MarkedRow.{MarkedRow}
 
 -- the doubts of one row more
 pub doubts_more : (cave : CaveView) (so_far : List Doubt) (rows : List MarkedRow) (i : ℕ)
@@ -19,14 +17,3 @@ doubts_more cave so_far rows i d below =
     rw (drop_more rows i d below, take_more rows i d below)
     (sym (append_assoc so_far (doubts_of_row cave (take i rows) (get_or rows i d))
     (doubts_from cave (take i rows ++ get_or rows i d ∷ []) (drop (i + 1) rows))))
-
--- the ways of one row more
-pub way_lines_more : (so_far : List WayLine) (rows : List MarkedRow) (i : ℕ) (d : MarkedRow)
-    → i < length rows
-    → so_far ++ way_lines_from (take i rows) (drop i rows)
-    ≡ (so_far ++ way_lines_at (take i rows) (get_or rows i d))
-    ++ way_lines_from (take (i + 1) rows) (drop (i + 1) rows)
-way_lines_more so_far rows i d below =
-    rw (drop_more rows i d below, take_more rows i d below)
-    (sym (append_assoc so_far (way_lines_at (take i rows) (get_or rows i d))
-    (way_lines_from (take i rows ++ get_or rows i d ∷ []) (drop (i + 1) rows))))

@@ -3,17 +3,16 @@ use Rattle.std.specs.Prelude.{ℕ, suc, length, ◌==◌, if◌then◌else◌, L
 use Rattle.std.specs.Prelude.{◌∷◌, Option, Some, None}
 use Rattle.std.specs.Result.{result_ok}
 use Rattle.std.specs.FinMap as map
-use Rattle.check_tables.specs.base_lines.LogLine.{is_skipped}
-use Rattle.check_tables.specs.cave_data.CaveView.{CaveView}
-use Rattle.check_tables.specs.data_rows.BindingLines.{binding_row}
-use Rattle.check_tables.specs.data_rows.declared.binding.Binding.{Binding}
-use Rattle.check_tables.specs.data_rows.declared.binding.Key.{Key}
-use Rattle.check_tables.specs.data_rows.declared.binding.Key.TheVariants.{RoleKey, PlaceKey}
-use Rattle.check_tables.specs.data_rows.declared.binding.Key.TheVariants.{LettersKey}
+use Rattle.base_lines.specs.LogLine.{is_skipped}
+use Rattle.cave_data.specs.CaveView.{CaveView}
+use Rattle.data_rows.specs.BindingLines.{binding_row}
+use Rattle.data_rows.specs.declared.binding.Binding.{Binding}
+use Rattle.data_rows.specs.declared.binding.Key.{Key}
+use Rattle.data_rows.specs.declared.binding.Key.TheVariants.{RoleKey, PlaceKey, LettersKey}
 use Rattle.check_doubts.specs.Messages.{place_has_text}
 use Rattle.check_doubts.specs.declared.bound.BoundRow.{BoundRow}
-use Rattle.check_doubts.specs.declared.flaw.Flaw.{Flaw}
-use Rattle.check_doubts.specs.declared.flaw.Flaw.TheVariants as flaw
+use Rattle.check_doubts.specs.declared.flaw.CaveFlaw.{CaveFlaw}
+use Rattle.check_doubts.specs.declared.flaw.CaveFlaw.TheVariants as flaw
 
 -- the binding that a line is, if it is one
 abbrev pub binding_in : List ℕ → Option Binding
@@ -30,17 +29,17 @@ bound_rows number (line ∷ lines) =
     with_binding number (binding_in line) (bound_rows (suc number) lines)
 
 -- the message that a role is bound to has no text, or one that prints nothing
-abbrev pub message_flaw : ℕ → ℕ → Option (List ℕ) → Option Flaw
+abbrev pub message_flaw : ℕ → ℕ → Option (List ℕ) → Option CaveFlaw
 message_flaw role message None = Some (flaw.RoleTextless role message)
 message_flaw role message (Some text) = if length text == 0
     then Some (flaw.RoleSilent role message) else None
 
 module _ (cave : CaveView) where
-  abbrev pub key_flaw : Key → ℕ → Option Flaw
+  abbrev pub key_flaw : Key → ℕ → Option CaveFlaw
   key_flaw (RoleKey role) value = message_flaw role value (map.get cave.messages value)
   key_flaw (PlaceKey role) value = if place_has_text cave value then None
       else Some (flaw.PlaceTextless role value)
   key_flaw LettersKey value = None
 
-  abbrev pub bound_flaw : BoundRow → Option Flaw
+  abbrev pub bound_flaw : BoundRow → Option CaveFlaw
   bound_flaw row = key_flaw row.binding.key row.binding.value

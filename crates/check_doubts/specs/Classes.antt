@@ -1,8 +1,8 @@
 -- Classes that no score reaches, or that an earlier one takes.
 use Rattle.std.specs.Prelude.{ℕ, Bool, List}
 use Rattle.std.specs.List.{list_any}
-use Rattle.check_doubts.specs.Marks.{is_class_from}
-use Rattle.check_doubts.specs.declared.mark.MarkedRow.{MarkedRow}
+use Rattle.data_bindings.specs.Marks.{is_class_from}
+use Rattle.data_bindings.specs.declared.mark.MarkedRow.{MarkedRow}
 
 -- a class before has all scores up to this one
 abbrev pub is_taken : ℕ → List MarkedRow → Bool

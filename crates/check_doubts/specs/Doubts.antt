@@ -2,19 +2,19 @@
 use Rattle.std.specs.Prelude.{ℕ, List, [], ◌∷◌, ◌++◌, Option, Some, None}
 use Rattle.std.specs.List.{flat_map}
 use Rattle.std.specs.Str.Lines.{lines}
-use Rattle.check_tables.specs.cave_data.CaveView.{CaveView}
-use Rattle.check_tables.specs.data_rows.declared.position.Position.TheVariants.{Outside}
+use Rattle.cave_data.specs.CaveView.{CaveView}
+use Rattle.data_rows.specs.declared.position.Position.TheVariants.{Outside}
 use Rattle.check_doubts.specs.BoundRows.{bound_flaw, bound_rows}
 use Rattle.check_doubts.specs.Flaws.{first_flaw, second_flaw}
-use Rattle.check_doubts.specs.Marks.{marked_rows}
+use Rattle.data_bindings.specs.Marks.{marked_rows}
 use Rattle.check_doubts.specs.declared.bound.BoundRow.{BoundRow}
 use Rattle.check_doubts.specs.declared.flaw.Doubt.{Doubt}
-use Rattle.check_doubts.specs.declared.flaw.Flaw.{Flaw}
+use Rattle.check_doubts.specs.declared.flaw.CaveFlaw.{CaveFlaw}
 use Rattle.check_doubts.specs.declared.flaw.Source.{Source}
 use Rattle.check_doubts.specs.declared.flaw.Source.TheVariants.{Database, Bindings}
-use Rattle.check_doubts.specs.declared.mark.MarkedRow.{MarkedRow}
+use Rattle.data_bindings.specs.declared.mark.MarkedRow.{MarkedRow}
 
-abbrev pub doubt_of : Source → ℕ → Option Flaw → List Doubt
+abbrev pub doubt_of : Source → ℕ → Option CaveFlaw → List Doubt
 doubt_of source line None = []
 doubt_of source line (Some flaw) = record { source = source; line = line; flaw = flaw } ∷ []
 

@@ -1,24 +1,24 @@
 -- What is doubtful of a row of a database, after the rows before it.
 use Rattle.std.specs.Prelude.{Bool, ◌&&◌, not, if◌then◌else◌, List, Option, Some, None}
-use Rattle.check_tables.specs.cave_data.CaveView.{CaveView}
-use Rattle.turn_score.specs.Score.{max_score_of}
+use Rattle.cave_data.specs.CaveView.{CaveView}
+use Rattle.turn_ends.specs.Score.{max_score_of}
 use Rattle.check_doubts.specs.Classes.{is_taken}
 use Rattle.check_doubts.specs.Messages.{lacks_text}
 use Rattle.check_doubts.specs.Places.{is_unreached_long, is_unreached_short}
 use Rattle.check_doubts.specs.Treasures.{is_nameless, is_nowhere}
 use Rattle.check_doubts.specs.Ways.{end_of_way, is_never_taken, is_textless_end, way_of_row}
 use Rattle.check_doubts.specs.Words.{is_hidden, word_of_row}
-use Rattle.check_doubts.specs.declared.flaw.Flaw.{Flaw}
-use Rattle.check_doubts.specs.declared.flaw.Flaw.TheVariants as flaw
-use Rattle.check_doubts.specs.declared.mark.Mark.{Mark}
-use Rattle.check_doubts.specs.declared.mark.Mark.TheVariants as mark
-use Rattle.check_doubts.specs.declared.mark.MarkedRow.{MarkedRow}
+use Rattle.check_doubts.specs.declared.flaw.CaveFlaw.{CaveFlaw}
+use Rattle.check_doubts.specs.declared.flaw.CaveFlaw.TheVariants as flaw
+use Rattle.data_bindings.specs.declared.mark.RowMark.{RowMark}
+use Rattle.data_bindings.specs.declared.mark.RowMark.TheVariants as mark
+use Rattle.data_bindings.specs.declared.mark.MarkedRow.{MarkedRow}
 
-abbrev pub flaw_if : Bool → Flaw → Option Flaw
+abbrev pub flaw_if : Bool → CaveFlaw → Option CaveFlaw
 flaw_if holds found = if holds then Some found else None
 
 module _ (cave : CaveView) (before : List MarkedRow) where
-  abbrev pub first_flaw : Mark → Option Flaw
+  abbrev pub first_flaw : RowMark → Option CaveFlaw
   first_flaw (mark.Long place) =
       flaw_if (is_unreached_long cave place before) (flaw.NoWayTo place)
   first_flaw (mark.Short place) =
@@ -37,7 +37,7 @@ module _ (cave : CaveView) (before : List MarkedRow) where
   first_flaw (mark.Hint hint question text) =
       flaw_if (lacks_text cave question) (flaw.AsksTextless hint question)
 
-  abbrev pub second_flaw : Mark → Option Flaw
+  abbrev pub second_flaw : RowMark → Option CaveFlaw
   second_flaw (mark.Way place) =
       flaw_if (is_never_taken cave place before) flaw.NeverTaken
   second_flaw (mark.Class bound) =

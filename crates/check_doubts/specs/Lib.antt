@@ -3,10 +3,8 @@ pub mod Classes
 pub mod Doubts
 pub mod Flaws
 pub mod Listing
-pub mod Marks
 pub mod Messages
 pub mod Places
 pub mod Treasures
 pub mod Ways
-pub mod WayLines
 pub mod Words

@@ -2,11 +2,11 @@
 use Rattle.std.specs.Prelude.{ℕ, List, [], ◌++◌, codes, length, slice_index_or}
 use Rattle.std.specs.Fmt.{decimal}
 use Rattle.std.specs.List.{flat_map}
-use Rattle.check_tables.specs.data_rows.PlaceRole.{PLACE_NAMES}
-use Rattle.check_tables.specs.data_rows.Role.{ROLE_NAMES}
+use Rattle.data_rows.specs.PlaceRole.{PLACE_NAMES}
+use Rattle.data_rows.specs.Role.{ROLE_NAMES}
 use Rattle.check_doubts.specs.declared.flaw.Doubt.{Doubt}
-use Rattle.check_doubts.specs.declared.flaw.Flaw.{Flaw}
-use Rattle.check_doubts.specs.declared.flaw.Flaw.TheVariants as flaw
+use Rattle.check_doubts.specs.declared.flaw.CaveFlaw.{CaveFlaw}
+use Rattle.check_doubts.specs.declared.flaw.CaveFlaw.TheVariants as flaw
 use Rattle.check_doubts.specs.declared.flaw.Source.{Source}
 use Rattle.check_doubts.specs.declared.flaw.Source.TheVariants.{Database, Bindings}
 use Rattle.check_doubts.specs.declared.listing.DoubtFiles.{DoubtFiles}
@@ -21,7 +21,7 @@ abbrev pub textless : ℕ → List ℕ
 textless number = decimal number ++ codes ", which has no text"
 
 -- what is said of each kind of doubt
-abbrev pub words : Flaw → List ℕ
+abbrev pub words : CaveFlaw → List ℕ
 words (flaw.NoWayTo place) = codes "no way leads to place " ++ decimal place
 words (flaw.LeadsToTextless place) = codes "the way leads to place " ++ textless place
 words flaw.NeverTaken = codes "no player takes this way: an earlier one is always taken"

@@ -1,7 +1,7 @@
 -- Rows that name messages or places without a text.
 use Rattle.std.specs.Prelude.{ℕ, Bool, ◌&&◌, ◌||◌, not, nat_lt, is_some}
 use Rattle.std.specs.FinMap as map
-use Rattle.check_tables.specs.cave_data.CaveView.{CaveView}
+use Rattle.cave_data.specs.CaveView.{CaveView}
 
 -- a message has no text; 0 is no message
 abbrev pub lacks_text : CaveView → ℕ → Bool

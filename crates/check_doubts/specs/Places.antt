@@ -6,16 +6,16 @@ use Rattle.std.specs.FinMap as map
 use Rattle.std.specs.List.{list_any}
 use Rattle.std.specs.Ordering.{int_eq}
 use Rattle.check_tables.specs.Unused.{is_number, place_numbers}
-use Rattle.check_tables.specs.cave_data.CaveView.{CaveView, placement_of, ways_from}
-use Rattle.check_tables.specs.cave_words.Named.{object_named}
-use Rattle.check_tables.specs.cave_words.declared.named.Named.TheVariants as name
-use Rattle.check_tables.specs.data_rows.PlaceRole.{place_number}
-use Rattle.check_tables.specs.data_rows.Rows.{Going}
-use Rattle.check_tables.specs.data_rows.Targets.{destination_of, leads_to_place}
-use Rattle.check_tables.specs.data_rows.declared.place_role.PlaceRole.{PlaceRole}
-use Rattle.check_tables.specs.data_rows.declared.place_role.PlaceRole.TheVariants as role
-use Rattle.check_doubts.specs.Marks.{is_long_text, is_short_text}
-use Rattle.check_doubts.specs.declared.mark.MarkedRow.{MarkedRow}
+use Rattle.cave_data.specs.CaveView.{CaveView, placement_of, ways_from}
+use Rattle.cave_words.specs.Named.{object_named}
+use Rattle.cave_words.specs.declared.named.Named.TheVariants as name
+use Rattle.data_rows.specs.PlaceRole.{place_number}
+use Rattle.data_rows.specs.Rows.{Going}
+use Rattle.data_rows.specs.Targets.{destination_of, leads_to_place}
+use Rattle.data_rows.specs.declared.place_role.PlaceRole.{PlaceRole}
+use Rattle.data_rows.specs.declared.place_role.PlaceRole.TheVariants as role
+use Rattle.data_bindings.specs.Marks.{is_long_text, is_short_text}
+use Rattle.data_bindings.specs.declared.mark.MarkedRow.{MarkedRow}
 
 abbrev pub leads_to : ℕ → Going → Bool
 leads_to place row = leads_to_place place (destination_of row.target)

@@ -2,12 +2,12 @@
 use Rattle.std.specs.Prelude.{ℕ, pos, Bool, ◌&&◌, ◌||◌, not, nat_lt, int_lt, List}
 use Rattle.std.specs.List.{list_any}
 use Rattle.check_tables.specs.Unused.{is_number}
-use Rattle.check_tables.specs.cave_data.CaveView.{CaveView, placement_of}
-use Rattle.check_tables.specs.cave_words.Named.{object_named}
-use Rattle.check_tables.specs.cave_words.declared.named.Named.TheVariants as name
-use Rattle.turn_score.specs.turn_things.Treasures.{is_known, is_treasure}
-use Rattle.check_doubts.specs.Marks.{is_name}
-use Rattle.check_doubts.specs.declared.mark.MarkedRow.{MarkedRow}
+use Rattle.cave_data.specs.CaveView.{CaveView, placement_of}
+use Rattle.cave_words.specs.Named.{object_named}
+use Rattle.cave_words.specs.declared.named.Named.TheVariants as name
+use Rattle.turn_scene.specs.Treasures.{is_known, is_treasure}
+use Rattle.data_bindings.specs.Marks.{is_name}
+use Rattle.data_bindings.specs.declared.mark.MarkedRow.{MarkedRow}
 
 module _ (cave : CaveView) (object : ℕ) where
   -- a place has one of its halves as a game begins

@@ -1,18 +1,18 @@
 -- Ways that no player can take, since an earlier one is always taken, and ways to places without a
 -- text.
 use Rattle.std.specs.Prelude.{ℕ, Bool, true, false, ◌==◌, ◌&&◌, ◌||◌, not, nat_lt, List, [], ◌∷◌}
-use Rattle.std.specs.Prelude.{◌++◌, length, take, Option, Some, None, if◌then◌else◌}
-use Rattle.std.specs.List.{filter, list_any, slice_get}
-use Rattle.check_tables.specs.cave_data.CaveView.{CaveView, ways_from}
-use Rattle.check_tables.specs.data_rows.Rows.{Going}
-use Rattle.check_tables.specs.data_rows.declared.targets.Condition.{Condition}
-use Rattle.check_tables.specs.data_rows.declared.targets.Condition.TheVariants as condition
-use Rattle.check_tables.specs.data_rows.declared.targets.Destination.{Destination}
-use Rattle.check_tables.specs.data_rows.declared.targets.Destination.TheVariants as destination
-use Rattle.turn_score.specs.cave_world.Travel.{lists_motion, row_condition, row_destination}
-use Rattle.check_doubts.specs.Marks.{is_way_from}
+use Rattle.std.specs.Prelude.{◌++◌, take, Option, Some, None, if◌then◌else◌}
+use Rattle.std.specs.List.{list_any, slice_get}
+use Rattle.cave_data.specs.CaveView.{CaveView, ways_from}
+use Rattle.data_rows.specs.Rows.{Going}
+use Rattle.data_rows.specs.declared.targets.Condition.{Condition}
+use Rattle.data_rows.specs.declared.targets.Condition.TheVariants as condition
+use Rattle.data_rows.specs.declared.targets.Destination.{Destination}
+use Rattle.data_rows.specs.declared.targets.Destination.TheVariants as destination
+use Rattle.cave_world.specs.Travel.{lists_motion, row_condition, row_destination}
+use Rattle.data_bindings.specs.WayLines.{way_index}
 use Rattle.check_doubts.specs.Messages.{place_has_text}
-use Rattle.check_doubts.specs.declared.mark.MarkedRow.{MarkedRow}
+use Rattle.data_bindings.specs.declared.mark.MarkedRow.{MarkedRow}
 
 -- ---- which ways are come to
 
@@ -68,10 +68,6 @@ abbrev pub is_never_taken_at : ℕ → List Going → Bool
 is_never_taken_at index ways = is_never_taken_after (take index ways) (slice_get ways index)
 
 -- ---- the way of a row
-
--- which of a place's ways a row is, by the rows before it, from 0
-abbrev pub way_index : ℕ → List MarkedRow → ℕ
-way_index place before = length (filter (is_way_from place) before)
 
 -- the place that a way leads to, or 0
 abbrev pub place_led_to : Destination → ℕ

@@ -2,15 +2,15 @@
 use Rattle.std.specs.Prelude.{ℕ, Bool, true, false, ◌==◌, ◌&&◌, ◌||◌, not, List, length, Option}
 use Rattle.std.specs.Prelude.{Some, None}
 use Rattle.std.specs.List.{filter, slice_get}
-use Rattle.check_tables.specs.cave_data.CaveView.{CaveView}
-use Rattle.check_tables.specs.cave_words.Meanings.{meaning, meaning_in, meaning_of, same_class}
-use Rattle.check_tables.specs.cave_words.Words.{word_of}
-use Rattle.check_tables.specs.cave_words.declared.meaning.Class.{Class}
-use Rattle.check_tables.specs.cave_words.declared.meaning.Class.TheVariants as class
-use Rattle.check_tables.specs.cave_words.declared.meaning.Meaning.{Meaning}
-use Rattle.check_tables.specs.data_rows.Rows.{WordEntry}
-use Rattle.check_doubts.specs.Marks.{is_word}
-use Rattle.check_doubts.specs.declared.mark.MarkedRow.{MarkedRow}
+use Rattle.cave_data.specs.CaveView.{CaveView}
+use Rattle.cave_words.specs.Meanings.{meaning, meaning_in, meaning_of, same_class}
+use Rattle.cave_words.specs.Words.{word_of}
+use Rattle.cave_words.specs.declared.meaning.Class.{Class}
+use Rattle.cave_words.specs.declared.meaning.Class.TheVariants as class
+use Rattle.cave_words.specs.declared.meaning.Meaning.{Meaning}
+use Rattle.data_rows.specs.Rows.{WordEntry}
+use Rattle.data_bindings.specs.Marks.{is_word_row}
+use Rattle.data_bindings.specs.declared.mark.MarkedRow.{MarkedRow}
 
 abbrev pub is_meant : Option Meaning → Meaning → Bool
 is_meant None meaning = false
@@ -37,4 +37,4 @@ module _ (cave : CaveView) where
 
   -- the word of a row, by the rows before it
   abbrev pub word_of_row : List MarkedRow → Option WordEntry
-  word_of_row before = slice_get cave.words (length (filter is_word before))
+  word_of_row before = slice_get cave.words (length (filter is_word_row before))

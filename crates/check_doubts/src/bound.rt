@@ -4,11 +4,11 @@ ghost use Rattle.std.specs.Prelude.{◌≡◌, IfOk, option_map};
 ghost use Rattle.std.specs.Str.Lines.{lines};
 ghost use Rattle.check_doubts.specs.BoundRows.{binding_in, bound_flaw, bound_rows, message_flaw};
 
-use crate::flaw::Flaw;
+use crate::flaw::CaveFlaw;
 use crate::messages::place_has_text;
-use check_tables::{Cave, split_line};
+use base_lines::{is_skipped, split_line};
+use cave_data::Cave;
 use data_rows::binding::{Binding, Key, binding_row};
-use data_rows::is_skipped;
 use std::alloc::{AllocError, Global};
 
 /// A binding, with the number of its line, from 1.
@@ -52,18 +52,18 @@ pub(crate) fn bound_rows(alloc: Global, bindings: &[u8]) -> Result<Vec<BoundRow>
 }
 
 /// What is doubtful of the message that a role is bound to.
-fn message_flaw(role: u16, message: u16, text: Option<&[u8]>) -> Option<Flaw>
+fn message_flaw(role: u16, message: u16, text: Option<&[u8]>) -> Option<CaveFlaw>
     ensures { result ≡ message_flaw role message (option_map (λ text. text.now) text.entry) }
 {
     match text {
-        Some(text) if text.is_empty() => Some(Flaw::RoleSilent(role, message)),
+        Some(text) if text.is_empty() => Some(CaveFlaw::RoleSilent(role, message)),
         Some(_) => None,
-        None => Some(Flaw::RoleTextless(role, message)),
+        None => Some(CaveFlaw::RoleTextless(role, message)),
     }
 }
 
 /// What is doubtful of a binding.
-pub(crate) fn bound_flaw(cave: &Cave, row: &BoundRow) -> Option<Flaw>
+pub(crate) fn bound_flaw(cave: &Cave, row: &BoundRow) -> Option<CaveFlaw>
     ensures { result ≡ bound_flaw cave.now row.now }
 {
     let value = row.binding.value;
@@ -73,7 +73,7 @@ pub(crate) fn bound_flaw(cave: &Cave, row: &BoundRow) -> Option<Flaw>
             if place_has_text(cave, value) {
                 None
             } else {
-                Some(Flaw::PlaceTextless(role, value))
+                Some(CaveFlaw::PlaceTextless(role, value))
             }
         }
         Key::LettersKey => None,

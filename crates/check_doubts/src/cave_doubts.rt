@@ -2,24 +2,24 @@
 
 ghost use Rattle.std.specs.Prelude.{◌≡◌, ◌++◌, IfOk, OnOk, []};
 ghost use Rattle.std.specs.List.{flat_map};
-ghost use Rattle.turn_score.specs.turn_scene.Scene.{cave_of};
+ghost use Rattle.turn_scene.specs.Scene.{cave_of};
 ghost use Rattle.check_doubts.specs.Doubts.{doubt_of, doubts, doubts_from, doubts_of_binding};
 ghost use Rattle.check_doubts.specs.Doubts.{doubts_of_row};
 
 use crate::bound::{BoundRow, bound_flaw, bound_rows};
-use crate::flaw::{Doubt, Flaw, Source};
-use crate::mark::MarkedRow;
+use crate::flaw::{CaveFlaw, Doubt, Source};
 use crate::row_flaws::{first_flaw, second_flaw};
-use crate::rows::marked_rows;
-use check_tables::{Cave, Lexicon};
+use cave_data::Cave;
+use cave_words::Lexicon;
+use data_bindings::{MarkedRow, marked_rows};
 use std::alloc::{AllocError, Global};
-use turn_score::Rules;
+use turn_scene::Rules;
 
 /// Adds a doubt, where there is one.
 fn push_doubt(
     source: Source,
     line: usize,
-    found: Option<Flaw>,
+    found: Option<CaveFlaw>,
     doubts: &mut Vec<Doubt>,
 ) -> Result<(), AllocError>
     ensures { OnOk result (doubts.new.items ≡ doubts.old.items ++ doubt_of source line found) }

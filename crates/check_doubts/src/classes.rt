@@ -3,7 +3,7 @@
 ghost use Rattle.std.specs.Prelude.{◌≡◌};
 ghost use Rattle.check_doubts.specs.Classes.{is_taken};
 
-use crate::mark::MarkedRow;
+use data_bindings::MarkedRow;
 
 /// Whether a class before has all scores up to this one.
 pub(crate) fn is_taken(score: u32, before: &[MarkedRow]) -> bool

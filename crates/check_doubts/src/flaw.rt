@@ -2,12 +2,13 @@
 
 ghost use Rattle.std.specs.Prelude.{◌≡◌, [], map, slice_index_or};
 
-use check_tables::{PLACE_NAMES, ROLE_NAMES};
+use data_rows::place_role::PLACE_NAMES;
+use data_rows::role::ROLE_NAMES;
 use std::fmt;
 
 /// What is doubtful of a row. Places, objects, actions, hints and messages have their numbers.
 #[derive(Clone, Copy, Debug, PartialEq, Eq)]
-pub enum Flaw {
+pub enum CaveFlaw {
     /// No way leads to the place.
     NoWayTo(u16),
     /// The way leads to a place that has no text.
@@ -48,7 +49,7 @@ fn name_at<'a>(names: &[&'a str], number: u16) -> &'a str
     }
 }
 
-impl fmt::Display for Flaw {
+impl fmt::Display for CaveFlaw {
     ghost use Rattle.std.specs.Prelude.{Some};
     ghost use Rattle.check_doubts.specs.Listing.{words};
 
@@ -56,48 +57,48 @@ impl fmt::Display for Flaw {
 
     fn fmt<W: fmt::Write>(&self, f: &mut fmt::Formatter<W>) -> fmt::Result {
         match *self {
-            Flaw::NoWayTo(place) => write!(f, "no way leads to place {place}"),
-            Flaw::LeadsToTextless(place) => {
+            CaveFlaw::NoWayTo(place) => write!(f, "no way leads to place {place}"),
+            CaveFlaw::LeadsToTextless(place) => {
                 write!(f, "the way leads to place {place}, which has no text")
             }
-            Flaw::NeverTaken => {
+            CaveFlaw::NeverTaken => {
                 write!(
                     f,
                     "no player takes this way: an earlier one is always taken"
                 )
             }
-            Flaw::Hidden => write!(f, "an earlier row of this word hides it"),
-            Flaw::Nowhere(object) => write!(f, "no place holds treasure {object}"),
-            Flaw::Nameless(object) => write!(f, "treasure {object} has no inventory text"),
-            Flaw::SaysTextless(action, message) => {
+            CaveFlaw::Hidden => write!(f, "an earlier row of this word hides it"),
+            CaveFlaw::Nowhere(object) => write!(f, "no place holds treasure {object}"),
+            CaveFlaw::Nameless(object) => write!(f, "treasure {object} has no inventory text"),
+            CaveFlaw::SaysTextless(action, message) => {
                 write!(
                     f,
                     "action {action} says message {message}, which has no text"
                 )
             }
-            Flaw::TakenClass => write!(f, "an earlier class takes its scores"),
-            Flaw::UnscoredClass => write!(f, "no score reaches this class"),
-            Flaw::AsksTextless(hint, message) => {
+            CaveFlaw::TakenClass => write!(f, "an earlier class takes its scores"),
+            CaveFlaw::UnscoredClass => write!(f, "no score reaches this class"),
+            CaveFlaw::AsksTextless(hint, message) => {
                 write!(
                     f,
                     "hint {hint} asks by message {message}, which has no text"
                 )
             }
-            Flaw::GivesTextless(hint, message) => {
+            CaveFlaw::GivesTextless(hint, message) => {
                 write!(f, "hint {hint} gives message {message}, which has no text")
             }
-            Flaw::RoleTextless(role, message) => {
+            CaveFlaw::RoleTextless(role, message) => {
                 let name = name_at(&ROLE_NAMES, role);
                 write!(f, "msg.{name} is message {message}, which has no text")
             }
-            Flaw::RoleSilent(role, message) => {
+            CaveFlaw::RoleSilent(role, message) => {
                 let name = name_at(&ROLE_NAMES, role);
                 write!(
                     f,
                     "msg.{name} is message {message}, whose text prints nothing"
                 )
             }
-            Flaw::PlaceTextless(role, place) => {
+            CaveFlaw::PlaceTextless(role, place) => {
                 let name = name_at(&PLACE_NAMES, role);
                 write!(f, "place.{name} is place {place}, which has no text")
             }
@@ -117,5 +118,5 @@ pub enum Source {
 pub struct Doubt {
     pub source: Source,
     pub line: usize,
-    pub flaw: Flaw,
+    pub flaw: CaveFlaw,
 }

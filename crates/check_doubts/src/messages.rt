@@ -3,7 +3,7 @@
 ghost use Rattle.std.specs.Prelude.{◌≡◌};
 ghost use Rattle.check_doubts.specs.Messages.{lacks_text, place_has_text};
 
-use check_tables::Cave;
+use cave_data::Cave;
 
 /// Whether a message has no text, where it is one.
 pub(crate) fn lacks_text(cave: &Cave, message: u16) -> bool

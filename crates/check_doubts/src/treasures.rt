@@ -1,14 +1,17 @@
 //! Treasures that no place holds, and treasures without an inventory text.
 
 ghost use Rattle.std.specs.Prelude.{◌≡◌};
-ghost use Rattle.check_tables.specs.cave_words.Lexicon.{IsLexiconOf};
-ghost use Rattle.turn_score.specs.turn_things.Treasures.{is_treasure};
+ghost use Rattle.cave_words.specs.Lexicon.{IsLexiconOf};
+ghost use Rattle.turn_scene.specs.Treasures.{is_treasure};
 ghost use Rattle.check_doubts.specs.Treasures.{is_nameless, is_nowhere, is_placed};
 ghost use Rattle.check_doubts.specs.Treasures.{is_put_by_rules};
 
-use crate::mark::{MarkedRow, any_name};
-use check_tables::{Cave, Lexicon, Named, is_number};
-use turn_things::treasures::{FIRST_TREASURE, LAST_TREASURE};
+use cave_data::Cave;
+use cave_words::{Lexicon, Named};
+use check_tables::is_number;
+use data_bindings::MarkedRow;
+use data_bindings::mark::any_name;
+use turn_scene::treasures::{FIRST_TREASURE, LAST_TREASURE};
 
 fn is_treasure(object: u16) -> bool
     ensures { result ≡ is_treasure object }

@@ -2,24 +2,18 @@
 
 ghost use Rattle.std.specs.Prelude.{◌≡◌, [], None, map, option_map};
 ghost use Rattle.std.specs.List.{list_any};
-ghost use Rattle.check_tables.specs.data_rows.RowViews.{going};
-ghost use Rattle.turn_score.specs.cave_world.Travel.{lists_motion};
+ghost use Rattle.data_rows.specs.RowViews.{going};
+ghost use Rattle.cave_world.specs.Travel.{lists_motion};
 ghost use Rattle.check_doubts.specs.Ways.{begins_journey, comes_to, end_of_way, ends_journey};
 ghost use Rattle.check_doubts.specs.Ways.{ends_there, failed_after, failed_from, is_certain};
 ghost use Rattle.check_doubts.specs.Ways.{is_never_taken, is_never_taken_at, is_other};
-ghost use Rattle.check_doubts.specs.Ways.{is_textless_end, may_be_taken, way_index, way_of_row};
+ghost use Rattle.check_doubts.specs.Ways.{is_textless_end, may_be_taken, way_of_row};
 
-use crate::mark::MarkedRow;
 use crate::messages::place_has_text;
-use check_tables::{Cave, Condition, Destination, Row};
-use turn_things::Motion;
-
-fn lists_motion(row: &Row, motion: u16) -> bool
-    ensures { result ≡ lists_motion motion (going row.now) }
-{
-    let any = Motion::Any.number();
-    row.motions.iter().any(|&m| m == motion || m == any)
-}
+use cave_data::Cave;
+use cave_world::travel_rows::lists_motion;
+use data_bindings::{MarkedRow, way_index};
+use data_rows::{Condition, Destination, Row};
 
 /// Whether one of some ways lists a motion.
 fn any_lists_motion(rows: &[Row], motion: u16) -> bool
@@ -108,13 +102,6 @@ fn may_be_taken(before: &[Row], row: &Row) -> bool
     ensures { result ≡ may_be_taken (map going before.now) (going row.now) }
 {
     comes_to(before, failed_at_end(before), row)
-}
-
-/// Which of a place's ways a row is, by the rows before it.
-pub(crate) fn way_index(place: u16, before: &[MarkedRow]) -> usize
-    ensures { result ≡ way_index place before.now }
-{
-    before.iter().filter(|row| row.is_way_from(place)).count()
 }
 
 /// The way that a row is, by the rows before it.

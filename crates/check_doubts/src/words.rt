@@ -2,14 +2,15 @@
 
 ghost use Rattle.std.specs.Prelude.{◌≡◌, Some, length};
 ghost use Rattle.std.specs.List.{filter, slice_get};
-ghost use Rattle.check_tables.specs.cave_words.Lexicon.{IsLexiconOf};
-ghost use Rattle.check_tables.specs.data_rows.RowViews.{word_entry};
-ghost use Rattle.check_doubts.specs.Marks.{is_word};
+ghost use Rattle.cave_words.specs.Lexicon.{IsLexiconOf};
+ghost use Rattle.data_rows.specs.RowViews.{word_entry};
+ghost use Rattle.data_bindings.specs.Marks.{is_word_row};
 ghost use Rattle.check_doubts.specs.Words.{is_found, is_hidden, is_looked_up, is_meant};
 ghost use Rattle.check_doubts.specs.Words.{word_of_row};
 
-use crate::mark::MarkedRow;
-use check_tables::{Cave, Class, Lexicon, Meaning, Word};
+use cave_data::Cave;
+use cave_words::{Class, Lexicon, Meaning, Word};
+use data_bindings::MarkedRow;
 use data_rows::WordRow;
 
 fn is_meant(found: Option<Meaning>, meaning: Meaning) -> bool
@@ -62,7 +63,7 @@ fn is_hidden_at(cave: &Cave, lexicon: &Lexicon, index: usize) -> bool
 
 /// Which of the words a row is, by the rows before it.
 fn word_index(before: &[MarkedRow]) -> usize
-    ensures { result ≡ length (filter is_word before.now) }
+    ensures { result ≡ length (filter is_word_row before.now) }
 {
     before.iter().filter(|row| row.is_word()).count()
 }

@@ -7,7 +7,7 @@ use Rattle.cave_words.specs.Named.{is_second, object_named, word_of_name}
 use Rattle.cave_words.specs.declared.named.Named.{Named}
 use Rattle.cave_words.specs.declared.named.Named.TheVariants as name
 use Rattle.data_bindings.specs.Listing.{first_line}
-use Rattle.data_bindings.specs.cave_data.CaveView.{CaveView, name_of}
+use Rattle.cave_data.specs.CaveView.{CaveView, name_of}
 
 -- each name, in the order in which rules number them
 unfoldable pub each_name : List Named

@@ -5,14 +5,13 @@ use Rattle.std.specs.Fmt.{decimal}
 use Rattle.std.specs.FinMap as map
 use Rattle.std.specs.List.{filter, flat_map, list_any, range_with_len}
 use Rattle.data_bindings.specs.Listing.{first_line, message_keys}
-use Rattle.data_bindings.specs.cave_data.CaveView.{CaveView, default_message, first_word, ways_from}
-use Rattle.data_bindings.specs.data_numbers.Numbers.{LAST_ACTION, LAST_HINT, LAST_MESSAGE}
-use Rattle.data_bindings.specs.data_numbers.Numbers.{LAST_PLACE}
-use Rattle.data_bindings.specs.data_rows.Rows.{Going, SPECIAL_WORDS}
-use Rattle.data_bindings.specs.data_rows.Targets.{destination_of}
-use Rattle.data_bindings.specs.data_rows.declared.rows.Hint.{Hint}
-use Rattle.data_bindings.specs.data_rows.declared.targets.Destination.{Destination}
-use Rattle.data_bindings.specs.data_rows.declared.targets.Destination.TheVariants.{Message}
+use Rattle.cave_data.specs.CaveView.{CaveView, default_message, first_word, ways_from}
+use Rattle.base_lines.specs.Numbers.{LAST_ACTION, LAST_HINT, LAST_MESSAGE, LAST_PLACE}
+use Rattle.data_rows.specs.Rows.{Going, SPECIAL_WORDS}
+use Rattle.data_rows.specs.Targets.{destination_of}
+use Rattle.data_rows.specs.declared.rows.Hint.{Hint}
+use Rattle.data_rows.specs.declared.targets.Destination.{Destination}
+use Rattle.data_rows.specs.declared.targets.Destination.TheVariants.{Message}
 
 -- the numbers that places, actions, hints and messages may have
 unfoldable pub place_numbers : List ℕ

@@ -1,14 +1,12 @@
-//! Tables of what a cave has: the objects that rules name, and the messages that nothing can say.
+//! Tables of the names and messages of a cave, and what is known of a fault beyond its cause.
 #![tactic(auto)]
 
+pub mod clue;
 pub mod names;
+mod near;
+mod near_key;
 pub mod unused;
 
-pub use cave_words::{
-    Class, Condition, Destination, Lexicon, Meaning, Named, PlaceRole, Row, Word,
-};
-pub use data_bindings::{
-    Cave, LAST_NAMED, LAST_PLACE, PLACE_NAMES, Position, ROLE_NAMES, Section, split_line,
-};
+pub use clue::{Clue, clue_of};
 pub use names::push_names;
 pub use unused::{is_number, push_unused};

@@ -6,9 +6,10 @@ ghost use Rattle.cave_words.specs.Lexicon.{IsLexiconOf};
 ghost use Rattle.check_tables.specs.Names.{each_name, inventory_line, label, name_row};
 ghost use Rattle.check_tables.specs.Names.{names_header, names_table, object_columns};
 
+use cave_data::Cave;
 use cave_words::named::EACH_NAME;
 use cave_words::{Lexicon, Named};
-use data_bindings::{Cave, first_line};
+use data_bindings::first_line;
 use std::alloc::{AllocError, Global};
 
 /// All names.

@@ -3,18 +3,17 @@
 ghost use Rattle.std.specs.Prelude.{◌≡◌, ◌++◌, IfOk, OnOk, map};
 ghost use Rattle.std.specs.FinMap.{get};
 ghost use Rattle.std.specs.List.{flat_map, list_any};
-ghost use Rattle.data_bindings.specs.data_rows.Role.{role_number};
-ghost use Rattle.data_bindings.specs.data_rows.RowViews.{going};
+ghost use Rattle.data_rows.specs.Role.{role_number};
+ghost use Rattle.data_rows.specs.RowViews.{going};
 ghost use Rattle.check_tables.specs.Unused.{hint_says, is_number, is_said, is_unused, role_says};
 ghost use Rattle.check_tables.specs.Unused.{row_says, some_hint_says, special_word_says};
 ghost use Rattle.check_tables.specs.Unused.{unused_header, unused_messages, unused_row, unused_table};
 ghost use Rattle.check_tables.specs.Unused.{verb_says, way_says};
 
-use cave_words::{Destination, Hint};
-use data_bindings::{
-    Cave, LAST_ACTION, LAST_HINT, LAST_MESSAGE, LAST_PLACE, Role, Row, WORDS_PER_CLASS, first_line,
-    message_keys,
-};
+use base_lines::numbers::{LAST_ACTION, LAST_HINT, LAST_MESSAGE, LAST_PLACE};
+use cave_data::Cave;
+use data_bindings::{first_line, message_keys};
+use data_rows::{Destination, Hint, Role, Row, WORDS_PER_CLASS};
 use std::alloc::{AllocError, Global};
 
 /// The special words come after this number, each with its message's.

@@ -16,7 +16,7 @@ use Rattle.data_rows.specs.declared.error.Cause.TheVariants.{BadBinding, Unknown
 use Rattle.data_rows.specs.declared.binding.Key.{Key}
 use Rattle.data_rows.specs.declared.binding.Key.TheVariants.{RoleKey, PlaceKey, LettersKey}
 use Rattle.data_rows.specs.declared.binding.Binding.{Binding}
-use Rattle.data_rows.specs.base_lines.LogLine.{is_skipped}
+use Rattle.base_lines.specs.LogLine.{is_skipped}
 use Rattle.data_rows.specs.Fields.{fields, natural}
 use Rattle.data_rows.specs.Role.{ROLE_NAMES}
 use Rattle.data_rows.specs.PlaceRole.{PLACE_NAMES}

@@ -6,7 +6,7 @@ use Rattle.data_rows.specs.declared.error.Cause.{Cause}
 use Rattle.data_rows.specs.declared.error.BindingFlaw.TheVariants.{Malformed, BadValue, Repeated}
 use Rattle.data_rows.specs.declared.error.Cause.TheVariants.{BadBinding, UnknownRole}
 use Rattle.data_rows.specs.declared.binding.Binding.{Binding}
-use Rattle.data_rows.specs.base_lines.LogLine.{is_skipped}
+use Rattle.base_lines.specs.LogLine.{is_skipped}
 use Rattle.data_rows.specs.BindingGrammar.{IsKey, IsBindingLine}
 use Rattle.data_rows.specs.BindingLines.{binding_of, binding_row, binding_at, bindings_of}
 use Rattle.data_rows.proofs.BindingForms.{binding-read, read-binding}

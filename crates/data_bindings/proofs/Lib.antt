@@ -2,3 +2,5 @@ mod CauseLemmas
 mod ExactCauses
 mod FirstFaults
 mod KeyLemmas
+mod WayCounts
+mod WayLines

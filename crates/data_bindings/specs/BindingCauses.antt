@@ -2,21 +2,20 @@
 -- told: that of its form, of its number, of its name, or of a key that was bound before.
 use Rattle.std.specs.Prelude.{◌≡◌, ◌↔◌, ℕ, suc, List, [], ◌∷◌, ◌++◌, length, codes, Some, IsTrue}
 use Rattle.std.specs.Option.{IfSome}
-use Rattle.cave_data.specs.data_rows.declared.error.Cause.{Cause}
-use Rattle.cave_data.specs.data_rows.declared.error.BindingFlaw.TheVariants.{Malformed, BadValue}
-use Rattle.cave_data.specs.data_rows.declared.error.BindingFlaw.TheVariants.{Repeated}
-use Rattle.cave_data.specs.data_rows.declared.error.Cause.TheVariants.{BadBinding, UnknownRole}
-use Rattle.cave_data.specs.data_rows.declared.error.CaveError.{CaveError}
-use Rattle.cave_data.specs.data_rows.declared.error.FaultSite.TheVariants.{Bindings}
-use Rattle.cave_data.specs.data_rows.declared.binding.Key.{Key}
-use Rattle.cave_data.specs.data_rows.declared.binding.Binding.{Binding}
-use Rattle.cave_data.specs.base_lines.Bytes.{is_all_blank}
-use Rattle.cave_data.specs.base_lines.LogLine.{is_skipped}
-use Rattle.cave_data.specs.data_rows.RowParts.{BeginsWithField, WritesNatural}
-use Rattle.cave_data.specs.data_rows.RowGrammar.{IsBetween}
-use Rattle.cave_data.specs.data_rows.BindingGrammar.{IsKey, IsBindingLine}
-use Rattle.cave_data.specs.data_rows.BindingLines.{bindings_of}
-use Rattle.cave_data.specs.data_numbers.Numbers.{LAST_PLACE, LAST_MESSAGE}
+use Rattle.data_rows.specs.declared.error.Cause.{Cause}
+use Rattle.data_rows.specs.declared.error.BindingFlaw.TheVariants.{Malformed, BadValue, Repeated}
+use Rattle.data_rows.specs.declared.error.Cause.TheVariants.{BadBinding, UnknownRole}
+use Rattle.data_rows.specs.declared.error.CaveError.{CaveError}
+use Rattle.data_rows.specs.declared.error.FaultSite.TheVariants.{Bindings}
+use Rattle.data_rows.specs.declared.binding.Key.{Key}
+use Rattle.data_rows.specs.declared.binding.Binding.{Binding}
+use Rattle.base_lines.specs.Bytes.{is_all_blank}
+use Rattle.base_lines.specs.LogLine.{is_skipped}
+use Rattle.data_rows.specs.RowParts.{BeginsWithField, WritesNatural}
+use Rattle.data_rows.specs.RowGrammar.{IsBetween}
+use Rattle.data_rows.specs.BindingGrammar.{IsKey, IsBindingLine}
+use Rattle.data_rows.specs.BindingLines.{bindings_of}
+use Rattle.base_lines.specs.Numbers.{LAST_PLACE, LAST_MESSAGE}
 use Rattle.cave_data.specs.Bindings.{value_of}
 use Rattle.cave_data.specs.BindingFault.{binding_cause, first_binding_fault}
 use Rattle.cave_data.specs.Reads.{AreBindings}

@@ -7,8 +7,8 @@ use Rattle.std.specs.List.{filter, flat_map, range_with_len}
 use Rattle.std.specs.Str.Lines.{lines}
 use Rattle.std.specs.FinMap as map
 use Rattle.cave_data.specs.CaveView.{CaveView}
-use Rattle.cave_data.specs.data_rows.Role.{ROLE_NAMES}
-use Rattle.cave_data.specs.data_rows.PlaceRole.{PLACE_NAMES}
+use Rattle.data_rows.specs.Role.{ROLE_NAMES}
+use Rattle.data_rows.specs.PlaceRole.{PLACE_NAMES}
 
 -- the keys of messages and of places, by the numbers of their roles
 unfoldable pub message_keys : List ℕ

@@ -1,11 +1,11 @@
 //! The keys of bindings, by what they bind.
 
 ghost use Rattle.std.specs.Prelude.{◌≡◌, map};
-ghost use Rattle.cave_data.specs.data_rows.PlaceRole.{place_number};
-ghost use Rattle.cave_data.specs.data_rows.Role.{role_number};
+ghost use Rattle.data_rows.specs.PlaceRole.{place_number};
+ghost use Rattle.data_rows.specs.Role.{role_number};
 ghost use Rattle.data_bindings.specs.Listing.{message_keys, place_keys};
 
-use cave_data::{PlaceRole, Role};
+use data_rows::{PlaceRole, Role};
 
 /// The roles that messages may have, in the order of their names.
 const EACH_ROLE: [Role; 156] = [

@@ -1,16 +1,16 @@
-//! What the bindings of a cave come to: each key with its number, and what that number is there.
-//! Also laws of what is wrong with bindings.
+//! What the bindings of a cave say: each key with its number, and what that number is there. Also
+//! laws of what is wrong with bindings, and on which lines of a database its rows are.
 #![tactic(auto)]
 
+pub mod by_line;
 mod keys;
 pub mod laws;
 pub mod listing;
+pub mod mark;
+pub mod rows;
 
-pub use cave_data::{
-    Cause, Cave, CaveError, Condition, Expected, FaultSite, LAST_OBJECT, LAST_PLACE, PLACE_NAMES,
-    PlaceRole, Position, ROLE_NAMES, Role, Row, Section, WORDS_PER_CLASS, skip_blanks, split_line,
-    split_word,
-};
-pub use data_rows::{LAST_ACTION, LAST_HINT, LAST_MESSAGE, LAST_NAMED};
+pub use by_line::{WayLine, way_index, way_lines};
 pub use keys::{message_keys, place_keys};
 pub use listing::{first_line, push_bindings};
+pub use mark::{MarkedRow, RowMark};
+pub use rows::marked_rows;

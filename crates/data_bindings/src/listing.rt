@@ -4,8 +4,8 @@ ghost use Rattle.std.specs.Prelude.{◌≡◌, ◌++◌, OnOk, codes, length, op
 ghost use Rattle.std.specs.Fmt.{decimal};
 ghost use Rattle.std.specs.FinMap.{get};
 ghost use Rattle.std.specs.List.{filter, flat_map};
-ghost use Rattle.cave_data.specs.data_rows.PlaceRole.{place_number};
-ghost use Rattle.cave_data.specs.data_rows.Role.{role_number};
+ghost use Rattle.data_rows.specs.PlaceRole.{place_number};
+ghost use Rattle.data_rows.specs.Role.{role_number};
 ghost use Rattle.data_bindings.specs.Listing.{bindings_text, first_line, leads_to_text};
 ghost use Rattle.data_bindings.specs.Listing.{letters_line, meaning_of_number, message_count};
 ghost use Rattle.data_bindings.specs.Listing.{message_key_line, message_lines, message_sum};
@@ -13,7 +13,11 @@ ghost use Rattle.data_bindings.specs.Listing.{place_count, place_key_line, place
 ghost use Rattle.data_bindings.specs.Listing.{text_of_message, text_of_place};
 
 use crate::keys::{message_keys, place_keys};
-use cave_data::{Cave, PLACE_NAMES, PlaceRole, ROLE_NAMES, Role, split_line};
+use base_lines::split_line;
+use cave_data::Cave;
+use data_rows::place_role::PLACE_NAMES;
+use data_rows::role::ROLE_NAMES;
+use data_rows::{PlaceRole, Role};
 use std::alloc::{AllocError, Global};
 
 /// The first line of a text, without its end; empty where the text is.

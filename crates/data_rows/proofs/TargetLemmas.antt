@@ -2,7 +2,7 @@
 use Rattle.std.proofs.Common.{◌≡◌, ℕ, ◌-◌, ◌/◌, ◌%◌, Bool, true, false, cond, leb, refl, arith}
 use Rattle.std.proofs.lemmas.Bool.{leb-true}
 use Rattle.data_rows.specs.declared.targets.Condition.TheVariants.{Always, Chance, NotForDwarves}
-use Rattle.data_rows.specs.declared.targets.Condition.TheVariants.{Carried, AtHand, OtherProp}
+use Rattle.data_rows.specs.declared.targets.Condition.TheVariants.{InHands, AtHand, OtherProp}
 use Rattle.data_rows.specs.declared.targets.Destination.TheVariants.{Place, Special, NoWay, Message}
 use Rattle.data_rows.specs.declared.targets.Destination.TheVariants.{PutsEmeraldDown}
 use Rattle.data_rows.specs.declared.targets.Special.TheVariants.{Squeeze, Bridge}
@@ -15,7 +15,7 @@ condition_within target =
   where
     at : (m : ℕ) (always never chance low high : Bool) → leb m 200 ≡ low → leb m 300 ≡ high
         → IsConditionWithin (cond always Always (cond never NotForDwarves (cond chance (Chance m)
-        (cond low (Carried (m - 100)) (cond high (AtHand (m - 200))
+        (cond low (InHands (m - 100)) (cond high (AtHand (m - 200))
         (OtherProp (m % 100) (m / 100 - 3)))))))
     at m true never chance low high is_low is_high = tt
     at m false true chance low high is_low is_high = tt

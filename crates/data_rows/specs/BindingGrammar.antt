@@ -11,7 +11,7 @@ use Rattle.data_rows.specs.Role.{ROLE_NAMES}
 use Rattle.data_rows.specs.PlaceRole.{PLACE_NAMES}
 use Rattle.data_rows.specs.RowParts.{BeginsWithField, WritesNatural}
 use Rattle.data_rows.specs.RowGrammar.{IsBetween}
-use Rattle.data_numbers.specs.Numbers.{LAST_PLACE, LAST_MESSAGE}
+use Rattle.base_lines.specs.Numbers.{LAST_PLACE, LAST_MESSAGE}
 
 -- the number of a name in a table of names
 abbrev pub position_of_name : List (List ℕ) → List ℕ → Option ℕ

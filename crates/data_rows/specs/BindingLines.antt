@@ -16,7 +16,7 @@ use Rattle.data_rows.specs.BindingGrammar.{position_of_name}
 use Rattle.data_rows.specs.Rows.{◌>>=◌}
 use Rattle.data_rows.specs.Role.{ROLE_NAMES}
 use Rattle.data_rows.specs.PlaceRole.{PLACE_NAMES}
-use Rattle.data_numbers.specs.Numbers.{LAST_PLACE, LAST_MESSAGE}
+use Rattle.base_lines.specs.Numbers.{LAST_PLACE, LAST_MESSAGE}
 
 -- a binding is two fields, a key and a number of 1 to 9 digits
 abbrev pub two_fields : List (List ℕ) → Result (List ℕ × List ℕ) Cause

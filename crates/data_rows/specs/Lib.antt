@@ -13,6 +13,3 @@ pub mod RowViews
 pub mod Rows
 pub mod SectionRows
 pub mod Targets
-pub use Rattle.base_lines.specs.base_limits as base_limits
-pub use Rattle.base_lines.specs as base_lines
-pub use Rattle.data_numbers.specs as data_numbers

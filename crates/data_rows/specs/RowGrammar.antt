@@ -13,8 +13,8 @@ use Rattle.data_rows.specs.Rows.{ObjectLine, MessageLine, PlacementRow, DefaultR
 use Rattle.data_rows.specs.Rows.{ClassLine, HintRow, MagicLine}
 use Rattle.data_rows.specs.RowParts.{BeginsWithField, BeginsWithNumber, BeginsWithNumbers}
 use Rattle.data_rows.specs.RowParts.{MayBeginWithNumber, IsNumberList, IsTextAfter}
-use Rattle.data_numbers.specs.Numbers.{LAST_PLACE, LAST_OBJECT, LAST_NAMED, LAST_ACTION, LAST_HINT}
-use Rattle.data_numbers.specs.Numbers.{LAST_MESSAGE, LAST_PROP}
+use Rattle.base_lines.specs.Numbers.{LAST_PLACE, LAST_OBJECT, LAST_NAMED, LAST_ACTION, LAST_HINT}
+use Rattle.base_lines.specs.Numbers.{LAST_MESSAGE, LAST_PROP}
 
 abbrev pub IsBetween : ℕ → ℕ → ℕ → Type 0
 IsBetween first last n = (first ≤ n) × (n ≤ last)

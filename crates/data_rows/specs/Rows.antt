@@ -12,8 +12,8 @@ use Rattle.data_rows.specs.declared.number.Number.TheVariants.{Natural, Negative
 use Rattle.data_rows.specs.declared.rows.Placement.{Placement}
 use Rattle.data_rows.specs.declared.rows.Hint.{Hint}
 use Rattle.data_rows.specs.Fields.{after_blanks, field, fields, number_of_field, number_at}
-use Rattle.data_numbers.specs.Numbers.{LAST_PLACE, LAST_OBJECT, LAST_NAMED, LAST_ACTION, LAST_HINT}
-use Rattle.data_numbers.specs.Numbers.{LAST_MESSAGE, LAST_PROP}
+use Rattle.base_lines.specs.Numbers.{LAST_PLACE, LAST_OBJECT, LAST_NAMED, LAST_ACTION, LAST_HINT}
+use Rattle.base_lines.specs.Numbers.{LAST_MESSAGE, LAST_PROP}
 
 infixl 10 ◌>>=◌
 abbrev pub ◌>>=◌ : {A B : Type 0} → Result A Cause → (A → Result B Cause) → Result B Cause

@@ -3,23 +3,23 @@ use Rattle.std.specs.Prelude.{ℕ, ◌-◌, ◌/◌, ◌%◌, ◌≤◌, Bool, f
 use Rattle.std.specs.Prelude.{if◌then◌else◌}
 use Rattle.data_rows.specs.declared.targets.Condition.{Condition}
 use Rattle.data_rows.specs.declared.targets.Condition.TheVariants.{Always, Chance, NotForDwarves}
-use Rattle.data_rows.specs.declared.targets.Condition.TheVariants.{Carried, AtHand, OtherProp}
+use Rattle.data_rows.specs.declared.targets.Condition.TheVariants.{InHands, AtHand, OtherProp}
 use Rattle.data_rows.specs.declared.targets.Destination.{Destination}
 use Rattle.data_rows.specs.declared.targets.Destination.TheVariants.{Place, Special, NoWay, Message}
 use Rattle.data_rows.specs.declared.targets.Destination.TheVariants.{PutsEmeraldDown}
 use Rattle.data_rows.specs.declared.targets.Special.TheVariants.{Squeeze, Bridge}
-use Rattle.data_numbers.specs.Numbers.{LAST_PLACE, LAST_OBJECT}
+use Rattle.base_lines.specs.Numbers.{LAST_PLACE, LAST_OBJECT}
 
 -- the thousands of a target are its condition: none, a chance in percent, or that of ways that
--- aren't for dwarves; then come the objects to be carried, those to be carried or here, and, by the
--- hundred, the props that an object must not have
+-- aren't for dwarves; then come the objects to be in the hands, those to be there or here, and, by
+-- the hundred, the props that an object must not have
 unfoldable pub condition_of : ℕ → Condition
 condition_of target =
     let m = target / 1000 in
     if m == 0 then Always
     else (if m == 100 then NotForDwarves
     else (if nat_lt m 100 then Chance m
-    else (if nat_le m 200 then Carried (m - 100)
+    else (if nat_le m 200 then InHands (m - 100)
     else (if nat_le m 300 then AtHand (m - 200)
     else OtherProp (m % 100) (m / 100 - 3)))))
 
@@ -36,7 +36,7 @@ destination_of target =
 
 -- the objects of a condition are objects that there may be
 abbrev pub IsConditionWithin : Condition → Type 0
-IsConditionWithin (Carried object) = object ≤ LAST_OBJECT
+IsConditionWithin (InHands object) = object ≤ LAST_OBJECT
 IsConditionWithin (AtHand object) = object ≤ LAST_OBJECT
 IsConditionWithin (OtherProp object prop) = object ≤ LAST_OBJECT
 IsConditionWithin _ = Unit {0}

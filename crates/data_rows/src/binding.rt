@@ -14,7 +14,7 @@ use crate::field_rows::next_field;
 use crate::number::natural;
 use crate::place_role::PLACE_NAMES;
 use crate::role::ROLE_NAMES;
-use data_numbers::{LAST_MESSAGE, LAST_PLACE};
+use base_lines::numbers::{LAST_MESSAGE, LAST_PLACE};
 
 /// What is bound: the message of a role, the place of a role, or how many letters count.
 #[derive(Clone, Copy, Debug, PartialEq, Eq)]

@@ -11,14 +11,14 @@ ghost use Rattle.data_rows.specs.Rows.{word_number, word_or_cause, word_row, num
 ghost use Rattle.data_rows.specs.Rows.{second_place, placement_row, default_row, condition_row};
 ghost use Rattle.data_rows.specs.Rows.{hint_row};
 ghost use Rattle.data_rows.specs.Rows as defined;
-ghost use Rattle.data_numbers.specs.Numbers as defined_numbers;
+ghost use Rattle.base_lines.specs.Numbers as defined_numbers;
 
 use crate::error::Cause;
 use crate::number::{Number, number_at, number_of_field};
 use crate::rows::{Hint, MAX_LIST, Placement, Row, WORDS_PER_CLASS, WordRow};
 use arrayvec::ArrayVec;
 use base_lines::bytes::{skip_blanks, split_word};
-use data_numbers::{
+use base_lines::numbers::{
     LAST_ACTION, LAST_HINT, LAST_MESSAGE, LAST_NAMED, LAST_OBJECT, LAST_PLACE, LAST_PROP,
 };
 

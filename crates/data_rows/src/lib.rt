@@ -12,13 +12,6 @@ pub mod role;
 pub mod rows;
 pub mod targets;
 
-pub use base_lines::bytes::{is_all_blank, skip_blanks, split_word};
-pub use base_lines::{
-    LineFault, LogLine, Meter, Steps, check_line, is_large_input, is_skipped, split_line,
-};
-pub use data_numbers::{
-    LAST_ACTION, LAST_HINT, LAST_MESSAGE, LAST_NAMED, LAST_OBJECT, LAST_PLACE, LAST_PROP,
-};
 pub use error::{BindingFlaw, Cause, CaveError, FaultSite, Section};
 pub use explain::Expected;
 pub use place_role::PlaceRole;

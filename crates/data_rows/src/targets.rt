@@ -13,9 +13,9 @@ pub enum Condition {
     Chance(u8),
     /// It always holds, but dwarves don't take the way.
     NotForDwarves,
-    /// The player carries the object.
-    Carried(u8),
-    /// The object is carried, or is where the player is.
+    /// The object is in the player's hands.
+    InHands(u8),
+    /// The object is in the player's hands, or is where the player is.
     AtHand(u8),
     /// The object has another prop than this one.
     OtherProp(u8, u16),
@@ -24,7 +24,7 @@ pub enum Condition {
 /// A way with rules of its own.
 #[derive(Clone, Copy, Debug, PartialEq, Eq)]
 pub enum Special {
-    /// Through a passage in which almost nothing can be carried.
+    /// Through a passage that lets almost nothing through in the player's hands.
     Squeeze,
     /// Over a bridge that a troll guards.
     Bridge,
@@ -67,7 +67,7 @@ pub(crate) fn condition_of(target: u32) -> Condition
         0 => Condition::Always,
         100 => Condition::NotForDwarves,
         percent if percent < 100 => Condition::Chance(percent as u8),
-        carried if carried <= 200 => Condition::Carried((carried - 100) as u8),
+        in_hands if in_hands <= 200 => Condition::InHands((in_hands - 100) as u8),
         at_hand if at_hand <= 300 => Condition::AtHand((at_hand - 200) as u8),
         other => Condition::OtherProp((other % 100) as u8, (other / 100 - 3) as u16),
     }

@@ -2,19 +2,19 @@
 use Rattle.std.proofs.Common.{◌≡◌, ℕ, Bool, true, false, refl, ◌∙◌, ◌++◌, cond, length, List}
 use Rattle.std.specs.Prelude.{◌==◌, ◌&&◌, not, codes}
 use Rattle.std.specs.Fmt.{decimal}
-use Rattle.data_bindings.specs.cave_data.CaveView.{CaveView}
-use Rattle.map_ways.specs.cave_world.Sight.{LIGHT_BIT, has_condition, forced}
+use Rattle.cave_data.specs.CaveView.{CaveView}
+use Rattle.cave_world.specs.Sight.{LIGHT_BIT, has_condition, forced}
 use Rattle.map_graph.specs.Edges.{edge, edge_opening, edge_parts, edge_strength, edge_text}
 use Rattle.map_graph.specs.Edges.{head_back, head_there, is_edge_taken, label_look, part_from_label}
 use Rattle.map_graph.specs.Edges.{part_to_label}
-use Rattle.map_labels.specs.Labels.{label_of, is_one_line, is_within_line}
+use Rattle.map_ways.specs.Labels.{label_of, is_one_line, is_within_line}
 use Rattle.map_graph.specs.Map.{EdgesAreLines, NodesAreLines}
 use Rattle.map_graph.specs.Places.{look_of_place, node, node_opening, node_end, node_text}
 use Rattle.map_graph.specs.Places.{nowhere_note, strength}
 use Rattle.map_graph.specs.Stops.{is_way_taken, is_visited}
 use Rattle.map_ways.specs.Ways.{count_nowhere, is_both_ways}
 use Rattle.map_graph.specs.declared.stops.Stop.{Stop}
-use Rattle.map_labels.proofs.LineLemmas.{both_within, decimal_within, line_after, label_within}
+use Rattle.map_ways.proofs.LineLemmas.{both_within, decimal_within, line_after, label_within}
 
 cond_within : (test : Bool) (a b : List ℕ) → is_within_line a ≡ true → is_within_line b ≡ true
     → is_within_line (cond test a b) ≡ true

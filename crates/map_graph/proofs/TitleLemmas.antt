@@ -3,8 +3,8 @@ use Rattle.std.proofs.Common.{◌≡◌, ℕ, zero, suc, ◌+◌, ◌-◌, ◌<�
 use Rattle.std.proofs.Common.{length, refl, sym, ap, ap₂, ◌∙◌, append_assoc, append-nil, arith}
 use Rattle.std.specs.Prelude.{◌==◌}
 use Rattle.std.proofs.lemmas.Bool.{eqb-false, eqb-true}
-use Rattle.data_bindings.specs.base_lines.Bytes.{after_prefix, is_blank, is_nonblank, prefix_while}
-use Rattle.map_ways.specs.cave_words.Words.{after_first_run, first_word_of, some_run}
+use Rattle.base_lines.specs.Bytes.{after_prefix, is_blank, is_nonblank, prefix_while}
+use Rattle.cave_words.specs.Words.{after_first_run, first_word_of, some_run}
 use Rattle.map_graph.specs.Titles.{WORDS_SHOWN, first_words, word_start, words_as_shown, words_from}
 
 no_word : (shown most : ℕ) (line word : List ℕ) → (length word == 0) ≡ true

@@ -3,8 +3,8 @@ use Rattle.std.specs.Prelude.{ℕ, ◌+◌, Bool, ◌==◌, ◌||◌, ◌&&◌, 
 use Rattle.std.specs.Prelude.{if◌then◌else◌, List, [], ◌++◌, codes, length}
 use Rattle.std.specs.Fmt.{decimal}
 use Rattle.std.specs.List.{flat_map}
-use Rattle.data_bindings.specs.cave_data.CaveView.{CaveView}
-use Rattle.map_labels.specs.Labels.{label_of}
+use Rattle.cave_data.specs.CaveView.{CaveView}
+use Rattle.map_ways.specs.Labels.{label_of}
 use Rattle.map_graph.specs.Places.{strength}
 use Rattle.map_graph.specs.Stops.{is_way_taken}
 use Rattle.map_ways.specs.Ways.{ends_of_edges, is_both_ways}

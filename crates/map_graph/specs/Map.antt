@@ -2,13 +2,13 @@
 use Rattle.std.specs.Prelude.{ℕ, ◌==◌, if◌then◌else◌, List, [], ◌++◌, length, codes, ◌≡◌, true}
 use Rattle.std.specs.Fmt.{decimal}
 use Rattle.std.specs.List.{filter, flat_map, sum_by}
-use Rattle.data_bindings.specs.cave_data.CaveView.{CaveView}
+use Rattle.cave_data.specs.CaveView.{CaveView}
 use Rattle.map_graph.specs.Edges.{edges, edge}
 use Rattle.map_graph.specs.Places.{node}
 use Rattle.map_graph.specs.Stops.{is_way_taken, is_visited}
 use Rattle.map_ways.specs.Ways.{ends_of_ways, mapped_places}
 use Rattle.map_graph.specs.declared.stops.Stop.{Stop}
-use Rattle.map_labels.specs.Labels.{is_one_line}
+use Rattle.map_ways.specs.Labels.{is_one_line}
 
 -- each node is one line
 abbrev pub NodesAreLines : Type 0

@@ -2,10 +2,10 @@
 use Rattle.std.specs.Prelude.{ℕ, ◌+◌, ◌%◌, Bool, ◌==◌, if◌then◌else◌, List, [], ◌++◌, codes}
 use Rattle.std.specs.Prelude.{length, unwrap_or}
 use Rattle.std.specs.Fmt.{decimal}
-use Rattle.data_bindings.specs.cave_data.CaveView.{CaveView, first_word}
-use Rattle.data_bindings.specs.data_rows.Rows.{WORDS_PER_CLASS}
-use Rattle.data_bindings.specs.data_rows.declared.targets.Condition.{Condition}
-use Rattle.data_bindings.specs.data_rows.declared.targets.Condition.TheVariants as condition
+use Rattle.cave_data.specs.CaveView.{CaveView, first_word}
+use Rattle.data_rows.specs.Rows.{WORDS_PER_CLASS}
+use Rattle.data_rows.specs.declared.targets.Condition.{Condition}
+use Rattle.data_rows.specs.declared.targets.Condition.TheVariants as condition
 
 abbrev pub number_of_object : ℕ → ℕ
 number_of_object object = WORDS_PER_CLASS + object
@@ -21,13 +21,13 @@ object_mark cave asked object = asked ++ word_or_number cave (number_of_object o
 abbrev pub other_prop_text : ℕ → List ℕ
 other_prop_text prop = codes " isn't " ++ decimal prop
 
--- what a condition asks: a chance, an object that is carried or is here, or a prop that the object
--- must not have
+-- what a condition asks: a chance, an object that is in the hands or is here, or a prop that the
+-- object must not have
 abbrev pub condition_text : CaveView → Condition → List ℕ
 condition_text cave condition.Always = []
 condition_text cave condition.NotForDwarves = []
 condition_text cave (condition.Chance percent) = decimal percent ++ codes " %"
-condition_text cave (condition.Carried object) = object_mark cave (codes "with") object
+condition_text cave (condition.InHands object) = object_mark cave (codes "with") object
 condition_text cave (condition.AtHand object) = object_mark cave (codes "near") object
 condition_text cave (condition.OtherProp object prop) =
     object_mark cave (codes "if prop of") object ++ other_prop_text prop

@@ -6,11 +6,11 @@ use Rattle.std.specs.List.{filter, flat_map, range_with_len}
 use Rattle.std.specs.FinMap as map
 use Rattle.std.specs.Ordering.{int_eq}
 use Rattle.data_bindings.specs.Listing.{place_keys}
-use Rattle.data_bindings.specs.cave_data.CaveView.{CaveView, placement_of}
-use Rattle.data_bindings.specs.data_numbers.Numbers.{LAST_OBJECT}
-use Rattle.data_bindings.specs.data_rows.PlaceRole.{PLACE_NAMES}
-use Rattle.map_ways.specs.cave_world.Sight.{LIGHT_BIT, has_condition, forced}
-use Rattle.map_labels.specs.Labels.{label_of}
+use Rattle.cave_data.specs.CaveView.{CaveView, placement_of}
+use Rattle.base_lines.specs.Numbers.{LAST_OBJECT}
+use Rattle.data_rows.specs.PlaceRole.{PLACE_NAMES}
+use Rattle.cave_world.specs.Sight.{LIGHT_BIT, has_condition, forced}
+use Rattle.map_ways.specs.Labels.{label_of}
 use Rattle.map_graph.specs.Names.{word_or_number, number_of_object}
 use Rattle.map_graph.specs.Stops.{is_visited, visits}
 use Rattle.map_graph.specs.Titles.{title}

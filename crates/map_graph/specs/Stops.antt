@@ -1,9 +1,9 @@
 -- Where a player is in a state of a play, and where the player comes from.
 use Rattle.std.specs.Prelude.{ℕ, Bool, ◌==◌, ◌&&◌, ◌||◌, not, List, length}
 use Rattle.std.specs.List.{filter, list_any}
-use Rattle.data_bindings.specs.cave_data.CaveView.{CaveView}
-use Rattle.map_ways.specs.cave_world.Sight.{forced}
-use Rattle.map_ways.specs.cave_world.declared.state.Trail.{Trail}
+use Rattle.cave_data.specs.CaveView.{CaveView}
+use Rattle.cave_world.specs.Sight.{forced}
+use Rattle.cave_world.specs.declared.state.Trail.{Trail}
 use Rattle.map_graph.specs.declared.stops.Stop.{Stop}
 
 -- a stop of a play: the trail of a state, the place of the state before, and whether the line

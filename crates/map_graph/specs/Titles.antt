@@ -3,9 +3,9 @@ use Rattle.std.specs.Prelude.{ℕ, zero, suc, ◌+◌, ◌%◌, ◌==◌, ◌&&�
 use Rattle.std.specs.Prelude.{◌++◌, Option, None, Some, unwrap_or, length}
 use Rattle.std.specs.FinMap as map
 use Rattle.data_bindings.specs.Listing.{first_line}
-use Rattle.data_bindings.specs.cave_data.CaveView.{CaveView}
-use Rattle.map_ways.specs.cave_words.Words.{after_first_run, first_word_of}
-use Rattle.map_labels.specs.Labels.{BLANK, LINE_FEED}
+use Rattle.cave_data.specs.CaveView.{CaveView}
+use Rattle.cave_words.specs.Words.{after_first_run, first_word_of}
+use Rattle.map_ways.specs.Labels.{BLANK, LINE_FEED}
 
 -- how many words of a text are on the map
 abbrev pub WORDS_SHOWN : ℕ

@@ -1,12 +1,12 @@
 -- What is written of a way: the motions that take it, and on what condition.
 use Rattle.std.specs.Prelude.{ℕ, ◌+◌, ◌%◌, Bool, true, false, ◌==◌, ◌||◌, ◌&&◌, not}
 use Rattle.std.specs.Prelude.{if◌then◌else◌, List, [], ◌∷◌, ◌++◌, codes, length}
-use Rattle.data_bindings.specs.data_rows.Rows.{Going}
-use Rattle.data_bindings.specs.data_rows.declared.targets.Condition.{Condition}
-use Rattle.data_bindings.specs.cave_data.CaveView.{CaveView, ways_from}
-use Rattle.map_ways.specs.cave_world.Motions.{any_motion}
-use Rattle.map_ways.specs.cave_world.Sight.{forced}
-use Rattle.map_ways.specs.cave_world.Travel.{row_condition}
+use Rattle.data_rows.specs.Rows.{Going}
+use Rattle.data_rows.specs.declared.targets.Condition.{Condition}
+use Rattle.cave_data.specs.CaveView.{CaveView, ways_from}
+use Rattle.cave_world.specs.Motions.{any_motion}
+use Rattle.cave_world.specs.Sight.{forced}
+use Rattle.cave_world.specs.Travel.{row_condition}
 use Rattle.map_graph.specs.Names.{condition_mark, word_or_number}
 use Rattle.map_ways.specs.Falls.{motions_taking}
 use Rattle.map_ways.specs.Leads.{emerald_of}
@@ -56,8 +56,8 @@ motions_of_row cave from later before row =
 
 -- the motions that can take a row after others: those that come there first, and then those for
 -- which others have to fail
-unfoldable pub row_text : CaveView → ℕ → List Going → Going → List ℕ
-row_text cave from before row =
+unfoldable pub row_motions : CaveView → ℕ → List Going → Going → List ℕ
+row_motions cave from before row =
     two_texts (motions_of_row cave from false before row) (motions_of_row cave from true before row)
 
 -- a text that isn't empty on a line of its own
@@ -68,7 +68,7 @@ line_of_text prefix text =
 -- what is said of a row after others, if it leads to the place
 abbrev pub text_to : CaveView → ℕ → ℕ → List Going → Going → List ℕ
 text_to cave from place before row =
-    if ends_at place row then row_text cave from before row else []
+    if ends_at place row then row_motions cave from before row else []
 
 -- the lines of rows after others
 abbrev pub row_lines : CaveView → List ℕ → ℕ → ℕ → List Going → List Going → List ℕ

@@ -1,8 +1,8 @@
 //! The edges of ways.
 
 ghost use Rattle.std.specs.Prelude.{◌≡◌, ◌≤◌, ◌++◌, OnOk};
-ghost use Rattle.data_bindings.specs.data_numbers.Numbers.{LAST_PLACE};
-ghost use Rattle.map_labels.specs.Labels.{label_of};
+ghost use Rattle.base_lines.specs.Numbers.{LAST_PLACE};
+ghost use Rattle.map_ways.specs.Labels.{label_of};
 ghost use Rattle.map_graph.specs.Stops.{is_way_taken};
 ghost use Rattle.map_ways.specs.Ways.{is_both_ways};
 ghost use Rattle.map_graph.specs.Edges.{edge, edge_opening, edge_parts, edge_strength, edge_text};
@@ -12,9 +12,8 @@ ghost use Rattle.map_graph.specs.Edges.{part_from_label, part_to_label};
 use crate::nodes::strength;
 use crate::stops::{Stop, is_way_taken};
 use crate::way_texts::push_way;
-use data_bindings::Cave;
-use map_labels::push_label;
-use map_ways::{ends_of_edges, is_both_ways};
+use cave_data::Cave;
+use map_ways::{ends_of_edges, is_both_ways, push_label};
 use std::alloc::{AllocError, Global};
 
 /// Appends what is written at an edge.

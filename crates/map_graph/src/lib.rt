@@ -9,6 +9,3 @@ pub mod nodes;
 pub mod stops;
 pub mod titles;
 mod way_texts;
-
-pub use data_bindings::Cave;
-pub use map_ways::{Out, Place, Question, State};

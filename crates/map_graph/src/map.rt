@@ -2,7 +2,7 @@
 
 ghost use Rattle.std.specs.Prelude.{◌≡◌, ◌≤◌, ◌++◌, All, OnOk, length};
 ghost use Rattle.std.specs.List.{filter, flat_map, sum_by};
-ghost use Rattle.data_bindings.specs.data_numbers.Numbers as defined;
+ghost use Rattle.base_lines.specs.Numbers as defined;
 ghost use Rattle.map_graph.specs.Edges.{edges};
 ghost use Rattle.map_graph.specs.Map.{count_taken, count_ways, ends_taken, graph_opening};
 ghost use Rattle.map_graph.specs.Map.{labels_opening, map_of_places, nodes_and_edges};
@@ -14,7 +14,8 @@ ghost use Rattle.map_ways.specs.Ways.{ends_of_ways, mapped_places};
 use crate::edges::push_edges;
 use crate::nodes::push_node;
 use crate::stops::{Stop, is_visited, is_way_taken};
-use data_bindings::{Cave, LAST_PLACE};
+use base_lines::numbers::LAST_PLACE;
+use cave_data::Cave;
 use map_ways::{count_ends_of_ways, is_way, mapped_places};
 use std::alloc::{AllocError, Global};
 

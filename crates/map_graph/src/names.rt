@@ -1,11 +1,12 @@
 //! How motions, objects and conditions are named.
 
 ghost use Rattle.std.specs.Prelude.{◌≡◌, ◌++◌, OnOk};
-ghost use Rattle.data_bindings.specs.data_rows.declared.targets.Condition.TheVariants as condition;
+ghost use Rattle.data_rows.specs.declared.targets.Condition.TheVariants as condition;
 ghost use Rattle.map_graph.specs.Names.{condition_mark, condition_text, mark_of_text};
 ghost use Rattle.map_graph.specs.Names.{number_of_object, object_mark, word_or_number};
 
-use data_bindings::{Cave, Condition, WORDS_PER_CLASS};
+use cave_data::Cave;
+use data_rows::{Condition, WORDS_PER_CLASS};
 use std::alloc::{AllocError, Global};
 
 /// Appends a blank and the first word of a number, or the number of the motion or the object.
@@ -84,7 +85,7 @@ fn push_condition_text(
             let chance = format!(in alloc; "{percent} %")?;
             text.extend_from_slice(chance.as_bytes())
         }
-        Condition::Carried(object) => push_object_mark(alloc, cave, "with", object, text),
+        Condition::InHands(object) => push_object_mark(alloc, cave, "with", object, text),
         Condition::AtHand(object) => push_object_mark(alloc, cave, "near", object, text),
         Condition::OtherProp(object, prop) => push_other_prop(alloc, cave, object, prop, text),
     }

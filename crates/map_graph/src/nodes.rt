@@ -3,11 +3,11 @@
 ghost use Rattle.std.specs.Prelude.{◌≡◌, ◌≤◌, ◌<◌, ◌++◌, All, IfOk, OnOk};
 ghost use Rattle.std.specs.Fmt.{decimal};
 ghost use Rattle.std.specs.List.{flat_map};
-ghost use Rattle.data_bindings.specs.data_numbers.Numbers.{LAST_PLACE};
-ghost use Rattle.data_bindings.specs.data_numbers.Numbers as defined;
+ghost use Rattle.base_lines.specs.Numbers.{LAST_PLACE};
+ghost use Rattle.base_lines.specs.Numbers as defined;
 ghost use Rattle.data_bindings.specs.Listing.{place_keys};
-ghost use Rattle.data_bindings.specs.data_rows.PlaceRole.{place_number};
-ghost use Rattle.map_labels.specs.Labels.{label_of};
+ghost use Rattle.data_rows.specs.PlaceRole.{place_number};
+ghost use Rattle.map_ways.specs.Labels.{label_of};
 ghost use Rattle.map_graph.specs.Places.{begins_at, look_of_place, node, node_end, node_opening};
 ghost use Rattle.map_graph.specs.Places.{node_text, nowhere_note, object_label_line};
 ghost use Rattle.map_graph.specs.Places.{objects_beginning, role_label_line, stay_text, strength};
@@ -16,10 +16,15 @@ ghost use Rattle.map_graph.specs.Places.{title_line, visits_label_line};
 use crate::names::{number_of_object, push_word_or_number};
 use crate::stops::{Stop, is_visited, visits};
 use crate::titles::push_title;
-use data_bindings::{Cave, LAST_OBJECT, PlaceRole, place_keys};
-use map_labels::push_label;
-use map_ways::{LIGHT_BIT, Place, count_nowhere, forced, has_condition};
+use base_lines::numbers::LAST_OBJECT;
+use cave_data::Cave;
+use cave_world::sight::LIGHT_BIT;
+use cave_world::{forced, has_condition};
+use data_bindings::place_keys;
+use data_rows::PlaceRole;
+use map_ways::{count_nowhere, push_label};
 use std::alloc::{AllocError, Global};
+use world_objects::Place;
 
 /// Whether a half of an object is at a place as a game begins.
 fn begins_at(cave: &Cave, place: u16, object: u16) -> bool

@@ -4,8 +4,9 @@ ghost use Rattle.std.specs.Prelude.{◌≡◌};
 ghost use Rattle.map_graph.specs.Stops.{arrives_at, comes_by, is_at, is_way_taken, is_visited};
 ghost use Rattle.map_graph.specs.Stops.{goes_from, leads_by, visits};
 
-use data_bindings::Cave;
-use map_ways::{Place, Trail, forced};
+use cave_data::Cave;
+use cave_world::{Trail, forced};
+use world_objects::Place;
 
 /// Where a player is in a state, and in the state before.
 #[derive(Clone, Copy, Debug, PartialEq, Eq)]

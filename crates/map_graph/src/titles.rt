@@ -4,7 +4,9 @@ ghost use Rattle.std.specs.Prelude.{◌≡◌, ◌++◌, OnOk};
 ghost use Rattle.map_graph.specs.Titles.{first_words_shown, or_other, text_for_title, title};
 ghost use Rattle.map_graph.specs.Titles.{word_start};
 
-use data_bindings::{Cave, first_line, skip_blanks, split_word};
+use base_lines::bytes::{skip_blanks, split_word};
+use cave_data::Cave;
+use data_bindings::first_line;
 use std::alloc::AllocError;
 
 /// How many words of a text are on the map.

@@ -1,16 +1,19 @@
 //! What is written of ways.
 
 ghost use Rattle.std.specs.Prelude.{◌≡◌, ◌≤◌, ◌++◌, IfOk, OnOk, [], map};
-ghost use Rattle.data_bindings.specs.data_numbers.Numbers.{LAST_PLACE};
-ghost use Rattle.data_bindings.specs.data_rows.RowViews.{going};
+ghost use Rattle.base_lines.specs.Numbers.{LAST_PLACE};
+ghost use Rattle.data_rows.specs.RowViews.{going};
 ghost use Rattle.map_graph.specs.WayTexts.{line_of_text, motion_name, motion_start, motions_after};
-ghost use Rattle.map_graph.specs.WayTexts.{motions_of_row, motions_text, row_lines, row_text};
+ghost use Rattle.map_graph.specs.WayTexts.{motions_of_row, motions_text, row_lines, row_motions};
 ghost use Rattle.map_graph.specs.WayTexts.{text_to, taking_text, two_texts, way_text};
 
 use crate::names::{push_condition_mark, push_word_or_number};
-use data_bindings::{Cave, Condition, Row};
-use map_ways::{Motion, Place, ends_at, forced, motions_taking};
+use cave_data::Cave;
+use cave_world::{Motion, forced};
+use data_rows::{Condition, Row};
+use map_ways::{ends_at, motions_taking};
 use std::alloc::{AllocError, Global};
+use world_objects::Place;
 
 /// How many motions are on a line at most, so that a map of many places can be read on a page.
 const MOTIONS_PER_LINE: usize = 3;
@@ -127,8 +130,8 @@ fn push_second_text(second: &[u8], text: &mut Vec<u8>) -> Result<(), AllocError>
 
 /// The motions that can take a row after others: those that come there first, and then those for
 /// which others have to fail.
-#[tactic(auto, unfolding(crate::specs::WayTexts::row_text))]
-fn row_text(
+#[tactic(auto, unfolding(crate::specs::WayTexts::row_motions))]
+fn row_motions(
     alloc: Global,
     cave: &Cave,
     from: u16,
@@ -137,7 +140,7 @@ fn row_text(
 ) -> Result<Vec<u8>, AllocError>
     requires { from ≤ LAST_PLACE }
     ensures { IfOk result
-        (λ text. text.items ≡ row_text cave.now from (map going before.now) (going row.now)) }
+        (λ text. text.items ≡ row_motions cave.now from (map going before.now) (going row.now)) }
 {
     let mut text = motions_of_row(alloc, cave, from, false, before, row)?;
     let second = motions_of_row(alloc, cave, from, true, before, row)?;
@@ -161,7 +164,7 @@ fn text_to(
     if !ends_at(row, place) {
         return Ok(Vec::new(alloc));
     }
-    row_text(alloc, cave, from, before, row)
+    row_motions(alloc, cave, from, before, row)
 }
 
 /// Appends a text that isn't empty on a line of its own.

@@ -2,9 +2,9 @@
 use Rattle.std.proofs.Common.{◌≡◌, ℕ, ◌+◌, ◌<◌, Bool, List, [], ◌∷◌, ◌++◌, length, map, sym, ap}
 use Rattle.std.proofs.Common.{◌∙◌, arith, drop, get_or, subst, take}
 use Rattle.std.proofs.lemmas.List.{at_drop_more, map-append, take_more}
-use Rattle.cave_world.specs.data_rows.RowViews.{going}
-use Rattle.cave_world.specs.data_rows.Rows.{Going}
-use Rattle.cave_world.specs.data_rows.declared.rows.Row.{Row}
+use Rattle.data_rows.specs.RowViews.{going}
+use Rattle.data_rows.specs.Rows.{Going}
+use Rattle.data_rows.specs.declared.rows.Row.{Row}
 use Rattle.map_ways.specs.Falls.{motions_from, motions_taking}
 
 module _ (emerald : ℕ) (later : Bool) (row : Going) where

@@ -5,11 +5,11 @@ use Rattle.std.specs.Prelude.{unwrap_or}
 use Rattle.std.specs.List.{find, slice_get}
 use Rattle.std.proofs.lemmas.List.{drop_more}
 use Rattle.std.proofs.lemmas.Option.{get_or_from_slice_get, slice_get_within}
-use Rattle.cave_world.specs.cave_data.CaveView.{CaveView}
-use Rattle.cave_world.specs.cave_words.Meanings.{first_meaning, meaning_of}
-use Rattle.cave_world.specs.cave_words.Named.{object_named, object_of_word}
-use Rattle.cave_world.specs.cave_words.declared.meaning.Meaning.{Meaning}
-use Rattle.cave_world.specs.data_rows.Rows.{WordEntry}
+use Rattle.cave_data.specs.CaveView.{CaveView}
+use Rattle.cave_words.specs.Meanings.{first_meaning, meaning_of}
+use Rattle.cave_words.specs.Named.{object_named, object_of_word}
+use Rattle.cave_words.specs.declared.meaning.Meaning.{Meaning}
+use Rattle.data_rows.specs.Rows.{WordEntry}
 use Rattle.map_ways.specs.Leads.{emerald_of, names_emerald}
 
 -- the object that the first of some words says

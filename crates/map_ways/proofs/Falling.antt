@@ -4,9 +4,9 @@ use Rattle.std.proofs.Common.{◌≡◌, ℕ, ◌<◌, ◌≤◌, Bool, true, fa
 use Rattle.std.proofs.Common.{sym, ap, ◌∙◌, subst, append_assoc, append-nil, cond, lit≤}
 use Rattle.std.specs.Prelude.{◌&&◌, ◌||◌, not}
 use Rattle.std.proofs.lemmas.Bool.{false≢true}
-use Rattle.cave_world.specs.data_numbers.Numbers.{LAST_PLACE}
-use Rattle.cave_world.specs.data_rows.Rows.{Going}
-use Rattle.cave_world.specs.data_rows.declared.targets.Condition.{Condition}
+use Rattle.base_lines.specs.Numbers.{LAST_PLACE}
+use Rattle.data_rows.specs.Rows.{Going}
+use Rattle.data_rows.specs.declared.targets.Condition.{Condition}
 use Rattle.cave_world.specs.declared.state.State.{State}
 use Rattle.cave_world.specs.Travel.{row_condition}
 use Rattle.map_ways.specs.Conditions.{never, with_emerald_here}

@@ -7,6 +7,7 @@ pub mod Proper
 pub mod Spots
 pub mod Sees
 pub mod TriedRows
+pub mod Ends
 pub mod Leading
 pub mod Several
 pub mod PropsFor
@@ -20,4 +21,6 @@ pub mod LabelLaws
 pub mod Emeralds
 pub mod Passed
 pub mod Begun
-pub mod Tries
+pub mod Bytes
+pub mod LabelLemmas
+pub mod LineLemmas

@@ -5,10 +5,10 @@ use Rattle.std.specs.Prelude.{◌==◌, ◌&&◌, ◌||◌, not, if◌then◌els
 use Rattle.std.specs.List.{filter, list_any}
 use Rattle.std.proofs.lemmas.Bool.{cases_eq, eq-eqb, false≢true, ne_eqb}
 use Rattle.std.proofs.lemmas.List.Folds.{list_any-append}
-use Rattle.cave_world.specs.data_rows.Rows.{Going}
+use Rattle.data_rows.specs.Rows.{Going}
 use Rattle.cave_world.specs.Motions.{any_motion}
 use Rattle.cave_world.specs.Travel.{from_listed, lists_motion}
-use Rattle.map_ways.specs.Falls.{is_else, is_listed, is_named, is_taken_after, motions_at}
+use Rattle.map_ways.specs.Falls.{is_else, any_lists, is_named, is_taken_after, motions_at}
 use Rattle.map_ways.specs.Falls.{motions_begun, motions_from, motions_taking}
 use Rattle.map_ways.specs.Laws.{begins_as_any, is_among, is_named_at, is_named_on_way, stands_for}
 use Rattle.map_ways.specs.Ways.{ends_at}
@@ -41,8 +41,8 @@ any_lists_too motion (m ∷ numbers) none =
     or_both false true rest other h on = absurd (false≢true (sym h))
     or_both false false rest other h on = on h
 
-pub any_listed_too : (motion : ℕ) (rows : List Going) → is_listed motion rows ≡ false
-    → is_listed any_motion rows ≡ false
+pub any_listed_too : (motion : ℕ) (rows : List Going) → any_lists motion rows ≡ false
+    → any_lists any_motion rows ≡ false
 any_listed_too motion [] none = refl
 any_listed_too motion (row ∷ rows) none =
     or_false (any_lists_too motion row.motions (or_false_first _ _ none))
@@ -54,17 +54,17 @@ lists_it motion m = m == motion || m == any_motion
 
 module _ (emerald : ℕ) (as_any : Bool) (motion : ℕ) where
   -- of the numbers that a row lists, those that no row before lists stand for it too
-  kept : (before : List Going) → is_listed motion before ≡ false → (numbers : List ℕ)
+  kept : (before : List Going) → any_lists motion before ≡ false → (numbers : List ℕ)
       → (list_any (lists_it any_motion) numbers ≡ true → as_any ≡ true)
       → list_any (lists_it motion) numbers ≡ true
-      → is_among as_any motion (filter (λ m. not (is_listed m before)) numbers) ≡ true
+      → is_among as_any motion (filter (λ m. not (any_lists m before)) numbers) ≡ true
   kept before none [] use_any listed = listed
   kept before none (m ∷ numbers) use_any listed =
       elim (cases_eq m motion) [
-        | inl same ↦ first (ap (λ n. is_listed n before) same ∙ none)
+        | inl same ↦ first (ap (λ n. any_lists n before) same ∙ none)
             (ap (λ b. b || (m == any_motion && as_any)) (eq-eqb m motion same))
         | inr other ↦ elim (cases_eq m any_motion) [
-          | inl same ↦ first (ap (λ n. is_listed n before) same
+          | inl same ↦ first (ap (λ n. any_lists n before) same
               ∙ any_listed_too motion before none)
               (or_right (m == motion) (m == any_motion && as_any)
               (and_both (m == any_motion) as_any (eq-eqb m any_motion same)
@@ -79,13 +79,13 @@ module _ (emerald : ℕ) (as_any : Bool) (motion : ℕ) where
       ]
     where
       found : List ℕ
-      found = filter (λ n. not (is_listed n before)) numbers
+      found = filter (λ n. not (any_lists n before)) numbers
 
-      first : is_listed m before ≡ false → stands_for as_any motion m ≡ true
-          → is_among as_any motion (filter (λ n. not (is_listed n before)) (m ∷ numbers)) ≡ true
+      first : any_lists m before ≡ false → stands_for as_any motion m ≡ true
+          → is_among as_any motion (filter (λ n. not (any_lists n before)) (m ∷ numbers)) ≡ true
       first unlisted is =
           rw unlisted (ap (λ b. b || is_among as_any motion
-          (filter (λ n. not (is_listed n before)) numbers)) is)
+          (filter (λ n. not (any_lists n before)) numbers)) is)
 
       rest : (m == motion) ≡ false → (m == any_motion) ≡ false
           → list_any (lists_it motion) numbers ≡ true
@@ -93,17 +93,17 @@ module _ (emerald : ℕ) (as_any : Bool) (motion : ℕ) where
           sym (ap (λ b. (b || m == any_motion) || list_any (lists_it motion) numbers) differs
           ∙ ap (λ b. b || list_any (lists_it motion) numbers) also) ∙ listed
 
-      later : is_among as_any motion (filter (λ n. not (is_listed n before)) numbers) ≡ true
-          → is_among as_any motion (filter (λ n. not (is_listed n before)) (m ∷ numbers)) ≡ true
-      later among = by_test (not (is_listed m before)) refl
+      later : is_among as_any motion (filter (λ n. not (any_lists n before)) numbers) ≡ true
+          → is_among as_any motion (filter (λ n. not (any_lists n before)) (m ∷ numbers)) ≡ true
+      later among = by_test (not (any_lists m before)) refl
         where
-          by_test : (b : Bool) → not (is_listed m before) ≡ b
-              → is_among as_any motion (filter (λ n. not (is_listed n before)) (m ∷ numbers))
+          by_test : (b : Bool) → not (any_lists m before) ≡ b
+              → is_among as_any motion (filter (λ n. not (any_lists n before)) (m ∷ numbers))
               ≡ true
           by_test true is = rw is (or_right (stands_for as_any motion m) _ among)
           by_test false is = rw is among
 
-  begun : (before : List Going) (first : Going) → is_listed motion before ≡ false
+  begun : (before : List Going) (first : Going) → any_lists motion before ≡ false
       → (lists_motion any_motion first ≡ true → as_any ≡ true)
       → lists_motion motion first ≡ true
       → is_among as_any motion (motions_begun before first) ≡ true
@@ -131,7 +131,7 @@ module _ (emerald : ℕ) (as_any : Bool) (motion : ℕ) where
       (subst (λ all. is_among as_any motion (motions_taking emerald later all passed row) ≡ true)
       (sym (append_assoc before (first ∷ []) rows)) among))
 
-  module _ (before : List Going) (first : Going) (none : is_listed motion before ≡ false)
+  module _ (before : List Going) (first : Going) (none : any_lists motion before ≡ false)
       (use_any : lists_motion any_motion first ≡ true → as_any ≡ true)
       (listed : lists_motion motion first ≡ true) where
     -- one that begins at the row itself
@@ -211,7 +211,7 @@ module _ (emerald : ℕ) (as_any : Bool) (motion : ℕ) where
             (sym (ap (λ b. b || takes_to emerald place (first ∷ []) rest) is) ∙ takes))
 
   -- what takes a row to the place, from the first that lists the motion, is named on the way
-  pub named_of : (place : ℕ) (before ways : List Going) → is_listed motion before ≡ false
+  pub named_of : (place : ℕ) (before ways : List Going) → any_lists motion before ≡ false
       → begins_as_any motion ways ≡ as_any
       → takes_to emerald place [] (from_listed motion ways) ≡ true
       → is_named_on_way emerald as_any place motion before ways ≡ true

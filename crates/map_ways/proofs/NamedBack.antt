@@ -4,10 +4,10 @@ use Rattle.std.proofs.Common.{subst, append_assoc, append-nil}
 use Rattle.std.specs.Prelude.{◌==◌, ◌&&◌, ◌||◌, not, if◌then◌else◌}
 use Rattle.std.specs.List.{filter, list_any}
 use Rattle.std.proofs.lemmas.Bool.{eq-eqb, eqb-true, false≢true}
-use Rattle.cave_world.specs.data_rows.Rows.{Going}
+use Rattle.data_rows.specs.Rows.{Going}
 use Rattle.cave_world.specs.Motions.{any_motion}
 use Rattle.cave_world.specs.Travel.{from_listed, lists_motion}
-use Rattle.map_ways.specs.Falls.{is_listed, is_named, is_taken_after, motions_at, motions_begun}
+use Rattle.map_ways.specs.Falls.{any_lists, is_named, is_taken_after, motions_at, motions_begun}
 use Rattle.map_ways.specs.Falls.{motions_from, motions_taking}
 use Rattle.map_ways.specs.Laws.{begins_as_any, is_among, is_named_at, is_named_on_way, stands_for}
 use Rattle.map_ways.specs.Ways.{ends_at}
@@ -21,7 +21,7 @@ module _ (emerald : ℕ) (as_any : Bool) (motion : ℕ) where
   record Begins (before : List Going) (numbers : List ℕ) : Type 0 where
     pub number : ℕ
     pub is_there : list_any (λ m. m == number) numbers ≡ true
-    pub is_first : is_listed number before ≡ false
+    pub is_first : any_lists number before ≡ false
     pub stands : stands_for as_any motion number ≡ true
 
   begins_later : (before : List Going) (m : ℕ) (numbers : List ℕ) → Begins before numbers
@@ -34,16 +34,16 @@ module _ (emerald : ℕ) (as_any : Bool) (motion : ℕ) where
   }
 
   begins_of : (before : List Going) (numbers : List ℕ)
-      → is_among as_any motion (filter (λ m. not (is_listed m before)) numbers) ≡ true
+      → is_among as_any motion (filter (λ m. not (any_lists m before)) numbers) ≡ true
       → Begins before numbers
   begins_of before [] among = absurd (false≢true among)
   begins_of before (m ∷ numbers) among =
-      by_test (begins_of before numbers) (is_listed m before) refl
+      by_test (begins_of before numbers) (any_lists m before) refl
     where
-      by_stand : (is_among as_any motion (filter (λ n. not (is_listed n before)) numbers) ≡ true
-          → Begins before numbers) → is_listed m before ≡ false → (b : Bool)
+      by_stand : (is_among as_any motion (filter (λ n. not (any_lists n before)) numbers) ≡ true
+          → Begins before numbers) → any_lists m before ≡ false → (b : Bool)
           → stands_for as_any motion m ≡ b
-          → (b || is_among as_any motion (filter (λ n. not (is_listed n before)) numbers)) ≡ true
+          → (b || is_among as_any motion (filter (λ n. not (any_lists n before)) numbers)) ≡ true
           → Begins before (m ∷ numbers)
       by_stand again unlisted true stands is = record {
         number = m;
@@ -53,8 +53,8 @@ module _ (emerald : ℕ) (as_any : Bool) (motion : ℕ) where
       }
       by_stand again unlisted false stands is = begins_later before m numbers (again is)
 
-      by_test : (is_among as_any motion (filter (λ n. not (is_listed n before)) numbers) ≡ true
-          → Begins before numbers) → (b : Bool) → is_listed m before ≡ b
+      by_test : (is_among as_any motion (filter (λ n. not (any_lists n before)) numbers) ≡ true
+          → Begins before numbers) → (b : Bool) → any_lists m before ≡ b
           → Begins before (m ∷ numbers)
       by_test again true listed =
           begins_later before m numbers (again (rw listed at among))
@@ -75,20 +75,20 @@ module _ (emerald : ℕ) (as_any : Bool) (motion : ℕ) where
 
   -- where any motion begins, one that begins as any isn't listed before
   unlisted_before : (before rows : List Going) → begins_as_any motion (before ++ rows) ≡ true
-      → is_listed any_motion before ≡ false → is_listed motion before ≡ false
+      → any_lists any_motion before ≡ false → any_lists motion before ≡ false
   unlisted_before [] rows begins none = refl
   unlisted_before (row ∷ before) rows begins none =
-      let first = or_false_first (lists_motion any_motion row) (is_listed any_motion before) none in
+      let first = or_false_first (lists_motion any_motion row) (any_lists any_motion before) none in
       let both = sym (ap (λ b. b || (not (lists_motion motion row)
       && begins_as_any motion (before ++ rows))) first) ∙ begins in
       or_false (not_true (lists_motion motion row)
       (and_first (not (lists_motion motion row)) (begins_as_any motion (before ++ rows)) both))
       (unlisted_before before rows
       (and_second (not (lists_motion motion row)) (begins_as_any motion (before ++ rows)) both)
-      (or_false_rest (lists_motion any_motion row) (is_listed any_motion before) none))
+      (or_false_rest (lists_motion any_motion row) (any_lists any_motion before) none))
 
   record BeginsAt (before : List Going) (first : Going) : Type 0 where
-    pub unlisted : is_listed motion before ≡ false
+    pub unlisted : any_lists motion before ≡ false
     pub listed : lists_motion motion first ≡ true
 
   begins_at : (before : List Going) (first : Going) (rows : List Going)
@@ -101,7 +101,7 @@ module _ (emerald : ℕ) (as_any : Bool) (motion : ℕ) where
       by_number : (b : Begins before first.motions) (same : Bool) → (b.number == motion) ≡ same
           → BeginsAt before first
       by_number b true same = record {
-        unlisted = subst (λ n. is_listed n before ≡ false) (eqb-true b.number motion same)
+        unlisted = subst (λ n. any_lists n before ≡ false) (eqb-true b.number motion same)
             b.is_first;
         listed = weaken b.number first.motions (or_left _ _ same) b.is_there;
       }
@@ -111,7 +111,7 @@ module _ (emerald : ℕ) (as_any : Bool) (motion : ℕ) where
           record {
             unlisted = unlisted_before before (first ∷ rows)
                 (begins ∙ and_second (b.number == any_motion) as_any both)
-                (subst (λ n. is_listed n before ≡ false) (eqb-true b.number any_motion any)
+                (subst (λ n. any_lists n before ≡ false) (eqb-true b.number any_motion any)
                 b.is_first);
             listed = weaken b.number first.motions (or_right (b.number == motion) _ any)
                 b.is_there;
@@ -127,10 +127,10 @@ module _ (emerald : ℕ) (as_any : Bool) (motion : ℕ) where
   from_first (row ∷ before) first rows begins =
       ap (λ b. if b then row ∷ (before ++ first ∷ rows)
       else from_listed motion (before ++ first ∷ rows))
-      (or_false_first (lists_motion motion row) (is_listed motion before) begins.unlisted)
+      (or_false_first (lists_motion motion row) (any_lists motion before) begins.unlisted)
       ∙ from_first before first rows (record {
         unlisted =
-            or_false_rest (lists_motion motion row) (is_listed motion before) begins.unlisted;
+            or_false_rest (lists_motion motion row) (any_lists motion before) begins.unlisted;
         listed = begins.listed;
       })
 

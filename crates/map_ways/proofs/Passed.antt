@@ -3,8 +3,8 @@ use Rattle.std.proofs.Common.{◌≡◌, ℕ, Bool, true, false, List, map, sym,
 use Rattle.std.specs.Prelude.{◌&&◌}
 use Rattle.std.specs.List.{list_all}
 use Rattle.std.proofs.lemmas.List.Folds.{list_all-append, list_all-map}
-use Rattle.cave_world.specs.data_rows.Rows.{Going}
-use Rattle.cave_world.specs.data_rows.declared.targets.Condition.{Condition}
+use Rattle.data_rows.specs.Rows.{Going}
+use Rattle.data_rows.specs.declared.targets.Condition.{Condition}
 use Rattle.map_ways.specs.Falls.{asked_of, failed_of}
 
 module _ (p : Condition → Bool) (emerald : ℕ) (early late : List Going) where

@@ -3,16 +3,16 @@ use Rattle.std.proofs.Common.{◌≡◌, ℕ, ◌-◌, ◌/◌, ◌%◌, ◌<◌
 use Rattle.std.proofs.Common.{nat_lt, refl, arith, inl, inr, lit≤}
 use Rattle.std.proofs.lemmas.Bool.{cases_eq, eq-eqb, ne_eqb}
 use Rattle.std.proofs.lemmas.Bool.Decides.{nat_tests}
-use Rattle.cave_world.specs.data_numbers.Numbers.{LAST_OBJECT}
-use Rattle.cave_world.specs.data_rows.Targets.{condition_of}
-use Rattle.cave_world.specs.data_rows.declared.targets.Condition.{Condition}
-use Rattle.cave_world.specs.data_rows.declared.targets.Condition.TheVariants as condition
+use Rattle.base_lines.specs.Numbers.{LAST_OBJECT}
+use Rattle.data_rows.specs.Targets.{condition_of}
+use Rattle.data_rows.specs.declared.targets.Condition.{Condition}
+use Rattle.data_rows.specs.declared.targets.Condition.TheVariants as condition
 use Rattle.map_ways.specs.Conditions.{with_emerald_here}
 
 -- a chance can happen and fail, and an object is one that there may be
 abbrev pub IsProper : Condition → Type 0
 IsProper (condition.Chance percent) = (0 < percent) × (percent < 100)
-IsProper (condition.Carried object) = (0 < object) × (object ≤ LAST_OBJECT)
+IsProper (condition.InHands object) = (0 < object) × (object ≤ LAST_OBJECT)
 IsProper (condition.AtHand object) = (0 < object) × (object ≤ LAST_OBJECT)
 IsProper (condition.OtherProp object prop) = object ≤ LAST_OBJECT
 IsProper _ = Unit {0}
@@ -26,7 +26,7 @@ proper target =
     at : (m : ℕ) (always never chance low high : Bool) → eqb m 0 ≡ always → eqb m 100 ≡ never
         → nat_lt m 100 ≡ chance → leb m 200 ≡ low → leb m 300 ≡ high
         → IsProper (cond always condition.Always (cond never condition.NotForDwarves
-        (cond chance (condition.Chance m) (cond low (condition.Carried (m - 100))
+        (cond chance (condition.Chance m) (cond low (condition.InHands (m - 100))
         (cond high (condition.AtHand (m - 200))
         (condition.OtherProp (m % 100) (m / 100 - 3)))))))
     at m true never chance low high a n c l h = tt
@@ -45,7 +45,7 @@ unfolding with_emerald_here
 proper_here emerald condition.Always is = is
 proper_here emerald condition.NotForDwarves is = is
 proper_here emerald (condition.Chance percent) is = is
-proper_here emerald (condition.Carried object) is =
+proper_here emerald (condition.InHands object) is =
     elim (cases_eq object emerald) [
       | inl same ↦ rw (eq-eqb object emerald same) (lit≤ tt)
       | inr other ↦ rw (ne_eqb object emerald other) is
@@ -64,7 +64,7 @@ unfolding with_emerald_here
 here_twice emerald condition.Always = refl
 here_twice emerald condition.NotForDwarves = refl
 here_twice emerald (condition.Chance percent) = refl
-here_twice emerald (condition.Carried object) =
+here_twice emerald (condition.InHands object) =
     elim (cases_eq object emerald) [
       | inl same ↦ rw (eq-eqb object emerald same) refl
       | inr other ↦ rw (ne_eqb object emerald other, ne_eqb object emerald other) refl

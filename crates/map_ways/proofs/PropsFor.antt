@@ -5,8 +5,8 @@ use Rattle.std.specs.Prelude.{◌==◌, ◌&&◌, not, if◌then◌else◌}
 use Rattle.std.specs.Ordering.{int_eq}
 use Rattle.std.proofs.lemmas.Bool.{cases_eq, eq-eqb, false≢true, ne_eqb}
 use Rattle.std.proofs.lemmas.Bool.Decides.{Decides-int_eq}
-use Rattle.cave_world.specs.data_rows.declared.targets.Condition.{Condition}
-use Rattle.cave_world.specs.data_rows.declared.targets.Condition.TheVariants as condition
+use Rattle.data_rows.specs.declared.targets.Condition.{Condition}
+use Rattle.data_rows.specs.declared.targets.Condition.TheVariants as condition
 use Rattle.map_ways.specs.Conditions.{ask_for_two_props, implies}
 use Rattle.map_ways.proofs.States.{both_ways}
 use Rattle.map_ways.proofs.Several.{First, Has, Later}
@@ -61,7 +61,7 @@ module _ (x prop : ℕ) where
       prop_known cs has (λ c h. agree c (Later _ cs h))
   prop_known (condition.Chance p ∷ cs) (Later _ _ has) agree =
       prop_known cs has (λ c h. agree c (Later _ cs h))
-  prop_known (condition.Carried y ∷ cs) (Later _ _ has) agree =
+  prop_known (condition.InHands y ∷ cs) (Later _ _ has) agree =
       prop_known cs has (λ c h. agree c (Later _ cs h))
   prop_known (condition.AtHand y ∷ cs) (Later _ _ has) agree =
       prop_known cs has (λ c h. agree c (Later _ cs h))
@@ -85,7 +85,7 @@ module _ (x prop : ℕ) where
       prop_other cs (λ c h. none c (Later _ cs h)) is
   prop_other (condition.Chance p ∷ cs) none is =
       prop_other cs (λ c h. none c (Later _ cs h)) is
-  prop_other (condition.Carried y ∷ cs) none is =
+  prop_other (condition.InHands y ∷ cs) none is =
       prop_other cs (λ c h. none c (Later _ cs h)) is
   prop_other (condition.AtHand y ∷ cs) none is =
       prop_other cs (λ c h. none c (Later _ cs h)) is

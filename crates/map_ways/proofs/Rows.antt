@@ -7,8 +7,8 @@ use Rattle.std.proofs.lemmas.List.Elements.{All-cons, All-filter, All-nil}
 use Rattle.std.proofs.lemmas.List.Folds.{list_all-map}
 use Rattle.std.proofs.lemmas.List.FromFn.{length-range_with_len}
 use Rattle.std.proofs.lemmas.List.Sums.{count_by-le-length, length-filter}
-use Rattle.cave_world.specs.cave_data.CaveView.{CaveView}
-use Rattle.cave_world.specs.data_numbers.Numbers.{LAST_PLACE}
+use Rattle.cave_data.specs.CaveView.{CaveView}
+use Rattle.base_lines.specs.Numbers.{LAST_PLACE}
 use Rattle.map_ways.specs.Ways.{is_mapped, mapped_places, place_numbers}
 
 list_any-map : {A B : Type 0} (p : B → Bool) (f : A → B) (xs : List A)

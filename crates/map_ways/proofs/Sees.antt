@@ -1,12 +1,12 @@
 -- What conditions ask of a state on the way, of the state that the motion began in.
 use Rattle.std.proofs.Common.{◌≡◌, ℕ, ◌<◌, Bool, true, false, length, refl, ap, ◌∙◌}
 use Rattle.std.specs.Prelude.{not, if◌then◌else◌}
-use Rattle.cave_world.specs.cave_words.Stream.{next}
-use Rattle.cave_world.specs.data_numbers.Numbers.{LAST_OBJECT}
-use Rattle.cave_world.specs.data_rows.Rows.{Going}
-use Rattle.cave_world.specs.data_rows.Targets.{condition_of, destination_of}
-use Rattle.cave_world.specs.data_rows.declared.targets.Condition.{Condition}
-use Rattle.cave_world.specs.data_rows.declared.targets.Condition.TheVariants as condition
+use Rattle.cave_words.specs.Stream.{next}
+use Rattle.base_lines.specs.Numbers.{LAST_OBJECT}
+use Rattle.data_rows.specs.Rows.{Going}
+use Rattle.data_rows.specs.Targets.{condition_of, destination_of}
+use Rattle.data_rows.specs.declared.targets.Condition.{Condition}
+use Rattle.data_rows.specs.declared.targets.Condition.TheVariants as condition
 use Rattle.cave_world.specs.declared.state.State.{State}
 use Rattle.cave_world.specs.Travel.{after_condition, holds, row_condition}
 use Rattle.map_ways.specs.Conditions.{never, with_emerald_here}
@@ -64,7 +64,7 @@ module _ (emerald : ℕ) (s : State) where
   sees_after down t draw condition.Always sees = sees_later down t draw sees
   sees_after down t draw condition.NotForDwarves sees = sees_later down t draw sees
   sees_after down t draw (condition.Chance percent) sees = sees_later down t (next draw) sees
-  sees_after down t draw (condition.Carried object) sees = sees_later down t draw sees
+  sees_after down t draw (condition.InHands object) sees = sees_later down t draw sees
   sees_after down t draw (condition.AtHand object) sees = sees_later down t draw sees
   sees_after down t draw (condition.OtherProp object prop) sees = sees_later down t draw sees
 

@@ -4,7 +4,7 @@ use Rattle.std.proofs.Common.{arith, get_or, replicate}
 use Rattle.std.specs.Prelude.{not, if◌then◌else◌}
 use Rattle.std.specs.List.{list_all}
 use Rattle.std.proofs.lemmas.List.{get_or_past}
-use Rattle.cave_world.specs.data_rows.declared.targets.Condition.{Condition}
+use Rattle.data_rows.specs.declared.targets.Condition.{Condition}
 use Rattle.map_ways.proofs.States.{Each}
 use Rattle.map_ways.proofs.TriedRows.{and_first, and_second}
 

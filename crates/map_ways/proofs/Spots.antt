@@ -6,19 +6,19 @@ use Rattle.std.specs.Ordering.{int_eq}
 use Rattle.std.proofs.lemmas.Bool.{cases_eq, eq-eqb, ne_eqb}
 use Rattle.std.proofs.lemmas.List.{get_or-set_other, get_or-set_same, length-set}
 use Rattle.world_objects.specs.Lists.{after_relist}
-use Rattle.world_objects.specs.Objects.{IsLaid, Layout, after_move_to, anchor_of, is_carried}
-use Rattle.world_objects.specs.Objects.{is_carried_spot, is_first_at, is_object_at, is_place}
+use Rattle.world_objects.specs.Objects.{IsLaid, Layout, after_move_to, anchor_of, is_in_hands}
+use Rattle.world_objects.specs.Objects.{is_spot_in_hands, is_first_at, is_object_at, is_place}
 use Rattle.world_objects.specs.Objects.{place_of_anchor, place_of_spot, prop_of, spot_at, spot_of}
 use Rattle.world_objects.specs.Objects.{with_spot}
-use Rattle.world_objects.specs.data_numbers.Numbers.{LAST_OBJECT}
+use Rattle.base_lines.specs.Numbers.{LAST_OBJECT}
 use Rattle.world_objects.specs.declared.object.Half.TheVariants.{First}
 use Rattle.world_objects.specs.declared.spot.Anchor.{Anchor}
 use Rattle.world_objects.specs.declared.spot.Spot.{Spot}
 use Rattle.world_objects.specs.declared.spot.Spot.TheVariants as spot
 use Rattle.world_objects.proofs.Laid.{IsLaid-brought}
 use Rattle.world_objects.proofs.Places.{halves_at-after_relist}
-use Rattle.cave_world.specs.data_rows.declared.targets.Condition.{Condition}
-use Rattle.cave_world.specs.data_rows.declared.targets.Condition.TheVariants as condition
+use Rattle.data_rows.specs.declared.targets.Condition.{Condition}
+use Rattle.data_rows.specs.declared.targets.Condition.TheVariants as condition
 use Rattle.cave_world.specs.declared.state.State.{State}
 use Rattle.cave_world.specs.Travel.{holds}
 use Rattle.map_ways.specs.Conditions.{never, with_emerald_here}
@@ -94,11 +94,11 @@ module _ (emerald : ℕ) (t : State) (long : length t.objects.first ≡ LAST_OBJ
       spot_same t.objects emerald (spot_at t.trail.here) long is.0 is.1 ∙ spot_here
 
   emerald_carried : (x : ℕ) → x ≡ emerald → (0 < x) × (x ≤ LAST_OBJECT)
-      → is_carried (after_move_to t.objects emerald t.trail.here) x ≡ false
-  unfolding is_carried
+      → is_in_hands (after_move_to t.objects emerald t.trail.here) x ≡ false
+  unfolding is_in_hands
   emerald_carried x same is =
-      ap (λ y. is_carried_spot (spot_of (after_move_to t.objects emerald t.trail.here) y)) same
-      ∙ ap is_carried_spot (spot_down (subst (λ y. (0 < y) × (y ≤ LAST_OBJECT)) same is))
+      ap (λ y. is_spot_in_hands (spot_of (after_move_to t.objects emerald t.trail.here) y)) same
+      ∙ ap is_spot_in_hands (spot_down (subst (λ y. (0 < y) × (y ≤ LAST_OBJECT)) same is))
 
   emerald_at : (x : ℕ) → x ≡ emerald → (0 < x) × (x ≤ LAST_OBJECT)
       → is_object_at (after_move_to t.objects emerald t.trail.here) t.trail.here x ≡ true
@@ -115,16 +115,16 @@ module _ (emerald : ℕ) (t : State) (long : length t.objects.first ≡ LAST_OBJ
   pub holds_once_down : (c : Condition) → IsProper c → (draw : ℕ)
       → holds c (with_draw draw (put_down emerald t))
       ≡ holds (with_emerald_here emerald c) (with_draw draw t)
-  unfolding with_emerald_here after_move_to is_carried is_object_at is_first_at prop_of
+  unfolding with_emerald_here after_move_to is_in_hands is_object_at is_first_at prop_of
   holds_once_down condition.Always is draw = refl
   holds_once_down condition.NotForDwarves is draw = refl
   holds_once_down (condition.Chance percent) is draw = refl
-  holds_once_down (condition.Carried x) is draw =
+  holds_once_down (condition.InHands x) is draw =
       let asks = λ (b : Bool).
-      holds (if b then never else condition.Carried x) (with_draw draw t) in
+      holds (if b then never else condition.InHands x) (with_draw draw t) in
       elim (cases_eq x emerald) [
         | inl same ↦ emerald_carried x same is ∙ sym (ap asks (eq-eqb x emerald same))
-        | inr other ↦ ap is_carried_spot
+        | inr other ↦ ap is_spot_in_hands
             (spot_other t.objects emerald (spot_at t.trail.here) x other)
             ∙ sym (ap asks (ne_eqb x emerald other))
       ]
@@ -133,7 +133,7 @@ module _ (emerald : ℕ) (t : State) (long : length t.objects.first ≡ LAST_OBJ
       holds (if b then condition.Always else condition.AtHand x) (with_draw draw t) in
       elim (cases_eq x emerald) [
         | inl same ↦ or_right _ _ (emerald_at x same is) ∙ sym (ap asks (eq-eqb x emerald same))
-        | inr other ↦ ap₂ (λ (s : Spot) (a : Anchor). is_carried_spot s
+        | inr other ↦ ap₂ (λ (s : Spot) (a : Anchor). is_spot_in_hands s
             || (is_place t.trail.here (place_of_spot s)
             || is_place t.trail.here (place_of_anchor a)))
             (spot_other t.objects emerald (spot_at t.trail.here) x other)

@@ -6,12 +6,12 @@ use Rattle.std.specs.Ordering.{int_eq}
 use Rattle.std.specs.List.{list_all}
 use Rattle.std.proofs.lemmas.Bool.{cases_eq, eq-eqb, false≢true, ne_eqb}
 use Rattle.std.proofs.lemmas.Bool.Decides.{Decides-int_eq}
-use Rattle.cave_world.specs.data_rows.declared.targets.Condition.{Condition}
-use Rattle.cave_world.specs.data_rows.declared.targets.Condition.TheVariants as condition
+use Rattle.data_rows.specs.declared.targets.Condition.{Condition}
+use Rattle.data_rows.specs.declared.targets.Condition.TheVariants as condition
 use Rattle.cave_world.specs.declared.state.State.{State}
 use Rattle.cave_world.specs.Travel.{holds}
-use Rattle.cave_world.specs.world_objects.Objects.{Layout, is_carried, is_first_at, is_object_at}
-use Rattle.cave_world.specs.world_objects.Objects.{prop_of, spot_of, anchor_of}
+use Rattle.world_objects.specs.Objects.{Layout, is_in_hands, is_first_at, is_object_at, prop_of}
+use Rattle.world_objects.specs.Objects.{spot_of, anchor_of}
 use Rattle.map_ways.specs.Leads.{with_draw}
 use Rattle.map_ways.specs.Conditions.{ask_for_two_props, can_fail, can_hold, fails_among}
 use Rattle.map_ways.specs.Conditions.{go_together, holds_where, implies, never}
@@ -26,8 +26,8 @@ Fails Drawn s c = (draw : ℕ) × (Drawn draw × (holds c (with_draw draw s) ≡
 pub both_ways : {P : Type 0} (b : Bool) → b ≡ true → b ≡ false → P
 both_ways b holds fails = absurd (false≢true (sym fails ∙ holds))
 
-no_object_carried : (o : Layout) → is_carried o 0 ≡ false
-unfolding is_carried spot_of
+no_object_carried : (o : Layout) → is_in_hands o 0 ≡ false
+unfolding is_in_hands spot_of
 no_object_carried o = refl
 
 no_object_at : (o : Layout) (place : ℕ) → is_object_at o place 0 ≡ false
@@ -65,10 +65,10 @@ unfolding can_hold
 can_hold_here D s condition.Always held = refl
 can_hold_here D s condition.NotForDwarves held = refl
 can_hold_here D s (condition.Chance percent) held = refl
-can_hold_here D s (condition.Carried object) (draw, (_, held)) =
-    other_than_none (is_carried s.objects) object (no_object_carried s.objects) held
+can_hold_here D s (condition.InHands object) (draw, (_, held)) =
+    other_than_none (is_in_hands s.objects) object (no_object_carried s.objects) held
 can_hold_here D s (condition.AtHand object) (draw, (_, held)) =
-    other_than_none (λ x. is_carried s.objects x || is_object_at s.objects s.trail.here x) object
+    other_than_none (λ x. is_in_hands s.objects x || is_object_at s.objects s.trail.here x) object
     (rw (no_object_carried s.objects) (no_object_at s.objects s.trail.here)) held
 can_hold_here D s (condition.OtherProp object prop) (draw, (_, held)) =
     some_prop (λ x p. not (int_eq (prop_of s.objects x) (pos p))) object prop
@@ -99,7 +99,7 @@ unfolding can_fail
 can_fail_here D s condition.Always (draw, (_, failed)) = sym failed
 can_fail_here D s condition.NotForDwarves (draw, (_, failed)) = sym failed
 can_fail_here D s (condition.Chance percent) failed = refl
-can_fail_here D s (condition.Carried object) failed = refl
+can_fail_here D s (condition.InHands object) failed = refl
 can_fail_here D s (condition.AtHand object) failed = refl
 can_fail_here D s (condition.OtherProp object prop) (draw, (_, failed)) =
     elim (cases_eq object 0) [
@@ -125,15 +125,15 @@ not_same m n differ =
 pub implied_here : (D : ℕ → Type 0) (s : State) (c d : Condition) → Holds D s c → Fails D s d
     → implies c d ≡ false
 unfolding implies
-implied_here D s (condition.Carried x) (condition.Carried y)
+implied_here D s (condition.InHands x) (condition.InHands y)
     (draw, (_, held)) (other, (_, failed)) =
-    not_same x y (λ same. sym held ∙ ap (is_carried s.objects) same ∙ failed)
-implied_here D s (condition.Carried x) (condition.AtHand y) (draw, (_, held)) (other, (_, failed)) =
-    not_same x y (λ same. sym held ∙ ap (is_carried s.objects) same
-    ∙ or_false_left (is_carried s.objects y) _ failed)
+    not_same x y (λ same. sym held ∙ ap (is_in_hands s.objects) same ∙ failed)
+implied_here D s (condition.InHands x) (condition.AtHand y) (draw, (_, held)) (other, (_, failed)) =
+    not_same x y (λ same. sym held ∙ ap (is_in_hands s.objects) same
+    ∙ or_false_left (is_in_hands s.objects y) _ failed)
 implied_here D s (condition.AtHand x) (condition.AtHand y) (draw, (_, held)) (other, (_, failed)) =
     not_same x y (λ same. sym held
-    ∙ ap (λ z. is_carried s.objects z || is_object_at s.objects s.trail.here z) same ∙ failed)
+    ∙ ap (λ z. is_in_hands s.objects z || is_object_at s.objects s.trail.here z) same ∙ failed)
 implied_here D s (condition.OtherProp x p) (condition.OtherProp y q) (draw, (_, held))
     (other, (_, failed)) =
     elim (cases_eq x y) [

@@ -3,7 +3,7 @@ use Rattle.std.proofs.Common.{◌≡◌, ◌-◌, suc, Bool, true, List, [], ◌
 use Rattle.std.proofs.Common.{refl, sym, ap, ◌∙◌, arith}
 use Rattle.std.specs.Prelude.{◌==◌, not}
 use Rattle.std.specs.List.{slice_get}
-use Rattle.cave_world.specs.data_rows.Rows.{Going}
+use Rattle.data_rows.specs.Rows.{Going}
 use Rattle.map_ways.specs.Falls.{is_tried_after}
 
 abbrev pub has_other_target : Going → Option Going → Bool

@@ -1,31 +1,32 @@
--- Which rows are tried after others, and small facts of tests.
+-- Which rows are passed after others that failed, and small facts of tests.
 use Rattle.std.proofs.Common.{◌≡◌, ℕ, Bool, true, false, List, [], ◌∷◌, ◌++◌, refl, sym, ap, ◌∙◌}
-use Rattle.std.proofs.Common.{inl, inr}
+use Rattle.std.proofs.Common.{Option, None, Some, inl, inr}
 use Rattle.std.specs.Prelude.{◌==◌, ◌&&◌, ◌||◌, not}
 use Rattle.std.proofs.lemmas.Bool.{cases_eq, eq-eqb, eqb-true, false≢true, ne_eqb}
-use Rattle.cave_world.specs.data_rows.Rows.{Going}
+use Rattle.data_rows.specs.Rows.{Going}
 use Rattle.cave_world.specs.declared.travel_rows.Outcome.{Outcome}
 use Rattle.cave_world.specs.declared.travel_rows.Outcome.TheVariants.{Go}
-use Rattle.cave_world.specs.Travel.{without_leading_target}
+use Rattle.cave_world.specs.Travel.{is_passed}
 use Rattle.map_ways.specs.Falls.{is_tried_after}
 
--- the rows that are tried after some that were passed
-abbrev pub tried_after : List Going → List Going → List Going
-tried_after [] rows = rows
-tried_after (last ∷ []) rows = without_leading_target last.target rows
-tried_after (first ∷ second ∷ passed) rows = tried_after (second ∷ passed) rows
+-- the target of the last of some rows that failed
+abbrev pub last_target : List Going → Option ℕ
+last_target [] = None
+last_target (last ∷ []) = Some last.target
+last_target (first ∷ second ∷ failed) = last_target (second ∷ failed)
 
-pub none_tried : (passed : List Going) → tried_after passed [] ≡ []
-none_tried [] = refl
-none_tried (last ∷ []) = refl
-none_tried (first ∷ second ∷ passed) = none_tried (second ∷ passed)
+pub last_target_later : (failed : List Going) (row : Going)
+    → last_target (failed ++ row ∷ []) ≡ Some row.target
+last_target_later [] row = refl
+last_target_later (first ∷ []) row = refl
+last_target_later (first ∷ second ∷ failed) row = last_target_later (second ∷ failed) row
 
--- what is tried after one more row
-pub tried_later : (passed : List Going) (row : Going) (rows : List Going)
-    → tried_after (passed ++ row ∷ []) rows ≡ without_leading_target row.target rows
-tried_later [] row rows = refl
-tried_later (first ∷ []) row rows = refl
-tried_later (first ∷ second ∷ passed) row rows = tried_later (second ∷ passed) row rows
+-- after one more row that failed, those with its target are passed
+pub tried_last : (done : List Going) (row next : Going)
+    → is_tried_after (done ++ row ∷ []) next ≡ not (row.target == next.target)
+tried_last [] row next = refl
+tried_last (first ∷ []) row next = refl
+tried_last (first ∷ second ∷ done) row next = tried_last (second ∷ done) row next
 
 pub not_true : (b : Bool) → not b ≡ true → b ≡ false
 not_true true h = sym h
@@ -38,29 +39,25 @@ not_false false h = sym h
 eqb_same : (m n : ℕ) → (m == n) ≡ true → (n == m) ≡ true
 eqb_same m n same = eq-eqb n m (sym (eqb-true m n same))
 
--- a row that is tried is the next
-pub tried_next : (passed : List Going) (row : Going) (rows : List Going)
-    → is_tried_after passed row ≡ true → tried_after passed (row ∷ rows) ≡ row ∷ rows
-tried_next [] row rows tried = refl
-tried_next (last ∷ []) row rows tried =
+-- a row that is tried isn't passed
+pub tried_next : (failed : List Going) (row : Going) → is_tried_after failed row ≡ true
+    → is_passed (last_target failed) row ≡ false
+tried_next [] row tried = refl
+tried_next (last ∷ []) row tried =
     elim (cases_eq row.target last.target) [
       | inl same ↦ absurd (false≢true (sym (ap not (eq-eqb last.target row.target (sym same)))
           ∙ tried))
-      | inr other ↦ rw (ne_eqb row.target last.target other) refl
+      | inr other ↦ ne_eqb row.target last.target other
     ]
-tried_next (first ∷ second ∷ passed) row rows tried =
-    tried_next (second ∷ passed) row rows tried
+tried_next (first ∷ second ∷ failed) row tried = tried_next (second ∷ failed) row tried
 
--- one that isn't is passed, and has the target of the row before it, which failed
-pub passed_next : (passed : List Going) (row : Going) (rows : List Going)
-    → is_tried_after passed row ≡ false
-    → tried_after passed (row ∷ without_leading_target row.target rows)
-    ≡ without_leading_target row.target rows
-passed_next [] row rows passing = absurd (false≢true (sym passing))
-passed_next (last ∷ []) row rows passing =
-    rw (eqb_same last.target row.target (not_false (last.target == row.target) passing)) refl
-passed_next (first ∷ second ∷ passed) row rows passing =
-    passed_next (second ∷ passed) row rows passing
+-- one that isn't tried is passed
+pub passed_next : (failed : List Going) (row : Going) → is_tried_after failed row ≡ false
+    → is_passed (last_target failed) row ≡ true
+passed_next [] row passing = absurd (false≢true (sym passing))
+passed_next (last ∷ []) row passing =
+    eqb_same last.target row.target (not_false (last.target == row.target) passing)
+passed_next (first ∷ second ∷ failed) row passing = passed_next (second ∷ failed) row passing
 
 pub or_left : (a b : Bool) → a ≡ true → (a || b) ≡ true
 or_left true b is = refl

@@ -5,10 +5,10 @@ use Rattle.std.specs.Prelude.{◌==◌, ◌&&◌, ◌||◌, not, nat_le, is_some
 use Rattle.std.specs.FinMap as map
 use Rattle.std.specs.List.{list_any, range_with_len}
 use Rattle.std.proofs.lemmas.Bool.{cases_eq, eqb-false, leb-false, leb-true}
-use Rattle.cave_world.specs.data_rows.declared.targets.Condition.{Condition}
-use Rattle.cave_world.specs.data_rows.declared.targets.Condition.TheVariants as condition
-use Rattle.cave_world.specs.cave_data.CaveView.{CaveView, ways_from}
-use Rattle.cave_world.specs.data_numbers.Numbers.{LAST_PLACE}
+use Rattle.data_rows.specs.declared.targets.Condition.{Condition}
+use Rattle.data_rows.specs.declared.targets.Condition.TheVariants as condition
+use Rattle.cave_data.specs.CaveView.{CaveView, ways_from}
+use Rattle.base_lines.specs.Numbers.{LAST_PLACE}
 use Rattle.map_ways.specs.Laws.{EachPlaceHasOneNode, EachWayHasOneEdge, EndsAreNodes, IsPlaceNumber}
 use Rattle.map_ways.specs.Laws.{count_if, count_of}
 use Rattle.map_ways.specs.Ways.{begins_edge, condition_for_player, ends_at, ends_of_edges, has_way}
@@ -30,7 +30,7 @@ same_symmetric : (c d : Condition) → is_same_condition c d ≡ is_same_conditi
 same_symmetric condition.Always condition.Always = refl
 same_symmetric condition.NotForDwarves condition.NotForDwarves = refl
 same_symmetric (condition.Chance m) (condition.Chance n) = eqb_symmetric m n
-same_symmetric (condition.Carried x) (condition.Carried y) = eqb_symmetric x y
+same_symmetric (condition.InHands x) (condition.InHands y) = eqb_symmetric x y
 same_symmetric (condition.AtHand x) (condition.AtHand y) = eqb_symmetric x y
 same_symmetric (condition.OtherProp x p) (condition.OtherProp y q) =
     ap₂ (λ same also. same && also) (eqb_symmetric x y) (eqb_symmetric p q)

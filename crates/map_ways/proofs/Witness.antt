@@ -8,10 +8,10 @@ use Rattle.std.specs.Ordering.{int_eq}
 use Rattle.std.proofs.lemmas.Bool.{cases_eq, eq-eqb, eqb-true, false≢true, ne_eqb}
 use Rattle.std.proofs.lemmas.Bool.Decides.{Decides-int_eq, nat_tests}
 use Rattle.std.proofs.lemmas.List.FromFn.{get_or-map-range_with_len}
-use Rattle.cave_world.specs.cave_words.Stream.{pct}
-use Rattle.cave_world.specs.data_numbers.Numbers.{LAST_OBJECT, LAST_PLACE}
-use Rattle.cave_world.specs.data_rows.declared.targets.Condition.{Condition}
-use Rattle.cave_world.specs.data_rows.declared.targets.Condition.TheVariants as condition
+use Rattle.cave_words.specs.Stream.{pct}
+use Rattle.base_lines.specs.Numbers.{LAST_OBJECT, LAST_PLACE}
+use Rattle.data_rows.specs.declared.targets.Condition.{Condition}
+use Rattle.data_rows.specs.declared.targets.Condition.TheVariants as condition
 use Rattle.cave_world.specs.declared.state.State.{State}
 use Rattle.cave_world.specs.State.{starting_state}
 use Rattle.map_ways.specs.Conditions.{ask_for_two_props, can_fail, can_hold, fails_among}
@@ -20,7 +20,7 @@ use Rattle.map_ways.specs.Leads.{IsDraw, IsStateAt}
 use Rattle.map_ways.proofs.Proper.{IsProper}
 use Rattle.map_ways.proofs.States.{Each, Fails, Holds, both_ways}
 use Rattle.map_ways.proofs.TriedRows.{and_first, and_second}
-use Rattle.world_objects.specs.Objects.{IsLaid, Layout, anchor_of, is_carried, is_carried_spot}
+use Rattle.world_objects.specs.Objects.{IsLaid, Layout, anchor_of, is_in_hands, is_spot_in_hands}
 use Rattle.world_objects.specs.Objects.{is_first_at, is_object_at, is_place, place_of_anchor}
 use Rattle.world_objects.specs.Objects.{place_of_spot, prop_of, spot_of}
 use Rattle.world_objects.specs.declared.spot.Anchor.TheVariants as anchor
@@ -114,7 +114,7 @@ module _ (here : ℕ) (low : 0 < here) (high : here ≤ LAST_PLACE) (held failed
   no_prop x none = rw (eq-eqb x 0 none) refl
 
   fails : (c : Condition) → Has c failed → IsProper c → Fails IsDraw state c
-  unfolding can_fail starting_state is_carried is_object_at is_first_at
+  unfolding can_fail starting_state is_in_hands is_object_at is_first_at
   fails condition.Always has is =
       absurd (false≢true (and_first (can_fail condition.Always)
       (list_all (λ other. not (ask_for_two_props condition.Always other)) failed)
@@ -127,19 +127,19 @@ module _ (here : ℕ) (low : 0 < here) (high : here ≤ LAST_PLACE) (held failed
     where
       late : (percent : ℕ) → percent < 100 → pct percent 1048575 ≡ false
       late percent less = grind (arith, nat_tests)
-  fails (condition.Carried x) has is = (
+  fails (condition.InHands x) has is = (
     0,
     (
       lit≤ tt,
-      ap is_carried_spot (spots x)
-          ∙ not_carried here x held (λ h also. excluded h (condition.Carried x) also has),
+      ap is_spot_in_hands (spots x)
+          ∙ not_carried here x held (λ h also. excluded h (condition.InHands x) also has),
     ),
   )
   fails (condition.AtHand x) has is = (
     0,
     (
       lit≤ tt,
-      ap (λ s. is_carried_spot s || (is_place here (place_of_spot s)
+      ap (λ s. is_spot_in_hands s || (is_place here (place_of_spot s)
           || is_place here (place_of_anchor (anchor_of objects x))))
           (spots x ∙ away here x held (λ h also. excluded h (condition.AtHand x) also has))
           ∙ ap (λ a. is_place here (place_of_anchor a)) (anchors x),
@@ -160,27 +160,27 @@ module _ (here : ℕ) (low : 0 < here) (high : here ≤ LAST_PLACE) (held failed
           ∙ prop_known x p failed has (λ c also. agreed (condition.OtherProp x p) c has also))
 
   holding : (c : Condition) → Has c held → IsProper c → Holds IsDraw state c
-  unfolding can_hold starting_state is_carried is_object_at is_first_at
+  unfolding can_hold starting_state is_in_hands is_object_at is_first_at
   holding condition.Always has is = (0, (lit≤ tt, refl))
   holding condition.NotForDwarves has is = (0, (lit≤ tt, refl))
   holding (condition.Chance p) has is = (0, (lit≤ tt, early p is.0))
     where
       early : (percent : ℕ) → 0 < percent → pct percent 0 ≡ true
       early percent some = grind (arith, nat_tests)
-  holding (condition.Carried x) has is = (
+  holding (condition.InHands x) has is = (
     0,
     (
       lit≤ tt,
-      ap is_carried_spot (spots x) ∙ carried_has here x held has,
+      ap is_spot_in_hands (spots x) ∙ carried_has here x held has,
     ),
   )
   holding (condition.AtHand x) has is = (
     0,
     (
       lit≤ tt,
-      ap (λ s. is_carried_spot s || (is_place here (place_of_spot s)
+      ap (λ s. is_spot_in_hands s || (is_place here (place_of_spot s)
           || is_place here (place_of_anchor (anchor_of objects x)))) (spots x)
-          ∙ or_more (is_carried_spot (spot_for here held x)) _ _ (hand_has here x held has),
+          ∙ or_more (is_spot_in_hands (spot_for here held x)) _ _ (hand_has here x held has),
     ),
   )
     where

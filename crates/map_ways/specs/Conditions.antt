@@ -1,13 +1,13 @@
 -- Which conditions can hold, and which can fail, where others do.
 use Rattle.std.specs.Prelude.{ℕ, Bool, true, false, ◌==◌, ◌&&◌, ◌||◌, not, if◌then◌else◌, List}
 use Rattle.std.specs.List.{list_all}
-use Rattle.cave_world.specs.data_rows.declared.targets.Condition.{Condition}
-use Rattle.cave_world.specs.data_rows.declared.targets.Condition.TheVariants as condition
+use Rattle.data_rows.specs.declared.targets.Condition.{Condition}
+use Rattle.data_rows.specs.declared.targets.Condition.TheVariants as condition
 
 -- the condition holds in some state with some draw: object 0 is no object, which is nowhere and
 -- has prop 0
 unfoldable pub can_hold : Condition → Bool
-can_hold (condition.Carried object) = not (object == 0)
+can_hold (condition.InHands object) = not (object == 0)
 can_hold (condition.AtHand object) = not (object == 0)
 can_hold (condition.OtherProp object prop) = not (object == 0 && prop == 0)
 can_hold _ = true
@@ -19,11 +19,11 @@ can_fail condition.NotForDwarves = false
 can_fail (condition.OtherProp object prop) = not (object == 0) || prop == 0
 can_fail _ = true
 
--- where the one condition holds the other one does too: what is carried is at hand; of two chances
--- each has a draw of its own
+-- where the one condition holds the other one does too: what is in the hands is at hand; of two
+-- chances each has a draw of its own
 unfoldable pub implies : Condition → Condition → Bool
-implies (condition.Carried object) (condition.Carried other) = object == other
-implies (condition.Carried object) (condition.AtHand other) = object == other
+implies (condition.InHands object) (condition.InHands other) = object == other
+implies (condition.InHands object) (condition.AtHand other) = object == other
 implies (condition.AtHand object) (condition.AtHand other) = object == other
 implies (condition.OtherProp object prop) (condition.OtherProp other also) =
     object == other && prop == also
@@ -57,10 +57,11 @@ go_together held failed = list_all (holds_where failed) held && fail_together fa
 abbrev pub never : Condition
 never = condition.OtherProp 0 0
 
--- what a condition asks once the emerald lies where the player is: it is at hand, and isn't carried
+-- what a condition asks once the emerald lies where the player is: it is at hand, and isn't in the
+-- hands
 unfoldable pub with_emerald_here : ℕ → Condition → Condition
-with_emerald_here emerald (condition.Carried object) =
-    if object == emerald then never else condition.Carried object
+with_emerald_here emerald (condition.InHands object) =
+    if object == emerald then never else condition.InHands object
 with_emerald_here emerald (condition.AtHand object) =
     if object == emerald then condition.Always else condition.AtHand object
 with_emerald_here emerald other = other

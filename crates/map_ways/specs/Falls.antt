@@ -2,10 +2,10 @@
 use Rattle.std.specs.Prelude.{ℕ, Bool, true, false, ◌==◌, ◌&&◌, ◌||◌, not, if◌then◌else◌}
 use Rattle.std.specs.Prelude.{List, [], ◌∷◌, ◌++◌, map}
 use Rattle.std.specs.List.{filter, list_any}
-use Rattle.cave_world.specs.data_rows.Rows.{Going}
-use Rattle.cave_world.specs.data_rows.declared.targets.Condition.{Condition}
-use Rattle.cave_world.specs.data_rows.declared.targets.Destination.{Destination}
-use Rattle.cave_world.specs.data_rows.declared.targets.Destination.TheVariants.{PutsEmeraldDown}
+use Rattle.data_rows.specs.Rows.{Going}
+use Rattle.data_rows.specs.declared.targets.Condition.{Condition}
+use Rattle.data_rows.specs.declared.targets.Destination.{Destination}
+use Rattle.data_rows.specs.declared.targets.Destination.TheVariants.{PutsEmeraldDown}
 use Rattle.cave_world.specs.Travel.{lists_motion, row_condition, row_destination}
 use Rattle.map_ways.specs.Conditions.{go_together, never, with_emerald_here}
 
@@ -66,15 +66,15 @@ is_taken_after emerald rows row =
 abbrev pub is_else : List Going → Bool
 is_else rows = list_any has_to_fail rows
 
-abbrev pub is_listed : ℕ → List Going → Bool
-is_listed motion rows = list_any (lists_motion motion) rows
+abbrev pub any_lists : ℕ → List Going → Bool
+any_lists motion rows = list_any (lists_motion motion) rows
 
 -- a motion begins at the first row that lists it: those of a row that no row before lists
 unfoldable pub motions_begun : List Going → Going → List ℕ
-motions_begun before row = filter (λ motion. not (is_listed motion before)) row.motions
+motions_begun before row = filter (λ motion. not (any_lists motion before)) row.motions
 
 unfoldable pub has_begun : List Going → Going → Bool
-has_begun before row = list_any (λ motion. not (is_listed motion before)) row.motions
+has_begun before row = list_any (λ motion. not (any_lists motion before)) row.motions
 
 -- some motion comes to the row and can take it, which begins at one of the rows after others, or
 -- at the row itself

@@ -2,9 +2,9 @@
 use Rattle.std.specs.Prelude.{◌≡◌, ℕ, ◌+◌, ◌<◌, ◌≤◌, Bool, true, false, ◌==◌, ◌&&◌, ◌||◌, not}
 use Rattle.std.specs.Prelude.{if◌then◌else◌, List, [], ◌∷◌, ◌++◌, length}
 use Rattle.std.specs.List.{filter, list_any}
-use Rattle.cave_world.specs.cave_data.CaveView.{CaveView, ways_from}
-use Rattle.cave_world.specs.data_numbers.Numbers.{LAST_PLACE}
-use Rattle.cave_world.specs.data_rows.Rows.{Going}
+use Rattle.cave_data.specs.CaveView.{CaveView, ways_from}
+use Rattle.base_lines.specs.Numbers.{LAST_PLACE}
+use Rattle.data_rows.specs.Rows.{Going}
 use Rattle.cave_world.specs.declared.state.State.{State}
 use Rattle.cave_world.specs.declared.travel_rows.Outcome.TheVariants.{Go}
 use Rattle.cave_world.specs.Motions.{any_motion}

@@ -1,20 +1,21 @@
 -- Where a motion leads in some state, with some draws.
-use Rattle.std.specs.Prelude.{◌≡◌, ℕ, ◌<◌, Bool, ◌==◌, if◌then◌else◌, List, [], ◌∷◌, length}
-use Rattle.std.specs.Prelude.{unwrap_or}
+use Rattle.std.specs.Prelude.{◌≡◌, ℕ, ◌+◌, ◌<◌, Bool, if◌then◌else◌, List, [], ◌∷◌, drop}
+use Rattle.std.specs.Prelude.{Option, None, Some, is_some, unwrap_or}
 use Rattle.std.specs.List.{All}
-use Rattle.cave_world.specs.cave_data.CaveView.{CaveView, ways_from}
-use Rattle.cave_world.specs.cave_words.Meanings.{is_word_in}
-use Rattle.cave_world.specs.cave_words.Named.{object_named, word_of_name}
-use Rattle.cave_world.specs.cave_words.Stream.{STREAM_SIZE}
-use Rattle.cave_world.specs.cave_words.declared.named.Named.TheVariants.{Emerald}
-use Rattle.cave_world.specs.cave_words.Words.{NAME_LETTERS, word_of}
-use Rattle.cave_world.specs.cave_words.declared.meaning.Class.TheVariants.{Object}
-use Rattle.cave_world.specs.data_rows.Rows.{Going, WordEntry}
+use Rattle.cave_data.specs.CaveView.{CaveView, ways_from}
+use Rattle.cave_words.specs.Meanings.{is_word_in}
+use Rattle.cave_words.specs.Named.{object_named, word_of_name}
+use Rattle.cave_words.specs.Stream.{STREAM_SIZE}
+use Rattle.cave_words.specs.declared.named.Named.TheVariants.{Emerald}
+use Rattle.cave_words.specs.Words.{NAME_LETTERS, word_of}
+use Rattle.cave_words.specs.declared.meaning.Class.TheVariants.{Object}
+use Rattle.data_rows.specs.Rows.{Going, WordEntry}
 use Rattle.cave_world.specs.declared.state.State.{State}
-use Rattle.cave_world.specs.declared.travel_rows.Outcome.TheVariants.{Go, NoMotion, NoWay}
-use Rattle.cave_world.specs.Travel.{TravelResult, after_row, first_way, from_listed, outcome_or}
-use Rattle.cave_world.specs.Travel.{row_outcome, rows_to_try}
-use Rattle.cave_world.specs.world_objects.Objects.{IsLaid}
+use Rattle.cave_world.specs.declared.travel_rows.Outcome.TheVariants.{Go, NoMotion}
+use Rattle.cave_world.specs.Travel.{Try, TravelResult, after_trying_row, count_unlisted}
+use Rattle.cave_world.specs.Travel.{from_listed}
+use Rattle.cave_world.specs.Travel.{is_passed, result_of_last, row_outcome, try_of}
+use Rattle.world_objects.specs.Objects.{IsLaid}
 
 -- the row of words says which object the emerald is
 abbrev pub names_emerald : WordEntry → Bool
@@ -29,23 +30,29 @@ emerald_of cave = unwrap_or (object_named cave Emerald) 0
 abbrev pub with_draw : ℕ → State → State
 with_draw draw s = record s { stream = draw }
 
--- the way of the first row that leads somewhere, where before each row that is tried the stream is
--- at a number of its own; after the last of these numbers it goes on by itself
-abbrev pub first_way_by : ℕ → List ℕ → State → List Going → TravelResult
-first_way_by emerald [] s rows = first_way emerald s rows
-first_way_by emerald (draw ∷ draws) s [] = record { state = s; outcome = NoWay }
-first_way_by emerald (draw ∷ draws) s (row ∷ rows) =
-    let t = with_draw draw s in
-    let u = after_row emerald t row in
-    outcome_or (row_outcome t row) u (first_way_by emerald draws u rows)
+-- the state before the first of some draws; where none is left the stream goes on by itself
+abbrev pub with_first : List ℕ → State → State
+with_first [] s = s
+with_first (draw ∷ draws) s = with_draw draw s
+
+-- the tries of rows, where before each the stream is at a number of its own
+abbrev pub tries_by : ℕ → List ℕ → State → Option ℕ → ℕ → List Going → List Try
+tries_by emerald draws s failed number [] = []
+tries_by emerald draws s failed number (row ∷ rows) =
+    if is_passed failed row then tries_by emerald draws s failed (number + 1) rows
+    else try_of emerald (with_first draws s) number row
+    ∷ (if is_some (row_outcome (with_first draws s) row) then []
+    else tries_by emerald (drop 1 draws) (after_trying_row emerald (with_first draws s) row)
+    (Some row.target) (number + 1) rows)
 
 -- where a motion leads from where the player is, with these draws; with none it is where it leads
 -- by the stream alone
 abbrev pub travel_by : CaveView → ℕ → List ℕ → State → TravelResult
 travel_by cave motion draws s =
-    let listed = from_listed motion (ways_from cave s.trail.here) in
-    if length listed == 0 then record { state = s; outcome = NoMotion }
-    else first_way_by (emerald_of cave) draws s (rows_to_try listed)
+    let ways = ways_from cave s.trail.here in
+    result_of_last (record { state = s; outcome = NoMotion })
+    (tries_by (emerald_of cave) draws s None (count_unlisted motion ways)
+    (from_listed motion ways))
 
 -- a state in which the player is at a place, and lists of halves and objects agree
 pub record IsStateAt (place : ℕ) (s : State) : Type 0 where

@@ -3,15 +3,15 @@ use Rattle.std.specs.Prelude.{ℕ, Bool, true, false, ◌==◌, ◌&&◌, ◌||�
 use Rattle.std.specs.Prelude.{List, [], ◌∷◌, ◌++◌, length}
 use Rattle.std.specs.List.{filter, list_all, list_any, range_with_len}
 use Rattle.std.specs.FinMap as map
-use Rattle.cave_world.specs.data_rows.Rows.{Going}
-use Rattle.cave_world.specs.data_rows.Targets.{leads_to_place}
-use Rattle.cave_world.specs.data_rows.declared.targets.Condition.{Condition}
-use Rattle.cave_world.specs.data_rows.declared.targets.Condition.TheVariants.{Always, NotForDwarves}
-use Rattle.cave_world.specs.data_rows.declared.targets.Destination.{Destination}
-use Rattle.cave_world.specs.data_rows.declared.targets.Destination.TheVariants.{Place}
-use Rattle.cave_world.specs.data_rows.contracts.targets.ConditionPartialEq.TheImpl as condition_eq
-use Rattle.cave_world.specs.cave_data.CaveView.{CaveView, ways_from}
-use Rattle.cave_world.specs.data_numbers.Numbers.{LAST_PLACE}
+use Rattle.data_rows.specs.Rows.{Going}
+use Rattle.data_rows.specs.Targets.{leads_to_place}
+use Rattle.data_rows.specs.declared.targets.Condition.{Condition}
+use Rattle.data_rows.specs.declared.targets.Condition.TheVariants.{Always, NotForDwarves}
+use Rattle.data_rows.specs.declared.targets.Destination.{Destination}
+use Rattle.data_rows.specs.declared.targets.Destination.TheVariants.{Place}
+use Rattle.data_rows.specs.contracts.targets.ConditionPartialEq.TheImpl as condition_eq
+use Rattle.cave_data.specs.CaveView.{CaveView, ways_from}
+use Rattle.base_lines.specs.Numbers.{LAST_PLACE}
 use Rattle.cave_world.specs.Travel.{row_condition, row_destination}
 use Rattle.map_ways.specs.Falls.{is_reached}
 use Rattle.map_ways.specs.Leads.{emerald_of}
@@ -52,12 +52,12 @@ unfoldable pub ends_of_ways : CaveView → ℕ → List ℕ
 ends_of_ways cave from = filter (is_way cave from) place_numbers
 
 -- the destination is no place, but a message or a way with rules of its own
-abbrev pub is_nowhere : Destination → Bool
-is_nowhere (Place place) = place == 0
-is_nowhere _ = true
+abbrev pub is_no_place : Destination → Bool
+is_no_place (Place place) = place == 0
+is_no_place _ = true
 
 abbrev pub leads_nowhere : Going → Bool
-leads_nowhere row = is_nowhere (row_destination row)
+leads_nowhere row = is_no_place (row_destination row)
 
 abbrev pub count_nowhere : CaveView → ℕ → ℕ
 count_nowhere cave place = length (filter leads_nowhere (ways_from cave place))

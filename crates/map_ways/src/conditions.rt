@@ -4,7 +4,7 @@ ghost use Rattle.std.specs.Prelude.{◌≡◌};
 ghost use Rattle.map_ways.specs.Conditions.{ask_for_two_props, can_fail, can_hold, implies};
 ghost use Rattle.map_ways.specs.Conditions.{with_emerald_here};
 
-use cave_world::Condition;
+use data_rows::Condition;
 
 /// A condition that never holds: object 0 has prop 0.
 pub(crate) const NEVER: Condition = Condition::OtherProp(0, 0);
@@ -15,7 +15,7 @@ pub(crate) fn can_hold(condition: Condition) -> bool
     ensures { result ≡ can_hold condition }
 {
     match condition {
-        Condition::Carried(object) | Condition::AtHand(object) => object != 0,
+        Condition::InHands(object) | Condition::AtHand(object) => object != 0,
         Condition::OtherProp(object, prop) => !(object == 0 && prop == 0),
         _ => true,
     }
@@ -39,8 +39,8 @@ pub(crate) fn implies(condition: Condition, implied: Condition) -> bool
     ensures { result ≡ implies condition implied }
 {
     match (condition, implied) {
-        (Condition::Carried(object), Condition::Carried(other)) => object == other,
-        (Condition::Carried(object), Condition::AtHand(other)) => object == other,
+        (Condition::InHands(object), Condition::InHands(other)) => object == other,
+        (Condition::InHands(object), Condition::AtHand(other)) => object == other,
         (Condition::AtHand(object), Condition::AtHand(other)) => object == other,
         (Condition::OtherProp(object, prop), Condition::OtherProp(other, also)) => {
             object == other && prop == also
@@ -63,13 +63,13 @@ pub(crate) fn ask_for_two_props(condition: Condition, other: Condition) -> bool
 }
 
 /// What a condition asks once the emerald lies where the player is: it is at hand, and isn't
-/// carried.
+/// in the hands.
 #[tactic(auto, unfolding(crate::specs::Conditions::with_emerald_here))]
 pub(crate) fn with_emerald_here(emerald: u16, condition: Condition) -> Condition
     ensures { result ≡ with_emerald_here emerald condition }
 {
     match condition {
-        Condition::Carried(object) if u16::from(object) == emerald => NEVER,
+        Condition::InHands(object) if u16::from(object) == emerald => NEVER,
         Condition::AtHand(object) if u16::from(object) == emerald => Condition::Always,
         other => other,
     }

@@ -2,19 +2,21 @@
 
 ghost use Rattle.std.specs.Prelude.{◌≡◌, ◌∷◌, [], ℕ, IfOk, map, not};
 ghost use Rattle.std.specs.List.{list_all};
-ghost use Rattle.cave_world.specs.data_rows.RowViews.{going};
+ghost use Rattle.data_rows.specs.RowViews.{going};
 ghost use Rattle.cave_world.specs.Travel.{lists_motion};
 ghost use Rattle.map_ways.specs.Conditions.{ask_for_two_props, fail_together, fails_among};
 ghost use Rattle.map_ways.specs.Conditions.{go_together, holds_where, implies, with_emerald_here};
 ghost use Rattle.map_ways.specs.Falls.{asked_of, failed_of, has_begun, has_to_fail, holds_after};
-ghost use Rattle.map_ways.specs.Falls.{holds_past, holds_past_some, is_else, is_listed, is_named};
+ghost use Rattle.map_ways.specs.Falls.{holds_past, holds_past_some, is_else, any_lists, is_named};
 ghost use Rattle.map_ways.specs.Falls.{is_reached, is_taken_after, is_tried_after, motions_at};
 ghost use Rattle.map_ways.specs.Falls.{motions_begun, motions_from, motions_taking};
 ghost use Rattle.map_ways.specs.Leads.{emerald_of};
 
 use crate::conditions::{NEVER, ask_for_two_props, can_fail, can_hold, implies, with_emerald_here};
 use crate::leads::emerald_of;
-use cave_world::{Cave, Condition, Destination, Motion, Row};
+use cave_data::Cave;
+use cave_world::travel_rows::lists_motion;
+use data_rows::{Condition, Destination, Row};
 use std::alloc::{AllocError, Global};
 
 /// Whether no motion goes on past a row but where it fails.
@@ -116,7 +118,7 @@ fn holds_after(rows: &[Row], row: &Row) -> bool
 
 /// Whether two conditions hold, the one before and the other after the emerald is put down, where
 /// rows fail.
-fn hold_past(emerald: u16, early: &[Row], late: &[Row], first: Condition, last: Condition) -> bool
+fn go_together(emerald: u16, early: &[Row], late: &[Row], first: Condition, last: Condition) -> bool
     ensures { result ≡ go_together (first ∷ with_emerald_here emerald last ∷ [])
         (failed_of emerald (map going early.now) (map going late.now)) }
 {
@@ -132,7 +134,7 @@ fn holds_past(cave: &Cave, early: &[Row], putting: &Row, late: &[Row], row: &Row
 {
     !has_to_fail(putting)
         && is_tried_after(early, putting)
-        && hold_past(
+        && go_together(
             emerald_of(cave),
             early,
             late,
@@ -181,15 +183,8 @@ fn is_else(rows: &[Row]) -> bool
     rows.iter().any(|row| has_to_fail(row))
 }
 
-fn lists_motion(row: &Row, motion: u16) -> bool
-    ensures { result ≡ lists_motion motion (going row.now) }
-{
-    let any = Motion::Any.number();
-    row.motions.iter().any(|&m| m == motion || m == any)
-}
-
-fn is_listed(rows: &[Row], motion: u16) -> bool
-    ensures { result ≡ is_listed motion (map going rows.now) }
+fn any_lists(rows: &[Row], motion: u16) -> bool
+    ensures { result ≡ any_lists motion (map going rows.now) }
 {
     rows.iter().any(|row| lists_motion(row, motion))
 }
@@ -203,7 +198,7 @@ fn motions_begun(alloc: Global, before: &[Row], row: &Row) -> Result<Vec<u16>, A
     row.motions
         .iter()
         .copied()
-        .filter(|motion| !is_listed(before, *motion))
+        .filter(|motion| !any_lists(before, *motion))
         .collect(alloc)
 }
 
@@ -212,7 +207,7 @@ fn motions_begun(alloc: Global, before: &[Row], row: &Row) -> Result<Vec<u16>, A
 fn has_begun(before: &[Row], row: &Row) -> bool
     ensures { result ≡ has_begun (map going before.now) (going row.now) }
 {
-    row.motions.iter().any(|&motion| !is_listed(before, motion))
+    row.motions.iter().any(|&motion| !any_lists(before, motion))
 }
 
 /// Whether some motion comes to a row after others and can take it.

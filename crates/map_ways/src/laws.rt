@@ -2,7 +2,6 @@
 
 ghost use Rattle.map_ways.specs.Laws.{EachPlaceHasOneNode, EachWayHasOneEdge, EndsAreNodes};
 ghost use Rattle.map_ways.specs.Laws.{LabelsNameWhatLeads, WhatLeadsIsNamed};
-ghost use Rattle.map_ways.specs.Tries.{LastTriedLeads};
 
 /// Each place that has a text, or a way, is once among the places of the map, and no other is.
 pub fn each_place_has_one_node()
@@ -27,9 +26,4 @@ pub fn labels_name_what_leads()
 /// Where a motion leads to a place by the stream, the label of the edge there names it.
 pub fn what_leads_is_named()
     ensures { WhatLeadsIsNamed }
-{}
-
-/// What comes of a motion is what comes of the last row that it tries, of those that are noted.
-pub fn last_tried_leads()
-    ensures { LastTriedLeads }
 {}

@@ -3,7 +3,8 @@
 ghost use Rattle.std.specs.Prelude.{◌≡◌};
 ghost use Rattle.map_ways.specs.Leads.{emerald_of, names_emerald};
 
-use cave_world::{Cave, Class, Meaning, Named, Word};
+use cave_data::Cave;
+use cave_words::{Class, Meaning, Named, Word};
 
 /// How many letters of the words that rules write out count.
 const NAME_LETTERS: u8 = 5;

@@ -2,8 +2,8 @@
 
 ghost use Rattle.std.specs.Prelude.{◌≡◌, ◌≤◌, All, IfOk, [], length, map};
 ghost use Rattle.std.specs.List.{filter};
-ghost use Rattle.cave_world.specs.data_numbers.Numbers as defined;
-ghost use Rattle.cave_world.specs.data_rows.RowViews.{going};
+ghost use Rattle.base_lines.specs.Numbers as defined;
+ghost use Rattle.data_rows.specs.RowViews.{going};
 ghost use Rattle.map_ways.specs.Leads.{emerald_of};
 ghost use Rattle.map_ways.specs.Ways.{begins_edge, condition_for_player, count_nowhere};
 ghost use Rattle.map_ways.specs.Ways.{ends_of_edges, ends_of_ways, has_way, have_condition};
@@ -11,7 +11,9 @@ ghost use Rattle.map_ways.specs.Ways.{have_one_condition, is_both_ways, is_mappe
 ghost use Rattle.map_ways.specs.Ways.{ends_at, leads_nowhere, mapped_places, rows_agree};
 
 use crate::falls::is_reached;
-use cave_world::{Cave, Condition, Destination, LAST_PLACE, Row};
+use base_lines::numbers::LAST_PLACE;
+use cave_data::Cave;
+use data_rows::{Condition, Destination, Row};
 use std::alloc::{AllocError, Global};
 
 /// Whether a row leads to a place.

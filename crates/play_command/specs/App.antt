@@ -104,8 +104,8 @@ map_app = with_output
     (with_options (with_rule (with_rule (new_app (codes "map")) cave_argument) some_logs_argument))
 
 -- the program, which requires one of the commands
-abbrev pub plain_app : App
-plain_app = record {
+abbrev pub plain_command : App
+plain_command = record {
   top = record (new_app (codes "cave")).top {
     has_version = true;
     subcommand_required = true;
@@ -115,12 +115,12 @@ plain_app = record {
 }
 
 -- the program with the commands that check a cave and play a log
-abbrev pub check_and_play_app : App
-check_and_play_app = with_subcommand (with_subcommand plain_app check_app.top) play_app.top
+abbrev pub check_and_play_command : App
+check_and_play_command = with_subcommand (with_subcommand plain_command check_app.top) play_app.top
 
 -- the program with these two and the command that edits a log
-abbrev pub check_play_and_edit_app : App
-check_play_and_edit_app = with_subcommand check_and_play_app edit_app.top
+abbrev pub check_play_and_edit_command : App
+check_play_and_edit_command = with_subcommand check_and_play_command edit_app.top
 
 abbrev pub cave_app : App
-cave_app = with_subcommand (with_subcommand check_play_and_edit_app cover_app.top) map_app.top
+cave_app = with_subcommand (with_subcommand check_play_and_edit_command cover_app.top) map_app.top

@@ -19,19 +19,19 @@ use Rattle.play_command.specs.declared.line.Line.{Line}
 use Rattle.play_command.specs.declared.line.Line.TheVariants.{Check, Doubts, Play, Edit, Cover, Map}
 use Rattle.play_command.specs.declared.line.Line.TheVariants.{Text}
 use Rattle.play_command.specs.App.{cave_app}
-use Rattle.play_options.specs.Views.{edit_view_named, check_view_named, cover_view_named}
-use Rattle.play_options.specs.Views.{play_view_named}
-use Rattle.play_options.specs.declared.views.CheckView.{CheckView}
-use Rattle.play_options.specs.declared.views.CheckView.TheVariants.{Maximum}
-use Rattle.play_options.specs.declared.views.CoverView.{CoverView}
-use Rattle.play_options.specs.declared.views.CoverView.TheVariants.{Said}
-use Rattle.play_options.specs.declared.views.TextView.TheVariants.{Counts}
-use Rattle.play_options.specs.declared.editing.Editing.{Editing}
-use Rattle.play_options.specs.declared.editing.EditView.{EditView}
-use Rattle.play_options.specs.declared.editing.EditView.TheVariants.{Transcript}
-use Rattle.play_options.specs.declared.views.PlayView.{PlayView}
-use Rattle.play_options.specs.declared.views.PlayView.TheVariants as play
-use Rattle.base_lines.specs.base_limits.Limits.{MAX_SEED, MAX_EVERY, MAX_DIGITS}
+use Rattle.play_command.specs.Views.{edit_view_named, check_view_named, cover_view_named}
+use Rattle.play_command.specs.Views.{play_view_named}
+use Rattle.play_command.specs.declared.views.CheckView.{CheckView}
+use Rattle.play_command.specs.declared.views.CheckView.TheVariants.{Maximum}
+use Rattle.play_command.specs.declared.views.CoverView.{CoverView}
+use Rattle.play_command.specs.declared.views.CoverView.TheVariants.{Said}
+use Rattle.play_command.specs.declared.views.TextView.TheVariants.{Counts}
+use Rattle.play_command.specs.declared.editing.Editing.{Editing}
+use Rattle.play_command.specs.declared.editing.EditView.{EditView}
+use Rattle.play_command.specs.declared.editing.EditView.TheVariants.{Transcript}
+use Rattle.play_command.specs.declared.views.PlayView.{PlayView}
+use Rattle.play_command.specs.declared.views.PlayView.TheVariants as play
+use Rattle.base_lines.specs.Limits.{MAX_SEED, MAX_EVERY, MAX_DIGITS}
 use Rattle.base_lines.specs.Bytes.{is_digit, number_of}
 
 -- 7 where memory ran out, and 2 for anything wrong with the words
@@ -53,15 +53,15 @@ is_option_number text = nat_lt 0 (length text) && nat_le (length text) MAX_DIGIT
     && list_all is_digit text
 
 -- the number that the text writes, if it is from `least` to `most`
-unfoldable pub number_in : ℕ → ℕ → List ℕ → Option ℕ
-number_in least most text =
+unfoldable pub number_in_range : ℕ → ℕ → List ℕ → Option ℕ
+number_in_range least most text =
     if is_option_number text && nat_le least (number_of text) && nat_le (number_of text) most
     then Some (number_of text) else None
 
 -- the value of an option of a number, or its default where the option isn't given
 abbrev pub IsNumberGiven : ℕ → ℕ → ℕ → Option (List ℕ) → ℕ → Type 0
 IsNumberGiven least most absent None number = number ≡ absent
-IsNumberGiven least most absent (Some text) number = number_in least most text ≡ Some number
+IsNumberGiven least most absent (Some text) number = number_in_range least most text ≡ Some number
 
 -- a command that was met, with what was found for its arguments
 abbrev pub MetCommand : Type 0
@@ -198,13 +198,13 @@ is_complete (Some found) = has_files found.0 found.1
 -- what was found for the seed is no seed
 abbrev pub IsBadSeed : List Row → CommandFault → Type 0
 IsBadSeed rows (fault_is.BadSeed text) = (first_of (codes "seed") rows ≡ Some text.now)
-    × (number_in 0 MAX_SEED text.now ≡ None)
+    × (number_in_range 0 MAX_SEED text.now ≡ None)
 IsBadSeed rows _ = ⊥
 
 -- what was found for the distance of checkpoints is none
 abbrev pub IsBadEvery : List Row → CommandFault → Type 0
 IsBadEvery rows (fault_is.BadEvery text) = (first_of (codes "every") rows ≡ Some text.now)
-    × (number_in 1 MAX_EVERY text.now ≡ None)
+    × (number_in_range 1 MAX_EVERY text.now ≡ None)
 IsBadEvery rows _ = ⊥
 
 -- what was found for what an edit prints names nothing that it may print

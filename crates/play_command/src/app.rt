@@ -3,9 +3,9 @@
 ghost use Rattle.std.specs.Prelude.{◌≡◌, IfOk, false};
 ghost use Rattle.clap.specs.Words.{App, app_of, with_subcommand};
 ghost use Rattle.clap.specs.declared.builder.command.Command.TheViews.{out-Command};
-ghost use Rattle.play_command.specs.App.{IsLocal, cave_app, check_and_play_app, check_app};
-ghost use Rattle.play_command.specs.App.{check_play_and_edit_app, cover_app, edit_app, map_app};
-ghost use Rattle.play_command.specs.App.{plain_app, play_app, with_check_options};
+ghost use Rattle.play_command.specs.App.{IsLocal, cave_app, check_and_play_command, check_app};
+ghost use Rattle.play_command.specs.App.{check_play_and_edit_command, cover_app, edit_app, map_app};
+ghost use Rattle.play_command.specs.App.{plain_command, play_app, with_check_options};
 ghost use Rattle.play_command.specs.App.{with_cover_options, with_edit_options, with_game};
 ghost use Rattle.play_command.specs.App.{with_logs, with_options, with_output};
 
@@ -202,7 +202,7 @@ pub fn cave_app<'a>(alloc: Global) -> Result<Command<'a>, AllocError>
 
 /// The program's command with the three subcommands that check a cave, play a log and edit one.
 fn check_play_and_edit_command<'a>(alloc: Global) -> Result<Command<'a>, AllocError>
-    ensures { IfOk result (λ command. app_of command ≡ check_play_and_edit_app) }
+    ensures { IfOk result (λ command. app_of command ≡ check_play_and_edit_command) }
 {
     let command = check_and_play_command(alloc)?;
     with_subcommand(command, edit_command(alloc))
@@ -210,7 +210,7 @@ fn check_play_and_edit_command<'a>(alloc: Global) -> Result<Command<'a>, AllocEr
 
 /// The program's command with the two subcommands that check a cave and play a log.
 fn check_and_play_command<'a>(alloc: Global) -> Result<Command<'a>, AllocError>
-    ensures { IfOk result (λ command. app_of command ≡ check_and_play_app) }
+    ensures { IfOk result (λ command. app_of command ≡ check_and_play_command) }
 {
     let command = with_subcommand(plain_command(alloc), check_command(alloc))?;
     with_subcommand(command, play_command(alloc))
@@ -234,7 +234,7 @@ fn with_subcommand<'a>(
 }
 
 fn plain_command<'a>(alloc: Global) -> Command<'a>
-    ensures { app_of result ≡ plain_app }
+    ensures { app_of result ≡ plain_command }
 {
     Command::new(alloc, "cave")
         .about(

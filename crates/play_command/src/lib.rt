@@ -1,19 +1,18 @@
-//! The command line of the program: which run its words ask for.
+//! The command line, and the options of runs.
 #![tactic(auto)]
 
 pub mod app;
 mod arguments;
 mod below_zero;
+pub mod editing;
 pub mod fault;
 pub mod line;
 mod number;
 mod read;
+pub mod views;
 
-pub use base_lines::{
-    LineFlaw, LogLine, MAX_EVERY, MAX_INPUT_BYTES, Meter, Steps, check_line, is_bad_every,
-    is_large_seed, is_skipped,
-};
+pub use editing::{EditView, Editing};
 pub use fault::CommandFault;
 pub use line::{Files, Line};
-pub use play_options::{CheckView, CoverView, EditView, Editing, PlayView, TextView};
 pub use read::command_line;
+pub use views::{CheckView, CoverView, PlayView, TextView};

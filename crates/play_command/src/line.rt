@@ -1,5 +1,6 @@
+use crate::editing::Editing;
+use crate::views::{CheckView, CoverView, PlayView};
 use clap::Error;
-use play_options::{CheckView, CoverView, Editing, PlayView};
 
 /// The files of a cave, and the one that the output goes into.
 #[derive(Clone, Copy, Debug, PartialEq, Eq)]

@@ -3,10 +3,10 @@
 ghost use Rattle.std.specs.Prelude.{◌≡◌, ◌<◌};
 ghost use Rattle.std.specs.List.{list_all};
 ghost use Rattle.base_lines.specs.Bytes.{is_digit};
-ghost use Rattle.play_command.specs.Line.{number_in};
+ghost use Rattle.play_command.specs.Line.{number_in_range};
 
 use base_lines::bytes::number_of;
-use base_lines::is_long_number;
+use base_lines::limits::is_long_number;
 
 pub(crate) fn is_all_digits(text: &[u8]) -> bool
     ensures { result ≡ list_all is_digit text.now }
@@ -15,9 +15,9 @@ pub(crate) fn is_all_digits(text: &[u8]) -> bool
 }
 
 /// The number that a text writes in 1 to 10 digits, if it is from `least` to `most`.
-#[tactic(auto, unfolding(crate::specs::Line::number_in))]
+#[tactic(auto, unfolding(crate::specs::Line::number_in_range))]
 pub(crate) fn number_in(least: u32, most: u32, text: &str) -> Option<u32>
-    ensures { result ≡ number_in least most text.now }
+    ensures { result ≡ number_in_range least most text.now }
 {
     let digits = text.as_bytes();
     if digits.is_empty() || is_long_number(digits.len()) || !is_all_digits(digits) {

@@ -15,13 +15,14 @@ ghost use Rattle.play_command.specs.Line.{IsBadPlayView, IsPlayView, are_doubts_
 
 use crate::app::cave_app;
 use crate::below_zero::seed_below_zero;
+use crate::editing::{EditView, Editing};
 use crate::fault::CommandFault;
 use crate::line::{Files, Line};
 use crate::number::number_in;
-use base_lines::{MAX_EVERY, MAX_SEED, USUAL_EVERY};
+use crate::views::{CheckView, CoverView, PlayView, TextView};
+use base_lines::limits::{MAX_EVERY, MAX_SEED, USUAL_EVERY};
 use clap::error::ErrorKind;
 use clap::{ArgMatches, Error};
-use play_options::{CheckView, CoverView, EditView, Editing, PlayView, TextView};
 use std::alloc::Global;
 use std::convert::AsStr;
 

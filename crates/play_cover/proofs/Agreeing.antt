@@ -2,15 +2,15 @@
 use Rattle.std.proofs.Common.{◌≡◌, ℕ, zero, suc, ◌+◌, ◌<◌, ◌≤◌, Bool, cond, not, ◌&&◌, List, ◌∷◌}
 use Rattle.std.proofs.Common.{◌++◌, length, refl, ap, ap₂, arith}
 use Rattle.std.specs.List.{filter, flat_map, range_with_len}
-use Rattle.play_logs.specs.cave_data.CaveView.{CaveView}
+use Rattle.cave_data.specs.CaveView.{CaveView}
 use Rattle.play_logs.proofs.Lists.{agree_flat, agree_sum}
-use Rattle.play_logs.specs.play_options.declared.views.TextView.{TextView}
-use Rattle.play_logs.specs.play_options.declared.views.TextView.TheVariants.{Counts, Texts}
+use Rattle.play_command.specs.declared.views.TextView.{TextView}
+use Rattle.play_command.specs.declared.views.TextView.TheVariants.{Counts, Texts}
 use Rattle.play_cover.specs.Report.{sums_line, kinds, line, numbers_missing, numbers, report}
 use Rattle.play_cover.specs.Report.{numbers_said}
 use Rattle.play_cover.specs.Missing.{missing_line, missing_lines, missing_report, report_by}
 use Rattle.play_cover.specs.Texts.{has_text, text, end_of_numbers}
-use Rattle.play_cover.specs.declared.text.Kind.{Kind}
+use Rattle.play_cover.specs.declared.text.TextKind.{TextKind}
 use Rattle.play_cover.specs.declared.text.Text.{Text}
 
 agree_cons : (n : ℕ) (p q : Bool) (ns ms : List ℕ) → p ≡ q → ns ≡ ms
@@ -33,19 +33,19 @@ agree_numbers p q agree = agree_range p q end_of_numbers 0 end_of_numbers agree 
 
 module _ (cave : CaveView) (is_said is_told : Text → Bool) (agree : (text : Text)
     → text.number < end_of_numbers → is_said text ≡ is_told text) where
-  agree_shown : (kind : Kind) → numbers_said cave is_said kind ≡ numbers_said cave is_told kind
+  agree_shown : (kind : TextKind) → numbers_said cave is_said kind ≡ numbers_said cave is_told kind
   unfolding numbers_said
   agree_shown kind =
       agree_numbers _ _ (λ n below. ap (λ b. has_text cave kind n && b) (agree (text kind n) below))
 
-  agree_missing : (kind : Kind)
+  agree_missing : (kind : TextKind)
       → numbers_missing cave is_said kind ≡ numbers_missing cave is_told kind
   unfolding numbers_missing
   agree_missing kind =
       agree_numbers
       _ _ (λ n below. ap (λ b. has_text cave kind n && not b) (agree (text kind n) below))
 
-  agree_line : (kind : Kind) → line cave is_said kind ≡ line cave is_told kind
+  agree_line : (kind : TextKind) → line cave is_said kind ≡ line cave is_told kind
   agree_line kind = rw (agree_shown kind, agree_missing kind) refl
 
   agree_closing : (logs : ℕ) → sums_line cave is_said logs ≡ sums_line cave is_told logs
@@ -60,7 +60,7 @@ module _ (cave : CaveView) (is_said is_told : Text → Bool) (agree : (text : Te
       ap₂ (λ lines end. lines ++ end)
       (agree_flat (line cave is_said) (line cave is_told) kinds agree_line) (agree_closing logs)
 
-  agree_missing_lines : (kind : Kind)
+  agree_missing_lines : (kind : TextKind)
       → missing_lines cave is_said kind ≡ missing_lines cave is_told kind
   agree_missing_lines kind = ap (flat_map (missing_line cave kind)) (agree_missing kind)
 

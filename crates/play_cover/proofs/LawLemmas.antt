@@ -5,17 +5,17 @@ use Rattle.std.specs.List.{Contains, list_any}
 use Rattle.std.proofs.lemmas.List.Folds.{list_any_at}
 use Rattle.std.proofs.lemmas.List.Sorted.{length_permutation, list_any-IsPermutation}
 use Rattle.std.specs.List.Sorted.{IsPermutation}
-use Rattle.play_logs.specs.cave_data.CaveView.{CaveView}
+use Rattle.cave_data.specs.CaveView.{CaveView}
 use Rattle.play_logs.proofs.Lists.{any_flat}
-use Rattle.play_logs.specs.play_options.declared.views.CoverView.TheVariants.{Rules, Said}
-use Rattle.play_logs.specs.play_options.declared.views.TextView.{TextView}
+use Rattle.play_command.specs.declared.views.CoverView.TheVariants.{Rules, Said}
+use Rattle.play_command.specs.declared.views.TextView.{TextView}
 use Rattle.cave_data.proofs.ReadLemmas.{same_cave}
 use Rattle.play_cover.specs.Plays.{OrderIsNothing, AgainIsNothing, OneCoveredOutput, cover_text}
 use Rattle.play_cover.specs.Plays.{said_in_all, said_in_log, report_of_logs}
 use Rattle.play_cover.specs.Texts.{is_among, is_same, end_of_numbers}
 use Rattle.play_cover.specs.declared.text.Text.{Text}
 use Rattle.play_cover.proofs.Agreeing.{agree_view}
-use Rattle.play_rules.proofs.LawLemmas.{order_is_nothing as rules_in_order}
+use Rattle.play_cover.proofs.RuleLawLemmas.{order_is_nothing as rules_in_order}
 
 -- whether a log says a text
 abbrev says : CaveView → ℕ → Text → List ℕ → Bool

@@ -1,6 +1,12 @@
 pub mod Agreeing
+pub mod CountedRows
 pub mod LawLemmas
 pub mod Noting
 pub mod Reaching
 pub mod Telling
 pub mod PlayLemmas
+pub mod QuestionLemmas
+pub mod RowNoting
+pub mod RuleLawLemmas
+pub mod RuleLineLemmas
+pub mod RuleTelling

@@ -1,14 +1,14 @@
 -- What is noted of a play is what playing its game says.
 use Rattle.std.proofs.Common.{◌≡◌, Bool, List, map, sym, subst}
-use Rattle.play_logs.specs.cave_play.Piece.{Piece}
+use Rattle.play_machine.specs.Piece.{Piece}
 use Rattle.std.specs.List.{flat_map}
 use Rattle.std.proofs.lemmas.List.Folds.{flat_map-map}
-use Rattle.play_logs.specs.cave_data.CaveView.{CaveView}
-use Rattle.play_logs.specs.cave_play.Machine.{cave_rules}
-use Rattle.play_logs.specs.replay_edits.Edit.{Game}
-use Rattle.play_logs.specs.cave_replay.Play.{IsPlay}
-use Rattle.play_logs.specs.cave_world.declared.part.Part.{Part}
-use Rattle.play_logs.specs.cave_world.declared.state.State.{State}
+use Rattle.cave_data.specs.CaveView.{CaveView}
+use Rattle.play_machine.specs.Machine.{cave_rules}
+use Rattle.replay_edits.specs.Edit.{Game}
+use Rattle.cave_replay.specs.Play.{IsPlay}
+use Rattle.cave_world.specs.declared.part.Part.{Part}
+use Rattle.cave_world.specs.declared.state.State.{State}
 use Rattle.play_cover.specs.Texts.{Notes, said_by_all}
 use Rattle.play_cover.specs.Plays.{texts_said_in}
 use Rattle.play_cover.proofs.Noting.{Notes-append}

@@ -7,9 +7,9 @@ use Rattle.std.specs.List.{list_any, range_with_len}
 use Rattle.std.proofs.lemmas.Bool.{leb-true, leb-false, eqb-true, false≢true}
 use Rattle.std.proofs.lemmas.List.Folds.{list_any_at}
 use Rattle.std.proofs.lemmas.List.FromFn.{length-range_with_len, get_or-range_with_len}
-use Rattle.play_logs.specs.cave_data.CaveView.{CaveView, ClassEntry, Rated, rating_at_row}
-use Rattle.play_logs.specs.cave_data.CaveView.{class_from, class_of}
-use Rattle.play_logs.specs.turn_score.Score.{max_score_of}
+use Rattle.cave_data.specs.CaveView.{CaveView, ClassEntry, Rated, rating_at_row, class_from}
+use Rattle.cave_data.specs.CaveView.{class_of}
+use Rattle.turn_ends.specs.Score.{max_score_of}
 use Rattle.play_cover.specs.Texts.{has_bound, is_reached}
 
 -- a test that holds of no number below an end holds of none of a range that ends there

@@ -4,20 +4,20 @@ use Rattle.std.specs.Prelude.{◌||◌}
 use Rattle.std.specs.Str.Lines.{lines}
 use Rattle.std.proofs.lemmas.List.{length-map}
 use Rattle.std.proofs.lemmas.List.Folds.{flat_map-map, list_any-append}
-use Rattle.play_logs.specs.cave_data.CaveView.{CaveView}
-use Rattle.play_logs.specs.play_options.declared.views.TextView.{TextView}
-use Rattle.play_logs.specs.replay_edits.Edit.{Game, game_of}
+use Rattle.cave_data.specs.CaveView.{CaveView}
+use Rattle.play_command.specs.declared.views.TextView.{TextView}
+use Rattle.replay_edits.specs.Edit.{Game, game_of}
 use Rattle.play_logs.specs.Faults.{IsReported, games_of}
-use Rattle.play_logs.specs.play_options.declared.views.CoverView.{CoverView}
-use Rattle.play_logs.specs.play_options.declared.views.CoverView.TheVariants.{Rules, Said}
+use Rattle.play_command.specs.declared.views.CoverView.{CoverView}
+use Rattle.play_command.specs.declared.views.CoverView.TheVariants.{Rules, Said}
 use Rattle.play_cover.specs.Texts.{AreMarksOf, Notes, is_marked, is_among, is_same}
 use Rattle.play_cover.specs.Missing.{report_by}
 use Rattle.play_cover.specs.Plays.{IsCovered, report_of_logs, report_on_games, said_in_games}
 use Rattle.play_cover.specs.Plays.{cover_text, texts_said_in}
 use Rattle.play_cover.specs.declared.text.Text.{Text}
 use Rattle.play_cover.proofs.Agreeing.{agree_view}
-use Rattle.play_rules.specs.Plays.{report_on_games as on_rules}
-use Rattle.play_rules.proofs.Telling.{games_reported}
+use Rattle.play_cover.specs.RulePlays.{report_on_games as on_rules}
+use Rattle.play_cover.proofs.RuleTelling.{games_reported}
 
 or_swapped : (p q : Bool) → (q || p) ≡ (p || q)
 or_swapped true true = refl

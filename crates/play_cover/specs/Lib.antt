@@ -1,5 +1,15 @@
 pub mod Texts
 pub mod Report
+pub mod DefinedRows
+pub mod EachTable
 pub mod Missing
 pub mod Plays
-pub use Rattle.play_logs.specs.cave_words as cave_words
+pub mod PlayWords
+pub mod QuestionRows
+pub mod RowReport
+pub mod RowCounts
+pub mod Rows
+pub mod RuleTables
+pub mod TurnWords
+pub mod VerbsWords
+pub mod RulePlays

@@ -3,16 +3,16 @@ use Rattle.std.specs.Prelude.{◌≡◌, ℕ, List, ◌++◌, length, ◌∷◌}
 use Rattle.std.specs.List.{flat_map, Contains}
 use Rattle.std.specs.Str.Lines.{lines}
 use Rattle.std.specs.List.Sorted.{IsPermutation}
-use Rattle.play_logs.specs.cave_data.CaveView.{CaveView}
-use Rattle.play_logs.specs.cave_data.Reads.{Reads}
-use Rattle.play_logs.specs.cave_play.Machine.{cave_rules}
-use Rattle.play_logs.specs.replay_edits.Edit.{Game, game_of}
-use Rattle.play_logs.specs.cave_replay.Play.{texts_of}
-use Rattle.play_logs.specs.play_options.declared.views.CoverView.{CoverView}
-use Rattle.play_logs.specs.play_options.declared.views.CoverView.TheVariants.{Rules, Said}
-use Rattle.play_logs.specs.play_options.declared.views.TextView.{TextView}
-use Rattle.play_logs.specs.cave_play.Run.{AtMostOne}
-use Rattle.play_rules.specs.Plays.{rules_text}
+use Rattle.cave_data.specs.CaveView.{CaveView}
+use Rattle.cave_data.specs.Reads.{Reads}
+use Rattle.play_machine.specs.Machine.{cave_rules}
+use Rattle.replay_edits.specs.Edit.{Game, game_of}
+use Rattle.cave_replay.specs.Play.{texts_of}
+use Rattle.play_command.specs.declared.views.CoverView.{CoverView}
+use Rattle.play_command.specs.declared.views.CoverView.TheVariants.{Rules, Said}
+use Rattle.play_command.specs.declared.views.TextView.{TextView}
+use Rattle.cave_play.specs.Run.{AtMostOne}
+use Rattle.play_cover.specs.RulePlays.{rules_text}
 use Rattle.play_cover.specs.Missing.{report_by}
 use Rattle.play_cover.specs.Texts.{is_among, said_by_all}
 use Rattle.play_cover.specs.declared.text.Text.{Text}

@@ -4,13 +4,13 @@ use Rattle.std.specs.Prelude.{◌&&◌, is_some, if◌then◌else◌, List, [], 
 use Rattle.std.specs.Prelude.{None, ◌≡◌, ◌<◌, ◌||◌, slice_index_or}
 use Rattle.std.specs.List.{list_any, flat_map, range_with_len}
 use Rattle.std.specs.FinMap as map
-use Rattle.play_logs.specs.cave_data.CaveView.{CaveView, Rated, class_of, look_of, name_of}
-use Rattle.play_logs.specs.turn_score.Score.{max_score_of}
-use Rattle.play_logs.specs.data_rows.Role.{ROLE_NAMES, role_number}
-use Rattle.play_logs.specs.cave_world.declared.part.Part.{Part}
-use Rattle.play_logs.specs.cave_world.declared.part.Part.TheVariants as part
-use Rattle.play_cover.specs.declared.text.Kind.{Kind}
-use Rattle.play_cover.specs.declared.text.Kind.TheVariants as kind
+use Rattle.cave_data.specs.CaveView.{CaveView, Rated, class_of, look_of, name_of}
+use Rattle.turn_ends.specs.Score.{max_score_of}
+use Rattle.data_rows.specs.Role.{ROLE_NAMES, role_number}
+use Rattle.cave_world.specs.declared.part.Part.{Part}
+use Rattle.cave_world.specs.declared.part.Part.TheVariants as part
+use Rattle.play_cover.specs.declared.text.TextKind.{TextKind}
+use Rattle.play_cover.specs.declared.text.TextKind.TheVariants as kind
 use Rattle.play_cover.specs.declared.text.Text.{Text}
 
 -- the numbers of texts are below it
@@ -25,7 +25,7 @@ abbrev pub KIND_COUNT : ℕ
 KIND_COUNT = 7
 
 -- its place among the kinds, from 0
-abbrev pub kind_number : Kind → ℕ
+abbrev pub kind_number : TextKind → ℕ
 kind_number kind.Long = 0
 kind_number kind.Short = 1
 kind_number kind.Look = 2
@@ -34,7 +34,7 @@ kind_number kind.Message = 4
 kind_number kind.Role = 5
 kind_number kind.Class = 6
 
-abbrev pub text : Kind → ℕ → Text
+abbrev pub text : TextKind → ℕ → Text
 text kind number = record { kind = kind; number = number }
 
 abbrev pub is_same : Text → Text → Bool
@@ -57,7 +57,7 @@ is_reached cave bound =
     (range_with_len 0 (max_score_of cave + 1))
 
 -- whether the cave has the text; a class that no score of the cave belongs to is none of its texts
-abbrev pub has_text : CaveView → Kind → ℕ → Bool
+abbrev pub has_text : CaveView → TextKind → ℕ → Bool
 has_text cave kind.Long number = is_some (map.get cave.long number)
 has_text cave kind.Short number = is_some (map.get cave.short number)
 has_text cave kind.Look number =

@@ -3,8 +3,11 @@
 ghost use Rattle.std.specs.Prelude.{◌≡◌, IfOk};
 ghost use Rattle.play_cover.specs.Texts.{has_text, is_reached};
 
-use crate::text::{Kind, PROPS_PER_OBJECT};
-use play_logs::{Cave, CaveMachine, Lexicon, ROLE_NAMES};
+use crate::text::{PROPS_PER_OBJECT, TextKind};
+use cave_data::Cave;
+use cave_words::Lexicon;
+use data_rows::role::ROLE_NAMES;
+use play_machine::CaveMachine;
 use std::alloc::{AllocError, Global};
 use std::marker::Model;
 
@@ -17,8 +20,8 @@ pub struct CaveTexts<'a> {
 
 impl<'a> Model for CaveTexts<'a> {
     ghost use Rattle.std.specs.Prelude.{◌≡◌};
-    ghost use Rattle.play_logs.specs.cave_data.CaveView.{CaveView, cave_code};
-    ghost use Rattle.play_logs.specs.turn_score.Score.{max_score_of};
+    ghost use Rattle.cave_data.specs.CaveView.{CaveView, cave_code};
+    ghost use Rattle.turn_ends.specs.Score.{max_score_of};
 
     ghost Value = { CaveView };
 
@@ -60,20 +63,20 @@ impl<'a> CaveTexts<'a> {
     }
 
     /// Whether the cave has the text of a kind and a number.
-    pub fn has(&self, kind: Kind, number: u16) -> bool
+    pub fn has(&self, kind: TextKind, number: u16) -> bool
         ensures { result ≡ has_text self.now kind number }
     {
         let cave = self.cave;
         match kind {
-            Kind::Long => cave.long(number).is_some(),
-            Kind::Short => cave.short(number).is_some(),
-            Kind::Look => cave
+            TextKind::Long => cave.long(number).is_some(),
+            TextKind::Short => cave.short(number).is_some(),
+            TextKind::Look => cave
                 .look(number / PROPS_PER_OBJECT, number % PROPS_PER_OBJECT)
                 .is_some(),
-            Kind::Name => cave.name(number).is_some(),
-            Kind::Message => cave.message(number).is_some(),
-            Kind::Role => (number as usize) < ROLE_NAMES.len(),
-            Kind::Class => self.is_reached(number),
+            TextKind::Name => cave.name(number).is_some(),
+            TextKind::Message => cave.message(number).is_some(),
+            TextKind::Role => (number as usize) < ROLE_NAMES.len(),
+            TextKind::Class => self.is_reached(number),
         }
     }
 }

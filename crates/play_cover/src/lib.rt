@@ -1,21 +1,20 @@
-//! What a suite of logs shows of a cave's texts.
+//! Which texts of a cave the plays of logs never say, and which rows of the rules they never apply.
 #![tactic(auto)]
 
 pub mod cave_texts;
+pub mod each_table;
 pub mod laws;
+pub mod line_rows;
 pub mod marks;
 pub mod missing;
 pub mod parts;
 pub mod report;
+pub mod row_report;
+pub mod row_set;
+pub mod rule_games;
+pub mod rule_laws;
+pub mod rule_tables;
 pub mod run;
 pub mod said;
 pub mod text;
-
-pub use play_logs::fault::LogsFault;
-pub use play_logs::{
-    Cause, Cave, CaveError, CaveMachine, CaveReaders, CheckView, CommandFault, Complaint,
-    CoverView, DoubtFiles, Edit, EditFault, EditView, Editing, FaultSite, Files, Flaw, Input,
-    InputReader, Inputs, Lexicon, Line, LineFlaw, LineText, LogFault, MAX_INPUT_BYTES, Machine,
-    Meter, OpenFault, Piece, PlayFault, PlayView, Report, ScriptFault, Session, Steps, TextView,
-    Unopened, command_line, render, run_check, run_doubts, run_edit, run_play,
-};
+pub mod travel_report;

@@ -9,36 +9,38 @@ ghost use Rattle.play_cover.specs.Missing.{missing_report, report_by, text_at, w
 use crate::cave_texts::CaveTexts;
 use crate::marks::SaidTexts;
 use crate::report::{missing, push_name, push_report, push_sums};
-use crate::text::{KINDS, Kind, PROPS_PER_OBJECT};
-use play_logs::{Cave, TextView, first_line};
+use crate::text::{KINDS, PROPS_PER_OBJECT, TextKind};
+use cave_data::Cave;
+use data_bindings::first_line;
+use play_command::TextView;
 use std::alloc::{AllocError, Global};
 
 /// What one text of a kind is called.
-fn word(kind: Kind) -> &'static str
+fn word(kind: TextKind) -> &'static str
     ensures { result.now ≡ word_of_kind kind }
 {
     match kind {
-        Kind::Long => "long text",
-        Kind::Short => "short text",
-        Kind::Look => "object text",
-        Kind::Name => "inventory text",
-        Kind::Message => "message",
-        Kind::Role => "role",
-        Kind::Class => "class",
+        TextKind::Long => "long text",
+        TextKind::Short => "short text",
+        TextKind::Look => "object text",
+        TextKind::Name => "inventory text",
+        TextKind::Message => "message",
+        TextKind::Role => "role",
+        TextKind::Class => "class",
     }
 }
 
-fn text_at(cave: &Cave, kind: Kind, number: u16) -> Option<&[u8]>
+fn text_at(cave: &Cave, kind: TextKind, number: u16) -> Option<&[u8]>
     ensures { option_map (λ text. text.now) result ≡ text_at cave.now kind number }
 {
     match kind {
-        Kind::Long => cave.long(number),
-        Kind::Short => cave.short(number),
-        Kind::Look => cave.look(number / PROPS_PER_OBJECT, number % PROPS_PER_OBJECT),
-        Kind::Name => cave.name(number),
-        Kind::Message => cave.message(number),
-        Kind::Role => None,
-        Kind::Class => match cave.class_of(u32::from(number)) {
+        TextKind::Long => cave.long(number),
+        TextKind::Short => cave.short(number),
+        TextKind::Look => cave.look(number / PROPS_PER_OBJECT, number % PROPS_PER_OBJECT),
+        TextKind::Name => cave.name(number),
+        TextKind::Message => cave.message(number),
+        TextKind::Role => None,
+        TextKind::Class => match cave.class_of(u32::from(number)) {
             Some(rating) => Some(rating.text),
             None => None,
         },
@@ -64,7 +66,7 @@ fn push_first_line(found: Option<&[u8]>, text: &mut Vec<u8>) -> Result<(), Alloc
 fn push_missing_line(
     alloc: Global,
     cave: &CaveTexts<'_>,
-    kind: Kind,
+    kind: TextKind,
     number: u16,
     text: &mut Vec<u8>,
 ) -> Result<(), AllocError>
@@ -79,7 +81,7 @@ fn push_missing_line(
 fn push_numbers(
     alloc: Global,
     cave: &CaveTexts<'_>,
-    kind: Kind,
+    kind: TextKind,
     numbers: &[u16],
     text: &mut Vec<u8>,
 ) -> Result<(), AllocError>
@@ -97,7 +99,7 @@ fn push_missing(
     alloc: Global,
     cave: &CaveTexts<'_>,
     said: &SaidTexts,
-    kind: Kind,
+    kind: TextKind,
     text: &mut Vec<u8>,
 ) -> Result<(), AllocError>
     ensures { OnOk result (text.new.items
@@ -111,7 +113,7 @@ fn push_kinds(
     alloc: Global,
     cave: &CaveTexts<'_>,
     said: &SaidTexts,
-    kinds: &[Kind],
+    kinds: &[TextKind],
     text: &mut Vec<u8>,
 ) -> Result<(), AllocError>
     ensures { OnOk result (text.new.items

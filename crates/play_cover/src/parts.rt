@@ -2,16 +2,19 @@
 
 ghost use Rattle.std.specs.Prelude.{◌∷◌, []};
 ghost use Rattle.std.specs.FinMap.{get};
-ghost use Rattle.play_logs.specs.cave_data.CaveView.{class_of};
-ghost use Rattle.play_logs.specs.data_rows.Role.{role_number};
+ghost use Rattle.cave_data.specs.CaveView.{class_of};
+ghost use Rattle.data_rows.specs.Role.{role_number};
 ghost use Rattle.play_cover.specs.Texts.{Notes, class_said, look_said, message_said, text};
 ghost use Rattle.play_cover.specs.Texts.{said_by_part, said_by_all};
 
 use crate::marks::SaidTexts;
-use crate::text::{Kind, PROPS_PER_OBJECT, Text};
-use play_logs::{Cave, Object, Part, Role};
+use crate::text::{PROPS_PER_OBJECT, Text, TextKind};
+use cave_data::Cave;
+use cave_world::Part;
+use data_rows::Role;
+use world_objects::Object;
 
-fn note(said: &mut SaidTexts, kind: Kind, number: u16)
+fn note(said: &mut SaidTexts, kind: TextKind, number: u16)
     ensures { Notes (text kind number ∷ []) said.old said.new }
 {
     said.note(Text { kind, number });
@@ -19,12 +22,12 @@ fn note(said: &mut SaidTexts, kind: Kind, number: u16)
 
 /// Notes a role, and the message that is bound to it.
 fn note_role(said: &mut SaidTexts, cave: &Cave, role: Role)
-    ensures { Notes (text Kind.Role (role_number role)
+    ensures { Notes (text TextKind.Role (role_number role)
         ∷ message_said (get cave.now.roles (role_number role))) said.old said.new }
 {
-    note(said, Kind::Role, role.number());
+    note(said, TextKind::Role, role.number());
     if let Some(number) = cave.role(role) {
-        note(said, Kind::Message, number);
+        note(said, TextKind::Message, number);
     }
 }
 
@@ -36,7 +39,7 @@ fn note_look(said: &mut SaidTexts, cave: &Cave, object: Object, prop: i8)
     }
     let (object, prop) = (u16::from(object.number()), prop as u16);
     if cave.look(object, prop).is_some() {
-        note(said, Kind::Look, PROPS_PER_OBJECT * object + prop);
+        note(said, TextKind::Look, PROPS_PER_OBJECT * object + prop);
     }
 }
 
@@ -45,7 +48,7 @@ fn note_class(said: &mut SaidTexts, cave: &Cave, score: u32)
     ensures { Notes (class_said (class_of cave.now score)) said.old said.new }
 {
     if let Some(rating) = cave.class_of(score) {
-        note(said, Kind::Class, rating.bound);
+        note(said, TextKind::Class, rating.bound);
     }
 }
 
@@ -54,11 +57,11 @@ fn note_part(said: &mut SaidTexts, cave: &Cave, part: Part)
     ensures { Notes (said_by_part cave.now part) said.old said.new }
 {
     match part {
-        Part::Long(place) => note(said, Kind::Long, place),
-        Part::Short(place) => note(said, Kind::Short, place),
+        Part::Long(place) => note(said, TextKind::Long, place),
+        Part::Short(place) => note(said, TextKind::Short, place),
         Part::Object(object, prop) => note_look(said, cave, object, prop),
-        Part::Name(object) => note(said, Kind::Name, u16::from(object.number())),
-        Part::Message(number) => note(said, Kind::Message, number),
+        Part::Name(object) => note(said, TextKind::Name, u16::from(object.number())),
+        Part::Message(number) => note(said, TextKind::Message, number),
         Part::Role(role) => note_role(said, cave, role),
         Part::Class(score) => note_class(said, cave, score),
         Part::Number(..) | Part::Word(..) | Part::Turns(..) => {}

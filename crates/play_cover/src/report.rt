@@ -10,18 +10,18 @@ ghost use Rattle.play_cover.specs.Report.{numbers_said};
 
 use crate::cave_texts::CaveTexts;
 use crate::marks::SaidTexts;
-use crate::text::{KINDS, Kind, NUMBERS, PROPS_PER_OBJECT, Text};
-use play_logs::ROLE_NAMES;
+use crate::text::{KINDS, NUMBERS, PROPS_PER_OBJECT, Text, TextKind};
+use data_rows::role::ROLE_NAMES;
 use std::alloc::{AllocError, Global};
 
-fn is_said(cave: &CaveTexts<'_>, said: &SaidTexts, kind: Kind, number: u16) -> bool
+fn is_said(cave: &CaveTexts<'_>, said: &SaidTexts, kind: TextKind, number: u16) -> bool
     ensures { result ≡ (has_text cave.now kind number && is_marked said.now (text kind number)) }
 {
     cave.has(kind, number) && said.is_marked(Text { kind, number })
 }
 
 /// Whether a text that the cave has was never said.
-fn is_missing(cave: &CaveTexts<'_>, said: &SaidTexts, kind: Kind, number: u16) -> bool
+fn is_missing(cave: &CaveTexts<'_>, said: &SaidTexts, kind: TextKind, number: u16) -> bool
     ensures { result
         ≡ (has_text cave.now kind number && not (is_marked said.now (text kind number))) }
 {
@@ -29,7 +29,7 @@ fn is_missing(cave: &CaveTexts<'_>, said: &SaidTexts, kind: Kind, number: u16) -
 }
 
 #[tactic(auto, unfolding(crate::specs::Report::present, crate::specs::Report::numbers))]
-fn count_present(cave: &CaveTexts<'_>, kind: Kind) -> usize
+fn count_present(cave: &CaveTexts<'_>, kind: TextKind) -> usize
     ensures value { result ≡ length (present cave.now kind) }
     ensures within { result ≤ end_of_numbers }
 {
@@ -39,7 +39,7 @@ fn count_present(cave: &CaveTexts<'_>, kind: Kind) -> usize
 }
 
 #[tactic(auto, unfolding(crate::specs::Report::numbers_said, crate::specs::Report::numbers))]
-fn count_said(cave: &CaveTexts<'_>, said: &SaidTexts, kind: Kind) -> usize
+fn count_said(cave: &CaveTexts<'_>, said: &SaidTexts, kind: TextKind) -> usize
     ensures value { result ≡ length (numbers_said cave.now (is_marked said.now) kind) }
     ensures within { result ≤ end_of_numbers }
 {
@@ -54,7 +54,7 @@ pub(crate) fn missing(
     alloc: Global,
     cave: &CaveTexts<'_>,
     said: &SaidTexts,
-    kind: Kind,
+    kind: TextKind,
 ) -> Result<Vec<u16>, AllocError>
     ensures { IfOk result
         (λ texts. texts.items ≡ numbers_missing cave.now (is_marked said.now) kind) }
@@ -65,35 +65,35 @@ pub(crate) fn missing(
 }
 
 /// How the line of a kind begins.
-fn heading(kind: Kind) -> &'static str
+fn heading(kind: TextKind) -> &'static str
     ensures { result.now ≡ heading_of_kind kind }
 {
     match kind {
-        Kind::Long => "long texts",
-        Kind::Short => "short texts",
-        Kind::Look => "object texts",
-        Kind::Name => "inventory texts",
-        Kind::Message => "messages",
-        Kind::Role => "roles",
-        Kind::Class => "classes",
+        TextKind::Long => "long texts",
+        TextKind::Short => "short texts",
+        TextKind::Look => "object texts",
+        TextKind::Name => "inventory texts",
+        TextKind::Message => "messages",
+        TextKind::Role => "roles",
+        TextKind::Class => "classes",
     }
 }
 
 /// Appends a blank and the name of a text.
 pub(crate) fn push_name(
     alloc: Global,
-    kind: Kind,
+    kind: TextKind,
     number: u16,
     text: &mut Vec<u8>,
 ) -> Result<(), AllocError>
     ensures { OnOk result (text.new.items ≡ text.old.items ++ (codes " " ++ name kind number)) }
 {
     let name = match kind {
-        Kind::Look => {
+        TextKind::Look => {
             let (object, prop) = (number / PROPS_PER_OBJECT, number % PROPS_PER_OBJECT);
             format!(in alloc; " {object}:{prop}")?
         }
-        Kind::Role => {
+        TextKind::Role => {
             let name = name_at(&ROLE_NAMES, number);
             format!(in alloc; " {name}")?
         }
@@ -115,7 +115,7 @@ fn name_at<'a>(names: &[&'a str], number: u16) -> &'a str
 /// Appends the names of the texts that were never said, if there are any.
 fn push_never(
     alloc: Global,
-    kind: Kind,
+    kind: TextKind,
     missing: &[u16],
     text: &mut Vec<u8>,
 ) -> Result<(), AllocError>
@@ -130,7 +130,7 @@ fn push_never(
 
 fn push_names(
     alloc: Global,
-    kind: Kind,
+    kind: TextKind,
     numbers: &[u16],
     text: &mut Vec<u8>,
 ) -> Result<(), AllocError>
@@ -146,7 +146,7 @@ fn push_line(
     alloc: Global,
     cave: &CaveTexts<'_>,
     said: &SaidTexts,
-    kind: Kind,
+    kind: TextKind,
     text: &mut Vec<u8>,
 ) -> Result<(), AllocError>
     ensures { OnOk result (text.new.items
@@ -163,7 +163,7 @@ fn push_line(
 }
 
 /// The sums of what the lines of kinds count: the texts that were said, and all that the cave has.
-fn totals(cave: &CaveTexts<'_>, said: &SaidTexts, kinds: &[Kind]) -> (usize, usize)
+fn totals(cave: &CaveTexts<'_>, said: &SaidTexts, kinds: &[TextKind]) -> (usize, usize)
     requires { length kinds.now ≤ KIND_COUNT }
     ensures shown { result.0
         ≡ sum_by (λ kind. length (numbers_said cave.now (is_marked said.now) kind)) kinds.now }
@@ -181,7 +181,7 @@ fn push_lines(
     alloc: Global,
     cave: &CaveTexts<'_>,
     said: &SaidTexts,
-    kinds: &[Kind],
+    kinds: &[TextKind],
     text: &mut Vec<u8>,
 ) -> Result<(), AllocError>
     ensures { OnOk result (text.new.items

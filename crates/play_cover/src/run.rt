@@ -3,14 +3,15 @@
 ghost use Rattle.std.specs.Prelude.{ℕ, List, map};
 ghost use Rattle.std.specs.List.{AllZip};
 ghost use Rattle.play_cover.specs.Plays.{IsCovered};
-ghost use Rattle.play_logs.specs.cave_play.Input.{Says};
+ghost use Rattle.cave_play.specs.Input.{Says};
 ghost use Rattle.play_logs.specs.Faults.{RunsLogs, first_stages};
 
 use crate::marks::SaidTexts;
+use crate::rule_games::RuleNotes;
+use cave_play::CaveReaders;
+use play_command::CoverView;
 use play_logs::fault::LogsFault;
 use play_logs::run::run_logs;
-use play_logs::{CaveReaders, CoverView};
-use play_rules::RuleNotes;
 use std::alloc::Global;
 use std::io::{Read, Write};
 

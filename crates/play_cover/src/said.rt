@@ -8,8 +8,11 @@ use crate::cave_texts::CaveTexts;
 use crate::marks::SaidTexts;
 use crate::missing::push_view;
 use crate::parts::note_parts;
+use cave_data::Cave;
+use cave_replay::Session;
+use play_command::TextView;
 use play_logs::notes::PlayNotes;
-use play_logs::{Cave, CaveMachine, Piece, Session, TextView};
+use play_machine::{CaveMachine, Piece};
 use std::alloc::{AllocError, Global};
 
 /// Notes what was said at each line.

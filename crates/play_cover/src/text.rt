@@ -12,7 +12,7 @@ pub const PROPS_PER_OBJECT: u16 = 100;
 
 /// A kind of text.
 #[derive(Clone, Copy, Debug, PartialEq, Eq)]
-pub enum Kind {
+pub enum TextKind {
     /// The long text of a place.
     Long,
     /// The short text of a place.
@@ -33,17 +33,17 @@ pub enum Kind {
 pub const KIND_COUNT: usize = 7;
 
 /// The kinds in the order of the sections.
-pub const KINDS: [Kind; KIND_COUNT] = [
-    Kind::Long,
-    Kind::Short,
-    Kind::Look,
-    Kind::Name,
-    Kind::Message,
-    Kind::Role,
-    Kind::Class,
+pub const KINDS: [TextKind; KIND_COUNT] = [
+    TextKind::Long,
+    TextKind::Short,
+    TextKind::Look,
+    TextKind::Name,
+    TextKind::Message,
+    TextKind::Role,
+    TextKind::Class,
 ];
 
-impl Kind {
+impl TextKind {
     /// Its place among the kinds, from 0.
     pub fn number(self) -> usize
         ensures value { result ≡ kind_number self }
@@ -58,6 +58,6 @@ impl Kind {
 /// of the object and the prop, as in a database.
 #[derive(Clone, Copy, Debug, PartialEq, Eq)]
 pub struct Text {
-    pub kind: Kind,
+    pub kind: TextKind,
     pub number: u16,
 }

@@ -1,11 +1,11 @@
 -- A play comes to reachable states alone.
 use Rattle.std.proofs.Common.{◌≡◌, ℕ, List, [], ◌∷◌, refl, sym, ◌∙◌}
 use Rattle.std.specs.Prelude.{take}
-use Rattle.cave_play.specs.Machine.{cave_rules}
-use Rattle.cave_play.specs.cave_data.CaveView.{CaveView}
-use Rattle.cave_play.specs.cave_replay.Play.{state_after}
-use Rattle.cave_play.specs.cave_world.declared.state.State.{State}
-use Rattle.cave_play.specs.replay_edits.Edit.{Game}
+use Rattle.play_machine.specs.Machine.{cave_rules}
+use Rattle.cave_data.specs.CaveView.{CaveView}
+use Rattle.cave_replay.specs.Play.{state_after}
+use Rattle.cave_world.specs.declared.state.State.{State}
+use Rattle.replay_edits.specs.Edit.{Game}
 use Rattle.turn_laws.proofs.Reaching.{reachable_is_lawful}
 use Rattle.turn_laws.specs.Reachable.{HasPlaces, IsReachable, after_lines}
 use Rattle.play_laws.specs.Held.{EachIsOfAGame}

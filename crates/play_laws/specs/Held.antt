@@ -1,10 +1,10 @@
 -- The states of a play.
 use Rattle.std.specs.Prelude.{ℕ}
-use Rattle.cave_play.specs.Machine.{cave_rules}
-use Rattle.cave_play.specs.cave_data.CaveView.{CaveView}
-use Rattle.cave_play.specs.cave_replay.Agreement.{state_at}
-use Rattle.cave_play.specs.cave_world.declared.state.State.{State}
-use Rattle.cave_play.specs.replay_edits.Edit.{Game}
+use Rattle.play_machine.specs.Machine.{cave_rules}
+use Rattle.cave_data.specs.CaveView.{CaveView}
+use Rattle.cave_replay.specs.Agreement.{state_at}
+use Rattle.cave_world.specs.declared.state.State.{State}
+use Rattle.replay_edits.specs.Edit.{Game}
 use Rattle.turn_laws.specs.Reachable.{IsLawful, IsReachable}
 
 -- a game comes to the state, and it is lawful

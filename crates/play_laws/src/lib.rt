@@ -6,10 +6,11 @@ ghost use Rattle.play_laws.specs.Held.{EachIsOfAGame};
 ghost use Rattle.turn_laws.specs.ObjectLaws.{IsInOnePlace};
 ghost use Rattle.turn_laws.specs.Reachable.{IsLawful, IsReachable};
 
-use cave_play::machine::CaveMachine;
-use cave_play::{Object, Session};
+use cave_replay::Session;
+use play_machine::CaveMachine;
 use turn_laws::object_laws::object_is_in_one_place;
 use turn_laws::reachable::caves_have_places;
+use world_objects::Object;
 
 /// Once a session was opened, and after each edit, accepted or refused, a game comes to the state
 /// that it holds, which is lawful, and so it is with the state after each line of the log that it

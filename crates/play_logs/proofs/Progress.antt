@@ -11,7 +11,7 @@ use Rattle.cave_play.specs.Judge.{log_fault}
 use Rattle.cave_play.specs.Run as stage
 use Rattle.cave_play.specs.Stages.{log_stage}
 use Rattle.cave_play.specs.declared.fault.PlayFault.{PlayFault}
-use Rattle.cave_play.specs.replay_edits.Edit.{Game, game_of}
+use Rattle.replay_edits.specs.Edit.{Game, game_of}
 use Rattle.play_logs.specs.Faults.{AreValidLogs, IsFoundFrom, IsFoundInLogs, at_log, NotesMore}
 use Rattle.play_logs.specs.Faults.{games_of}
 use Rattle.play_logs.proofs.FaultLemmas.{AllSay-some, AllZip-append, AllZip-length}

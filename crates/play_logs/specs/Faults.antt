@@ -11,9 +11,9 @@ use Rattle.cave_play.specs.declared.fault.PlayFault.{PlayFault}
 use Rattle.cave_play.specs.declared.fault.PlayFault.TheVariants as fault
 use Rattle.play_logs.specs.declared.fault.LogsFault.{LogsFault}
 use Rattle.std.specs.Str.Lines.{lines}
-use Rattle.cave_play.specs.cave_data.CaveView.{CaveView}
-use Rattle.cave_play.specs.cave_data.Reads.{Reads}
-use Rattle.cave_play.specs.replay_edits.Edit.{Game, game_of}
+use Rattle.cave_data.specs.CaveView.{CaveView}
+use Rattle.cave_data.specs.Reads.{Reads}
+use Rattle.replay_edits.specs.Edit.{Game, game_of}
 
 abbrev pub games_of : ℕ → List (List ℕ) → List Game
 games_of seed logs = map (λ log. game_of seed (lines log)) logs

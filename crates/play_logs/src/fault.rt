@@ -4,7 +4,7 @@ ghost use Rattle.std.specs.Prelude.{◌≡◌, None};
 ghost use Rattle.play_logs.specs.Faults.{at_none};
 ghost use Rattle.cave_play.specs.declared.fault.PlayFault.TheVariants.{Memory};
 
-use cave_play::fault::PlayFault;
+use cave_play::PlayFault;
 use std::alloc::AllocError;
 
 /// A fault of a run over several logs, and the log at which it is met, from 0, if it is met at one.

@@ -2,11 +2,12 @@
 
 ghost use Rattle.std.specs.Prelude.{◌≡◌, ℕ, List, [], ◌++◌, IfOk, OnOk, length};
 ghost use Rattle.play_logs.specs.Faults.{NotesMore};
-ghost use Rattle.cave_play.specs.cave_data.CaveView.{CaveView};
-ghost use Rattle.cave_play.specs.replay_edits.Edit.{Game};
+ghost use Rattle.cave_data.specs.CaveView.{CaveView};
+ghost use Rattle.replay_edits.specs.Edit.{Game};
 
-use cave_play::machine::CaveMachine;
-use cave_play::{Cave, Session};
+use cave_data::Cave;
+use cave_replay::Session;
+use play_machine::CaveMachine;
 use std::alloc::{AllocError, Global};
 
 /// Notes on the plays of games in a cave, of which a report is written.

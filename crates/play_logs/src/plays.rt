@@ -8,14 +8,14 @@ ghost use Rattle.cave_play.specs.Input.{Says};
 ghost use Rattle.cave_play.specs.Judge.{large_seed};
 ghost use Rattle.cave_play.specs.Run.{Judges};
 ghost use Rattle.cave_play.specs.Stages.{log_stage};
-ghost use Rattle.cave_play.specs.replay_edits.Edit.{game_of};
+ghost use Rattle.replay_edits.specs.Edit.{game_of};
 
 use crate::fault::LogsFault;
 use crate::notes::PlayNotes;
-use cave_play::MAX_EVERY;
-use cave_play::fault::PlayFault;
+use base_lines::limits::MAX_EVERY;
+use cave_play::PlayFault;
 use cave_play::judge::play_log;
-use cave_play::machine::CaveMachine;
+use play_machine::CaveMachine;
 use std::alloc::Global;
 use std::io::Read;
 

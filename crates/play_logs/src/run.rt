@@ -9,11 +9,11 @@ ghost use Rattle.play_logs.specs.Faults.{JudgesLogs, RunsLogs, first_stages, IsR
 use crate::fault::LogsFault;
 use crate::notes::PlayNotes;
 use crate::plays::note_logs;
-use cave_play::Lexicon;
-use cave_play::inputs::CaveReaders;
+use cave_play::CaveReaders;
 use cave_play::judge::{ReadCave, check_seed, read_texts};
-use cave_play::machine::CaveMachine;
 use cave_play::output::write_output;
+use cave_words::Lexicon;
+use play_machine::CaveMachine;
 use std::alloc::Global;
 use std::io::{Read, Write};
 

@@ -5,12 +5,12 @@ use Rattle.std.specs.List.{AllZip}
 use Rattle.cave_play.specs.Input.{InputTexts, Says}
 use Rattle.cave_play.specs.declared.fault.PlayFault.{PlayFault}
 use Rattle.cave_play.specs.declared.fault.PlayFault.TheVariants as fault
-use Rattle.cave_play.specs.play_command.declared.line.Line.{Line}
+use Rattle.play_command.specs.declared.line.Line.{Line}
 use Rattle.play_logs.specs.Faults.{at_none}
 use Rattle.play_logs.specs.declared.fault.LogsFault.{LogsFault}
 use Rattle.play_program.specs.Calls.{Call, and_then}
 use Rattle.play_program.specs.Calls.Call.{Puts, Tells}
-use Rattle.play_program.specs.Failures.{IsMessage, failure_status}
+use Rattle.play_program.specs.Failures.{IsMessageOfFailure, failure_status}
 use Rattle.play_program.specs.Names.{FileNames, files_in}
 use Rattle.play_program.specs.Opening.{Stops, bytes_named, opening}
 use Rattle.play_program.specs.Runs.{RunsLine}
@@ -101,7 +101,7 @@ abbrev pub TellsEnd : FileNames → Option (List Call) → Option (List Call)
     → Result (Unit {0}) Failure → ℕ → Type 0
 TellsEnd names calls called (Ok done) status = (called ≡ calls) × (status ≡ 0)
 TellsEnd names calls called (Err failure) status =
-    ((message : Message) × IsMessage names failure message
+    ((message : Message) × IsMessageOfFailure names failure message
     × (called ≡ and_then calls (Tells message ∷ []))) × (status ≡ failure_status failure)
 
 -- what the run of a line leaves, with what the program tells of it

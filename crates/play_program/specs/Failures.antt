@@ -26,12 +26,12 @@ file_of_fault names found = file_of_input names (input_of found.fault) found.log
 
 -- the message says the fault with the file that it is of, or which file can't be opened or written,
 -- and the system's reason
-abbrev pub IsMessage : FileNames → Failure → Message → Type 0
-IsMessage names (Run found) (message.Fault complaint) =
+abbrev pub IsMessageOfFailure : FileNames → Failure → Message → Type 0
+IsMessageOfFailure names (Run found) (message.Fault complaint) =
     (complaint.fault ≡ found.fault)
     × (option_map (λ s. s.now) complaint.file ≡ file_of_fault names found)
-IsMessage names (Unopened from name reason) (message.Unopened file why) =
+IsMessageOfFailure names (Unopened from name reason) (message.Unopened file why) =
     (file.now ≡ name.now) × (why ≡ reason)
-IsMessage names (Unwritten name reason) (message.Unwritten file why) =
+IsMessageOfFailure names (Unwritten name reason) (message.Unwritten file why) =
     (file.now ≡ name.now) × (why ≡ reason)
-IsMessage names _ _ = ⊥
+IsMessageOfFailure names _ _ = ⊥

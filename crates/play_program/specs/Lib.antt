@@ -5,3 +5,4 @@ pub mod Opening
 pub mod Runs
 pub mod Ends
 pub mod Program
+pub mod Target

@@ -1,10 +1,10 @@
 -- The files that a line of the command line names.
 use Rattle.std.specs.Prelude.{ℕ, List, [], ◌∷◌, ◌++◌, map, Option, None, Some, option_map}
 use Rattle.std.specs.List.{slice_get}
-use Rattle.cave_play.specs.play_command.declared.line.Files.{Files}
-use Rattle.cave_play.specs.play_command.declared.line.Line.{Line}
-use Rattle.cave_play.specs.play_command.declared.line.Line.TheVariants.{Check, Doubts, Play, Edit}
-use Rattle.cave_play.specs.play_command.declared.line.Line.TheVariants.{Cover, Map, Text}
+use Rattle.play_command.specs.declared.line.Files.{Files}
+use Rattle.play_command.specs.declared.line.Line.{Line}
+use Rattle.play_command.specs.declared.line.Line.TheVariants.{Check, Doubts, Play, Edit, Cover, Map}
+use Rattle.play_command.specs.declared.line.Line.TheVariants.{Text}
 use Rattle.cave_play.specs.declared.fault.Input.{Input}
 use Rattle.cave_play.specs.declared.fault.Input.TheVariants as input
 use Rattle.play_program.specs.declared.names.Names.{Names}

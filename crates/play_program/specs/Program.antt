@@ -5,10 +5,10 @@ use Rattle.clap.specs.Words.{fault_of, subcommand_of}
 use Rattle.cave_play.specs.Fault.{status_of}
 use Rattle.cave_play.specs.declared.fault.PlayFault.{PlayFault}
 use Rattle.cave_play.specs.declared.fault.PlayFault.TheVariants as fault
-use Rattle.cave_play.specs.play_command.App.{cave_app}
-use Rattle.cave_play.specs.play_command.Line.{IsAsked, IsRefused, IsRun, status_of_command}
-use Rattle.cave_play.specs.play_command.declared.fault.CommandFault.{CommandFault}
-use Rattle.cave_play.specs.play_command.declared.line.Line.{Line}
+use Rattle.play_command.specs.App.{cave_app}
+use Rattle.play_command.specs.Line.{IsAsked, IsRefused, IsRun, status_of_command}
+use Rattle.play_command.specs.declared.fault.CommandFault.{CommandFault}
+use Rattle.play_command.specs.declared.line.Line.{Line}
 use Rattle.play_program.specs.Calls.{Call, and_then}
 use Rattle.play_program.specs.Calls.Call.{Tells}
 use Rattle.play_program.specs.Ends.{EndsRun}
@@ -28,8 +28,8 @@ IsOfNoFile found (message.Fault complaint) =
 IsOfNoFile found _ = ⊥
 
 -- a fault that is of no file is told, with its status
-abbrev pub Fails : PlayFault → Option (List Call) → Option (List Call) → ℕ → Type 0
-Fails found calls called status =
+abbrev pub TellsFault : PlayFault → Option (List Call) → Option (List Call) → ℕ → Type 0
+TellsFault found calls called status =
     TellsOne (IsOfNoFile found) calls called × (status ≡ status_of found)
 
 -- the message is the parser's, in two parts
@@ -45,14 +45,14 @@ IsUnread _ = ⊥
 -- help or the version was printed, and nothing is asked of the system; or the writer failed
 abbrev pub EndsText : Option (List Call) → Option (List Call) → ℕ → Type 0
 EndsText calls called status =
-    ((called ≡ calls) × (status ≡ 0)) ⊎ Fails fault.Write calls called status
+    ((called ≡ calls) × (status ≡ 0)) ⊎ TellsFault fault.Write calls called status
 
 -- what a line leaves that is refused: it is told why, unless memory runs out, and nothing else is
 -- asked of the system
 abbrev pub EndsRefused : CommandFault → Option (List Call) → Option (List Call) → ℕ → Type 0
 EndsRefused found calls called status =
     (TellsOne IsUsage calls called × (status ≡ status_of_command found))
-    ⊎ Fails fault.Memory calls called status
+    ⊎ TellsFault fault.Memory calls called status
 
 -- what a line leaves that names these files, or asks for no run
 abbrev pub EndsNamed : Option FileNames → (List ℕ → Option (List ℕ)) → Line
@@ -85,4 +85,4 @@ EndsWords words bytes_of calls called old new status = (line : Result Line Comma
 -- the words can't be read, which is told with status 2, or memory ran out
 abbrev pub EndsUnread : Option (List Call) → Option (List Call) → ℕ → Type 0
 EndsUnread calls called status =
-    (TellsOne IsUnread calls called × (status ≡ 2)) ⊎ Fails fault.Memory calls called status
+    (TellsOne IsUnread calls called × (status ≡ 2)) ⊎ TellsFault fault.Memory calls called status

@@ -2,18 +2,18 @@
 use Rattle.std.specs.Prelude.{◌≡◌, ℕ, List, [], Option, option_map, unwrap_or, Result, Ok, Err}
 use Rattle.cave_play.specs.Doubted.{RunsDoubts}
 use Rattle.cave_play.specs.Input.{InputTexts}
-use Rattle.cave_play.specs.check_doubts.declared.listing.DoubtFiles.{DoubtFiles}
+use Rattle.check_doubts.specs.declared.listing.DoubtFiles.{DoubtFiles}
 use Rattle.cave_play.specs.Output.{IsChecked, IsPlayed}
 use Rattle.cave_play.specs.Run as one
 use Rattle.cave_play.specs.Stages.{Stage, cave_stages, play_stages, edit_stages}
 use Rattle.cave_play.specs.Views.{IsEdited}
 use Rattle.cave_play.specs.declared.fault.PlayFault.{PlayFault}
-use Rattle.map_run.specs.Plays.{IsMapped}
+use Rattle.play_map.specs.Plays.{IsMapped}
 use Rattle.play_cover.specs.Plays.{IsCovered}
-use Rattle.cave_play.specs.play_command.declared.line.Files.{Files}
-use Rattle.cave_play.specs.play_command.declared.line.Line.{Line}
-use Rattle.cave_play.specs.play_command.declared.line.Line.TheVariants.{Check, Doubts, Play, Edit}
-use Rattle.cave_play.specs.play_command.declared.line.Line.TheVariants.{Cover, Map, Text}
+use Rattle.play_command.specs.declared.line.Files.{Files}
+use Rattle.play_command.specs.declared.line.Line.{Line}
+use Rattle.play_command.specs.declared.line.Line.TheVariants.{Check, Doubts, Play, Edit, Cover, Map}
+use Rattle.play_command.specs.declared.line.Line.TheVariants.{Text}
 use Rattle.play_logs.specs.Faults.{RunsLogs, at_none, first_stages}
 use Rattle.play_logs.specs.declared.fault.LogsFault.{LogsFault}
 

@@ -6,11 +6,12 @@ ghost use Rattle.cave_play.specs.Input.{AreTextsOf, InputTexts, Says, input_left
 ghost use Rattle.play_program.specs.Runs.{AreListed, RunsLine, ended_alone};
 
 use crate::readers::Readers;
-use map_run::run::run_map;
+use cave_play::{PlayFault, run_check, run_doubts, run_edit, run_play};
+use check_doubts::DoubtFiles;
+use play_command::{Files, Line};
 use play_cover::run::run_cover;
-use play_cover::{
-    DoubtFiles, Files, Line, LogsFault, PlayFault, run_check, run_doubts, run_edit, run_play,
-};
+use play_logs::fault::LogsFault;
+use play_map::run::run_map;
 use std::alloc::Global;
 use std::io::{Read, Write};
 

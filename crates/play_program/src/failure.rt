@@ -3,12 +3,13 @@
 ghost use Rattle.std.specs.Prelude.{◌≡◌};
 ghost use Rattle.play_logs.specs.Faults.{at_none};
 ghost use Rattle.cave_play.specs.declared.fault.PlayFault.TheVariants.{Memory};
-ghost use Rattle.play_program.specs.Failures.{IsMessage, failure_status};
+ghost use Rattle.play_program.specs.Failures.{IsMessageOfFailure, failure_status};
 ghost use Rattle.play_program.specs.Names.{names_in};
 
 use crate::message::Message;
 use crate::names::Names;
-use play_cover::{Complaint, Input, LogsFault, PlayFault};
+use cave_play::{Complaint, Input, PlayFault};
+use play_logs::fault::LogsFault;
 use std::io;
 
 /// Why a run wasn't done.
@@ -42,7 +43,7 @@ impl<'a> Failure<'a> {
 
     /// What the program says of it, where the run has these files.
     pub fn message(self, names: Names<'a>) -> Message<'a>
-        ensures { IsMessage (names_in names.entry) self.entry result }
+        ensures { IsMessageOfFailure (names_in names.entry) self.entry result }
     {
         match self {
             Failure::Run(LogsFault { fault, log }) => {

@@ -1,7 +1,8 @@
-//! The program, over what a system gives it: which files are opened, what is written where, and
-//! with which status it ends.
+//! The program over what a system gives it: it opens files, calls a run, writes the output, and reports
+//! a fault.
 #![tactic(auto)]
 
+pub mod beside;
 pub mod command;
 pub mod failure;
 pub mod message;
@@ -10,7 +11,11 @@ pub mod program;
 pub mod readers;
 pub mod run;
 pub mod system;
+pub mod target;
+pub mod whole;
 
+pub use beside::FileBeside;
 pub use message::Message;
 pub use program::run_program;
 pub use system::System;
+pub use whole::replace;

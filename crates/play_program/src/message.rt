@@ -1,6 +1,6 @@
 //! What the program says beside its output.
 
-use play_cover::{Complaint, PlayFault, Unopened};
+use cave_play::{Complaint, PlayFault, Unopened};
 use std::{fmt, io};
 
 /// What the program says beside its output, in whole lines.

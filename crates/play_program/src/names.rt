@@ -3,7 +3,8 @@
 ghost use Rattle.std.specs.Prelude.{◌≡◌, option_map};
 ghost use Rattle.play_program.specs.Names.{names_in, names_of, file_at};
 
-use play_cover::{Files, Input, Line};
+use cave_play::Input;
+use play_command::{Files, Line};
 
 /// The files that a run reads, in the order in which they are opened, and the one that it writes.
 #[derive(Clone, Copy)]

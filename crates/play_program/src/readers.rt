@@ -8,7 +8,8 @@ ghost use Rattle.play_program.specs.Opening.{AreReadersOf, Opened, bytes_named};
 use crate::failure::Failure;
 use crate::names::Names;
 use crate::system::System;
-use play_cover::{CaveReaders, Files, Input, InputReader, Inputs};
+use cave_play::{CaveReaders, Input, InputReader, Inputs};
+use play_command::Files;
 use std::alloc::Global;
 use std::io::{ErrorKind, Read};
 

@@ -12,7 +12,9 @@ use crate::failure::Failure;
 use crate::names::Names;
 use crate::readers::open_files;
 use crate::system::System;
-use play_cover::{Line, LogsFault, PlayFault};
+use cave_play::PlayFault;
+use play_command::Line;
+use play_logs::fault::LogsFault;
 use std::alloc::Global;
 use std::io::{ErrorKind, Write};
 

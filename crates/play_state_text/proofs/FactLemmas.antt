@@ -3,7 +3,7 @@ use Rattle.std.proofs.Common.{◌≡◌, ℕ, ℤ, Bool, List, ◌++◌, Option,
 use Rattle.std.specs.Prelude.{codes}
 use Rattle.std.proofs.lemmas.Bool.{false≢true}
 use Rattle.std.proofs.lemmas.List.{append_cancel_left}
-use Rattle.cave_world.specs.cave_data.CaveView.{CaveView}
+use Rattle.cave_data.specs.CaveView.{CaveView}
 use Rattle.cave_world.specs.declared.dwarves.Dwarves.{Dwarves}
 use Rattle.cave_world.specs.declared.dwarves.Knife.{Knife}
 use Rattle.cave_world.specs.declared.dwarves.Knife.TheVariants.{Unthrown, At, Vanished}
@@ -20,7 +20,7 @@ use Rattle.play_state_text.specs.Facts.{counts_text, trail_text, question_text, 
 use Rattle.play_state_text.specs.Facts.{closing_text, tallies_text, verb_text, talk_text}
 use Rattle.play_state_text.specs.Facts.{anger_text, knife_text, numbered_line, signed_line}
 use Rattle.play_state_text.specs.Facts.{answer_line}
-use Rattle.play_state_text.specs.Words.{half_verb_line, object_line}
+use Rattle.play_state_text.specs.Words.{line_with_half_verb, line_with_object}
 use Rattle.play_state_text.proofs.WordLemmas.{half_verb_line_read, object_line_read}
 use Rattle.play_state_text.specs.Within.{IsWide, IsSigned, IsTrailWithin, IsQuestionWithin}
 use Rattle.play_state_text.specs.Within.{IsClosingWithin, AreTalliesWithin, IsVerbWithin}
@@ -174,7 +174,7 @@ tallies_read a b s t ha hb e =
 
 verb_read : (cave : CaveView) (p q : Option ℕ) (s t : List ℕ) → IsVerbWithin p → IsVerbWithin q
     → verb_text cave p ++ s ≡ verb_text cave q ++ t → (p ≡ q) × (s ≡ t)
-unfolding half_verb_line
+unfolding line_with_half_verb
 verb_read cave None None s t hp hq e =
     (refl, append_cancel_left (codes "half command none\n") s t e)
 verb_read cave (Some m) (Some n) s t hp hq e =
@@ -182,11 +182,11 @@ verb_read cave (Some m) (Some n) s t hp hq e =
 verb_read cave _ _ s t hp hq e = absurd (false≢true (differ 5 _ _ e))
 
 object_line_step : (cave : CaveView) (name : List ℕ) (m n : ℕ) (x y s t : List ℕ) → IsWide m
-    → IsWide n → (object_line cave name m ++ x) ++ s ≡ (object_line cave name n ++ y) ++ t
+    → IsWide n → (line_with_object cave name m ++ x) ++ s ≡ (line_with_object cave name n ++ y) ++ t
     → (m ≡ n) × (x ++ s ≡ y ++ t)
 object_line_step cave name m n x y s t hm hn e =
     object_line_read cave name m n (x ++ s) (y ++ t) hm hn
-    (peel (object_line cave name m) (object_line cave name n) x y s t e)
+    (peel (line_with_object cave name m) (line_with_object cave name n) x y s t e)
 
 pub talk_read : (cave : CaveView) (a b : Talk) (s t : List ℕ) → IsTalkWithin a → IsTalkWithin b
     → talk_text cave a ++ s ≡ talk_text cave b ++ t → (a ≡ b) × (s ≡ t)

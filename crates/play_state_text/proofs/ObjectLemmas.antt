@@ -8,14 +8,14 @@ use Rattle.std.specs.Fmt.{signed_decimal}
 use Rattle.std.specs.Ordering.{int_eq}
 use Rattle.std.proofs.lemmas.Bool.{false≢true}
 use Rattle.std.proofs.lemmas.List.{append_cancel_left}
-use Rattle.cave_world.specs.cave_data.CaveView.{CaveView}
-use Rattle.cave_world.specs.world_objects.Objects.{Layout, spot_of, anchor_of, prop_of}
-use Rattle.cave_world.specs.world_objects.declared.spot.Spot.{Spot}
-use Rattle.cave_world.specs.world_objects.declared.spot.Spot.TheVariants as spot
-use Rattle.cave_world.specs.world_objects.declared.spot.Anchor.{Anchor}
-use Rattle.cave_world.specs.world_objects.declared.spot.Anchor.TheVariants as anchor
-use Rattle.cave_world.specs.world_objects.contracts.spot.SpotPartialEq.TheImpl as spot_eq
-use Rattle.cave_world.specs.world_objects.contracts.spot.AnchorPartialEq.TheImpl as anchor_eq
+use Rattle.cave_data.specs.CaveView.{CaveView}
+use Rattle.world_objects.specs.Objects.{Layout, spot_of, anchor_of, prop_of}
+use Rattle.world_objects.specs.declared.spot.Spot.{Spot}
+use Rattle.world_objects.specs.declared.spot.Spot.TheVariants as spot
+use Rattle.world_objects.specs.declared.spot.Anchor.{Anchor}
+use Rattle.world_objects.specs.declared.spot.Anchor.TheVariants as anchor
+use Rattle.world_objects.specs.contracts.spot.SpotPartialEq.TheImpl as spot_eq
+use Rattle.world_objects.specs.contracts.spot.AnchorPartialEq.TheImpl as anchor_eq
 use Rattle.play_state_text.specs.Things.{text_up_to, spot_text, anchor_text}
 use Rattle.play_state_text.specs.Things.{is_as_in, thing_line, thing_text}
 use Rattle.play_state_text.specs.Within.{IsUpTo, AreObjectsWithin, IsSpotWithin, IsAnchorWithin}
@@ -32,7 +32,7 @@ spot_read : (p q : Spot) (s t : List ℕ) → IsSpotWithin p → IsSpotWithin q 
     → spot_text p ++ s ≡ spot_text q ++ t → (p ≡ q) × (s ≡ t)
 unfolding numbered_text
 spot_read spot.Away spot.Away s t hp hq g h e = (refl, append_cancel_left (codes " away") s t e)
-spot_read spot.Carried spot.Carried s t hp hq g h e =
+spot_read spot.InHands spot.InHands s t hp hq g h e =
     (refl, append_cancel_left (codes " carried") s t e)
 spot_read (spot.At m) (spot.At n) s t hp hq g h e =
     let number = number_read m n s t hp hq g h (after_name (codes " at ") _ _ s t e) in
@@ -106,7 +106,7 @@ thing_goes_on cave o x u =
 
 spot_decides : (a b : Spot) → Decides (spot_eq.eq-value.it a b) (a ≡ b)
 spot_decides spot.Away spot.Away = (λ _. refl, λ _. refl)
-spot_decides spot.Carried spot.Carried = (λ _. refl, λ _. refl)
+spot_decides spot.InHands spot.InHands = (λ _. refl, λ _. refl)
 spot_decides (spot.At x) (spot.At y) =
     (λ e i. spot.At ((unsigned_Decides x y).0 e i), λ e. (unsigned_Decides x y).1 cc)
 spot_decides _ _ = (λ e. absurd (false≢true e), λ e. cc)

@@ -8,14 +8,14 @@ use Rattle.std.specs.Cmp.Lexicographic.{pointwise, pointwise_decides}
 use Rattle.std.specs.Fmt.{decimal}
 use Rattle.std.proofs.lemmas.Bool.{false≢true, cases_lt}
 use Rattle.std.proofs.lemmas.List.{append_cancel_left}
-use Rattle.cave_world.specs.cave_data.CaveView.{CaveView}
-use Rattle.cave_world.specs.world_objects.Lists.{half_number, object_of, AreLists, halves_at}
-use Rattle.cave_world.specs.world_objects.Objects.{Layout}
-use Rattle.cave_world.specs.world_objects.Links.{AreEntriesWithin}
-use Rattle.cave_world.specs.world_objects.declared.lists.PlacedHalf.{PlacedHalf}
-use Rattle.cave_world.specs.world_objects.declared.object.Half.{Half}
-use Rattle.cave_world.specs.world_objects.declared.object.Half.TheVariants.{First, Second}
-use Rattle.cave_world.specs.world_objects.contracts.object.HalfPartialEq.TheImpl as half_eq
+use Rattle.cave_data.specs.CaveView.{CaveView}
+use Rattle.world_objects.specs.Lists.{half_number, object_of, AreLists, halves_at}
+use Rattle.world_objects.specs.Objects.{Layout}
+use Rattle.world_objects.specs.Links.{AreEntriesWithin}
+use Rattle.world_objects.specs.declared.lists.PlacedHalf.{PlacedHalf}
+use Rattle.world_objects.specs.declared.object.Half.{Half}
+use Rattle.world_objects.specs.declared.object.Half.TheVariants.{First, Second}
+use Rattle.world_objects.specs.contracts.object.HalfPartialEq.TheImpl as half_eq
 use Rattle.play_state_text.specs.Things.{text_up_to, half_text, more_halves_text, halves_text}
 use Rattle.play_state_text.specs.Things.{place_line}
 use Rattle.play_state_text.specs.Words.{named_object, word_of_object}

@@ -4,9 +4,9 @@ use Rattle.std.proofs.Common.{Some, None}
 use Rattle.std.proofs.lemmas.Bool.{false≢true}
 use Rattle.std.proofs.lemmas.List.{append-nil}
 use Rattle.std.specs.Prelude.{codes}
-use Rattle.cave_world.specs.cave_data.CaveView.{CaveView}
-use Rattle.cave_world.specs.world_objects.Objects.{Layout}
-use Rattle.cave_world.specs.world_objects.Lists.{halves_at}
+use Rattle.cave_data.specs.CaveView.{CaveView}
+use Rattle.world_objects.specs.Objects.{Layout}
+use Rattle.world_objects.specs.Lists.{halves_at}
 use Rattle.cave_world.specs.SameGame.{IsSameGame, same_state}
 use Rattle.cave_world.specs.declared.dwarves.Dwarves.{Dwarves}
 use Rattle.cave_world.specs.declared.dwarves.Knife.{Knife}
@@ -20,7 +20,7 @@ use Rattle.play_state_text.specs.Facts.{numbered_line}
 use Rattle.play_state_text.specs.StateText.{AreToldApart, state_text, game_text, objects_text}
 use Rattle.play_state_text.specs.StateText.{rest_text}
 use Rattle.play_state_text.specs.Within.{IsStateWithin}
-use Rattle.play_state_text.specs.Words.{half_verb_line}
+use Rattle.play_state_text.specs.Words.{line_with_half_verb}
 use Rattle.play_state_text.proofs.EntryLemmas.{IsPast}
 use Rattle.play_state_text.proofs.FactLemmas.{counts_read, trail_read, question_read, ending_read}
 use Rattle.play_state_text.proofs.FactLemmas.{lamp_read, closing_read, tallies_read, talk_read}
@@ -74,7 +74,7 @@ game_read a b s t ha hb e =
 
 verb_past : (cave : CaveView) (verb : Option ℕ) (s : List ℕ)
     → IsPast (codes "object ") 100 (verb_text cave verb ++ s)
-unfolding half_verb_line
+unfolding line_with_half_verb
 verb_past cave None s number more within goes clash = false≢true (differ 0 _ _ clash)
 verb_past cave (Some verb) s number more within goes clash = false≢true (differ 0 _ _ clash)
 

@@ -4,7 +4,7 @@ use Rattle.std.proofs.Common.{inr}
 use Rattle.std.specs.Prelude.{◌≤ℤ◌}
 use Rattle.std.proofs.lemmas.Bool.{cases_lt}
 use Rattle.std.proofs.lemmas.Int.{ints}
-use Rattle.cave_world.specs.world_objects.Props.{HIGHEST_PROP, LOWEST_PROP}
+use Rattle.world_objects.specs.Props.{HIGHEST_PROP, LOWEST_PROP}
 use Rattle.cave_world.specs.Limits.{HIGHEST_MAGIC, LOWEST_MAGIC}
 use Rattle.play_state_text.specs.Within.{IsSigned, IsUpTo}
 

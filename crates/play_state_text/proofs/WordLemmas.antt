@@ -4,13 +4,13 @@ use Rattle.std.proofs.Common.{◌≡◌, ℕ, Bool, true, false, cond, List, [],
 use Rattle.std.proofs.Common.{refl, sym, ap, ◌∙◌, ◌+◌, append_assoc}
 use Rattle.std.specs.Prelude.{codes, nat_lt}
 use Rattle.std.proofs.lemmas.List.{append_cancel_left}
-use Rattle.cave_world.specs.data_numbers.Numbers.{LAST_ACTION}
-use Rattle.cave_world.specs.data_rows.Rows.{OBJECT_WORDS, ACTION_WORDS}
-use Rattle.cave_world.specs.cave_data.CaveView.{CaveView, first_word}
+use Rattle.base_lines.specs.Numbers.{LAST_ACTION}
+use Rattle.data_rows.specs.Rows.{OBJECT_WORDS, ACTION_WORDS}
+use Rattle.cave_data.specs.CaveView.{CaveView, first_word}
 use Rattle.std.specs.Fmt.{decimal}
 use Rattle.play_state_text.specs.Within.{IsWide}
 use Rattle.play_state_text.specs.Words.{after_blank, word_of_object, word_of_verb, named_object}
-use Rattle.play_state_text.specs.Words.{object_line, half_verb_line}
+use Rattle.play_state_text.specs.Words.{line_with_object, line_with_half_verb}
 use Rattle.play_state_text.proofs.Reading.{GoesOn, number_read, number_step}
 
 -- what comes after a number goes on, also with a word before it
@@ -71,13 +71,14 @@ beside_line_read word beside name m n s t hm hn e =
     (number.0, append_cancel_left (word m ++ codes "\n") s t same)
 
 pub object_line_read : (cave : CaveView) (name : List ℕ) (m n : ℕ) (s t : List ℕ) → IsWide m
-    → IsWide n → object_line cave name m ++ s ≡ object_line cave name n ++ t → (m ≡ n) × (s ≡ t)
-unfolding object_line
+    → IsWide n → line_with_object cave name m ++ s ≡ line_with_object cave name n ++ t
+    → (m ≡ n) × (s ≡ t)
+unfolding line_with_object
 object_line_read cave name m n s t hm hn e =
     beside_line_read (word_of_object cave) (object_beside cave) name m n s t hm hn e
 
 pub half_verb_line_read : (cave : CaveView) (m n : ℕ) (s t : List ℕ) → IsWide m → IsWide n
-    → half_verb_line cave m ++ s ≡ half_verb_line cave n ++ t → (m ≡ n) × (s ≡ t)
-unfolding half_verb_line
+    → line_with_half_verb cave m ++ s ≡ line_with_half_verb cave n ++ t → (m ≡ n) × (s ≡ t)
+unfolding line_with_half_verb
 half_verb_line_read cave m n s t hm hn e =
     beside_line_read (word_of_verb cave) (verb_beside cave) (codes "half verb ") m n s t hm hn e

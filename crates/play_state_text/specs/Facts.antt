@@ -2,7 +2,7 @@
 use Rattle.std.specs.Prelude.{ℕ, ℤ, Bool, true, false, List, ◌++◌, codes, decimal, Option, None}
 use Rattle.std.specs.Prelude.{Some}
 use Rattle.std.specs.Fmt.{signed_decimal}
-use Rattle.cave_world.specs.cave_data.CaveView.{CaveView}
+use Rattle.cave_data.specs.CaveView.{CaveView}
 use Rattle.cave_world.specs.declared.dwarves.Knife.{Knife}
 use Rattle.cave_world.specs.declared.dwarves.Knife.TheVariants.{Unthrown, At, Vanished}
 use Rattle.cave_world.specs.declared.ending.Question.{Question}
@@ -15,7 +15,7 @@ use Rattle.cave_world.specs.declared.lamp.Lamp.{Lamp}
 use Rattle.cave_world.specs.declared.closing.Closing.{Closing}
 use Rattle.cave_world.specs.declared.talk.Talk.{Talk}
 use Rattle.cave_world.specs.declared.dwarves.Dwarves.{Dwarves}
-use Rattle.play_state_text.specs.Words.{half_verb_line, object_line}
+use Rattle.play_state_text.specs.Words.{line_with_half_verb, line_with_object}
 
 abbrev pub yes_or_no : Bool → List ℕ
 yes_or_no true = codes "yes"
@@ -87,14 +87,14 @@ tallies_text tallies =
 
 abbrev pub verb_text : CaveView → Option ℕ → List ℕ
 verb_text cave None = codes "half command none\n"
-verb_text cave (Some verb) = half_verb_line cave verb
+verb_text cave (Some verb) = line_with_half_verb cave verb
 
 -- what is remembered of what was said
 unfoldable pub talk_text : CaveView → Talk → List ℕ
 talk_text cave talk =
     verb_text cave talk.verb
-    ++ (object_line cave (codes "half object ") talk.object
-    ++ (object_line cave (codes "last object ") talk.last
+    ++ (line_with_object cave (codes "half object ") talk.object
+    ++ (line_with_object cave (codes "last object ") talk.last
     ++ (answer_line (codes "brief ") talk.is_brief
     ++ (numbered_line (codes "details ") talk.details
     ++ signed_line (codes "magic ") talk.magic))))

@@ -1,8 +1,8 @@
 -- The text of a state, one fact a line; no other state has it.
 use Rattle.std.specs.Prelude.{ℕ, List, ◌++◌, codes, ◌≡◌, ◌<◌, ◌^◌}
-use Rattle.cave_world.specs.data_numbers.Numbers.{LAST_HINT, LAST_OBJECT, LAST_PLACE}
-use Rattle.cave_world.specs.cave_data.CaveView.{CaveView}
-use Rattle.cave_world.specs.world_objects.Objects.{Layout}
+use Rattle.base_lines.specs.Numbers.{LAST_HINT, LAST_OBJECT, LAST_PLACE}
+use Rattle.cave_data.specs.CaveView.{CaveView}
+use Rattle.world_objects.specs.Objects.{Layout}
 use Rattle.cave_world.specs.Limits.{dwarf_count}
 use Rattle.cave_world.specs.declared.state.State.{State}
 use Rattle.play_state_text.specs.Things.{text_up_to, thing_line, place_line, visits_line}

@@ -3,18 +3,18 @@ use Rattle.std.specs.Prelude.{ℕ, ◌+◌, ◌-◌, Bool, false, ◌==◌, ◌&
 use Rattle.std.specs.Prelude.{slice_index_or, zero, suc, if◌then◌else◌, decimal}
 use Rattle.std.specs.Ordering.{int_eq}
 use Rattle.std.specs.Cmp.Lexicographic.{pointwise}
-use Rattle.cave_world.specs.cave_data.CaveView.{CaveView}
-use Rattle.cave_world.specs.world_objects.Objects.{Layout, spot_of, anchor_of, prop_of}
-use Rattle.cave_world.specs.world_objects.Lists.{halves_at}
-use Rattle.cave_world.specs.world_objects.declared.object.Half.{Half}
-use Rattle.cave_world.specs.world_objects.declared.object.Half.TheVariants.{First, Second}
-use Rattle.cave_world.specs.world_objects.declared.spot.Spot.{Spot}
-use Rattle.cave_world.specs.world_objects.declared.spot.Spot.TheVariants as spot
-use Rattle.cave_world.specs.world_objects.declared.spot.Anchor.{Anchor}
-use Rattle.cave_world.specs.world_objects.declared.spot.Anchor.TheVariants as anchor
-use Rattle.cave_world.specs.world_objects.contracts.object.HalfPartialEq.TheImpl as half_eq
-use Rattle.cave_world.specs.world_objects.contracts.spot.SpotPartialEq.TheImpl as spot_eq
-use Rattle.cave_world.specs.world_objects.contracts.spot.AnchorPartialEq.TheImpl as anchor_eq
+use Rattle.cave_data.specs.CaveView.{CaveView}
+use Rattle.world_objects.specs.Objects.{Layout, spot_of, anchor_of, prop_of}
+use Rattle.world_objects.specs.Lists.{halves_at}
+use Rattle.world_objects.specs.declared.object.Half.{Half}
+use Rattle.world_objects.specs.declared.object.Half.TheVariants.{First, Second}
+use Rattle.world_objects.specs.declared.spot.Spot.{Spot}
+use Rattle.world_objects.specs.declared.spot.Spot.TheVariants as spot
+use Rattle.world_objects.specs.declared.spot.Anchor.{Anchor}
+use Rattle.world_objects.specs.declared.spot.Anchor.TheVariants as anchor
+use Rattle.world_objects.specs.contracts.object.HalfPartialEq.TheImpl as half_eq
+use Rattle.world_objects.specs.contracts.spot.SpotPartialEq.TheImpl as spot_eq
+use Rattle.world_objects.specs.contracts.spot.AnchorPartialEq.TheImpl as anchor_eq
 use Rattle.cave_world.specs.State.{no_dwarf, visits_of, turns_in_area, is_hint_taken}
 use Rattle.cave_world.specs.declared.dwarves.Dwarf.{Dwarf}
 use Rattle.cave_world.specs.declared.state.State.{State}
@@ -35,7 +35,7 @@ text_up_to text (suc last) = text_up_to text last ++ text (suc last)
 
 abbrev pub spot_text : Spot → List ℕ
 spot_text spot.Away = codes " away"
-spot_text spot.Carried = codes " carried"
+spot_text spot.InHands = codes " carried"
 spot_text (spot.At place) = numbered_text (codes " at ") place
 
 abbrev pub anchor_text : Anchor → List ℕ

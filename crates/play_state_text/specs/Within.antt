@@ -1,13 +1,13 @@
 -- The numbers of a state are within what is written of numbers.
 use Rattle.std.specs.Prelude.{◌≡◌, ℕ, ⊤, length, Option, None, Some, ℤ, ◌≤◌, ◌<◌, ◌^◌}
-use Rattle.cave_world.specs.data_numbers.Numbers.{LAST_HINT, LAST_OBJECT, LAST_PLACE}
-use Rattle.cave_world.specs.world_objects.Objects.{Layout, spot_of, anchor_of, prop_of}
-use Rattle.cave_world.specs.world_objects.Lists.{AreLists}
-use Rattle.cave_world.specs.world_objects.Links.{AreEntriesWithin}
-use Rattle.cave_world.specs.world_objects.declared.spot.Spot.{Spot}
-use Rattle.cave_world.specs.world_objects.declared.spot.Spot.TheVariants as spot
-use Rattle.cave_world.specs.world_objects.declared.spot.Anchor.{Anchor}
-use Rattle.cave_world.specs.world_objects.declared.spot.Anchor.TheVariants as anchor
+use Rattle.base_lines.specs.Numbers.{LAST_HINT, LAST_OBJECT, LAST_PLACE}
+use Rattle.world_objects.specs.Objects.{Layout, spot_of, anchor_of, prop_of}
+use Rattle.world_objects.specs.Lists.{AreLists}
+use Rattle.world_objects.specs.Links.{AreEntriesWithin}
+use Rattle.world_objects.specs.declared.spot.Spot.{Spot}
+use Rattle.world_objects.specs.declared.spot.Spot.TheVariants as spot
+use Rattle.world_objects.specs.declared.spot.Anchor.{Anchor}
+use Rattle.world_objects.specs.declared.spot.Anchor.TheVariants as anchor
 use Rattle.cave_world.specs.Limits.{dwarf_count}
 use Rattle.cave_world.specs.State.{turns_in_area, visits_of}
 use Rattle.cave_world.specs.declared.closing.Closing.{Closing}

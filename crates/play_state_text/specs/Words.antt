@@ -1,9 +1,9 @@
 -- The words that stand beside numbers.
 use Rattle.std.specs.Prelude.{ℕ, ◌+◌, nat_lt, if◌then◌else◌, List, [], ◌++◌, codes, decimal, Option}
 use Rattle.std.specs.Prelude.{Some, None}
-use Rattle.cave_world.specs.data_numbers.Numbers.{LAST_ACTION}
-use Rattle.cave_world.specs.data_rows.Rows.{OBJECT_WORDS, ACTION_WORDS}
-use Rattle.cave_world.specs.cave_data.CaveView.{CaveView, first_word}
+use Rattle.base_lines.specs.Numbers.{LAST_ACTION}
+use Rattle.data_rows.specs.Rows.{OBJECT_WORDS, ACTION_WORDS}
+use Rattle.cave_data.specs.CaveView.{CaveView, first_word}
 
 -- a word after a blank, or nothing where there is none
 abbrev pub after_blank : Option (List ℕ) → List ℕ
@@ -25,9 +25,9 @@ unfoldable pub named_object : CaveView → ℕ → List ℕ
 named_object cave x = decimal x ++ word_of_object cave x
 
 -- lines with an object, or with a verb
-unfoldable pub object_line : CaveView → List ℕ → ℕ → List ℕ
-object_line cave before x = before ++ (decimal x ++ (word_of_object cave x ++ codes "\n"))
+unfoldable pub line_with_object : CaveView → List ℕ → ℕ → List ℕ
+line_with_object cave before x = before ++ (decimal x ++ (word_of_object cave x ++ codes "\n"))
 
-unfoldable pub half_verb_line : CaveView → ℕ → List ℕ
-half_verb_line cave verb =
+unfoldable pub line_with_half_verb : CaveView → ℕ → List ℕ
+line_with_half_verb cave verb =
     codes "half verb " ++ (decimal verb ++ (word_of_verb cave verb ++ codes "\n"))

@@ -5,8 +5,7 @@ ghost use Rattle.cave_world.specs.Limits.{dwarf_count};
 ghost use Rattle.play_state_text.specs.Things.{text_up_to, dwarf_text, dwarf_line};
 
 use crate::facts::{push_answer, push_numbered};
-use cave_world::dwarves::DWARVES;
-use cave_world::{Dwarf, State};
+use cave_world::{DWARVES, Dwarf, State};
 use std::alloc::{AllocError, Global};
 
 #[tactic(auto, unfolding(crate::specs::Things::dwarf_text))]

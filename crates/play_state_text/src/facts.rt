@@ -7,8 +7,9 @@ ghost use Rattle.play_state_text.specs.Facts.{end_line, lamp_text, closing_text,
 ghost use Rattle.play_state_text.specs.Facts.{verb_text, talk_text, anger_text, knife_text};
 
 use crate::words::{push_half_verb_line, push_object_line};
+use cave_data::Cave;
 use cave_world::{
-    Cave, Closing, Count, Dwarves, Ending, Knife, Lamp, Magic, Question, Talk, Tallies, Trail,
+    Closing, Count, Dwarves, Ending, Knife, Lamp, Magic, Question, Talk, Tallies, Trail,
 };
 use std::alloc::{AllocError, Global};
 

@@ -1,7 +1,7 @@
 //! Lines for hints.
 
 ghost use Rattle.std.specs.Prelude.{◌≡◌, ◌++◌, OnOk};
-ghost use Rattle.cave_world.specs.data_numbers.Numbers.{LAST_HINT};
+ghost use Rattle.base_lines.specs.Numbers.{LAST_HINT};
 ghost use Rattle.play_state_text.specs.Things.{text_up_to, hint_text, hint_line};
 
 use crate::facts::{push_answer, push_numbered};

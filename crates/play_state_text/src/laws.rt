@@ -3,7 +3,9 @@
 ghost use Rattle.play_state_text.specs.StateText.{AreToldApart};
 
 use crate::within::is_within;
-use cave_world::{Cave, Objects, State};
+use cave_data::Cave;
+use cave_world::State;
+use world_objects::Objects;
 
 /// Two states of one cave are written alike only where they are the same state.
 pub fn are_told_apart(cave: &Cave, begun: &Objects, first: &State, second: &State)

@@ -11,5 +11,4 @@ pub mod state_text;
 pub mod within;
 mod words;
 
-pub use laws::are_told_apart;
 pub use state_text::{Counts, push_state};

@@ -1,21 +1,23 @@
 //! Lines for objects.
 
 ghost use Rattle.std.specs.Prelude.{◌≡◌, ◌++◌, OnOk};
-ghost use Rattle.cave_world.specs.data_numbers.Numbers.{LAST_OBJECT};
+ghost use Rattle.base_lines.specs.Numbers.{LAST_OBJECT};
 ghost use Rattle.play_state_text.specs.Things.{text_up_to, spot_text, anchor_text};
 ghost use Rattle.play_state_text.specs.Things.{is_as_in, thing_text, thing_line};
 
 use crate::facts::{push_numbered, push_signed};
 use crate::words::push_word_of_object;
-use cave_world::{Anchor, Cave, OBJECTS, Object, Objects, Spot};
+use cave_data::Cave;
 use std::alloc::{AllocError, Global};
+use world_objects::object::OBJECTS;
+use world_objects::{Anchor, Object, Objects, Spot};
 
 fn push_spot(alloc: Global, text: &mut Vec<u8>, spot: Spot) -> Result<(), AllocError>
     ensures { OnOk result (text.new.items ≡ text.old.items ++ spot_text spot) }
 {
     match spot {
         Spot::Away => text.extend_from_slice(b" away"),
-        Spot::Carried => text.extend_from_slice(b" carried"),
+        Spot::InHands => text.extend_from_slice(b" carried"),
         Spot::At(site) => { push_numbered(alloc, text, " at ", u32::from(site.place().number())) }
     }
 }

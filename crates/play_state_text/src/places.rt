@@ -1,14 +1,17 @@
 //! Lines for what is at places, and for how often they were described.
 
 ghost use Rattle.std.specs.Prelude.{◌≡◌, ◌++◌, OnOk};
-ghost use Rattle.cave_world.specs.data_numbers.Numbers.{LAST_PLACE};
+ghost use Rattle.base_lines.specs.Numbers.{LAST_PLACE};
 ghost use Rattle.play_state_text.specs.Things.{text_up_to, half_text, halves_text};
 ghost use Rattle.play_state_text.specs.Things.{more_halves_text, place_line, visits_line};
 
 use crate::facts::{push_numbered, push_numbered_line};
 use crate::words::push_named_object;
-use cave_world::{Cave, Half, Objects, PLACES, Place, State};
+use cave_data::Cave;
+use cave_world::State;
 use std::alloc::{AllocError, Global};
+use world_objects::place::PLACES;
+use world_objects::{Half, Objects, Place};
 
 fn push_half(alloc: Global, text: &mut Vec<u8>, cave: &Cave, half: Half) -> Result<(), AllocError>
     ensures { OnOk result (text.new.items ≡ text.old.items ++ half_text cave.now half) }

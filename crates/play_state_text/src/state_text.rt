@@ -11,8 +11,10 @@ use crate::facts::{
 use crate::hints::push_hints;
 use crate::objects::push_objects;
 use crate::places::{push_places, push_visits};
-use cave_world::{Cave, Objects, State};
+use cave_data::Cave;
+use cave_world::State;
 use std::alloc::{AllocError, Global};
+use world_objects::Objects;
 
 /// How many turns led to a state, and the score there.
 #[derive(Clone, Copy, Debug, PartialEq, Eq)]

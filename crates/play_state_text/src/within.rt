@@ -2,7 +2,7 @@
 //! but that the numbers are gone over, of which each says its range.
 
 ghost use Rattle.std.specs.Prelude.{◌≡◌, ◌≤◌, length, Some};
-ghost use Rattle.cave_world.specs.data_numbers.Numbers.{LAST_HINT};
+ghost use Rattle.base_lines.specs.Numbers.{LAST_HINT};
 ghost use Rattle.cave_world.specs.Limits.{dwarf_count};
 ghost use Rattle.cave_world.specs.State.{turns_in_area, visits_of};
 ghost use Rattle.play_state_text.specs.Within.{IsWide, IsStateWithin, AreFactsWithin};
@@ -13,12 +13,11 @@ ghost use Rattle.play_state_text.specs.Within.{IsKnifeWithin, IsDwarfWithin, IsS
 ghost use Rattle.play_state_text.specs.Within.{IsAnchorWithin, IsThingWithin};
 ghost use Rattle.play_state_text.specs.Things.{dwarf_numbered};
 
-use cave_world::dwarves::DWARVES;
 use cave_world::hints::HINTS;
-use cave_world::{
-    Anchor, Closing, Knife, OBJECTS, Object, Objects, PLACES, Place, Question, Spot, State, Talk,
-    Tallies, Trail,
-};
+use cave_world::{Closing, DWARVES, Knife, Question, State, Talk, Tallies, Trail};
+use world_objects::object::OBJECTS;
+use world_objects::place::PLACES;
+use world_objects::{Anchor, Object, Objects, Place, Spot};
 
 fn trail(trail: Trail)
     ensures { IsTrailWithin trail }

@@ -2,11 +2,13 @@
 
 ghost use Rattle.std.specs.Prelude.{◌≡◌, ◌++◌, OnOk, option_map};
 ghost use Rattle.play_state_text.specs.Words.{after_blank, word_of_object, word_of_verb};
-ghost use Rattle.play_state_text.specs.Words.{named_object, object_line, half_verb_line};
+ghost use Rattle.play_state_text.specs.Words.{named_object, line_with_object, line_with_half_verb};
 
 use crate::facts::push_numbered;
-use cave_world::{Cave, Object, WORDS_PER_CLASS};
+use cave_data::Cave;
+use data_rows::WORDS_PER_CLASS;
 use std::alloc::{AllocError, Global};
+use world_objects::Object;
 
 /// The greatest number of an action, of which verbs are.
 const LAST_ACTION: u16 = 99;
@@ -65,7 +67,7 @@ pub(crate) fn push_named_object(
 }
 
 /// Appends a line with an object.
-#[tactic(auto, unfolding(crate::specs::Words::object_line, crate::specs::Facts::numbered_text))]
+#[tactic(auto, unfolding(crate::specs::Words::line_with_object, crate::specs::Facts::numbered_text))]
 pub(crate) fn push_object_line(
     alloc: Global,
     text: &mut Vec<u8>,
@@ -74,7 +76,7 @@ pub(crate) fn push_object_line(
     object: Object,
 ) -> Result<(), AllocError>
     ensures { OnOk result
-        (text.new.items ≡ text.old.items ++ object_line cave.now before.now object) }
+        (text.new.items ≡ text.old.items ++ line_with_object cave.now before.now object) }
 {
     push_numbered(alloc, text, before, u32::from(object.number()))?;
     push_word_of_object(text, cave, object)?;
@@ -82,14 +84,14 @@ pub(crate) fn push_object_line(
 }
 
 /// Appends the line of the verb of a half command.
-#[tactic(auto, unfolding(crate::specs::Words::half_verb_line, crate::specs::Facts::numbered_text))]
+#[tactic(auto, unfolding(crate::specs::Words::line_with_half_verb, crate::specs::Facts::numbered_text))]
 pub(crate) fn push_half_verb_line(
     alloc: Global,
     text: &mut Vec<u8>,
     cave: &Cave,
     verb: u16,
 ) -> Result<(), AllocError>
-    ensures { OnOk result (text.new.items ≡ text.old.items ++ half_verb_line cave.now verb) }
+    ensures { OnOk result (text.new.items ≡ text.old.items ++ line_with_half_verb cave.now verb) }
 {
     push_numbered(alloc, text, "half verb ", u32::from(verb))?;
     push_word_of_verb(text, cave, verb)?;

@@ -12,7 +12,7 @@ use Rattle.replay_edits.specs.declared.stock.Stock.{Stock}
 use Rattle.replay_edits.specs.Edit.{Change, change_of, changes_of, log_after, log_of, line_at}
 use Rattle.replay_edits.specs.Edit.{margins_of, own_line}
 use Rattle.replay_edits.specs.Faults.{fault_of, fault_of_all, log_after_all}
-use Rattle.replay_edits.specs.Leaves.{Leaves, LeaveAlone}
+use Rattle.replay_edits.specs.Leaves.{LeavesAlone, LeaveAlone}
 use Rattle.replay_edits.specs.Outcome.{lines_of, lines_by, log_by}
 use Rattle.replay_edits.proofs.Betweens.{get_between}
 use Rattle.replay_edits.proofs.Groups.{changes_of-drop, first_is_free}
@@ -117,7 +117,7 @@ module _ (edits : List Edit) (made : ℕ) (edit : Edit) where
 
   pub alone_more : (log : List (List ℕ)) (margins : Margins) → made < length edits
       → edit ≡ get_or edits made edit → LeaveAlone (changes_of (drop made edits)) log margins
-      → Leaves (change_of edit) (length log) margins.head margins.tail
+      → LeavesAlone (change_of edit) (length log) margins.head margins.tail
       × LeaveAlone (changes_of (drop (made + 1) edits)) (log_after (change_of edit) log) margins
   alone_more log margins left read alone =
       rw (changes_of-drop edits made edit left read) at alone

@@ -14,7 +14,7 @@ use Rattle.replay_edits.specs.declared.fault.EditFault.{EditFault}
 use Rattle.replay_edits.specs.declared.fault.EditFault.TheVariants.{NoSuchPlace, BadLine, LogFull}
 use Rattle.replay_edits.specs.declared.fault.EditFault.TheVariants.{BadSeed, MeterFull}
 use Rattle.replay_edits.specs.declared.fault.GroupFault.{GroupFault}
-use Rattle.base_lines.specs.base_limits.Limits.{MAX_LOG_LINES, MAX_SEED}
+use Rattle.base_lines.specs.Limits.{MAX_LOG_LINES, MAX_SEED}
 use Rattle.replay_edits.specs.Edit.{Game, game_of, IsGame, Change, inserts, deletes, replaces}
 use Rattle.replay_edits.specs.Edit.{reseeds, line_at, log_after, apply}
 use Rattle.replay_edits.specs.Edit.{apply_all, inverse_of, inverse_of_each, inverses_of}

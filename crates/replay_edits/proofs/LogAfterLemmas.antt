@@ -9,7 +9,7 @@ use Rattle.std.proofs.lemmas.List.Edits.{length-insert, length-remove}
 use Rattle.replay_edits.specs.declared.margins.Margins.{Margins}
 use Rattle.replay_edits.specs.Edit.{Change, inserts, deletes, replaces, reseeds, line_at, log_after}
 use Rattle.replay_edits.specs.Faults.{log_after_all}
-use Rattle.replay_edits.specs.Leaves.{Leaves}
+use Rattle.replay_edits.specs.Leaves.{LeavesAlone}
 use Rattle.replay_edits.specs.Leaves.{LeaveAlone}
 
 -- a log stays as it is at the start and at the end
@@ -83,7 +83,8 @@ set_around log place line margins before after =
     }
 
 stays_after : (change : Change) (log : List (List ℕ)) (margins : Margins)
-    → Leaves change (length log) margins.head margins.tail → margins.head + margins.tail ≤ length log
+    → LeavesAlone change (length log) margins.head margins.tail
+    → margins.head + margins.tail ≤ length log
     → StaysAround log (log_after change log) margins
 stays_after (inserts place line) log margins leaves fits =
     insert_around log place line margins leaves.0 leaves.1

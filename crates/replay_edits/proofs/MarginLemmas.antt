@@ -8,7 +8,7 @@ use Rattle.replay_edits.specs.Edit.{log_of, Game, Change, change_of, changes_of,
 use Rattle.replay_edits.specs.Edit.{replaces, reseeds, log_after, apply, apply_all, margins_after}
 use Rattle.replay_edits.specs.Edit.{margins_after_all, margins_of}
 use Rattle.replay_edits.specs.Faults.{fault_of, fault_of_all}
-use Rattle.replay_edits.specs.Leaves.{Leaves, LeaveAlone}
+use Rattle.replay_edits.specs.Leaves.{LeavesAlone, LeaveAlone}
 use Rattle.replay_edits.proofs.Lines.{length-log_of}
 use Rattle.replay_edits.proofs.Inverses.{IsFree, IsFree-from_none, insert_within, delete_within}
 use Rattle.replay_edits.proofs.Inverses.{replace_within}
@@ -45,7 +45,7 @@ after_all_narrower (change ∷ changes) log margins =
 -- a change that meets no fault leaves alone what is narrower than its margins
 leaves_after : (change : Change) (log : List (List ℕ)) (margins narrow : Margins)
     → fault_of change log ≡ None → IsNarrower narrow (margins_after change (length log) margins)
-    → Leaves change (length log) narrow.head narrow.tail
+    → LeavesAlone change (length log) narrow.head narrow.tail
 leaves_after (inserts place line) log margins narrow free inner =
     let within = (insert_within place line log free).0 in
     let h = inner.head in let t = inner.tail in

@@ -9,7 +9,7 @@ use Rattle.replay_edits.specs.declared.new_line.NewLine.{NewLine}
 use Rattle.replay_edits.specs.declared.new_line.NewLine.TheVariants.{Old, Own}
 use Rattle.replay_edits.specs.LineText.{LineText}
 use Rattle.replay_edits.specs.Edit.{line_at}
-use Rattle.replay_edits.specs.Outcome.{text_of, texts_of, log_with, log_without, AreRising}
+use Rattle.replay_edits.specs.Outcome.{text_of, new_texts, log_with, log_without, AreRising}
 use Rattle.replay_edits.specs.Outcome.{IsOldWithin}
 use Rattle.replay_edits.proofs.Betweens.{get_between}
 use Rattle.replay_edits.proofs.LogAfterLemmas.{line_in_rest}
@@ -57,7 +57,7 @@ pub record IsTaking (head rest : ℕ) (old : List (List ℕ)) (all : List NewLin
   pub rising : AreRising from rest left
   pub before_same : take head now ≡ take head old
   pub rest_same : drop from now ≡ drop from old
-  pub texts : taken ++ texts_of old left ≡ texts_of old all
+  pub texts : taken ++ new_texts old left ≡ new_texts old all
 
 pub IsTaking-start : (head rest : ℕ) (log : List (List ℕ)) (lines : List NewLine)
     → AreRising head rest lines → IsTaking head rest log lines log lines []
@@ -114,8 +114,8 @@ IsTaking-more head rest old now next all left (Old place) text taken taking said
           ap (drop (place + 1)) without ∙ drop-set-lt (place + 1) now place [] (omega arith)
           ∙ same_end now old taking.from (place + 1) (omega arith) taking.rest_same;
       texts =
-          append_assoc taken (text ∷ []) (texts_of old left)
-          ∙ ap (λ t. taken ++ t ∷ texts_of old left) (said ∙ here) ∙ taking.texts;
+          append_assoc taken (text ∷ []) (new_texts old left)
+          ∙ ap (λ t. taken ++ t ∷ new_texts old left) (said ∙ here) ∙ taking.texts;
     }
 IsTaking-more head rest old now next all left (Own line) text taken taking said without =
     record {
@@ -125,8 +125,8 @@ IsTaking-more head rest old now next all left (Own line) text taken taking said 
       before_same = ap (take head) without ∙ taking.before_same;
       rest_same = ap (drop taking.from) without ∙ taking.rest_same;
       texts =
-          append_assoc taken (text ∷ []) (texts_of old left)
-          ∙ ap (λ t. taken ++ t ∷ texts_of old left) said ∙ taking.texts;
+          append_assoc taken (text ∷ []) (new_texts old left)
+          ∙ ap (λ t. taken ++ t ∷ new_texts old left) said ∙ taking.texts;
     }
 
 -- ---- the log with new lines
@@ -136,8 +136,8 @@ pub length-log_with : (log : List (List ℕ)) (head rest : ℕ) (lines : List Ne
     → length (log_with log head rest lines) ≡ head + length lines + (length log - rest)
 length-log_with log head rest lines within =
     let a = length-take-le head log within in
-    let b = length-append (take head log) (texts_of log lines ++ drop rest log) in
-    let c = length-append (texts_of log lines) (drop rest log) in
+    let b = length-append (take head log) (new_texts log lines ++ drop rest log) in
+    let c = length-append (new_texts log lines) (drop rest log) in
     let d = length-map lines (text_of log) in
     let e = length-drop rest log in
     omega arith
@@ -147,7 +147,7 @@ pub line_before : (log : List (List ℕ)) (head rest place : ℕ) (lines : List 
     → line_at (log_with log head rest lines) place ≡ line_at log place
 line_before log head rest place lines within before =
     let a = length-take-le head log within in
-    get_or_append_left (take head log) (texts_of log lines ++ drop rest log) [] place (omega arith)
+    get_or_append_left (take head log) (new_texts log lines ++ drop rest log) [] place (omega arith)
     ∙ get_or-take head log place [] before
 
 pub line_after : (log : List (List ℕ)) (head rest start place : ℕ) (lines : List NewLine)
@@ -157,9 +157,9 @@ line_after log head rest start place lines within begins after =
     let a = length-take-le head log within in
     let d = length-map lines (text_of log) in
     let e : rest + (place - head - length lines) ≡ place - start + rest = omega arith in
-    get_or-append_right (take head log) (texts_of log lines ++ drop rest log) head place [] a
+    get_or-append_right (take head log) (new_texts log lines ++ drop rest log) head place [] a
     (omega arith)
-    ∙ get_or-append_right (texts_of log lines) (drop rest log) (length lines) (place - head) [] d
+    ∙ get_or-append_right (new_texts log lines) (drop rest log) (length lines) (place - head) [] d
     (omega arith)
     ∙ get_or-drop rest log (place - head - length lines) [] ∙ ap (line_at log) e
 
@@ -170,7 +170,7 @@ pub line_between : (log : List (List ℕ)) (head rest place : ℕ) (lines : List
 line_between log head rest place lines line within after before read =
     let a = length-take-le head log within in
     let d = length-map lines (text_of log) in
-    get_between (take head log) (texts_of log lines) (drop rest log) (place - head) place []
+    get_between (take head log) (new_texts log lines) (drop rest log) (place - head) place []
     (omega arith) (omega arith)
     ∙ get_or-map (text_of log) lines (place - head) line [] before ∙ sym (ap (text_of log) read)
 

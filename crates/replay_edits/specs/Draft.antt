@@ -11,8 +11,8 @@ use Rattle.replay_edits.specs.declared.margins.Margins.{Margins}
 use Rattle.replay_edits.specs.declared.stock.Stock.{Stock}
 
 -- the lines that stay, at the start and at the end
-abbrev pub staying : Stock → Margins
-staying stock = record { head = stock.head; tail = length stock.log.now - stock.rest }
+abbrev pub staying_lines : Stock → Margins
+staying_lines stock = record { head = stock.head; tail = length stock.log.now - stock.rest }
 
 -- the edits that are made in a draft, the log before them, and how many are made
 abbrev pub edits_in : Draft → List Edit
@@ -38,5 +38,5 @@ pub record IsDraft (edits : List Edit) (log : List LineText) (made : ℕ) (draft
     pub free : fault_of_all (changes_of (drop made edits)) (log_by draft.stock draft.game.numbers)
         made ≡ None
     pub alone : LeaveAlone (changes_of (drop made edits)) (log_by draft.stock draft.game.numbers)
-        (staying draft.stock)
+        (staying_lines draft.stock)
     pub numbers : AreNumbers draft.stock draft.game.numbers

@@ -7,7 +7,7 @@ use Rattle.replay_edits.specs.declared.edit.Edit.TheVariants.{Insert, Delete, Re
 use Rattle.std.specs.Global.{Vec}
 use Rattle.replay_edits.specs.LineText.{LineText}
 use Rattle.base_lines.specs.Line.{is_line}
-use Rattle.base_lines.specs.base_limits.Limits.{MAX_LOG_LINES, MAX_SEED}
+use Rattle.base_lines.specs.Limits.{MAX_LOG_LINES, MAX_SEED}
 use Rattle.replay_edits.specs.declared.margins.Margins.{Margins}
 
 -- what is played: a seed, and a log of lines

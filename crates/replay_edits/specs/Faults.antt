@@ -8,7 +8,7 @@ use Rattle.replay_edits.specs.declared.fault.EditFault.TheVariants.{NoSuchPlace,
 use Rattle.replay_edits.specs.declared.fault.EditFault.TheVariants.{BadSeed, MeterFull, EmptyGroup}
 use Rattle.replay_edits.specs.declared.fault.EditFault.TheVariants.{Memory}
 use Rattle.replay_edits.specs.declared.fault.GroupFault.{GroupFault}
-use Rattle.base_lines.specs.base_limits.Limits.{MAX_LOG_LINES, MAX_SEED}
+use Rattle.base_lines.specs.Limits.{MAX_LOG_LINES, MAX_SEED}
 use Rattle.replay_edits.specs.Edit.{Game, Change, inserts, deletes, replaces, reseeds, log_after}
 use Rattle.replay_edits.specs.Edit.{apply_all, inverses_of, margins_of}
 use Rattle.replay_edits.specs.declared.plan.Plan.{Plan}

@@ -4,14 +4,15 @@ use Rattle.replay_edits.specs.Edit.{Change, inserts, deletes, replaces, reseeds,
 use Rattle.replay_edits.specs.declared.margins.Margins.{Margins}
 
 -- a change of a log of so many lines leaves so many at its start, and so many at its end, alone
-abbrev pub Leaves : Change → ℕ → ℕ → ℕ → Type 0
-Leaves (inserts place line) lines head tail = (head ≤ place) × (place + tail ≤ lines)
-Leaves (deletes place) lines head tail = (head ≤ place) × (place + 1 + tail ≤ lines)
-Leaves (replaces place line) lines head tail = (head ≤ place) × (place + 1 + tail ≤ lines)
-Leaves (reseeds seed) lines head tail = head ≤ 0
+abbrev pub LeavesAlone : Change → ℕ → ℕ → ℕ → Type 0
+LeavesAlone (inserts place line) lines head tail = (head ≤ place) × (place + tail ≤ lines)
+LeavesAlone (deletes place) lines head tail = (head ≤ place) × (place + 1 + tail ≤ lines)
+LeavesAlone (replaces place line) lines head tail = (head ≤ place) × (place + 1 + tail ≤ lines)
+LeavesAlone (reseeds seed) lines head tail = head ≤ 0
 
 -- so do several changes, each of the log as those before it left it
 abbrev pub LeaveAlone : List Change → List (List ℕ) → Margins → Type 0
 LeaveAlone [] log margins = Unit {0}
-LeaveAlone (change ∷ changes) log margins = Leaves change (length log) margins.head margins.tail
+LeaveAlone (change ∷ changes) log margins =
+    LeavesAlone change (length log) margins.head margins.tail
     × LeaveAlone changes (log_after change log) margins

@@ -6,5 +6,3 @@ pub mod Leaves
 pub mod LineBytes
 pub mod LineText
 pub mod Outcome
-pub use Rattle.base_lines.specs.base_limits as base_limits
-pub use Rattle.base_lines.specs as base_lines

@@ -4,7 +4,7 @@ use Rattle.std.specs.Prelude.{◌≡◌, ℕ, ◌+◌, ◌<◌, ◌≤◌, List,
 use Rattle.std.specs.Prelude.{drop, slice_set, All}
 use Rattle.replay_edits.specs.declared.new_line.NewLine.{NewLine}
 use Rattle.replay_edits.specs.declared.new_line.NewLine.TheVariants.{Old, Own}
-use Rattle.replay_edits.specs.declared.outcome.Outcome.{Outcome}
+use Rattle.replay_edits.specs.declared.outcome.EditOutcome.{EditOutcome}
 use Rattle.replay_edits.specs.declared.stock.Stock.{Stock}
 use Rattle.replay_edits.specs.declared.stock.NumberedGame.{NumberedGame}
 use Rattle.replay_edits.specs.Edit.{Game, game_of, log_of, Change, changes_of, apply_all}
@@ -15,12 +15,12 @@ abbrev pub text_of : List (List ℕ) → NewLine → List ℕ
 text_of log (Old place) = line_at log place
 text_of log (Own line) = line.items
 
-abbrev pub texts_of : List (List ℕ) → List NewLine → List (List ℕ)
-texts_of log lines = map (text_of log) lines
+abbrev pub new_texts : List (List ℕ) → List NewLine → List (List ℕ)
+new_texts log lines = map (text_of log) lines
 
 -- the log in which new lines come in the place of those from `head` up to `rest`
 abbrev pub log_with : List (List ℕ) → ℕ → ℕ → List NewLine → List (List ℕ)
-log_with log head rest lines = take head log ++ (texts_of log lines ++ drop rest log)
+log_with log head rest lines = take head log ++ (new_texts log lines ++ drop rest log)
 
 -- if the line is an old one, its place is before the end of a log of so many lines
 abbrev pub IsOldWithin : ℕ → NewLine → Type 0
@@ -41,7 +41,7 @@ log_without log (Own line) = log
 -- What changes make of a game of which they leave the lines before `head`, and those from `rest` on,
 -- alone.
 pub record IsOutcome (changes : List Change) (seed : ℕ) (log : List (List ℕ)) (head rest : ℕ)
-    (outcome : Outcome) : Type 0 where
+    (outcome : EditOutcome) : Type 0 where
   pub game : game_of outcome.seed (log_with log head rest outcome.lines.items)
       ≡ apply_all changes (game_of seed log)
   pub rising : AreRising head rest outcome.lines.items

@@ -14,16 +14,8 @@ pub mod outcome;
 pub mod plan;
 mod stock;
 
-pub use base_lines::bytes::{is_all_blank, is_blank, number_of, split_digits};
-pub use base_lines::{
-    LineFault, LineFlaw, Meter, Steps, check_line, is_bad_every, is_large_seed, is_long_log,
-    is_long_number, is_skipped, split_line, split_log_line, with_digit,
-};
 pub use draft::Draft;
 pub use edit::Edit;
 pub use fault::{EditFault, GroupFault};
 pub use line_text::LineText;
-pub use margins::Margins;
 pub use new_line::NewLine;
-pub use outcome::Outcome;
-pub use plan::Plan;

@@ -1,7 +1,8 @@
 ghost use Rattle.std.specs.Prelude.{◌≡◌, ◌<◌, ◌≤◌, [], length, take, drop};
 ghost use Rattle.std.specs.Prelude.{vec_capacity};
 ghost use Rattle.replay_edits.specs.Edit.{log_of};
-ghost use Rattle.replay_edits.specs.Outcome.{text_of, texts_of, log_without, AreRising, IsOldWithin};
+ghost use Rattle.replay_edits.specs.Outcome.{text_of, new_texts, log_without, AreRising};
+ghost use Rattle.replay_edits.specs.Outcome.{IsOldWithin};
 
 use crate::line_text::LineText;
 use std::mem;
@@ -41,7 +42,7 @@ pub fn take_lines(
     requires within { rest ≤ length log.old }
     requires empty { taken.old.items ≡ [] }
     requires room { length lines.old ≤ vec_capacity taken.old }
-    ensures taken { log_of taken.new.items ≡ texts_of (log_of log.old) lines.old }
+    ensures taken { log_of taken.new.items ≡ new_texts (log_of log.old) lines.old }
     ensures before { take head (log_of log.new) ≡ take head (log_of log.old) }
     ensures after { drop rest (log_of log.new) ≡ drop rest (log_of log.old) }
     ensures len { length log.new ≡ length log.old }

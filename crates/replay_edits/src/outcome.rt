@@ -13,7 +13,7 @@ use std::alloc::{AllocError, Global};
 /// What edits make of a game: its seed, the lines between those that the edits leave alone, and the
 /// edits that take them back, the last one first.
 #[derive(Drop)]
-pub struct Outcome {
+pub struct EditOutcome {
     pub seed: u32,
     pub lines: Vec<NewLine>,
     pub inverse: Vec<Edit>,
@@ -27,7 +27,7 @@ pub fn find_outcome(
     log: &[LineText],
     seed: u32,
     margins: Margins,
-) -> Result<Outcome, AllocError>
+) -> Result<EditOutcome, AllocError>
     requires some { 0 < length edits.now }
     requires free { fault_of_all (changes_of edits.now) (log_of log.now) 0 ≡ None }
     requires margins { margins ≡ margins_of (changes_of edits.now) (log_of log.now) }
@@ -51,7 +51,7 @@ pub fn find_outcome(
     }
     inverse.reverse();
     let numbers = game.numbers.to_vec(alloc)?;
-    Ok(Outcome {
+    Ok(EditOutcome {
         seed: game.seed,
         lines: stock.new_lines(alloc, &numbers)?,
         inverse,

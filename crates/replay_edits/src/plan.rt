@@ -6,7 +6,8 @@ ghost use Rattle.replay_edits.specs.Faults.{IsPlanOrFault};
 use crate::edit::Edit;
 use crate::fault::{EditFault, GroupFault};
 use crate::margins::Margins;
-use base_lines::{check_line, is_full_log, is_large_seed};
+use base_lines::check_line;
+use base_lines::limits::{is_full_log, is_large_seed};
 
 /// What edits make of a log: how many lines it has then, and what they leave alone.
 #[derive(Clone, Copy)]

@@ -3,9 +3,9 @@ ghost use Rattle.std.specs.Prelude.{IfSome, option_map, slice_get};
 ghost use Rattle.replay_edits.specs.Edit.{change_of, log_of, line_at, own_line, apply};
 ghost use Rattle.replay_edits.specs.Edit.{inverse_of};
 ghost use Rattle.replay_edits.specs.Faults.{fault_of};
-ghost use Rattle.replay_edits.specs.Leaves.{Leaves};
+ghost use Rattle.replay_edits.specs.Leaves.{LeavesAlone};
 ghost use Rattle.replay_edits.specs.Outcome.{lines_of, lines_by, log_by, game_by, AreNumbers, AreRising};
-ghost use Rattle.replay_edits.specs.Outcome.{texts_of};
+ghost use Rattle.replay_edits.specs.Outcome.{new_texts};
 
 use crate::edit::Edit;
 use crate::line_text::LineText;
@@ -98,7 +98,7 @@ impl<'a> Stock<'a> {
         requires ordered { self.now.head ≤ self.now.rest }
         requires numbers { AreNumbers self.now game.old.numbers }
         requires free { fault_of (change_of edit.now) (game_by self.now game.old).log ≡ None }
-        requires leaves { Leaves (change_of edit.now) (length (game_by self.now game.old).log)
+        requires leaves { LeavesAlone (change_of edit.now) (length (game_by self.now game.old).log)
             self.now.head (length self.now.log.now - self.now.rest) }
         ensures game { OnOk result (game_by self.now game.new
             ≡ apply (change_of edit.now) (game_by self.now game.old)) }
@@ -138,7 +138,7 @@ impl<'a> Stock<'a> {
         requires numbers { AreNumbers self.now numbers.now }
         requires ordered { self.now.head ≤ self.now.rest }
         requires within { self.now.rest ≤ length self.now.log.now }
-        ensures lines { IfOk result (λ lines. texts_of (log_of self.now.log.now) lines.items
+        ensures lines { IfOk result (λ lines. new_texts (log_of self.now.log.now) lines.items
             ≡ lines_by self.now numbers.now) }
         ensures rising { IfOk result (λ lines.
             AreRising self.now.head self.now.rest lines.items) }
@@ -165,8 +165,8 @@ impl<'a> Stock<'a> {
         requires from { from ≤ self.now.rest }
         requires within { self.now.rest ≤ length self.now.log.now }
         requires rising { AreRising self.now.head from lines.old.items }
-        ensures line { OnOk result (texts_of (log_of self.now.log.now) lines.new.items
-            ≡ texts_of (log_of self.now.log.now) lines.old.items
+        ensures line { OnOk result (new_texts (log_of self.now.log.now) lines.new.items
+            ≡ new_texts (log_of self.now.log.now) lines.old.items
             ++ line_at (lines_of self.now) number ∷ []) }
         ensures rising { IfOk result (λ next. AreRising self.now.head next lines.new.items) }
         ensures within { IfOk result (λ next. next ≤ self.now.rest) }

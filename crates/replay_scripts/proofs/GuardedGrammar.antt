@@ -3,7 +3,7 @@ use Rattle.std.proofs.Common.{Bool, true, false, ◌≡◌, ℕ, ◌+◌, List, 
 use Rattle.std.proofs.Common.{Result, Ok, Err, MatchResult, IfErr, IfOk, option_map, refl}
 use Rattle.std.proofs.lemmas.List.{map-append}
 use Rattle.std.specs.Str.Lines.{lines}
-use Rattle.replay_scripts.specs.declared.fault.Flaw.TheVariants as flaw_is
+use Rattle.replay_scripts.specs.declared.fault.ScriptFlaw.TheVariants as flaw_is
 use Rattle.replay_scripts.specs.declared.fault.ScriptRefusal.{ScriptRefusal}
 use Rattle.replay_scripts.specs.declared.fault.ScriptRefusal.TheVariants.{Malformed, Memory}
 use Rattle.replay_scripts.specs.declared.script.Script.{Script}

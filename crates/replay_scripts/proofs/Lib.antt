@@ -6,3 +6,8 @@ pub mod Grammar
 pub mod Malformed
 pub mod GuardedGrammar
 pub mod ExpectedLines
+pub mod Numerals
+pub mod Sayable
+pub mod Spelled
+pub mod SpelledLines
+pub mod Texts

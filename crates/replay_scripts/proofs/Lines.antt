@@ -4,13 +4,13 @@ use Rattle.std.proofs.Common.{None, option_map, codes, bytes_eq, IsTrue, refl, s
 use Rattle.std.proofs.Common.{inl, inr}
 use Rattle.std.specs.List.{list_all}
 use Rattle.std.proofs.lemmas.Bool.{false≢true}
-use Rattle.replay_edits.specs.base_lines.Bytes.{is_blank}
+use Rattle.base_lines.specs.Bytes.{is_blank}
 use Rattle.replay_edits.specs.Edit.{Change, inserts, deletes, replaces, reseeds}
 use Rattle.replay_scripts.specs.Line.{LineKind, nothing, begin, end, edit, nonsense, IsKind}
 use Rattle.replay_scripts.specs.Line.{IsNumbered, IsText, IsWord, Spells, change_without_text}
 use Rattle.replay_scripts.specs.Line.{edit_of, edit_or_nonsense, is_word_line, kind_of_script_line}
 use Rattle.replay_scripts.specs.Line.{number_after_word, text_of_edit, with_text}
-use Rattle.replay_edits.specs.base_lines.LogLine.{is_skipped}
+use Rattle.base_lines.specs.LogLine.{is_skipped}
 use Rattle.replay_scripts.proofs.WordLines.{not_true, first_of_text, first_of_blanks}
 use Rattle.replay_scripts.proofs.WordLines.{text_of_edit-from_text, IsText-from_text_in}
 use Rattle.replay_scripts.proofs.WordLines.{is_word_line-from_word, IsWord-from_is_word}

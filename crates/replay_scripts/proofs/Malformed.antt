@@ -4,10 +4,10 @@ use Rattle.std.proofs.Common.{Ok, Err, MatchResult, IfErr, codes, refl, sym, ap,
 use Rattle.std.proofs.Common.{inl, inr, append_assoc, length-append, arith}
 use Rattle.std.specs.Str.Lines.{lines}
 use Rattle.replay_edits.specs.Edit.{Change}
-use Rattle.replay_scripts.specs.declared.fault.Flaw.{Flaw}
-use Rattle.replay_scripts.specs.declared.fault.Flaw.TheVariants.{NoEdit, BeginInGroup}
-use Rattle.replay_scripts.specs.declared.fault.Flaw.TheVariants.{EndOutsideGroup, NoEnd}
-use Rattle.replay_scripts.specs.declared.fault.Flaw.TheVariants.{NoEditOrGuard, NoneGuarded}
+use Rattle.replay_scripts.specs.declared.fault.ScriptFlaw.{ScriptFlaw}
+use Rattle.replay_scripts.specs.declared.fault.ScriptFlaw.TheVariants.{NoEdit, BeginInGroup}
+use Rattle.replay_scripts.specs.declared.fault.ScriptFlaw.TheVariants.{EndOutsideGroup, NoEnd}
+use Rattle.replay_scripts.specs.declared.fault.ScriptFlaw.TheVariants.{NoEditOrGuard, NoneGuarded}
 use Rattle.replay_scripts.specs.declared.fault.ScriptRefusal.{ScriptRefusal}
 use Rattle.replay_scripts.specs.declared.fault.ScriptRefusal.TheVariants.{Malformed, Memory}
 use Rattle.replay_scripts.specs.declared.script.Script.{Script}
@@ -18,7 +18,8 @@ use Rattle.replay_scripts.specs.Script.{guarded_by, IsBody}
 use Rattle.replay_scripts.specs.Script.{body_done, body_skips, body_spells, IsScript, done, skips}
 use Rattle.replay_scripts.specs.Script.{spells, groups, reading_in_group, onward}
 use Rattle.replay_scripts.specs.Script.{reading_outside_group, read_from, script_of}
-use Rattle.replay_scripts.specs.Malformed.{IsFirstFault, IsMalformedAt, IsOpen, AreWholeItems, IsLineAt}
+use Rattle.replay_scripts.specs.Malformed.{IsFirstMalformed, IsMalformedAt, IsOpen, AreWholeItems}
+use Rattle.replay_scripts.specs.Malformed.{IsLineAt}
 use Rattle.replay_scripts.specs.Views.{IsFaultOf, items_of}
 use Rattle.replay_scripts.proofs.Lines.{IsKind-kind_of_script_line}
 
@@ -58,7 +59,7 @@ module _ (number : ℕ) (piece : List (List ℕ)) (grow : (whole : List (List �
         here = here;
       }
 
-  behind : (whole : List (List ℕ)) (at : ℕ) (flaw : Flaw)
+  behind : (whole : List (List ℕ)) (at : ℕ) (flaw : ScriptFlaw)
       → IsMalformedAt (number + length piece) whole at flaw
       → IsMalformedAt number (piece ++ whole) at flaw
   behind whole at NoEdit (before, line, stands, kind, inl is) =
@@ -86,7 +87,7 @@ module _ (number : ℕ) (piece : List (List ℕ)) (grow : (whole : List (List �
 -- after one line that is skipped or spells a change
 module _ (number : ℕ) (line : List ℕ) (grow : (whole : List (List ℕ)) → AreWholeItems (number + 1) whole
     → AreWholeItems number (line ∷ whole)) where
-  after_line : (whole : List (List ℕ)) (at : ℕ) (flaw : Flaw)
+  after_line : (whole : List (List ℕ)) (at : ℕ) (flaw : ScriptFlaw)
       → IsMalformedAt (number + 1) whole at flaw → IsMalformedAt number (line ∷ whole) at flaw
   after_line whole at flaw is = behind number (line ∷ []) grow whole at flaw is
 
@@ -125,7 +126,7 @@ no_inner : (number : ℕ) → IsInner number []
 no_inner number = record { changes = []; numbers = []; is_body = body_done }
 
 -- the group that began on the line of number `since` has the flaw
-abbrev FailsIn : ℕ → ℕ → List (List ℕ) → ℕ → Flaw → Type 0
+abbrev FailsIn : ℕ → ℕ → List (List ℕ) → ℕ → ScriptFlaw → Type 0
 FailsIn since number whole at NoEdit = (inner : List (List ℕ)) × (line : List ℕ)
     × IsLineAt number whole at inner line × IsKind line nonsense × IsInner number inner
 FailsIn since number whole at BeginInGroup = (inner : List (List ℕ)) × (line : List ℕ)
@@ -136,7 +137,7 @@ FailsIn since number whole at NoEditOrGuard = ⊥
 FailsIn since number whole at NoneGuarded = ⊥
 
 -- the group is closed, and the flaw comes later
-record FailsLater (number : ℕ) (whole : List (List ℕ)) (at : ℕ) (flaw : Flaw) : Type 0 where
+record FailsLater (number : ℕ) (whole : List (List ℕ)) (at : ℕ) (flaw : ScriptFlaw) : Type 0 where
   inner : List (List ℕ)
   last : List ℕ
   rest : List (List ℕ)
@@ -145,7 +146,7 @@ record FailsLater (number : ℕ) (whole : List (List ℕ)) (at : ℕ) (flaw : Fl
   ends : IsWord (codes "end") last
   malformed : IsMalformedAt (number + 1 + length inner) rest at flaw
 
-abbrev Fails : ℕ → ℕ → List (List ℕ) → ℕ → Flaw → Type 0
+abbrev Fails : ℕ → ℕ → List (List ℕ) → ℕ → ScriptFlaw → Type 0
 Fails since number whole at flaw = FailsIn since number whole at flaw
     ⊎ FailsLater number whole at flaw
 
@@ -158,7 +159,7 @@ module _ (since number : ℕ) (line : List ℕ) (grow : (inner : List (List ℕ)
       let here : at ≡ number + length (line ∷ inner) = omega (arith, is.here) in
       record { rest = is.rest; parts = ap (λ ls. line ∷ ls) is.parts; here = here }
 
-  fails_in_next : (whole : List (List ℕ)) (at : ℕ) (flaw : Flaw)
+  fails_in_next : (whole : List (List ℕ)) (at : ℕ) (flaw : ScriptFlaw)
       → FailsIn since (number + 1) whole at flaw → FailsIn since number (line ∷ whole) at flaw
   fails_in_next whole at NoEdit (inner, bad, stands, kind, is) =
       (line ∷ inner, bad, at_next whole at inner bad stands, kind, grow inner is)
@@ -169,7 +170,7 @@ module _ (since number : ℕ) (line : List ℕ) (grow : (inner : List (List ℕ)
   fails_in_next whole at NoEditOrGuard is = is
   fails_in_next whole at NoneGuarded is = is
 
-  fails_next : (whole : List (List ℕ)) (at : ℕ) (flaw : Flaw)
+  fails_next : (whole : List (List ℕ)) (at : ℕ) (flaw : ScriptFlaw)
       → Fails since (number + 1) whole at flaw → Fails since number (line ∷ whole) at flaw
   fails_next whole at flaw (inl is) = inl (fails_in_next whole at flaw is)
   fails_next whole at flaw (inr is) =
@@ -212,7 +213,7 @@ module _ (number : ℕ) (first : List ℕ) (begins : IsWord (codes "begin") firs
       let here : at ≡ number + length (first ∷ inner) = omega (arith, is.here) in
       record { rest = is.rest; parts = ap (λ ls. first ∷ ls) is.parts; here = here }
 
-  malformed_in : (whole : List (List ℕ)) (at : ℕ) (flaw : Flaw)
+  malformed_in : (whole : List (List ℕ)) (at : ℕ) (flaw : ScriptFlaw)
       → FailsIn number (number + 1) whole at flaw → IsMalformedAt number (first ∷ whole) at flaw
   malformed_in whole at NoEdit (inner, bad, stands, kind, is) =
       (first ∷ inner, bad, at_first whole at inner bad stands, kind, inr (number, opened inner is))
@@ -241,7 +242,7 @@ module _ (number : ℕ) (first : List ℕ) (begins : IsWord (codes "begin") firs
         is_script = rw joins at grouped;
       }
 
-  malformed_group : (whole : List (List ℕ)) (at : ℕ) (flaw : Flaw)
+  malformed_group : (whole : List (List ℕ)) (at : ℕ) (flaw : ScriptFlaw)
       → Fails number (number + 1) whole at flaw → IsMalformedAt number (first ∷ whole) at flaw
   malformed_group whole at flaw (inl is) = malformed_in whole at flaw is
   malformed_group whole at flaw (inr is) =
@@ -257,14 +258,14 @@ module _ (number : ℕ) (first : List ℕ) (begins : IsWord (codes "begin") firs
 
 -- ---- line by line
 
-abbrev Failed : ℕ → List (List ℕ) → Option Applied → ℕ → Flaw → Type 0
+abbrev Failed : ℕ → List (List ℕ) → Option Applied → ℕ → ScriptFlaw → Type 0
 Failed number whole None at flaw = IsMalformedAt number whole at flaw
 Failed number whole (Some group) at flaw = Fails group.line number whole at flaw
 
-abbrev malformed : ℕ → Flaw → Result (List Applied) ScriptRefusal
+abbrev malformed : ℕ → ScriptFlaw → Result (List Applied) ScriptRefusal
 malformed at flaw = Err (Malformed at flaw)
 
-same_fault : (number at : ℕ) (flaw given : Flaw) → malformed number given ≡ malformed at flaw
+same_fault : (number at : ℕ) (flaw given : ScriptFlaw) → malformed number given ≡ malformed at flaw
     → (at ≡ number) × (given ≡ flaw)
 same_fault number at flaw given same =
     let at_is : at ≡ number = cc in
@@ -279,7 +280,7 @@ stands_first number line rest at same =
 whole_none : (number : ℕ) → AreWholeItems number []
 whole_none number = record { items = []; is_script = done }
 
-module _ (number : ℕ) (line : List ℕ) (rest : List (List ℕ)) (at : ℕ) (flaw : Flaw)
+module _ (number : ℕ) (line : List ℕ) (rest : List (List ℕ)) (at : ℕ) (flaw : ScriptFlaw)
     (next : (before : List Applied) (group : Option Applied)
     → read_from (number + 1) rest before group [] ≡ malformed at flaw
     → Failed (number + 1) rest group at flaw) where
@@ -335,7 +336,7 @@ module _ (number : ℕ) (line : List ℕ) (rest : List (List ℕ)) (at : ℕ) (f
       ([], line, stands_first number line rest at same.0, is, no_inner number))
 
 read_failed : (whole : List (List ℕ)) (number : ℕ) (before : List Applied) (group : Option Applied)
-    (at : ℕ) (flaw : Flaw) → read_from number whole before group [] ≡ malformed at flaw
+    (at : ℕ) (flaw : ScriptFlaw) → read_from number whole before group [] ≡ malformed at flaw
     → Failed number whole group at flaw
 read_failed [] number before None at flaw h = cc
 read_failed [] number before (Some group) at flaw h =
@@ -348,13 +349,13 @@ read_failed (line ∷ rest) number before (Some group) at flaw h =
     failed_inside number line rest at flaw (λ b g. read_failed rest (number + 1) b g at flaw) before
     group (kind_of_script_line line) (IsKind-kind_of_script_line line) h
 
-pub IsMalformedAt-read_from : (whole : List (List ℕ)) (at : ℕ) (flaw : Flaw)
+pub IsMalformedAt-read_from : (whole : List (List ℕ)) (at : ℕ) (flaw : ScriptFlaw)
     → read_from 1 whole [] None [] ≡ malformed at flaw → IsMalformedAt 1 whole at flaw
 IsMalformedAt-read_from whole at flaw is = read_failed whole 1 [] None at flaw is
 
 pub answer_first : (text : List ℕ) (answer : Result Script ScriptRefusal)
     → MatchResult answer (λ script. script_of text ≡ Ok (items_of script.items))
-    (λ fault. IsFaultOf fault (script_of text)) → IfErr answer (IsFirstFault (lines text))
+    (λ fault. IsFaultOf fault (script_of text)) → IfErr answer (IsFirstMalformed (lines text))
 answer_first text (Ok script) is = tt
 answer_first text (Err Memory) is = tt
 answer_first text (Err (Malformed at flaw)) is = read_failed (lines text) 1 [] None at flaw is

@@ -1,6 +1,6 @@
 -- Numbers that are held below a greatest one.
 use Rattle.std.proofs.Common.{◌≡◌, ℕ, ◌+◌, ◌-◌, ◌*◌, List, [], ◌∷◌, fold, min, refl, arith}
-use Rattle.replay_edits.specs.base_lines.Bytes.{number_of}
+use Rattle.base_lines.specs.Bytes.{number_of}
 
 capped_step : (most number digit : ℕ)
     → min (10 * min number most + (digit - 48)) most ≡ min (10 * number + (digit - 48)) most

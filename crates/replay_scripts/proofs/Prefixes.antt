@@ -3,7 +3,7 @@ use Rattle.std.proofs.Common.{◌≡◌, ℕ, false, List, [], ◌∷◌, ◌++�
 use Rattle.std.specs.List.{list_all}
 use Rattle.std.proofs.lemmas.Bool.{and_parts}
 use Rattle.std.proofs.lemmas.Bool.Decides.{nat_tests}
-use Rattle.replay_edits.specs.base_lines.Bytes.{is_blank, is_digit, prefix_while, after_prefix}
+use Rattle.base_lines.specs.Bytes.{is_blank, is_digit, prefix_while, after_prefix}
 
 -- the bytes are none, or begin with a blank
 abbrev pub NoDigitFirst : List ℕ → Type 0

@@ -8,7 +8,7 @@ use Rattle.replay_scripts.specs.Malformed.{IsMalformedAt}
 use Rattle.replay_scripts.specs.Script.{Applied, Expectation, guarded_by, IsScript, items_at_end}
 use Rattle.replay_scripts.specs.Script.{onward, reading_after_line, reading_with, script_of}
 use Rattle.replay_scripts.specs.Script.{ScriptReading}
-use Rattle.replay_scripts.specs.declared.fault.Flaw.TheVariants as flaw_is
+use Rattle.replay_scripts.specs.declared.fault.ScriptFlaw.TheVariants as flaw_is
 use Rattle.replay_scripts.specs.declared.fault.ScriptRefusal.{ScriptRefusal}
 use Rattle.replay_scripts.specs.declared.fault.ScriptRefusal.TheVariants.{Malformed, Memory}
 

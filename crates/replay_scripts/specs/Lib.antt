@@ -3,3 +3,4 @@ pub mod Script
 pub mod Guards
 pub mod Views
 pub mod Malformed
+pub mod ScriptText

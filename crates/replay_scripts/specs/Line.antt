@@ -3,11 +3,10 @@ use Rattle.std.specs.Prelude.{◌≡◌, ℕ, ◌≤◌, ◌&&◌, Bool, IsTrue,
 use Rattle.std.specs.Prelude.{[], ◌∷◌, ◌++◌, length, take, drop, Option, Some, None, option_map}
 use Rattle.std.specs.Prelude.{codes, if◌then◌else◌}
 use Rattle.std.specs.List.{list_all}
-use Rattle.replay_edits.specs.base_lines.Bytes.{is_blank, is_digit, prefix_while, after_prefix}
-use Rattle.replay_edits.specs.base_lines.Bytes.{number_of}
-use Rattle.replay_edits.specs.base_lines.LogLine.{is_skipped}
+use Rattle.base_lines.specs.Bytes.{is_blank, is_digit, prefix_while, after_prefix, number_of}
+use Rattle.base_lines.specs.LogLine.{is_skipped}
 use Rattle.replay_edits.specs.Edit.{Change, inserts, deletes, replaces, reseeds, change_of}
-use Rattle.replay_edits.specs.base_limits.Limits.{MAX_DIGITS, max_script_number}
+use Rattle.base_lines.specs.Limits.{MAX_DIGITS, max_script_number}
 use Rattle.replay_scripts.specs.declared.line.ScriptLine.{ScriptLine}
 use Rattle.replay_scripts.specs.declared.line.ScriptLine.TheVariants as line_is
 

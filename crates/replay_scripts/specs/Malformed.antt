@@ -3,8 +3,8 @@ use Rattle.std.specs.Prelude.{◌≡◌, ◌⊎◌, ℕ, ◌+◌, List, ◌∷�
 use Rattle.replay_edits.specs.Edit.{Change}
 use Rattle.replay_scripts.specs.Line.{IsKind, IsWord, nonsense}
 use Rattle.replay_scripts.specs.Script.{Applied, IsBody, IsScript}
-use Rattle.replay_scripts.specs.declared.fault.Flaw.{Flaw}
-use Rattle.replay_scripts.specs.declared.fault.Flaw.TheVariants as flaw_is
+use Rattle.replay_scripts.specs.declared.fault.ScriptFlaw.{ScriptFlaw}
+use Rattle.replay_scripts.specs.declared.fault.ScriptFlaw.TheVariants as flaw_is
 use Rattle.replay_scripts.specs.declared.fault.ScriptRefusal.{ScriptRefusal}
 use Rattle.replay_scripts.specs.declared.fault.ScriptRefusal.TheVariants.{Malformed, Memory}
 
@@ -35,7 +35,7 @@ pub record IsLineAt (number : ℕ) (whole : List (List ℕ)) (at : ℕ) (before 
   pub here : at ≡ number + length before
 
 -- the line of number `at` is the first malformed one, and has this flaw
-abbrev pub IsMalformedAt : ℕ → List (List ℕ) → ℕ → Flaw → Type 0
+abbrev pub IsMalformedAt : ℕ → List (List ℕ) → ℕ → ScriptFlaw → Type 0
 IsMalformedAt number whole at flaw_is.NoEdit =
     (before : List (List ℕ)) × (line : List ℕ) × IsLineAt number whole at before line
     × IsKind line nonsense
@@ -52,6 +52,6 @@ IsMalformedAt number whole at flaw_is.NoEditOrGuard = ⊥
 IsMalformedAt number whole at flaw_is.NoneGuarded = ⊥
 
 -- the fault is that of the first malformed line, unless memory ran out
-abbrev pub IsFirstFault : List (List ℕ) → ScriptRefusal → Type 0
-IsFirstFault whole Memory = Unit {0}
-IsFirstFault whole (Malformed at flaw) = IsMalformedAt 1 whole at flaw
+abbrev pub IsFirstMalformed : List (List ℕ) → ScriptRefusal → Type 0
+IsFirstMalformed whole Memory = Unit {0}
+IsFirstMalformed whole (Malformed at flaw) = IsMalformedAt 1 whole at flaw

@@ -5,8 +5,8 @@ use Rattle.std.specs.Str.Lines.{lines}
 use Rattle.replay_edits.specs.Edit.{Change}
 use Rattle.replay_scripts.specs.Line.{LineKind, nothing, begin, end, edit, nonsense}
 use Rattle.replay_scripts.specs.Line.{kind_of_script_line, IsWord, Spells}
-use Rattle.replay_edits.specs.base_lines.LogLine.{is_skipped}
-use Rattle.replay_scripts.specs.declared.fault.Flaw.TheVariants as flaw_is
+use Rattle.base_lines.specs.LogLine.{is_skipped}
+use Rattle.replay_scripts.specs.declared.fault.ScriptFlaw.TheVariants as flaw_is
 use Rattle.replay_scripts.specs.declared.fault.ScriptRefusal.{ScriptRefusal}
 use Rattle.replay_scripts.specs.declared.fault.ScriptRefusal.TheVariants.{Malformed}
 

@@ -16,7 +16,7 @@ const NO_EDIT_OR_GUARD: &str =
 
 /// What is wrong with a line of a script.
 #[derive(Clone, Copy, Debug, PartialEq, Eq, Error)]
-pub enum Flaw {
+pub enum ScriptFlaw {
     #[error("{}, with one blank between the words and N of 1 to 10 digits", NO_EDIT)]
     NoEdit,
     /// The same, where lines may be guards.
@@ -36,7 +36,7 @@ pub enum Flaw {
 #[derive(Clone, Copy, Debug, PartialEq, Eq)]
 pub enum ScriptRefusal {
     /// The number, from 1, of the first malformed line, and what is wrong with it.
-    Malformed(usize, Flaw),
+    Malformed(usize, ScriptFlaw),
     Memory,
 }
 
@@ -44,10 +44,10 @@ pub enum ScriptRefusal {
 impl fmt::Display for ScriptRefusal {
     fn fmt<W: fmt::Write>(&self, f: &mut fmt::Formatter<W>) -> fmt::Result {
         match *self {
-            ScriptRefusal::Malformed(line, Flaw::NoEdit) => {
+            ScriptRefusal::Malformed(line, ScriptFlaw::NoEdit) => {
                 write!(f, "line {line} of the script: {}", NO_EDIT)
             }
-            ScriptRefusal::Malformed(line, Flaw::NoEditOrGuard) => {
+            ScriptRefusal::Malformed(line, ScriptFlaw::NoEditOrGuard) => {
                 write!(
                     f,
                     "line {line} of the script: expected an edit, `begin`, `end` or `expect N TEXT`"

@@ -1,5 +1,4 @@
-//! Scripts of edits: lines of text that say how a log is to be changed, one edit or one group after
-//! another.
+//! Scripts of edits: how they are read, and how edits are written as one.
 #![tactic(auto)]
 
 pub mod fault;
@@ -7,7 +6,10 @@ pub mod guard;
 pub mod laws;
 mod line;
 pub mod script;
+pub mod script_text;
+pub mod undo_laws;
 
-pub use fault::{Flaw, ScriptRefusal};
+pub use fault::{ScriptFlaw, ScriptRefusal};
 pub use guard::Guard;
 pub use script::{Item, Script};
+pub use script_text::{BackEdit, push_script};

@@ -1,16 +1,17 @@
 //! One line of a script.
 
 ghost use Rattle.std.specs.Prelude.{◌≡◌, IfOk, MatchOption, None, Some, option_map, min};
-ghost use Rattle.replay_edits.specs.base_limits.Limits.{max_script_number};
-ghost use Rattle.replay_edits.specs.base_lines.Bytes.{is_blank, number_of};
+ghost use Rattle.base_lines.specs.Limits.{max_script_number};
+ghost use Rattle.base_lines.specs.Bytes.{is_blank, number_of};
 ghost use Rattle.replay_edits.specs.Edit.{change_of};
 ghost use Rattle.replay_scripts.specs.Line.{is_word_line, number_after_word, text_of_edit, edit_of};
 ghost use Rattle.replay_scripts.specs.Line.{expected_in};
 ghost use Rattle.replay_scripts.specs.Line.{kind_of_script_line, kind_said};
 
-use replay_edits::{
-    Edit, LineText, is_all_blank, is_blank, is_long_number, is_skipped, split_digits, with_digit,
-};
+use base_lines::bytes::{is_all_blank, is_blank, split_digits};
+use base_lines::is_skipped;
+use base_lines::limits::{is_long_number, with_digit};
+use replay_edits::{Edit, LineText};
 use std::alloc::{AllocError, Global};
 
 /// What a line says.

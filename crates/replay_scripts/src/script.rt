@@ -8,14 +8,15 @@ ghost use Rattle.replay_scripts.specs.Script.{Applied, group_at_line, group_with
 ghost use Rattle.replay_scripts.specs.Script.{line_of_refusal, IsScript, items_at_end, script_of};
 ghost use Rattle.replay_scripts.specs.Script.{reading_with, reading_with_item};
 ghost use Rattle.replay_scripts.specs.Line.{begin, end, edit, expected_in, kind_of_script_line};
-ghost use Rattle.replay_scripts.specs.Malformed.{IsFirstFault};
+ghost use Rattle.replay_scripts.specs.Malformed.{IsFirstMalformed};
 ghost use Rattle.replay_scripts.specs.Views.{IsFaultOf, IsStep, applied_item, expectations_of};
 ghost use Rattle.replay_scripts.specs.Views.{items_of, open_of, reading_of, step_of};
 
-use crate::fault::{Flaw, ScriptRefusal};
+use crate::fault::{ScriptFlaw, ScriptRefusal};
 use crate::guard::Guard;
 use crate::line::{ScriptLine, expected_in, read_line};
-use replay_edits::{Edit, LineText, split_line};
+use base_lines::split_line;
+use replay_edits::{Edit, LineText};
 use std::alloc::Global;
 use std::mem;
 
@@ -88,7 +89,7 @@ impl Script {
             → items ≡ items_of script.items) }
         ensures none { IfErr result (λ fault. (fault ≡ ScriptRefusal.Memory)
             ⊎ ((items : List Applied) → ¬ IsScript 1 (lines text.now) items)) }
-        ensures first { IfErr result (IsFirstFault (lines text.now)) }
+        ensures first { IfErr result (IsFirstMalformed (lines text.now)) }
     {
         read_lines(alloc, text)
     }
@@ -146,8 +147,8 @@ fn naming_guards(fault: ScriptRefusal) -> ScriptRefusal
     ensures { result ≡ naming_guards fault }
 {
     match fault {
-        ScriptRefusal::Malformed(number, Flaw::NoEdit) => {
-            ScriptRefusal::Malformed(number, Flaw::NoEditOrGuard)
+        ScriptRefusal::Malformed(number, ScriptFlaw::NoEdit) => {
+            ScriptRefusal::Malformed(number, ScriptFlaw::NoEditOrGuard)
         }
         other => other,
     }
@@ -227,7 +228,7 @@ impl ScriptReader {
             ScriptLine::Begin => self.begin(alloc, number),
             ScriptLine::End => self.end(alloc, number),
             ScriptLine::Edit(edit) => self.edit(alloc, number, edit),
-            ScriptLine::Nonsense => Err(ScriptRefusal::Malformed(number, Flaw::NoEdit)),
+            ScriptLine::Nonsense => Err(ScriptRefusal::Malformed(number, ScriptFlaw::NoEdit)),
         }
     }
 
@@ -235,7 +236,7 @@ impl ScriptReader {
         ensures { IsStep (step_of number begin (reading_of self.old)) (reading_of self.new) result }
     {
         if self.group.is_some() {
-            return Err(ScriptRefusal::Malformed(number, Flaw::BeginInGroup));
+            return Err(ScriptRefusal::Malformed(number, ScriptFlaw::BeginInGroup));
         }
         self.group = Some(Item::begun(alloc, number));
         Ok(())
@@ -246,7 +247,7 @@ impl ScriptReader {
     {
         match self.group.take() {
             Some(group) => self.close(alloc, group),
-            None => Err(ScriptRefusal::Malformed(number, Flaw::EndOutsideGroup)),
+            None => Err(ScriptRefusal::Malformed(number, ScriptFlaw::EndOutsideGroup)),
         }
     }
 
@@ -277,10 +278,10 @@ impl ScriptReader {
             guards,
         } = self;
         if let Some(group) = group {
-            return Err(ScriptRefusal::Malformed(group.line, Flaw::NoEnd));
+            return Err(ScriptRefusal::Malformed(group.line, ScriptFlaw::NoEnd));
         }
         match guards.first() {
-            Some(guard) => Err(ScriptRefusal::Malformed(guard.line, Flaw::NoneGuarded)),
+            Some(guard) => Err(ScriptRefusal::Malformed(guard.line, ScriptFlaw::NoneGuarded)),
             None => Ok(Script { items }),
         }
     }

@@ -1,7 +1,7 @@
 //! Every limit, at the limit and one past it.
 
 use crate::reading::refusal;
-use cave_data::Cause;
+use data_rows::Cause;
 use std::alloc::{AllocError, Global};
 use std::test::Fail;
 

@@ -1,7 +1,7 @@
 //! Faults: which one of some inputs is reported, and the whole text of each.
 
 use crate::reading::refusal;
-use cave_data::{BindingFlaw, Cause, CaveError, FaultSite, Section};
+use data_rows::{BindingFlaw, Cause, CaveError, FaultSite, Section};
 use std::alloc::Global;
 use std::process::Abort;
 use std::test::Fail;

@@ -1,6 +1,7 @@
 //! Reading inputs, for what is wrong with them.
 
-use cave_data::{Cause, Cave, CaveError};
+use cave_data::Cave;
+use data_rows::{Cause, CaveError};
 use std::alloc::Global;
 
 /// The cave of the inputs. It promises nothing, so that tests which call it are proved without the

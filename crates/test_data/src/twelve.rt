@@ -1,7 +1,8 @@
 //! A database of all twelve sections in few lines, with tabs where a blank is allowed.
 
 use crate::reading::read;
-use cave_data::{Cause, Cave, CaveError, FaultSite, PlaceRole, Role};
+use cave_data::Cave;
+use data_rows::{Cause, CaveError, FaultSite, PlaceRole, Role};
 use std::process::Abort;
 use std::test::Fail;
 

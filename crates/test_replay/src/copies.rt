@@ -6,7 +6,7 @@ use crate::machines::counter::Counter;
 use crate::machines::counts::Counts;
 use crate::machines::told::Told;
 use crate::play::{Counting, TestSession};
-use cave_replay::Meter;
+use base_lines::Meter;
 use std::process::Abort;
 use std::test::Fail;
 

@@ -7,7 +7,7 @@ use crate::machines::hasher::Hasher;
 use crate::machines::rule::RowRule;
 use crate::machines::told::Told;
 use crate::play::TestSession;
-use cave_replay::Meter;
+use base_lines::Meter;
 use std::alloc::Global;
 use std::process::Abort;
 use std::test::Fail;

@@ -1,7 +1,7 @@
 //! Random edits, the same at each run.
 
 use crate::edits::letters;
-use cave_replay::{Edit, LineText};
+use replay_edits::{Edit, LineText};
 use std::alloc::{AllocError, Global};
 
 /// A number below a bound of at most 65,536, by a small fixed generator.

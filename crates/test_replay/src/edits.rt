@@ -1,6 +1,6 @@
 //! Edits and logs of the tests.
 
-use cave_replay::{Edit, LineText};
+use replay_edits::{Edit, LineText};
 use std::alloc::{AllocError, Global};
 
 /// A log of ten lines, the line of the place i of i + 1 letters.

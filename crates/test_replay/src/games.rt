@@ -9,7 +9,7 @@ use crate::machines::rule::RowRule;
 use crate::machines::told::Told;
 use crate::play::{Counting, TestSession};
 use crate::row::RowState;
-use cave_replay::Meter;
+use base_lines::Meter;
 use std::alloc::Global;
 use std::process::Abort;
 use std::test::Fail;

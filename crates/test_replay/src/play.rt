@@ -6,7 +6,9 @@ use crate::machines::counts::Counts;
 use crate::machines::rule::RowRule;
 use crate::machines::told::Told;
 use crate::row::RowState;
-use cave_replay::{Edit, EditFault, GroupFault, GroupReport, Meter, OpenFault, Report, Session};
+use base_lines::Meter;
+use cave_replay::{GroupReport, OpenFault, Report, Session};
+use replay_edits::{Edit, EditFault, GroupFault};
 use std::alloc::{AllocError, Global};
 
 /// A session over a machine of a rule.

@@ -1,6 +1,8 @@
 //! What faults say.
 
-use cave_replay::{EditFault, GroupFault, LineFlaw, OpenFault};
+use base_lines::LineFlaw;
+use cave_replay::OpenFault;
+use replay_edits::{EditFault, GroupFault};
 use std::test::Fail;
 
 #[test]

@@ -1,12 +1,16 @@
 //! Calls that users of the library make, and no run as such: with ample memory they succeed. A test
 //! named `out_of_memory` holds whatever is refused.
 
-use crate::caves::{CAVE, LONG_LOG};
+use crate::caves::LONG_LOG;
 use crate::games::TestCave;
-use play_cover::{CaveMachine, Meter, OpenFault, Piece, Session, render};
+use base_lines::Meter;
+use cave_replay::{OpenFault, Session};
+use play_machine::{CaveMachine, Piece};
 use std::alloc::{AllocError, Global};
 use std::process::Abort;
 use std::test::Fail;
+use test_data::caves::CAVE;
+use turn_text::render;
 
 /// A session in a cave, through calls that promise nothing.
 struct HeldGame<'a> {

@@ -1,7 +1,5 @@
 //! What is played in a shipped cave, and what is then printed.
 
-pub use test_caves::CAVE;
-
 /// A log that takes a lamp into the cellar.
 pub const LONG_LOG: &[u8] = b"no\nin\ntake lamp\non\ndown\n";
 

@@ -1,15 +1,18 @@
 //! How much the inputs of a run may have.
 
-use crate::caves::{CAVE, LONG_LOG, LONG_TEXT};
+use crate::caves::{LONG_LOG, LONG_TEXT};
 use crate::runs::{COVER, EDIT, Feeds, PLAY, Run, RunEnd, edit, play};
 use crate::streams::Source;
-use play_cover::{
-    Cause, CaveError, FaultSite, Flaw, Input, LineFlaw, LogFault, LogsFault, MAX_INPUT_BYTES,
-    PlayFault, ScriptFault,
-};
+use base_lines::LineFlaw;
+use base_lines::limits::MAX_INPUT_BYTES;
+use cave_play::{Input, LogFault, PlayFault, ScriptFault};
+use data_rows::{Cause, CaveError, FaultSite};
+use play_logs::fault::LogsFault;
+use replay_scripts::ScriptFlaw;
 use std::alloc::{AllocError, Global};
 use std::process::Abort;
 use std::test::Fail;
+use test_data::caves::CAVE;
 
 /// The fault of an input that has too many bytes.
 fn too_large(input: Input) -> PlayFault {
@@ -75,7 +78,7 @@ fn edit_byte_by_byte(rt: &impl Abort, alloc: Global, start: &[u8]) -> Result<Run
 #[test]
 fn an_input_of_the_greatest_size_is_judged_by_its_bytes_alone(rt: HostRuntime) -> Result<(), Fail> {
     assert!(rt; edit_byte_by_byte(&rt, rt.alloc(), b"")?.wrote(LONG_TEXT.as_bytes()));
-    let malformed = PlayFault::Script(ScriptFault::Malformed(1, Flaw::NoEdit));
+    let malformed = PlayFault::Script(ScriptFault::Malformed(1, ScriptFlaw::NoEdit));
     assert!(rt; edit_byte_by_byte(&rt, rt.alloc(), b"begone\n")?.failed(malformed));
     Ok(())
 }

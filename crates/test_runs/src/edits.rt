@@ -1,7 +1,7 @@
 //! Edits as tests write them, and reports on edits as text.
 
 use crate::games::{RefusedEdit, Replayed};
-use play_cover::{Edit, LineText};
+use replay_edits::{Edit, LineText};
 use std::alloc::{AllocError, Global};
 use std::str;
 

@@ -1,14 +1,14 @@
 //! What the program prints at each fault, and the status that it then ends with.
 
-use crate::caves::CAVE;
 use crate::runs::play;
-use play_cover::{
-    Cause, CaveError, Complaint, FaultSite, Flaw, Input, LineFlaw, LogFault, PlayFault,
-    ScriptFault, Unopened,
-};
+use base_lines::LineFlaw;
+use cave_play::{Complaint, Input, LogFault, PlayFault, ScriptFault, Unopened};
+use data_rows::{Cause, CaveError, FaultSite};
+use replay_scripts::ScriptFlaw;
 use std::alloc::{AllocError, Global};
 use std::io;
 use std::test::Fail;
+use test_data::caves::CAVE;
 
 /// The line that the program writes to standard error.
 fn complaint_of(alloc: Global, fault: PlayFault) -> Result<String, AllocError> {
@@ -64,7 +64,7 @@ const FAULTS: [(PlayFault, u8, &str); 12] = [
         "cave: a.script: the script is larger than 1,048,576 bytes",
     ),
     (
-        PlayFault::Script(ScriptFault::Malformed(3, Flaw::NoEnd)),
+        PlayFault::Script(ScriptFault::Malformed(3, ScriptFlaw::NoEnd)),
         4,
         "cave: a.script:3: `begin` without an `end` after it",
     ),

@@ -1,9 +1,10 @@
 //! The final state, as a run prints it.
 
-use crate::caves::{CAVE, EDITED_LOG};
+use crate::caves::EDITED_LOG;
 use crate::runs::{Feeds, Run, RunEnd};
-use play_cover::{EditView, PlayView};
+use play_command::{EditView, PlayView};
 use std::alloc::Global;
+use test_data::caves::CAVE;
 
 /// The state that a log leads to.
 fn state_after(alloc: Global, log: &[u8]) -> RunEnd {

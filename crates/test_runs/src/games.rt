@@ -1,11 +1,14 @@
 //! Caves with their words, and sessions of games, through calls that promise nothing: the tests are
 //! proved without what caves and sessions promise, and look at what they do.
 
-ghost use Rattle.play_cover.specs.cave_words.Lexicon.{IsLexiconOf};
+ghost use Rattle.cave_words.specs.Lexicon.{IsLexiconOf};
 
-use play_cover::{
-    Cave, CaveMachine, Edit, EditFault, Lexicon, Machine, OpenFault, Piece, Report, Session, Steps,
-};
+use base_lines::Steps;
+use cave_data::Cave;
+use cave_replay::{Machine, OpenFault, Report, Session};
+use cave_words::Lexicon;
+use play_machine::{CaveMachine, Piece};
+use replay_edits::{Edit, EditFault};
 use std::alloc::Global;
 use std::process::Abort;
 

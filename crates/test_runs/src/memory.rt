@@ -2,7 +2,7 @@
 
 use crate::runs::{Feeds, Printed, RUNS, Run};
 use crate::streams::Sink;
-use play_cover::PlayFault;
+use cave_play::PlayFault;
 use std::alloc::Global;
 use std::process::Abort;
 

@@ -1,12 +1,16 @@
 //! Runs whose readers fail, and the order in which inputs are read and judged.
 
-use crate::caves::{CAVE, LONG_LOG, LONG_TEXT};
+use crate::caves::{LONG_LOG, LONG_TEXT};
 use crate::runs::{COVER, EDIT, Feeds, PLAY, RUNS, Run};
 use crate::streams::Source;
-use play_cover::{Cause, CaveError, FaultSite, Flaw, LineFlaw, LogFault, PlayFault, ScriptFault};
+use base_lines::LineFlaw;
+use cave_play::{LogFault, PlayFault, ScriptFault};
+use data_rows::{Cause, CaveError, FaultSite};
+use replay_scripts::ScriptFlaw;
 use std::alloc::Global;
 use std::process::Abort;
 use std::test::Fail;
+use test_data::caves::CAVE;
 
 /// Expects the reader of an input that fails at one of its asks to be named, nothing to be written,
 /// and no later reader to be asked.
@@ -69,7 +73,7 @@ const BAD_FIRST_LINE: PlayFault = PlayFault::Log(LogFault::BadLine(1, LineFlaw::
 const BAD_SECOND_LINE: PlayFault = PlayFault::Log(LogFault::BadLine(2, LineFlaw::Byte(127, 1)));
 
 /// Why a script is refused whose second line is no line of a script.
-const NO_EDIT: PlayFault = PlayFault::Script(ScriptFault::Malformed(2, Flaw::NoEdit));
+const NO_EDIT: PlayFault = PlayFault::Script(ScriptFault::Malformed(2, ScriptFlaw::NoEdit));
 
 /// Runs with the number of an input and what it has, why it is refused, the status of that, and
 /// how many inputs are read.

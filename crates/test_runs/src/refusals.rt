@@ -3,15 +3,19 @@
 //! Tests named `out_of_memory` hold whatever allocation is refused, and also where each one after
 //! it is. Those named `refused` hold where it is the only one.
 
-use crate::caves::{CAVE, LONG_LOG};
+use crate::caves::LONG_LOG;
 use crate::edits::{Change, edits_of};
 use crate::games::{TestCave, TestSession, show_the_same};
-use play_cover::{
-    Cave, CaveMachine, Edit, EditFault, Meter, OpenFault, Piece, Report, Steps, render,
-};
+use base_lines::{Meter, Steps};
+use cave_data::Cave;
+use cave_replay::{OpenFault, Report};
+use play_machine::{CaveMachine, Piece};
+use replay_edits::{Edit, EditFault};
 use std::alloc::{AllocError, Global};
 use std::process::Abort;
 use std::test::Fail;
+use test_data::caves::CAVE;
+use turn_text::render;
 
 /// A report as text.
 fn shown(alloc: Global, report: &Report) -> Result<String, AllocError> {

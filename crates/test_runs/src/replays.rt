@@ -1,13 +1,18 @@
 //! Edits of games in a cave, whose replays were worked out by hand. Each place is a checkpoint.
 
-use crate::caves::{CAVE, LONG_LOG, SHORT_LOG};
+use crate::caves::{LONG_LOG, SHORT_LOG};
 use crate::edits::{Change, answer_shown, edits_of, replay_shown};
 use crate::games::{TestCave, TestSession, show_the_same};
-use play_cover::{Cave, CaveMachine, Edit, EditFault, Meter, Steps, render};
+use base_lines::{Meter, Steps};
+use cave_data::Cave;
+use play_machine::CaveMachine;
+use replay_edits::{Edit, EditFault};
 use std::alloc::{AllocError, Global};
 use std::process::Abort;
 use std::slice;
 use std::test::Fail;
+use test_data::caves::CAVE;
+use turn_text::render;
 
 /// A log, a group of edits of it, what comes of them, and what is then said at the last line.
 type Replay = (&'static [u8], &'static [Change], &'static str, &'static str);

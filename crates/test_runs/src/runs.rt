@@ -1,19 +1,20 @@
 //! Runs of the program over inputs from sources that can be made to misbehave.
 
 use crate::caves::{
-    CAVE, COVERED_HEAD, COVERED_TAIL, EDITED_LOG, EDITED_PLAY, EDITED_STEPS, EDITED_TEXT,
-    KEYS_TAIL, LONG_LOG, LONG_TEXT, MAP_HEAD, MAP_TAIL, REPORTS, SCORE, SCRIPT, SHORT_LOG, STEPS,
-    STEPS_HEAD, TABLE, UNDO,
+    COVERED_HEAD, COVERED_TAIL, EDITED_LOG, EDITED_PLAY, EDITED_STEPS, EDITED_TEXT, KEYS_TAIL,
+    LONG_LOG, LONG_TEXT, MAP_HEAD, MAP_TAIL, REPORTS, SCORE, SCRIPT, SHORT_LOG, STEPS, STEPS_HEAD,
+    TABLE, UNDO,
 };
 use crate::streams::{Sink, Source};
-use map_run::run::run_map;
+use cave_play::{CaveReaders, Input, Inputs, PlayFault, run_check, run_doubts, run_edit, run_play};
+use check_doubts::DoubtFiles;
+use play_command::{CheckView, CoverView, EditView, Editing, PlayView, TextView};
 use play_cover::run::run_cover;
-use play_cover::{
-    CaveReaders, CheckView, CoverView, DoubtFiles, EditView, Editing, Input, Inputs, LogsFault,
-    PlayFault, PlayView, TextView, run_check, run_doubts, run_edit, run_play,
-};
+use play_logs::fault::LogsFault;
+use play_map::run::run_map;
 use std::alloc::Global;
 use std::io::{Read, Write};
+use test_data::caves::CAVE;
 
 /// What the program can be asked to do.
 #[derive(Clone, Copy, Debug)]
@@ -93,7 +94,7 @@ pub const RUNS: [(Run, Printed); 22] = [
     ),
     (
         Run::Cover(CoverView::Rules),
-        Printed::Between("questions: ", " rows in 2 logs\n"),
+        Printed::Between("asking: ", " rows in 2 logs\n"),
     ),
     (Run::Map, Printed::Between(MAP_HEAD, MAP_TAIL)),
 ];

@@ -1,10 +1,13 @@
 //! Worked examples of runs, in caves with rows more than the first.
 
-use crate::caves::{CAVE, LONG_LOG};
+use crate::caves::LONG_LOG;
 use crate::runs::{Printed, RunEnd, edit, play};
-use play_cover::{Cause, LogsFault, PlayFault};
+use cave_play::PlayFault;
+use data_rows::Cause;
+use play_logs::fault::LogsFault;
 use std::alloc::{AllocError, Global};
 use std::test::Fail;
+use test_data::caves::CAVE;
 
 /// The first cave with rows more before its last line.
 fn cave_with(alloc: Global, rows: &[u8]) -> Result<Vec<u8>, AllocError> {

@@ -2,7 +2,9 @@
 
 use crate::runs::{EDIT, Feeds, PLAY, Printed, RUNS, Run};
 use crate::streams::Sink;
-use play_cover::{CheckView, LogsFault, PlayFault};
+use cave_play::PlayFault;
+use play_command::CheckView;
+use play_logs::fault::LogsFault;
 use std::alloc::Global;
 use std::process::Abort;
 

@@ -3,7 +3,9 @@
 
 ghost use Rattle.cave_words.specs.Lexicon.{IsLexiconOf};
 
-use cave_words::{Cave, CaveError, Class, Lexicon, Meaning, Named, Words};
+use cave_data::Cave;
+use cave_words::{Class, Lexicon, Meaning, Named, Words};
+use data_rows::CaveError;
 use std::alloc::{AllocError, Global};
 
 /// A cave, and the lexicon of it.

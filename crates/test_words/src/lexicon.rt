@@ -5,7 +5,7 @@ use cave_words::{Class, Meaning, Named};
 use std::alloc::{AllocError, Global};
 use std::process::Abort;
 use std::test::Fail;
-use test_caves::CAVE;
+use test_data::caves::CAVE;
 
 /// A cave of words, two of which are in several rows.
 const DATABASE: &[u8] = b"4\n1 out\n2003 OUT\n5 OUT\n1009 OUTSIDER\n1050 GOLDEN\n1051 GOLDENROD\n\

@@ -1,6 +1,6 @@
 //! Lines of a log: what is reported of those that aren't allowed, and what kind each is.
 
-use play_command::{LogLine, check_line};
+use base_lines::{LogLine, check_line};
 use std::alloc::{AllocError, Global};
 
 /// What is reported of a line.

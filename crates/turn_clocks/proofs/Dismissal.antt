@@ -1,7 +1,7 @@
 -- The dwarves are dismissed one by one.
 use Rattle.std.proofs.Common.{◌≡◌, ℕ, zero, suc, ◌<◌, List, [], ◌∷◌, ◌++◌, length, map, take, drop}
 use Rattle.std.proofs.Common.{slice_index_or, slice_set, refl, ap, arith}
-use Rattle.turn_rules.specs.cave_world.declared.dwarves.Dwarf.{Dwarf}
+use Rattle.cave_world.specs.declared.dwarves.Dwarf.{Dwarf}
 use Rattle.turn_clocks.specs.FirstClock.{dismissed_dwarf}
 
 -- the dwarves, of which so many are gone

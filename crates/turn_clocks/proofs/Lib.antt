@@ -1,1 +1,4 @@
 pub mod Dismissal
+pub mod Quiet
+pub mod Steps
+pub mod Trails

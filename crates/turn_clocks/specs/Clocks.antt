@@ -1,18 +1,18 @@
 -- The clocks and the lamp, which go on before a command is read.
 use Rattle.std.specs.Prelude.{pos, negsuc, Bool, true, false, List, [], ◌∷◌, if◌then◌else◌}
-use Rattle.turn_rules.specs.data_rows.declared.place_role.PlaceRole.TheVariants as place
-use Rattle.turn_rules.specs.cave_data.CaveView.{CaveView}
-use Rattle.turn_rules.specs.turn_scene.Scene.{Scene, here_of}
-use Rattle.turn_rules.specs.Rows.{Deed, Act, Row, deed, row_then, first_fitting_or, nothing_but}
-use Rattle.turn_rules.specs.Rows.{always, act_of, noted}
-use Rattle.turn_rules.specs.Tests.{no, cave_closed, is_bound, player_at, in_the_depths}
-use Rattle.turn_rules.specs.Effects.{change}
-use Rattle.turn_rules.specs.rule_rows.declared.tables.Table.TheVariants as table
+use Rattle.data_rows.specs.declared.place_role.PlaceRole.TheVariants as place
+use Rattle.cave_data.specs.CaveView.{CaveView}
+use Rattle.turn_scene.specs.Scene.{Scene, here_of}
+use Rattle.turn_scene.specs.Rows.{Deed, Act, Row, deed, row_then, first_fitting_or, nothing_but}
+use Rattle.turn_scene.specs.Rows.{always, act_of, noted}
+use Rattle.turn_scene.specs.Tests.{no, cave_closed, is_bound, player_at, in_the_depths}
+use Rattle.turn_scene.specs.Effects.{change}
+use Rattle.cave_world.specs.declared.tables.Table.TheVariants as table
 use Rattle.turn_clocks.specs.declared.clocks.Clocks.{Clocks}
 use Rattle.turn_clocks.specs.declared.clocks.Clocks.TheVariants.{Closed}
 use Rattle.turn_clocks.specs.FirstClock.{all_seen, first_clock, some_turns_left}
 use Rattle.turn_clocks.specs.FirstClock.{with_first_clock_down, begin_closing}
-use Rattle.turn_clocks.specs.Lamp.{lamp}
+use Rattle.turn_clocks.specs.Lamp.{lamp_clock}
 use Rattle.turn_clocks.specs.Repository.{second_clock, second_clock_from}
 use Rattle.turn_clocks.specs.Repository.{with_second_clock_down, close_cave}
 
@@ -38,4 +38,4 @@ tick_clocks d = first_fitting_or (noted table.Clocks clock_rows) (nothing_but (a
 unfoldable pub run_clocks : CaveView → Scene → Act Clocks
 run_clocks cave p =
     let a = tick_clocks (deed cave tt p) in
-    if a.step then act_of a.scene (Closed (here_of a.scene)) else lamp (deed cave tt a.scene)
+    if a.step then act_of a.scene (Closed (here_of a.scene)) else lamp_clock (deed cave tt a.scene)

@@ -1,18 +1,17 @@
 -- The first clock, and how the cave begins to close where it runs out.
 use Rattle.std.specs.Prelude.{ℤ, pos, negsuc, ◌-ℤ◌, int_lt, map, true, false, ◌==◌, List, [], ◌∷◌}
 use Rattle.std.specs.Ordering.{int_eq}
-use Rattle.turn_rules.specs.data_rows.declared.role.Role.TheVariants as role
-use Rattle.turn_rules.specs.cave_words.declared.named.Named.TheVariants as name
-use Rattle.turn_rules.specs.cave_world.declared.dwarves.Dwarf.{Dwarf}
-use Rattle.turn_rules.specs.cave_world.declared.state.State.{State}
-use Rattle.turn_rules.specs.turn_things.Props.{AXE_FREE, BEAR_DEAD, CHAIN_UNLOCKED, FISSURE_OPEN}
-use Rattle.turn_rules.specs.turn_things.Props.{GRATE_LOCKED}
-use Rattle.turn_rules.specs.turn_things.Effects.{with_closing, with_dwarves}
-use Rattle.turn_rules.specs.Rows.{Test, Effect, Row, plain_row, otherwise, by_table}
-use Rattle.turn_rules.specs.Tests.{the, prop}
-use Rattle.turn_rules.specs.Effects.{change, say, destroy, loosen, set_prop}
-use Rattle.turn_rules.specs.Troll.{troll_goes}
-use Rattle.turn_rules.specs.rule_rows.declared.tables.Table.TheVariants as table
+use Rattle.data_rows.specs.declared.role.Role.TheVariants as role
+use Rattle.cave_words.specs.declared.named.Named.TheVariants as name
+use Rattle.cave_world.specs.declared.dwarves.Dwarf.{Dwarf}
+use Rattle.cave_world.specs.declared.state.State.{State}
+use Rattle.turn_scene.specs.Props.{AXE_FREE, BEAR_DEAD, CHAIN_UNLOCKED, FISSURE_OPEN, GRATE_LOCKED}
+use Rattle.turn_scene.specs.Parts.{with_closing, with_dwarves}
+use Rattle.turn_scene.specs.Rows.{Test, Effect, Row, plain_row, otherwise, by_table}
+use Rattle.turn_scene.specs.Tests.{the, prop}
+use Rattle.turn_scene.specs.Effects.{change, say, destroy, loosen, set_prop}
+use Rattle.turn_scene.specs.Troll.{troll_goes}
+use Rattle.cave_world.specs.declared.tables.Table.TheVariants as table
 
 -- no treasure counts as unseen
 abbrev pub all_seen : Test (Unit {0})

@@ -2,19 +2,19 @@
 use Rattle.std.specs.Prelude.{ℕ, ℤ, pos, negsuc, ◌+ℤ◌, ◌-ℤ◌, int_le, true, false, List, [], ◌∷◌}
 use Rattle.std.specs.Int.{int_min, int_max}
 use Rattle.std.specs.Ordering.{int_eq}
-use Rattle.turn_rules.specs.data_rows.declared.role.Role.TheVariants as role
-use Rattle.turn_rules.specs.cave_words.declared.named.Named.TheVariants as name
-use Rattle.turn_rules.specs.cave_world.declared.state.State.{State}
-use Rattle.turn_rules.specs.cave_world.Sight.{LAMP_ON}
-use Rattle.turn_rules.specs.cave_world.Limits.{LOW_CHARGE, MAX_LAMP_TURNS}
-use Rattle.turn_rules.specs.turn_things.Props.{BATTERIES_FRESH, BATTERIES_USED, LAMP_OFF}
-use Rattle.turn_rules.specs.turn_things.Effects.{with_lamp}
-use Rattle.turn_rules.specs.Rows.{Deed, Act, Test, Effect, Row, row_then, plain_row, by_table}
-use Rattle.turn_rules.specs.Rows.{first_fitting_or, nothing_but, always, otherwise, noted}
-use Rattle.turn_rules.specs.Tests.{the, no, near, prop, nowhere, here, outside, lamp_dead}
-use Rattle.turn_rules.specs.Effects.{with_charge, change, say, set_prop, set_charge}
-use Rattle.turn_rules.specs.Putting.{lay_down}
-use Rattle.turn_rules.specs.rule_rows.declared.tables.Table.TheVariants as table
+use Rattle.data_rows.specs.declared.role.Role.TheVariants as role
+use Rattle.cave_words.specs.declared.named.Named.TheVariants as name
+use Rattle.cave_world.specs.declared.state.State.{State}
+use Rattle.cave_world.specs.Sight.{LAMP_ON}
+use Rattle.cave_world.specs.Limits.{LOW_CHARGE, MAX_LAMP_TURNS}
+use Rattle.turn_scene.specs.Props.{BATTERIES_FRESH, BATTERIES_USED, LAMP_OFF}
+use Rattle.turn_scene.specs.Parts.{with_lamp}
+use Rattle.turn_scene.specs.Rows.{Deed, Act, Test, Effect, Row, row_then, plain_row, by_table}
+use Rattle.turn_scene.specs.Rows.{first_fitting_or, nothing_but, always, otherwise, noted}
+use Rattle.turn_scene.specs.Tests.{the, no, near, prop, nowhere, here, outside, lamp_dead}
+use Rattle.turn_scene.specs.Effects.{with_charge, change, say, set_prop, set_charge}
+use Rattle.turn_scene.specs.Putting.{lay_down}
+use Rattle.cave_world.specs.declared.tables.Table.TheVariants as table
 use Rattle.turn_clocks.specs.declared.clocks.Clocks.{Clocks}
 use Rattle.turn_clocks.specs.declared.clocks.Clocks.TheVariants.{GoOn, GaveUp}
 
@@ -99,5 +99,5 @@ unfoldable pub care_for_lamp : Deed (Unit {0}) → Act Clocks
 care_for_lamp d = first_fitting_or (noted table.Lamp lamp_rows) (nothing_but (always GoOn)) d
 
 -- the lamp burns a turn, if it is lit, and what comes of it
-abbrev pub lamp : Deed (Unit {0}) → Act Clocks
-lamp d = care_for_lamp (burn d)
+abbrev pub lamp_clock : Deed (Unit {0}) → Act Clocks
+lamp_clock d = care_for_lamp (burn d)

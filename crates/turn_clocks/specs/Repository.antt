@@ -1,21 +1,20 @@
 -- The second clock, and the repository into which the cave is closed where it runs out.
 use Rattle.std.specs.Prelude.{ℕ, ℤ, pos, ◌-ℤ◌, int_le, true, List, [], ◌∷◌}
 use Rattle.std.specs.Ordering.{int_eq}
-use Rattle.turn_rules.specs.data_rows.declared.place_role.PlaceRole.{PlaceRole}
-use Rattle.turn_rules.specs.data_rows.declared.place_role.PlaceRole.TheVariants as place
-use Rattle.turn_rules.specs.data_rows.declared.role.Role.TheVariants as role
-use Rattle.turn_rules.specs.cave_words.declared.named.Named.{Named}
-use Rattle.turn_rules.specs.cave_words.declared.named.Named.TheVariants as name
-use Rattle.turn_rules.specs.world_objects.Objects.{Layout, after_move_to, carried_objects}
-use Rattle.turn_rules.specs.world_objects.Objects.{anchor_at}
-use Rattle.turn_rules.specs.cave_world.declared.state.State.{State}
-use Rattle.turn_rules.specs.turn_things.Effects.{with_objects, with_closing}
-use Rattle.turn_rules.specs.turn_things.Props.{BIRD_CAGED, BOTTLE_EMPTY, GRATE_LOCKED, LAMP_OFF}
-use Rattle.turn_rules.specs.turn_things.Props.{PLANT_SMALL, SEEN, SNAKE_GONE, UNSEEN}
-use Rattle.turn_rules.specs.Rows.{Test, Effect, after_all}
-use Rattle.turn_rules.specs.Tests.{the, place_of}
-use Rattle.turn_rules.specs.Effects.{in_scene, change, move, put_player, say, set_prop, attach}
-use Rattle.turn_rules.specs.Effects.{for_each}
+use Rattle.data_rows.specs.declared.place_role.PlaceRole.{PlaceRole}
+use Rattle.data_rows.specs.declared.place_role.PlaceRole.TheVariants as place
+use Rattle.data_rows.specs.declared.role.Role.TheVariants as role
+use Rattle.cave_words.specs.declared.named.Named.{Named}
+use Rattle.cave_words.specs.declared.named.Named.TheVariants as name
+use Rattle.world_objects.specs.Objects.{Layout, after_move_to, objects_in_hands, anchor_at}
+use Rattle.cave_world.specs.declared.state.State.{State}
+use Rattle.turn_scene.specs.Parts.{with_objects, with_closing}
+use Rattle.turn_scene.specs.Props.{BIRD_CAGED, BOTTLE_EMPTY, GRATE_LOCKED, LAMP_OFF, PLANT_SMALL}
+use Rattle.turn_scene.specs.Props.{SEEN, SNAKE_GONE, UNSEEN}
+use Rattle.turn_scene.specs.Rows.{Test, Effect, after_all}
+use Rattle.turn_scene.specs.Tests.{the, place_of}
+use Rattle.turn_scene.specs.Effects.{in_scene, change, move, put_player, say, set_prop, attach}
+use Rattle.turn_scene.specs.Effects.{for_each}
 
 -- the second clock has so many turns left; -1 once it has run out
 abbrev pub second_clock : ℤ → Test (Unit {0})
@@ -30,8 +29,8 @@ abbrev pub with_second_clock_down : State → State
 with_second_clock_down s = let closing = s.closing in
     with_closing (record closing { second_clock = closing.second_clock -ℤ pos 1 }) s
 
--- the object of a name is put at the place of a role, with a prop for when it was carried; until
--- then it is unseen, and its prop is -1 less that one
+-- the object of a name is put at the place of a role, with a prop for when it was in the hands;
+-- until then it is unseen, and its prop is -1 less that one
 abbrev pub store : PlaceRole → Named → ℤ → Effect (Unit {0})
 store role n v d = set_prop (the n) (UNSEEN -ℤ v) (move (the n) (place_of role) d)
 
@@ -70,9 +69,9 @@ all_of things d = in_scene (after_all things d).scene d
 abbrev pub without_all : List ℕ → Layout → Layout
 without_all xs o = for_each xs (λ x p. after_move_to p x 0) o
 
--- the player carries nothing any more
+-- the player's hands are empty from now on
 unfoldable pub with_empty_hands : State → State
-with_empty_hands s = with_objects (without_all (carried_objects s.objects) s.objects) s
+with_empty_hands s = with_objects (without_all (objects_in_hands s.objects) s.objects) s
 
 -- the cave is closed from now on
 abbrev pub with_cave_closed : State → State

@@ -1,13 +1,16 @@
 ghost use Rattle.std.specs.Prelude.{◌≡◌};
-ghost use Rattle.turn_rules.specs.turn_scene.Scene.{cave_of, scene_of};
-ghost use Rattle.turn_rules.specs.turn_scene.Bounds.{GoesOnSaying, HasRoom, parts_of_clocks};
-ghost use Rattle.turn_rules.specs.Rows.{act_of, PlaysBy};
+ghost use Rattle.turn_scene.specs.Scene.{cave_of, scene_of};
+ghost use Rattle.turn_scene.specs.Bounds.{GoesOnSaying, HasRoom, parts_of_clocks};
+ghost use Rattle.turn_scene.specs.Rows.{act_of, PlaysBy};
 ghost use Rattle.turn_clocks.specs.Clocks.{tick_clocks, run_clocks};
 
 use crate::first_clock::{begin_closing, first_clock_goes};
 use crate::lamp::run_lamp;
 use crate::repository::close_cave;
-use turn_rules::{Place, PlaceRole, RowNotes, Rules, Scene, Table, place_named};
+use cave_world::{RowNotes, Table};
+use data_rows::PlaceRole;
+use turn_scene::{Rules, Scene, place_named};
+use world_objects::Place;
 
 /// What follows once the clocks and the lamp have gone on by a turn.
 #[derive(Clone, Copy, Debug, PartialEq, Eq)]

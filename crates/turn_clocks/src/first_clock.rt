@@ -1,18 +1,19 @@
 ghost use Rattle.std.specs.Prelude.{◌≡◌, ◌≤ℤ◌, pos, IsTrue, map, [], ◌∷◌};
-ghost use Rattle.turn_rules.specs.data_rows.declared.place_role.PlaceRole.TheVariants as place;
-ghost use Rattle.turn_rules.specs.turn_scene.Scene.{cave_of, scene_of};
-ghost use Rattle.turn_rules.specs.turn_scene.Bounds.{HasRoom};
-ghost use Rattle.turn_rules.specs.rule_rows.declared.tables.Table.TheVariants as table;
-ghost use Rattle.turn_rules.specs.Rows.{all_hold, deed, by_table, Does};
-ghost use Rattle.turn_rules.specs.Tests.{no, player_at, in_the_depths};
+ghost use Rattle.data_rows.specs.declared.place_role.PlaceRole.TheVariants as place;
+ghost use Rattle.turn_scene.specs.Scene.{cave_of, scene_of};
+ghost use Rattle.turn_scene.specs.Bounds.{HasRoom};
+ghost use Rattle.cave_world.specs.declared.tables.Table.TheVariants as table;
+ghost use Rattle.turn_scene.specs.Rows.{all_hold, deed, by_table, Does};
+ghost use Rattle.turn_scene.specs.Tests.{no, player_at, in_the_depths};
 ghost use Rattle.turn_clocks.specs.FirstClock.{all_seen, some_turns_left, dismissed_dwarf};
 ghost use Rattle.turn_clocks.specs.FirstClock.{closing_bear_rows, begin_closing};
 
-use turn_rules::{
-    AXE_FREE, Anchor, BEAR_DEAD, CHAIN_UNLOCKED, Dwarf, FISSURE_OPEN, GRATE_LOCKED, Named, Place,
-    PlaceRole, Prop, Role, RowNotes, Rules, Scene, Table, deep_place, has_prop, is_place,
-    place_named, remove_troll,
-};
+use cave_words::Named;
+use cave_world::{Dwarf, RowNotes, Table};
+use data_rows::{PlaceRole, Role};
+use turn_scene::props::{AXE_FREE, BEAR_DEAD, CHAIN_UNLOCKED, FISSURE_OPEN, GRATE_LOCKED};
+use turn_scene::{Rules, Scene, deep_place, has_prop, is_place, place_named, remove_troll};
+use world_objects::{Anchor, Place, Prop};
 
 /// Whether the first clock goes. It doesn't go at y2.
 pub fn first_clock_goes<N: RowNotes>(rules: &Rules<'_>, scene: &Scene<'_, N>) -> bool

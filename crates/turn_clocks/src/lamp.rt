@@ -1,19 +1,21 @@
 ghost use Rattle.std.specs.Prelude.{◌≡◌, [], ◌∷◌, pos};
-ghost use Rattle.turn_rules.specs.cave_words.declared.named.Named.TheVariants as name;
-ghost use Rattle.turn_rules.specs.turn_scene.Scene.{cave_of, scene_of};
-ghost use Rattle.turn_rules.specs.turn_scene.Bounds.{HasRoom};
-ghost use Rattle.turn_rules.specs.Rows.{all_hold, deed, Does, PlaysBy};
-ghost use Rattle.turn_rules.specs.Tests.{lamp_dead, here, near, no, outside, the};
-ghost use Rattle.turn_rules.specs.cave_world.Limits as defined;
+ghost use Rattle.cave_words.specs.declared.named.Named.TheVariants as name;
+ghost use Rattle.turn_scene.specs.Scene.{cave_of, scene_of};
+ghost use Rattle.turn_scene.specs.Bounds.{HasRoom};
+ghost use Rattle.turn_scene.specs.Rows.{all_hold, deed, Does, PlaysBy};
+ghost use Rattle.turn_scene.specs.Tests.{lamp_dead, here, near, no, outside, the};
+ghost use Rattle.cave_world.specs.Limits as defined;
 ghost use Rattle.turn_clocks.specs.Lamp.{burn, turns_left_up_to, is_warned, with_new_charge};
 ghost use Rattle.turn_clocks.specs.Lamp.{can_change_batteries, change_batteries, go_out, warn};
-ghost use Rattle.turn_clocks.specs.Lamp.{care_for_lamp, lamp};
+ghost use Rattle.turn_clocks.specs.Lamp.{care_for_lamp, lamp_clock};
 
 use crate::clocks::Clocks;
-use turn_rules::{
-    BATTERIES_FRESH, BATTERIES_USED, Charge, LAMP_OFF, LAMP_ON, LOW_CHARGE, Named, Prop, Role,
-    RowNotes, Rules, Scene, State, Table, has_prop, is_near, lay_down, outside_place,
-};
+use cave_words::Named;
+use cave_world::{Charge, LAMP_ON, LOW_CHARGE, RowNotes, State, Table};
+use data_rows::Role;
+use turn_scene::props::{BATTERIES_FRESH, BATTERIES_USED, LAMP_OFF};
+use turn_scene::{Rules, Scene, has_prop, is_near, lay_down, outside_place};
+use world_objects::Prop;
 
 const BATTERY_TURNS: i32 = 2500;
 
@@ -151,7 +153,7 @@ fn care_for_lamp<N: RowNotes>(rules: &Rules<'_>, scene: &mut Scene<'_, N>) -> Cl
 /// The lamp burns a turn, if it is lit, and what comes of it.
 pub fn run_lamp<N: RowNotes>(rules: &Rules<'_>, scene: &mut Scene<'_, N>) -> Clocks
     requires { HasRoom 1 scene.old }
-    ensures row { PlaysBy N.rows lamp 1 rules.now tt scene.old scene.new result }
+    ensures row { PlaysBy N.rows lamp_clock 1 rules.now tt scene.old scene.new result }
 {
     burn(rules, scene);
     care_for_lamp(rules, scene)

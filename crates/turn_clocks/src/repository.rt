@@ -1,17 +1,19 @@
 ghost use Rattle.std.specs.Prelude.{◌≡◌, [], ◌∷◌, Some};
-ghost use Rattle.turn_rules.specs.data_rows.declared.place_role.PlaceRole.TheVariants as role;
-ghost use Rattle.turn_rules.specs.world_objects.Objects.{after_move_to, with_prop};
-ghost use Rattle.turn_rules.specs.turn_scene.Scene.{cave_of, thing};
-ghost use Rattle.turn_rules.specs.turn_scene.Bounds.{HasRoom};
-ghost use Rattle.turn_rules.specs.turn_things.Places.{place_named};
-ghost use Rattle.turn_rules.specs.Rows.{Does};
+ghost use Rattle.data_rows.specs.declared.place_role.PlaceRole.TheVariants as role;
+ghost use Rattle.world_objects.specs.Objects.{after_move_to, with_prop};
+ghost use Rattle.turn_scene.specs.Scene.{cave_of, thing};
+ghost use Rattle.turn_scene.specs.Bounds.{HasRoom};
+ghost use Rattle.turn_scene.specs.Places.{place_named};
+ghost use Rattle.turn_scene.specs.Rows.{Does};
 ghost use Rattle.turn_clocks.specs.Repository.{hang_mirror, northeast_things, southwest_things};
 ghost use Rattle.turn_clocks.specs.Repository.{without_all, with_empty_hands, close_cave};
 
-use turn_rules::{
-    Anchor, BIRD_CAGED, BOTTLE_EMPTY, Named, Object, Objects, Place, Prop, Role, RowNotes, Rules,
-    SNAKE_GONE, Scene, State, UNSEEN,
-};
+use cave_words::Named;
+use cave_world::{RowNotes, State};
+use data_rows::Role;
+use turn_scene::props::{BIRD_CAGED, BOTTLE_EMPTY, SNAKE_GONE, UNSEEN};
+use turn_scene::{Rules, Scene};
+use world_objects::{Anchor, Object, Objects, Place, Prop};
 
 /// A thing is put at a place, with its prop.
 fn put_in(rules: &Rules<'_>, name: Named, prop: Prop, place: Place, objects: &mut Objects)
@@ -89,13 +91,13 @@ fn destroy_all(doomed: &[Object], objects: &mut Objects)
     }
 }
 
-/// The player loses all that is carried.
+/// The player loses all that is in the hands.
 #[tactic(auto, unfolding(crate::specs::Repository::with_empty_hands))]
 fn empty_hands(state: &mut State)
     ensures { state.new ≡ with_empty_hands state.old }
 {
-    let carried = state.carried();
-    destroy_all(carried.as_slice(), &mut state.objects);
+    let held = state.in_hands();
+    destroy_all(held.as_slice(), &mut state.objects);
 }
 
 /// The cave is closed, and the player is at the northeast end of the repository.

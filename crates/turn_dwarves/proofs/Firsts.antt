@@ -5,9 +5,9 @@ use Rattle.std.proofs.lemmas.Bool.Decides.{nat_tests}
 use Rattle.std.proofs.lemmas.List.{take_at, take_all, take-take, drop_all, append-nil}
 use Rattle.std.proofs.lemmas.List.{length-take, length-take-le}
 use Rattle.std.specs.List.{filter_map}
-use Rattle.turn_rules.specs.data_rows.Rows.{Going}
-use Rattle.turn_rules.specs.data_rows.RowViews.{going}
-use Rattle.turn_rules.specs.data_rows.declared.rows.Row.{Row}
+use Rattle.data_rows.specs.Rows.{Going}
+use Rattle.data_rows.specs.RowViews.{going}
+use Rattle.data_rows.specs.declared.rows.Row.{Row}
 use Rattle.turn_dwarves.specs.Ahead.{without_repeats}
 
 -- where n were found, they are the first n

@@ -1,7 +1,7 @@
 -- The treasures one after another.
 use Rattle.std.proofs.Common.{◌≡◌, ℕ, suc, ◌+◌, ◌-◌, ◌<◌, ◌≤◌, List, [], ◌∷◌, refl, arith}
 use Rattle.std.specs.List.{range_with_len}
-use Rattle.turn_rules.specs.turn_things.Treasures.{treasures}
+use Rattle.turn_scene.specs.Treasures.{treasures}
 
 -- the treasures from a number on
 unfoldable pub treasures_from : ℕ → List ℕ

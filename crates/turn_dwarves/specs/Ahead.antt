@@ -2,22 +2,22 @@
 use Rattle.std.specs.Prelude.{ℕ, Bool, ◌==◌, ◌&&◌, not, nat_le, nat_lt, if◌then◌else◌, List, []}
 use Rattle.std.specs.Prelude.{◌∷◌, Option, None, Some, take, length}
 use Rattle.std.specs.List.{filter_map}
-use Rattle.turn_rules.specs.data_numbers.Numbers.{LAST_PLACE}
-use Rattle.turn_rules.specs.data_rows.Rows.{Going}
-use Rattle.turn_rules.specs.data_rows.declared.targets.Condition.{Condition}
-use Rattle.turn_rules.specs.data_rows.declared.targets.Condition.TheVariants.{NotForDwarves}
-use Rattle.turn_rules.specs.data_rows.declared.targets.Destination.{Destination}
-use Rattle.turn_rules.specs.data_rows.declared.targets.Destination.TheVariants.{Place}
-use Rattle.turn_rules.specs.cave_data.CaveView.{CaveView, ways_from}
-use Rattle.turn_rules.specs.world_objects.Objects.{is_place}
-use Rattle.turn_rules.specs.cave_world.Limits.{PIRATE}
-use Rattle.turn_rules.specs.cave_world.Sight.{forced}
-use Rattle.turn_rules.specs.cave_world.Travel.{row_condition, row_destination}
-use Rattle.turn_rules.specs.cave_world.declared.dwarves.Dwarf.{Dwarf}
-use Rattle.turn_rules.specs.turn_things.Places.{has_condition_of}
-use Rattle.turn_rules.specs.turn_things.declared.conditions.PlaceCondition.TheVariants as condition
-use Rattle.turn_rules.specs.rule_rows.declared.tables.Table.TheVariants as table
-use Rattle.turn_rules.specs.Rows.{Deed, Test, Act, answer_row, otherwise_row, act_by_table}
+use Rattle.base_lines.specs.Numbers.{LAST_PLACE}
+use Rattle.data_rows.specs.Rows.{Going}
+use Rattle.data_rows.specs.declared.targets.Condition.{Condition}
+use Rattle.data_rows.specs.declared.targets.Condition.TheVariants.{NotForDwarves}
+use Rattle.data_rows.specs.declared.targets.Destination.{Destination}
+use Rattle.data_rows.specs.declared.targets.Destination.TheVariants.{Place}
+use Rattle.cave_data.specs.CaveView.{CaveView, ways_from}
+use Rattle.world_objects.specs.Objects.{is_place}
+use Rattle.cave_world.specs.Limits.{PIRATE}
+use Rattle.cave_world.specs.Sight.{forced}
+use Rattle.cave_world.specs.Travel.{row_condition, row_destination}
+use Rattle.cave_world.specs.declared.dwarves.Dwarf.{Dwarf}
+use Rattle.turn_scene.specs.Places.{has_condition_of}
+use Rattle.turn_scene.specs.declared.conditions.PlaceCondition.TheVariants as condition
+use Rattle.cave_world.specs.declared.tables.Table.TheVariants as table
+use Rattle.turn_scene.specs.Rows.{Deed, Test, Act, Row, answer_row, otherwise_row, act_by_table}
 use Rattle.turn_dwarves.specs.Band.{its_dwarf}
 
 -- the first of the places where dwarves go
@@ -84,8 +84,11 @@ abbrev pub MAX_CANDIDATES : ℕ
 MAX_CANDIDATES = 19
 
 -- the ways of a dwarf: where there is no other, back to where it was before
+abbrev pub dwarf_way_rows : List (Row ℕ (List ℕ))
+dwarf_way_rows =
+    answer_row (ways_ahead 0 ∷ []) way_back
+    ∷ answer_row (more_ways_ahead MAX_CANDIDATES ∷ []) (first_ahead MAX_CANDIDATES) ∷ []
+
 unfoldable pub ways_of_dwarf : Deed ℕ → Act (List ℕ)
-ways_of_dwarf d = act_by_table table.DwarfWays
-    (answer_row (ways_ahead 0 ∷ []) way_back
-    ∷ answer_row (more_ways_ahead MAX_CANDIDATES ∷ []) (first_ahead MAX_CANDIDATES) ∷ [])
+ways_of_dwarf d = act_by_table table.DwarfWays dwarf_way_rows
     (otherwise_row [] ahead) d

@@ -1,12 +1,12 @@
 -- The six dwarves by their numbers from 0, what rows ask of them, and how angry they are. The last
 -- is the pirate.
 use Rattle.std.specs.Prelude.{ℕ, ◌==◌, slice_index_or, slice_set}
-use Rattle.turn_rules.specs.cave_world.State.{no_dwarf}
-use Rattle.turn_rules.specs.cave_world.declared.dwarves.Dwarf.{Dwarf}
-use Rattle.turn_rules.specs.cave_world.declared.state.State.{State}
-use Rattle.turn_rules.specs.turn_things.Effects.{with_dwarves}
-use Rattle.turn_rules.specs.Rows.{Deed, Test}
-use Rattle.turn_rules.specs.Tests.{here}
+use Rattle.cave_world.specs.State.{no_dwarf}
+use Rattle.cave_world.specs.declared.dwarves.Dwarf.{Dwarf}
+use Rattle.cave_world.specs.declared.state.State.{State}
+use Rattle.turn_scene.specs.Parts.{with_dwarves}
+use Rattle.turn_scene.specs.Rows.{Deed, Test}
+use Rattle.turn_scene.specs.Tests.{here}
 
 unfoldable pub dwarf_of : State → ℕ → Dwarf
 dwarf_of s number = slice_index_or s.dwarves.each number no_dwarf

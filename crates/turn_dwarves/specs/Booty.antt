@@ -1,22 +1,22 @@
 -- What the pirate does to the treasures.
 use Rattle.std.specs.Prelude.{ℕ, Bool, List, [], ◌∷◌, Option, unwrap_or, false}
 use Rattle.std.specs.List.{list_any}
-use Rattle.turn_rules.specs.data_rows.declared.place_role.PlaceRole.TheVariants as place
-use Rattle.turn_rules.specs.data_rows.declared.role.Role.TheVariants as role
-use Rattle.turn_rules.specs.cave_data.CaveView.{CaveView}
-use Rattle.turn_rules.specs.cave_words.declared.named.Named.TheVariants as name
-use Rattle.turn_rules.specs.cave_world.Limits.{PIRATE}
-use Rattle.turn_rules.specs.cave_world.declared.dwarves.Dwarf.{Dwarf}
-use Rattle.turn_rules.specs.cave_world.declared.state.State.{State}
-use Rattle.turn_rules.specs.turn_scene.Scene.{Scene}
-use Rattle.turn_rules.specs.turn_things.Places.{place_named}
-use Rattle.turn_rules.specs.turn_things.Reach.{is_near}
-use Rattle.turn_rules.specs.turn_things.Treasures.{treasures}
-use Rattle.turn_rules.specs.Rows.{Test, Effect, Row, Thing, deed, plain_row, by_table, all_hold}
-use Rattle.turn_rules.specs.Tests.{the, no, either, both, it, is_it, in_hand, is_here, immovable}
-use Rattle.turn_rules.specs.Tests.{player_at_home}
-use Rattle.turn_rules.specs.Effects.{in_state, follow, for_each, say, send}
-use Rattle.turn_rules.specs.rule_rows.declared.tables.Table.TheVariants as table
+use Rattle.data_rows.specs.declared.place_role.PlaceRole.TheVariants as place
+use Rattle.data_rows.specs.declared.role.Role.TheVariants as role
+use Rattle.cave_data.specs.CaveView.{CaveView}
+use Rattle.cave_words.specs.declared.named.Named.TheVariants as name
+use Rattle.cave_world.specs.Limits.{PIRATE}
+use Rattle.cave_world.specs.declared.dwarves.Dwarf.{Dwarf}
+use Rattle.cave_world.specs.declared.state.State.{State}
+use Rattle.turn_scene.specs.Scene.{Scene}
+use Rattle.turn_scene.specs.Places.{place_named}
+use Rattle.turn_scene.specs.Reach.{is_near}
+use Rattle.turn_scene.specs.Treasures.{treasures}
+use Rattle.turn_scene.specs.Rows.{Test, Effect, Row, Thing, deed, plain_row, by_table, all_hold}
+use Rattle.turn_scene.specs.Tests.{the, no, either, both, it, is_it, carried, is_here, immovable}
+use Rattle.turn_scene.specs.Tests.{player_at_home}
+use Rattle.turn_scene.specs.Effects.{in_state, follow, for_each, say, send}
+use Rattle.cave_world.specs.declared.tables.Table.TheVariants as table
 use Rattle.turn_dwarves.specs.Band.{dwarf_of, with_dwarf}
 
 -- all treasures are fair to the pirate, but not the pyramid where it or the emerald is at home
@@ -27,7 +27,7 @@ fair d =
 
 -- the player carries a fair treasure
 unfoldable pub is_carried_booty : CaveView → Scene → ℕ → Bool
-is_carried_booty cave p x = all_hold (fair ∷ in_hand it ∷ []) (deed cave x p)
+is_carried_booty cave p x = all_hold (fair ∷ carried it ∷ []) (deed cave x p)
 
 unfoldable pub carries_booty : Test (Unit {0})
 carries_booty d = list_any (is_carried_booty d.cave d.scene) treasures
@@ -40,7 +40,7 @@ treasure_near d = list_any (is_near d.cave d.scene.state) treasures
 unfoldable pub theft_rows : List (Row ℕ (Unit {0}))
 theft_rows =
     plain_row (no fair ∷ []) []
-    ∷ plain_row (in_hand it ∷ []) (send it place.Chest ∷ [])
+    ∷ plain_row (carried it ∷ []) (send it place.Chest ∷ [])
     ∷ plain_row (is_here it ∷ no (immovable it) ∷ []) (send it place.Chest ∷ [])
     ∷ []
 
@@ -48,12 +48,12 @@ unfoldable pub steal : CaveView → ℕ → Scene → Scene
 steal cave x p = (by_table table.Theft theft_rows (deed cave x p)).scene
 
 -- the treasures of a list are stolen one after another
-abbrev pub after_thefts : CaveView → List ℕ → Scene → Scene
-after_thefts cave xs p = for_each xs (steal cave) p
+abbrev pub after_stealing_all : CaveView → List ℕ → Scene → Scene
+after_stealing_all cave xs p = for_each xs (steal cave) p
 
 -- all treasures are
 abbrev pub steal_all : Effect (Unit {0})
-steal_all d = follow (λ cave. after_thefts cave treasures) d
+steal_all d = follow (λ cave. after_stealing_all cave treasures) d
 
 -- the pirate is at its chest, came from there, and no longer sees the player
 abbrev pub dwarf_at_home : Option ℕ → Dwarf → Dwarf

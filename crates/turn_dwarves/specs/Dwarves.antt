@@ -1,13 +1,13 @@
 -- What the dwarves do where the player arrives.
 use Rattle.std.specs.Prelude.{Bool, false, not, ◌==◌, List, [], ◌∷◌}
-use Rattle.turn_rules.specs.cave_data.CaveView.{CaveView}
-use Rattle.turn_rules.specs.turn_scene.Scene.{Scene}
-use Rattle.turn_rules.specs.cave_world.Limits.{ASLEEP, STIRRING}
-use Rattle.turn_rules.specs.Rows.{Deed, Act, Effect, Row, deed, row_then, answer_row, by_table}
-use Rattle.turn_rules.specs.Rows.{first_fitting_or, nothing_but, always, otherwise_then, noted}
-use Rattle.turn_rules.specs.Tests.{in_the_depths, anger}
-use Rattle.turn_rules.specs.Effects.{change, follow}
-use Rattle.turn_rules.specs.rule_rows.declared.tables.Table.TheVariants as table
+use Rattle.cave_data.specs.CaveView.{CaveView}
+use Rattle.turn_scene.specs.Scene.{Scene}
+use Rattle.cave_world.specs.Limits.{ASLEEP, STIRRING}
+use Rattle.turn_scene.specs.Rows.{Deed, Act, Effect, Row, deed, row_then, answer_row, by_table}
+use Rattle.turn_scene.specs.Rows.{first_fitting_or, nothing_but, always, otherwise_then, noted}
+use Rattle.turn_scene.specs.Tests.{in_the_depths, anger}
+use Rattle.turn_scene.specs.Effects.{change, follow}
+use Rattle.cave_world.specs.declared.tables.Table.TheVariants as table
 use Rattle.turn_dwarves.specs.Band.{with_anger}
 use Rattle.turn_dwarves.specs.Knives.{no_attack, raid}
 use Rattle.turn_dwarves.specs.Lines.{tell_attack}

@@ -1,18 +1,19 @@
 -- What the five dwarves do, one after another.
-use Rattle.std.specs.Prelude.{ℕ, ◌+◌, ◌-◌, ◌*◌, ◌≤◌, nat_lt, List, [], ◌∷◌}
-use Rattle.turn_rules.specs.cave_words.Stream.{number_drawn}
-use Rattle.turn_rules.specs.cave_world.declared.dwarves.Dwarf.{Dwarf}
-use Rattle.turn_rules.specs.cave_world.declared.dwarves.Knife.{Knife}
-use Rattle.turn_rules.specs.cave_world.declared.dwarves.Knife.TheVariants as knife
-use Rattle.turn_rules.specs.cave_world.declared.state.State.{State}
-use Rattle.turn_rules.specs.cave_world.Limits.{AWAKE, PIRATE}
-use Rattle.turn_rules.specs.turn_things.Effects.{with_dwarves}
-use Rattle.turn_rules.specs.Rows.{Deed, Act, Test, Effect, Row, deed, answer_row, row_then}
-use Rattle.turn_rules.specs.Rows.{row_by_draw, first_fitting_or, nothing_but, otherwise_row}
-use Rattle.turn_rules.specs.Rows.{otherwise_then, noted, answer_by_table}
-use Rattle.turn_rules.specs.Tests.{no}
-use Rattle.turn_rules.specs.Effects.{in_scene, change, for_each_from}
-use Rattle.turn_rules.specs.rule_rows.declared.tables.Table.TheVariants as table
+use Rattle.std.specs.Prelude.{ℕ, ◌+◌, ◌-◌, ◌*◌, ◌≤◌, nat_lt, Bool, true, false, List, [], ◌∷◌}
+use Rattle.cave_words.specs.Stream.{number_drawn}
+use Rattle.cave_world.specs.declared.dwarves.Dwarf.{Dwarf}
+use Rattle.cave_world.specs.declared.dwarves.Knife.{Knife}
+use Rattle.cave_world.specs.declared.dwarves.Knife.TheVariants as knife
+use Rattle.cave_world.specs.declared.state.State.{State}
+use Rattle.cave_world.specs.Limits.{AWAKE, PIRATE}
+use Rattle.turn_scene.specs.Parts.{with_dwarves}
+use Rattle.turn_scene.specs.Rows.{Deed, Act, Test, Effect, Row, deed, answer_row, row_then}
+use Rattle.turn_scene.specs.Rows.{row_by_draw, first_fitting_or, nothing_but, otherwise_row}
+use Rattle.turn_scene.specs.Rows.{otherwise_then, noted, answer_by_table, plain_row, otherwise}
+use Rattle.turn_scene.specs.Rows.{by_table}
+use Rattle.turn_scene.specs.Tests.{no}
+use Rattle.turn_scene.specs.Effects.{in_scene, change, for_each_from}
+use Rattle.cave_world.specs.declared.tables.Table.TheVariants as table
 use Rattle.turn_dwarves.specs.Band.{dwarf_of, gone, sees_player, was_with_player}
 use Rattle.turn_dwarves.specs.Moving.{after_dwarf_move}
 use Rattle.turn_dwarves.specs.declared.knives.Attack.{Attack}
@@ -58,18 +59,26 @@ count_knife d = let a = attack d in with_attack (record a { knives = a.knives + 
 abbrev pub count_hit : Effect Raider
 count_hit d = let a = attack d in with_attack (record a { hits = a.hits + 1 }) d
 
--- the knife once one was thrown here; one that vanished stays so
-abbrev pub thrown_knife : ℕ → Knife → Knife
-thrown_knife here knife.Vanished = knife.Vanished
-thrown_knife here _ = knife.At here
+abbrev pub is_vanished : Knife → Bool
+is_vanished knife.Vanished = true
+is_vanished _ = false
 
--- a knife was thrown here
-unfoldable pub with_knife_here : State → State
-with_knife_here s =
-    with_dwarves (record (s.dwarves) { knife = thrown_knife s.trail.here s.dwarves.knife }) s
+-- it was said that knives vanish
+abbrev pub knives_vanish : Test Raider
+knives_vanish d = is_vanished d.scene.state.dwarves.knife
+
+-- a knife lies where the player is
+abbrev pub with_knife_here : State → State
+with_knife_here s = with_dwarves (record (s.dwarves) { knife = knife.At s.trail.here }) s
+
+-- what becomes of a knife that is thrown
+unfoldable pub thrown_rows : List (Row Raider (Unit {0}))
+thrown_rows =
+    plain_row (knives_vanish ∷ []) []
+    ∷ otherwise (change with_knife_here ∷ [])
 
 abbrev pub throw_knife : Effect Raider
-throw_knife d = change with_knife_here d
+throw_knife d = by_table table.KnifeThrown thrown_rows d
 
 -- among how many cases it is drawn whether a knife hits
 abbrev pub KNIFE_CASES : ℕ
@@ -100,9 +109,11 @@ abbrev pub move_attacker : Effect Raider
 move_attacker d = in_scene (after_dwarf_move d.cave d.about.number d.scene) d
 
 -- a dwarf that is gone does nothing; any other moves, and may threaten the player then
+abbrev pub dwarf_turn_rows : List (Row Raider (Act Attack))
+dwarf_turn_rows = answer_row (gone attacker ∷ []) (nothing_but attack) ∷ []
+
 unfoldable pub dwarf_turn : Deed Raider → Act Attack
-dwarf_turn d = answer_by_table table.DwarfTurn
-    (answer_row (gone attacker ∷ []) (nothing_but attack) ∷ [])
+dwarf_turn d = answer_by_table table.DwarfTurn dwarf_turn_rows
     (otherwise_row (move_attacker ∷ []) threaten) d
 
 -- a dwarf acts, and what it does is counted

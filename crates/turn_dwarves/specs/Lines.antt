@@ -1,13 +1,13 @@
 -- What is printed of the dwarves and their knives.
 use Rattle.std.specs.Prelude.{ℕ, ◌==◌, List, [], ◌∷◌}
-use Rattle.turn_rules.specs.data_rows.declared.role.Role.TheVariants as role
-use Rattle.turn_rules.specs.cave_world.declared.part.NumberLine.TheVariants as line
-use Rattle.turn_rules.specs.cave_world.declared.part.Part.TheVariants as part
-use Rattle.turn_rules.specs.cave_world.Limits.{AWAKE}
-use Rattle.turn_rules.specs.Rows.{Test, Effect, Row, plain_row, otherwise, by_table}
-use Rattle.turn_rules.specs.Tests.{no, anger}
-use Rattle.turn_rules.specs.Effects.{change, say, tell}
-use Rattle.turn_rules.specs.rule_rows.declared.tables.Table.TheVariants as table
+use Rattle.data_rows.specs.declared.role.Role.TheVariants as role
+use Rattle.cave_world.specs.declared.part.NumberLine.TheVariants as line
+use Rattle.cave_world.specs.declared.part.Part.TheVariants as part
+use Rattle.cave_world.specs.Limits.{AWAKE}
+use Rattle.turn_scene.specs.Rows.{Test, Effect, Row, plain_row, otherwise, by_table}
+use Rattle.turn_scene.specs.Tests.{no, anger}
+use Rattle.turn_scene.specs.Effects.{change, say, tell}
+use Rattle.cave_world.specs.declared.tables.Table.TheVariants as table
 use Rattle.turn_dwarves.specs.Band.{with_anger}
 use Rattle.turn_dwarves.specs.declared.knives.Attack.{Attack}
 

@@ -1,12 +1,13 @@
 -- How a dwarf moves, and whether it sees the player then.
-use Rattle.std.specs.Prelude.{ℕ, true, false, [], ◌∷◌, length, slice_index_or}
-use Rattle.turn_rules.specs.cave_data.CaveView.{CaveView}
-use Rattle.turn_rules.specs.cave_words.Stream.{number_drawn}
-use Rattle.turn_rules.specs.cave_world.declared.dwarves.Dwarf.{Dwarf}
-use Rattle.turn_rules.specs.turn_scene.Scene.{Scene, with_state, after_draw}
-use Rattle.turn_rules.specs.Rows.{Deed, Act, deed, act_of, answer_row, otherwise_row, act_by_table}
-use Rattle.turn_rules.specs.Tests.{here, in_the_depths}
-use Rattle.turn_rules.specs.rule_rows.declared.tables.Table.TheVariants as table
+use Rattle.std.specs.Prelude.{ℕ, true, false, List, [], ◌∷◌, length, slice_index_or}
+use Rattle.cave_data.specs.CaveView.{CaveView}
+use Rattle.cave_words.specs.Stream.{number_drawn}
+use Rattle.cave_world.specs.declared.dwarves.Dwarf.{Dwarf}
+use Rattle.turn_scene.specs.Scene.{Scene, with_state, after_draw}
+use Rattle.turn_scene.specs.Rows.{Deed, Act, Row, deed, act_of, answer_row, otherwise_row}
+use Rattle.turn_scene.specs.Rows.{act_by_table}
+use Rattle.turn_scene.specs.Tests.{here, in_the_depths}
+use Rattle.cave_world.specs.declared.tables.Table.TheVariants as table
 use Rattle.turn_dwarves.specs.Band.{dwarf_of, with_dwarf, sees_player, is_with_player}
 use Rattle.turn_dwarves.specs.Band.{was_with_player}
 use Rattle.turn_dwarves.specs.Ahead.{ways_of_dwarf}
@@ -30,11 +31,14 @@ abbrev pub loses_sight : Deed Dwarf → Dwarf
 loses_sight d = record d.about { has_seen = false }
 
 -- what becomes of a dwarf once it has gone to another place
-unfoldable pub dwarf_in_sight : Deed Dwarf → Act Dwarf
-dwarf_in_sight d = act_by_table table.DwarfSight
-    (answer_row (sees_player mover ∷ in_the_depths ∷ []) comes
+abbrev pub dwarf_sight_rows : List (Row Dwarf Dwarf)
+dwarf_sight_rows =
+    answer_row (sees_player mover ∷ in_the_depths ∷ []) comes
     ∷ answer_row (is_with_player mover ∷ []) comes
-    ∷ answer_row (was_with_player mover ∷ []) comes ∷ [])
+    ∷ answer_row (was_with_player mover ∷ []) comes ∷ []
+
+unfoldable pub dwarf_in_sight : Deed Dwarf → Act Dwarf
+dwarf_in_sight d = act_by_table table.DwarfSight dwarf_sight_rows
     (otherwise_row [] loses_sight) d
 
 -- a dwarf goes a way

@@ -1,18 +1,18 @@
 -- What the pirate does.
 use Rattle.std.specs.Prelude.{pos, ◌+◌, ◌==◌, not, List, [], ◌∷◌}
-use Rattle.turn_rules.specs.data_rows.declared.place_role.PlaceRole.TheVariants as place
-use Rattle.turn_rules.specs.data_rows.declared.role.Role.TheVariants as role
-use Rattle.turn_rules.specs.cave_data.CaveView.{CaveView}
-use Rattle.turn_rules.specs.cave_words.declared.named.Named.TheVariants as name
-use Rattle.turn_rules.specs.cave_world.Limits.{PIRATE}
-use Rattle.turn_rules.specs.cave_world.Sight.{LAMP_ON}
-use Rattle.turn_rules.specs.cave_world.declared.dwarves.Dwarf.{Dwarf}
-use Rattle.turn_rules.specs.turn_scene.Scene.{Scene}
-use Rattle.turn_rules.specs.Rows.{Deed, Test, Effect, Row, deed, plain_row, chance_row}
-use Rattle.turn_rules.specs.Rows.{otherwise, by_table}
-use Rattle.turn_rules.specs.Tests.{the, no, near, prop, prop_from, nowhere, player_at, percent}
-use Rattle.turn_rules.specs.Effects.{in_scene, say, send}
-use Rattle.turn_rules.specs.rule_rows.declared.tables.Table.TheVariants as table
+use Rattle.data_rows.specs.declared.place_role.PlaceRole.TheVariants as place
+use Rattle.data_rows.specs.declared.role.Role.TheVariants as role
+use Rattle.cave_data.specs.CaveView.{CaveView}
+use Rattle.cave_words.specs.declared.named.Named.TheVariants as name
+use Rattle.cave_world.specs.Limits.{PIRATE}
+use Rattle.cave_world.specs.Sight.{LAMP_ON}
+use Rattle.cave_world.specs.declared.dwarves.Dwarf.{Dwarf}
+use Rattle.turn_scene.specs.Scene.{Scene}
+use Rattle.turn_scene.specs.Rows.{Deed, Test, Effect, Row, deed, plain_row, chance_row}
+use Rattle.turn_scene.specs.Rows.{otherwise, by_table}
+use Rattle.turn_scene.specs.Tests.{the, no, near, prop, prop_from, nowhere, player_at, percent}
+use Rattle.turn_scene.specs.Effects.{in_scene, say, send}
+use Rattle.cave_world.specs.declared.tables.Table.TheVariants as table
 use Rattle.turn_dwarves.specs.Band.{dwarf_of, gone, sees_player}
 use Rattle.turn_dwarves.specs.Booty.{carries_booty, treasure_near, chest, message, take_booty}
 use Rattle.turn_dwarves.specs.Booty.{hide_chest}

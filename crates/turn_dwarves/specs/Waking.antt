@@ -1,18 +1,18 @@
 -- How the dwarves wake.
 use Rattle.std.specs.Prelude.{ℕ, List, [], ◌∷◌}
-use Rattle.turn_rules.specs.data_rows.declared.place_role.PlaceRole.TheVariants as landmark
-use Rattle.turn_rules.specs.data_rows.declared.role.Role.TheVariants as role
-use Rattle.turn_rules.specs.cave_data.CaveView.{CaveView}
-use Rattle.turn_rules.specs.cave_words.Stream.{number_drawn}
-use Rattle.turn_rules.specs.cave_words.declared.named.Named.TheVariants as name
-use Rattle.turn_rules.specs.cave_world.declared.state.State.{State}
-use Rattle.turn_rules.specs.cave_world.Limits.{AWAKE, PIRATE}
-use Rattle.turn_rules.specs.turn_scene.Scene.{Scene}
-use Rattle.turn_rules.specs.Rows.{Deed, Effect, Row, deed, plain_row, chance_row, otherwise, noted}
-use Rattle.turn_rules.specs.Rows.{by_rows_about, by_table, after_drawing}
-use Rattle.turn_rules.specs.Tests.{the, no, in_the_depths, percent, is_bound, place_of}
-use Rattle.turn_rules.specs.Effects.{in_state, in_scene, change, say, bring, for_each_from}
-use Rattle.turn_rules.specs.rule_rows.declared.tables.Table.TheVariants as table
+use Rattle.data_rows.specs.declared.place_role.PlaceRole.TheVariants as landmark
+use Rattle.data_rows.specs.declared.role.Role.TheVariants as role
+use Rattle.cave_data.specs.CaveView.{CaveView}
+use Rattle.cave_words.specs.Stream.{number_drawn}
+use Rattle.cave_words.specs.declared.named.Named.TheVariants as name
+use Rattle.cave_world.specs.declared.state.State.{State}
+use Rattle.cave_world.specs.Limits.{AWAKE, PIRATE}
+use Rattle.turn_scene.specs.Scene.{Scene}
+use Rattle.turn_scene.specs.Rows.{Deed, Effect, Row, deed, plain_row, chance_row, otherwise, noted}
+use Rattle.turn_scene.specs.Rows.{by_rows_about, by_table, after_drawing}
+use Rattle.turn_scene.specs.Tests.{the, no, in_the_depths, percent, is_bound, place_of}
+use Rattle.turn_scene.specs.Effects.{in_state, in_scene, change, say, bring, for_each_from}
+use Rattle.cave_world.specs.declared.tables.Table.TheVariants as table
 use Rattle.turn_dwarves.specs.Band.{dwarf_of, with_dwarf, with_anger, its_dwarf, is_with_player}
 use Rattle.turn_dwarves.specs.declared.knives.Attack.{Attack}
 
@@ -40,8 +40,8 @@ with_dwarf_at number place s =
     let dwarf = dwarf_of s number in
     with_dwarf number (record dwarf { place = place; last = place }) s
 
-abbrev pub settle : (Deed ℕ → ℕ) → Effect ℕ
-settle place d = in_state (with_dwarf_at d.about (place d) d.scene.state) d
+abbrev pub settle_dwarf : (Deed ℕ → ℕ) → Effect ℕ
+settle_dwarf place d = in_state (with_dwarf_at d.about (place d) d.scene.state) d
 
 -- where the dwarf is
 abbrev pub its_place : Deed ℕ → ℕ
@@ -52,8 +52,8 @@ its_place d = (its_dwarf d).place
 unfoldable pub apart_rows : List (Row ℕ (Unit {0}))
 apart_rows =
     plain_row (is_with_player its_dwarf ∷ is_bound landmark.Dwarfalt ∷ [])
-    (settle (place_of landmark.Dwarfalt) ∷ [])
-    ∷ otherwise (settle its_place ∷ [])
+    (settle_dwarf (place_of landmark.Dwarfalt) ∷ [])
+    ∷ otherwise (settle_dwarf its_place ∷ [])
 
 -- a dwarf is kept apart from the player
 unfoldable pub keep_one_apart : CaveView → ℕ → Scene → Scene

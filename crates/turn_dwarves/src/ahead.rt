@@ -1,14 +1,15 @@
 ghost use Rattle.std.specs.Prelude.{◌≡◌, take};
-ghost use Rattle.turn_rules.specs.data_rows.RowViews.{going};
-ghost use Rattle.turn_rules.specs.turn_scene.Scene.{cave_of};
-ghost use Rattle.turn_rules.specs.data_rows.Targets.{EndsWithin};
+ghost use Rattle.data_rows.specs.RowViews.{going};
+ghost use Rattle.turn_scene.specs.Scene.{cave_of};
+ghost use Rattle.data_rows.specs.Targets.{EndsWithin};
 ghost use Rattle.turn_dwarves.specs.Ahead.{is_haunt, haunt_ahead, place_ahead, places_ahead};
 
 use crate::haunt::Haunt;
 use arrayvec::ArrayVec;
-use turn_things::{
-    Condition, Destination, Dwarf, Place, PlaceCondition, Row, Rules, forced, has_condition_of,
-};
+use cave_world::{Dwarf, forced};
+use data_rows::{Condition, Destination, Row};
+use turn_scene::{PlaceCondition, Rules, has_condition_of};
+use world_objects::Place;
 
 /// The most places among which a dwarf chooses.
 pub const MAX_CANDIDATES: usize = 19;

@@ -2,9 +2,9 @@
 
 ghost use Rattle.std.specs.Prelude.{◌≡◌, ◌<◌};
 ghost use Rattle.turn_dwarves.specs.Band.{dwarf_of, with_dwarf};
-ghost use Rattle.turn_rules.specs.cave_world.Limits.{dwarf_count};
+ghost use Rattle.cave_world.specs.Limits.{dwarf_count};
 
-use turn_things::{Dwarf, State};
+use cave_world::{Dwarf, State};
 
 /// The dwarf of a number.
 #[tactic(auto, unfolding(crate::specs::Band::dwarf_of))]

@@ -1,24 +1,25 @@
 //! What the pirate does to the treasures.
 
 ghost use Rattle.std.specs.Prelude.{◌≡◌};
-ghost use Rattle.turn_rules.specs.turn_scene.Bounds.{GoesOnSaying, HasRoom};
-ghost use Rattle.turn_rules.specs.turn_scene.Scene.{cave_of, scene_of, thing};
-ghost use Rattle.turn_rules.specs.turn_things.Places.{place_named};
-ghost use Rattle.turn_rules.specs.cave_words.declared.named.Named.TheVariants as name;
-ghost use Rattle.turn_rules.specs.data_rows.declared.place_role.PlaceRole.TheVariants as role;
-ghost use Rattle.turn_rules.specs.turn_things.Treasures.{treasures};
-ghost use Rattle.turn_rules.specs.Effects.{after_sending};
-ghost use Rattle.turn_rules.specs.Rows.{Does, deed};
+ghost use Rattle.turn_scene.specs.Bounds.{GoesOnSaying, HasRoom};
+ghost use Rattle.turn_scene.specs.Scene.{cave_of, scene_of, thing};
+ghost use Rattle.turn_scene.specs.Places.{place_named};
+ghost use Rattle.cave_words.specs.declared.named.Named.TheVariants as name;
+ghost use Rattle.data_rows.specs.declared.place_role.PlaceRole.TheVariants as role;
+ghost use Rattle.turn_scene.specs.Treasures.{treasures};
+ghost use Rattle.turn_scene.specs.Effects.{after_sending};
+ghost use Rattle.turn_scene.specs.Rows.{Does, deed};
 ghost use Rattle.turn_dwarves.specs.Booty.{fair, is_carried_booty, carries_booty, treasure_near};
-ghost use Rattle.turn_dwarves.specs.Booty.{steal, after_thefts, with_pirate_home, take_booty};
+ghost use Rattle.turn_dwarves.specs.Booty.{steal, after_stealing_all, with_pirate_home, take_booty};
 ghost use Rattle.turn_dwarves.specs.Booty.{hide_chest};
 
 use crate::band::{dwarf_of, set_dwarf};
-use turn_things::treasures::{FIRST_TREASURE, LAST_TREASURE};
-use turn_things::{
-    Dwarf, Named, Object, PIRATE, Place, PlaceRole, Role, RowNotes, Rules, Scene, State, Table,
-    is_fixed, is_home_here, is_in_hand, is_near, place_named,
-};
+use cave_words::Named;
+use cave_world::{Dwarf, PIRATE, RowNotes, State, Table};
+use data_rows::{PlaceRole, Role};
+use turn_scene::treasures::{FIRST_TREASURE, LAST_TREASURE};
+use turn_scene::{Rules, Scene, is_carried, is_fixed, is_home_here, is_near, place_named};
+use world_objects::{Object, Place};
 
 /// An object is moved to a place, if there is the place.
 fn send(object: Object, place: Option<Place>, state: &mut State)
@@ -44,7 +45,7 @@ fn is_fair<N: RowNotes>(rules: &Rules<'_>, object: Object, scene: &Scene<'_, N>)
 fn is_carried_booty<N: RowNotes>(rules: &Rules<'_>, object: Object, scene: &Scene<'_, N>) -> bool
     ensures { result ≡ is_carried_booty (cave_of rules.now) (scene_of N.rows scene.now) object }
 {
-    is_fair(rules, object, scene) && is_in_hand(rules, scene.state, object)
+    is_fair(rules, object, scene) && is_carried(rules, scene.state, object)
 }
 
 /// Whether the player carries something that the pirate takes.
@@ -93,7 +94,7 @@ fn steal<N: RowNotes>(rules: &Rules<'_>, object: Object, scene: &mut Scene<'_, N
         scene.note(Table::Theft, 1);
         return;
     }
-    if is_in_hand(rules, scene.state, object) {
+    if is_carried(rules, scene.state, object) {
         scene.note(Table::Theft, 2);
         bring_to_chest(rules, object, scene.state);
         return;
@@ -108,7 +109,7 @@ fn steal<N: RowNotes>(rules: &Rules<'_>, object: Object, scene: &mut Scene<'_, N
 #[tactic(auto, using(crate::proofs::Treasures::walking))]
 fn steal_all<N: RowNotes>(rules: &Rules<'_>, scene: &mut Scene<'_, N>)
     ensures scene { scene_of N.rows scene.new
-        ≡ after_thefts (cave_of rules.now) treasures (scene_of N.rows scene.old) }
+        ≡ after_stealing_all (cave_of rules.now) treasures (scene_of N.rows scene.old) }
     ensures says { GoesOnSaying 0 scene.old scene.new }
 {
     for number in FIRST_TREASURE..LAST_TREASURE + 1 {

@@ -1,7 +1,7 @@
 ghost use Rattle.std.specs.Prelude.{◌≡◌};
-ghost use Rattle.turn_rules.specs.turn_scene.Bounds.{GoesOnSaying, HasRoom, parts_of_dwarves};
-ghost use Rattle.turn_rules.specs.turn_scene.Scene.{scene_of, cave_of};
-ghost use Rattle.turn_rules.specs.Rows.{act_of, after_all, deed, nothing_but};
+ghost use Rattle.turn_scene.specs.Bounds.{GoesOnSaying, HasRoom, parts_of_dwarves};
+ghost use Rattle.turn_scene.specs.Scene.{scene_of, cave_of};
+ghost use Rattle.turn_scene.specs.Rows.{act_of, after_all, deed, nothing_but};
 ghost use Rattle.turn_dwarves.specs.Dwarves.{is_struck, awake, encounter_dwarves};
 ghost use Rattle.turn_dwarves.specs.Knives.{no_attack};
 
@@ -9,7 +9,8 @@ use crate::knives::raid;
 use crate::lines::tell_attack;
 use crate::pirate::send_pirate;
 use crate::waking::{ASLEEP, STIRRING, is_in_depths, set_anger, try_waking};
-use turn_things::{RowNotes, Rules, Scene, Table};
+use cave_world::{RowNotes, Table};
+use turn_scene::{Rules, Scene};
 
 /// The dwarves sleep, stir, or are awake, where the player arrives. Returns whether a knife hit the
 /// player.

@@ -1,7 +1,7 @@
 ghost use Rattle.std.specs.Prelude.{◌≡◌};
 
 use std::marker::Model;
-use turn_things::Place;
+use world_objects::Place;
 
 /// A place where a dwarf may go.
 #[derive(Clone, Copy, Debug, PartialEq, Eq)]

@@ -1,15 +1,16 @@
-ghost use Rattle.std.specs.Prelude.{◌≡◌, ◌<◌, ◌+◌};
-ghost use Rattle.turn_rules.specs.turn_scene.Bounds.{GoesOnSaying};
-ghost use Rattle.turn_rules.specs.turn_scene.Scene.{cave_of, scene_of};
-ghost use Rattle.turn_rules.specs.cave_world.Limits as defined;
-ghost use Rattle.turn_rules.specs.Rows.{PlaysBy, deed};
-ghost use Rattle.turn_dwarves.specs.Knives.{IsByUpTo, raider, thrown_knife, with_knife_here};
-ghost use Rattle.turn_dwarves.specs.Knives.{threaten, dwarf_turn, no_attack, raid};
+ghost use Rattle.std.specs.Prelude.{◌≡◌, ◌<◌, ◌+◌, [], ◌∷◌};
+ghost use Rattle.turn_scene.specs.Bounds.{GoesOnSaying};
+ghost use Rattle.turn_scene.specs.Scene.{cave_of, scene_of};
+ghost use Rattle.cave_world.specs.Limits as defined;
+ghost use Rattle.turn_scene.specs.Rows.{Does, PlaysBy, deed};
+ghost use Rattle.turn_dwarves.specs.Knives.{IsByUpTo, raider, throw_knife, threaten, dwarf_turn};
+ghost use Rattle.turn_dwarves.specs.Knives.{no_attack, raid};
 
 use crate::band::dwarf_of;
 use crate::moving::move_dwarf;
 use crate::waking::AWAKE;
-use turn_things::{Knife, PIRATE, Place, RowNotes, Rules, Scene, State, Table};
+use cave_world::{Knife, PIRATE, RowNotes, Table};
+use turn_scene::{Rules, Scene};
 
 /// Among how many cases it is drawn whether a knife hits.
 const KNIFE_CASES: u32 = 1000;
@@ -77,22 +78,24 @@ impl Attack {
     }
 }
 
-/// The knife once one was thrown here. One that vanished stays so.
-fn thrown_knife(here: Place, knife: Knife) -> Knife
-    ensures { result ≡ thrown_knife here knife }
+/// A knife is thrown, and lies where the player is, unless it was said that knives vanish.
+#[tactic(auto, unfolding(crate::specs::Knives::thrown_rows))]
+fn throw_knife<N: RowNotes>(
+    rules: &Rules<'_>,
+    number: usize,
+    attack: Attack,
+    scene: &mut Scene<'_, N>,
+)
+    ensures rows { Does N.rows (throw_knife ∷ []) 0 rules.now (raider number attack)
+        scene.old scene.new }
 {
-    match knife {
-        Knife::Unthrown | Knife::At(_) => Knife::At(here),
-        Knife::Vanished => Knife::Vanished,
+    match scene.state.dwarves.knife {
+        Knife::Vanished => scene.note(Table::KnifeThrown, 1),
+        Knife::Unthrown | Knife::At(_) => {
+            scene.note(Table::KnifeThrown, 2);
+            scene.state.dwarves.knife = Knife::At(scene.state.trail.here);
+        }
     }
-}
-
-/// A knife is thrown where the player is.
-#[tactic(auto, unfolding(crate::specs::Knives::with_knife_here))]
-fn throw_knife(state: &mut State)
-    ensures { state.new ≡ with_knife_here state.old }
-{
-    state.dwarves.knife = thrown_knife(state.trail.here, state.dwarves.knife);
 }
 
 /// What a dwarf does once it moved: one that sees the player and was here before throws a knife. It
@@ -123,11 +126,11 @@ fn threaten<N: RowNotes>(
         * u32::from(scene.state.dwarves.anger.number().saturating_sub(AWAKE));
     if scene.state.stream.draw(KNIFE_CASES) < chances {
         scene.note(Table::Threats, 3);
-        throw_knife(scene.state);
+        throw_knife(rules, number, attack, scene);
         return attack.count_dwarf().count_knife().count_hit();
     }
     scene.note(Table::Threats, 4);
-    throw_knife(scene.state);
+    throw_knife(rules, number, attack, scene);
     attack.count_dwarf().count_knife()
 }
 

@@ -1,15 +1,16 @@
 ghost use Rattle.std.specs.Prelude.{◌≡◌, [], ◌∷◌};
-ghost use Rattle.turn_rules.specs.turn_scene.Bounds.{GoesOnSaying, HasRoom, parts_of_attack};
-ghost use Rattle.turn_rules.specs.turn_scene.Bounds.{parts_of_throws};
-ghost use Rattle.turn_rules.specs.turn_scene.Scene.{after_telling, scene_of};
-ghost use Rattle.turn_rules.specs.cave_world.declared.part.Part.TheVariants as part;
-ghost use Rattle.turn_rules.specs.Rows.{Does, by_table};
-ghost use Rattle.turn_rules.specs.rule_rows.declared.tables.Table.TheVariants as table;
+ghost use Rattle.turn_scene.specs.Bounds.{GoesOnSaying, HasRoom, parts_of_attack, parts_of_throws};
+ghost use Rattle.turn_scene.specs.Scene.{after_telling, scene_of};
+ghost use Rattle.cave_world.specs.declared.part.Part.TheVariants as part;
+ghost use Rattle.turn_scene.specs.Rows.{Does, by_table};
+ghost use Rattle.cave_world.specs.declared.tables.Table.TheVariants as table;
 ghost use Rattle.turn_dwarves.specs.Lines.{dwarf_rows, provoked_rows, knife_rows, tell_attack};
 
 use crate::knives::Attack;
 use crate::waking::{AWAKE, set_anger};
-use turn_things::{NumberLine, Part, Role, RowNotes, Rules, Scene, Table};
+use cave_world::{NumberLine, Part, RowNotes, Table};
+use data_rows::Role;
+use turn_scene::{Rules, Scene};
 
 /// How angry dwarves are that threw knives for the first time.
 const PROVOKED: u16 = 3;

@@ -1,9 +1,9 @@
 ghost use Rattle.std.specs.Prelude.{◌≡◌, ◌<◌, ◌≤◌, true, length, take, slice_index_or};
-ghost use Rattle.turn_rules.specs.cave_words.Stream.{next, number_drawn};
-ghost use Rattle.turn_rules.specs.turn_scene.Bounds.{GoesOnSaying};
-ghost use Rattle.turn_rules.specs.turn_scene.Scene.{cave_of, scene_of};
-ghost use Rattle.turn_rules.specs.cave_world.Limits.{dwarf_count};
-ghost use Rattle.turn_rules.specs.Rows.{PlaysBy};
+ghost use Rattle.cave_words.specs.Stream.{next, number_drawn};
+ghost use Rattle.turn_scene.specs.Bounds.{GoesOnSaying};
+ghost use Rattle.turn_scene.specs.Scene.{cave_of, scene_of};
+ghost use Rattle.cave_world.specs.Limits.{dwarf_count};
+ghost use Rattle.turn_scene.specs.Rows.{PlaysBy};
 ghost use Rattle.turn_dwarves.specs.Ahead as defined;
 ghost use Rattle.turn_dwarves.specs.Moving.{chosen_way, dwarf_in_sight, after_dwarf_move};
 
@@ -12,7 +12,10 @@ use crate::band::{dwarf_of, set_dwarf};
 use crate::haunt::Haunt;
 use crate::waking::is_in_depths;
 use arrayvec::ArrayVec;
-use turn_things::{Dwarf, PIRATE, Place, RowNotes, Rules, Scene, Stream, Table};
+use cave_words::Stream;
+use cave_world::{Dwarf, PIRATE, RowNotes, Table};
+use turn_scene::{Rules, Scene};
+use world_objects::Place;
 
 /// Draws one of the first of some places.
 fn draw_place(places: &ArrayVec<Haunt, MAX_SOUGHT>, count: usize, stream: &mut Stream) -> Place

@@ -1,16 +1,15 @@
 ghost use Rattle.std.specs.Prelude.{◌≡◌, [], ◌∷◌, pos, not, ◌==◌, ◌&&◌, int_le};
-ghost use Rattle.turn_rules.specs.cave_world.Limits as limit;
-ghost use Rattle.turn_rules.specs.turn_scene.Bounds.{GoesOnSaying, HasRoom};
-ghost use Rattle.turn_rules.specs.turn_scene.Scene.{scene_of, cave_of, thing};
-ghost use Rattle.turn_rules.specs.world_objects.Objects.{prop_of};
-ghost use Rattle.turn_rules.specs.cave_words.declared.named.Named.TheVariants as name;
-ghost use Rattle.turn_rules.specs.data_rows.declared.place_role.PlaceRole.TheVariants as place;
-ghost use Rattle.turn_rules.specs.cave_world.Sight as defined;
-ghost use Rattle.turn_rules.specs.turn_things.Places.{place_named};
-ghost use Rattle.turn_rules.specs.world_objects.Objects.{is_place};
-ghost use Rattle.turn_rules.specs.Rows.{Does, all_hold, deed, by_table};
-ghost use Rattle.turn_rules.specs.Tests.{the, no, near, prop, nowhere};
-ghost use Rattle.turn_rules.specs.rule_rows.declared.tables.Table.TheVariants as table;
+ghost use Rattle.cave_world.specs.Limits as limit;
+ghost use Rattle.turn_scene.specs.Bounds.{GoesOnSaying, HasRoom};
+ghost use Rattle.turn_scene.specs.Scene.{scene_of, cave_of, thing};
+ghost use Rattle.world_objects.specs.Objects.{prop_of, is_place};
+ghost use Rattle.cave_words.specs.declared.named.Named.TheVariants as name;
+ghost use Rattle.data_rows.specs.declared.place_role.PlaceRole.TheVariants as place;
+ghost use Rattle.cave_world.specs.Sight as defined;
+ghost use Rattle.turn_scene.specs.Places.{place_named};
+ghost use Rattle.turn_scene.specs.Rows.{Does, all_hold, deed, by_table};
+ghost use Rattle.turn_scene.specs.Tests.{the, no, near, prop, nowhere};
+ghost use Rattle.cave_world.specs.declared.tables.Table.TheVariants as table;
 ghost use Rattle.turn_dwarves.specs.Band as band;
 ghost use Rattle.turn_dwarves.specs.Booty.{treasure_near, chest};
 ghost use Rattle.turn_dwarves.specs.Pirate.{one_left, pirate_rows, chase_rows, after_pirate};
@@ -18,10 +17,10 @@ ghost use Rattle.turn_dwarves.specs.Pirate.{one_left, pirate_rows, chase_rows, a
 use crate::band::dwarf_of;
 use crate::booty::{carries_booty, hide_chest, is_treasure_near, put_chest, take_booty};
 use crate::moving::move_dwarf;
-use turn_things::{
-    LAMP_ON, Named, PIRATE, PlaceRole, Role, RowNotes, Rules, Scene, State, Table, has_prop,
-    is_near, is_place, place_named,
-};
+use cave_words::Named;
+use cave_world::{LAMP_ON, PIRATE, RowNotes, State, Table};
+use data_rows::{PlaceRole, Role};
+use turn_scene::{Rules, Scene, has_prop, is_near, is_place, place_named};
 
 /// Whether the chest was seen.
 fn is_chest_seen(rules: &Rules<'_>, state: &State) -> bool

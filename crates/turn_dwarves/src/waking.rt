@@ -1,22 +1,23 @@
 ghost use Rattle.std.specs.Prelude.{◌≡◌, ◌<◌, ◌≤◌, nat_le, [], ◌∷◌};
-ghost use Rattle.turn_rules.specs.turn_scene.Bounds.{GoesOnSaying, HasRoom};
-ghost use Rattle.turn_rules.specs.turn_scene.Scene.{cave_of, scene_of};
-ghost use Rattle.turn_rules.specs.turn_things.Places.{deep_place};
-ghost use Rattle.turn_rules.specs.cave_world.Limits.{MAX_ANGER};
-ghost use Rattle.turn_rules.specs.cave_world.Limits as defined;
-ghost use Rattle.turn_rules.specs.Rows.{Does, by_table};
-ghost use Rattle.turn_rules.specs.rule_rows.declared.tables.Table.TheVariants as table;
+ghost use Rattle.turn_scene.specs.Bounds.{GoesOnSaying, HasRoom};
+ghost use Rattle.turn_scene.specs.Scene.{cave_of, scene_of};
+ghost use Rattle.turn_scene.specs.Places.{deep_place};
+ghost use Rattle.cave_world.specs.Limits.{MAX_ANGER};
+ghost use Rattle.cave_world.specs.Limits as defined;
+ghost use Rattle.turn_scene.specs.Rows.{Does, by_table};
+ghost use Rattle.cave_world.specs.declared.tables.Table.TheVariants as table;
 ghost use Rattle.turn_dwarves.specs.Band.{with_anger};
 ghost use Rattle.turn_dwarves.specs.Knives.{no_attack};
 ghost use Rattle.turn_dwarves.specs.Waking.{without_dwarf, let_one_leave, with_dwarf_at};
 ghost use Rattle.turn_dwarves.specs.Waking.{keep_one_apart, wake, waking_rows};
-ghost use Rattle.turn_rules.specs.Effects.{for_each_from};
+ghost use Rattle.turn_scene.specs.Effects.{for_each_from};
 
 use crate::band::{dwarf_of, set_dwarf};
-use turn_things::{
-    Count, Dwarf, Named, PIRATE, Place, PlaceRole, Role, RowNotes, Rules, Scene, State, Table,
-    deep_place, place_named,
-};
+use cave_words::Named;
+use cave_world::{Count, Dwarf, PIRATE, RowNotes, State, Table};
+use data_rows::{PlaceRole, Role};
+use turn_scene::{Rules, Scene, deep_place, place_named};
+use world_objects::Place;
 
 /// How angry dwarves are who sleep.
 pub const ASLEEP: u16 = 0;

@@ -3,8 +3,8 @@ use Rattle.std.proofs.Common.{◌≡◌, ℕ, ◌+◌, ◌≤◌, Bool, true, fa
 use Rattle.std.proofs.Common.{Some, refl, sym, subst}
 use Rattle.std.specs.Prelude.{IfSome}
 use Rattle.std.proofs.lemmas.Bool.{leb-true}
-use Rattle.turn_score.specs.cave_data.CaveView.{CaveView, ClassEntry, Rated, rating_at_row}
-use Rattle.turn_score.specs.cave_data.CaveView.{class_from, class_of}
+use Rattle.cave_data.specs.CaveView.{CaveView, ClassEntry, Rated, rating_at_row, class_from}
+use Rattle.cave_data.specs.CaveView.{class_of}
 
 -- a class, if there is one, reaches up to a score
 abbrev Reaches : ℕ → Option Rated → Type 0

@@ -1,23 +1,23 @@
 -- How a game ends, and what a death does.
 use Rattle.std.specs.Prelude.{ℕ, ◌+◌, ◌-◌, false, List, [], ◌∷◌, Option, Some, None, min, is_some}
 use Rattle.std.specs.Prelude.{option_map, unwrap_or}
-use Rattle.turn_score.specs.data_rows.declared.role.Role.TheVariants as role
-use Rattle.turn_score.specs.cave_data.CaveView.{CaveView, Rated, class_of}
-use Rattle.turn_score.specs.cave_world.declared.ending.Ending.{Ending}
-use Rattle.turn_score.specs.cave_world.declared.ending.Ending.TheVariants as ending
-use Rattle.turn_score.specs.cave_world.declared.ending.Question.TheVariants as question
-use Rattle.turn_score.specs.cave_world.declared.part.NumberLine.TheVariants as line
-use Rattle.turn_score.specs.cave_world.declared.part.Part.TheVariants as part
-use Rattle.turn_score.specs.cave_world.State.{LIVES}
-use Rattle.turn_score.specs.cave_world.declared.state.State.{State}
-use Rattle.turn_score.specs.turn_scene.Scene.{Scene, with_state}
-use Rattle.turn_score.specs.turn_things.Effects.{with_tallies}
-use Rattle.turn_score.specs.Score.{score_of, max_score_of}
-use Rattle.turn_score.specs.rule_rows.declared.tables.Table.TheVariants as table
-use Rattle.turn_rules.specs.Rows.{Deed, Test, Effect, Row, deed, plain_row, after_all, by_table}
-use Rattle.turn_rules.specs.Rows.{otherwise}
-use Rattle.turn_rules.specs.Tests.{cave_closing}
-use Rattle.turn_rules.specs.Effects.{in_scene, change, follow, say, tell}
+use Rattle.data_rows.specs.declared.role.Role.TheVariants as role
+use Rattle.cave_data.specs.CaveView.{CaveView, Rated, class_of}
+use Rattle.cave_world.specs.declared.ending.Ending.{Ending}
+use Rattle.cave_world.specs.declared.ending.Ending.TheVariants as ending
+use Rattle.cave_world.specs.declared.ending.Question.TheVariants as question
+use Rattle.cave_world.specs.declared.part.NumberLine.TheVariants as line
+use Rattle.cave_world.specs.declared.part.Part.TheVariants as part
+use Rattle.cave_world.specs.State.{LIVES}
+use Rattle.cave_world.specs.declared.state.State.{State}
+use Rattle.turn_scene.specs.Scene.{Scene, with_state}
+use Rattle.turn_scene.specs.Parts.{with_tallies}
+use Rattle.turn_ends.specs.Score.{score_of, max_score_of}
+use Rattle.cave_world.specs.declared.tables.Table.TheVariants as table
+use Rattle.turn_scene.specs.Rows.{Deed, Test, Effect, Row, deed, plain_row, after_all, by_table}
+use Rattle.turn_scene.specs.Rows.{otherwise}
+use Rattle.turn_scene.specs.Tests.{cave_closing}
+use Rattle.turn_scene.specs.Effects.{in_scene, change, follow, say, tell}
 use Rattle.turn_ends.specs.Questions.{ask}
 
 abbrev pub score_now : Deed (Unit {0}) → ℕ

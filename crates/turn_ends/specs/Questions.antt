@@ -1,21 +1,21 @@
 -- What questions ask.
 use Rattle.std.specs.Prelude.{ℕ, Bool, true, false, List, [], ◌∷◌, Option, Some, None}
 use Rattle.std.specs.FinMap as map
-use Rattle.turn_score.specs.data_rows.declared.role.Role.TheVariants as role
-use Rattle.turn_score.specs.data_rows.declared.rows.Hint.{Hint}
-use Rattle.turn_score.specs.cave_data.CaveView.{CaveView}
-use Rattle.turn_score.specs.cave_world.declared.ending.Question.{Question}
-use Rattle.turn_score.specs.cave_world.declared.ending.Question.TheVariants as question
-use Rattle.turn_score.specs.cave_world.declared.part.NumberLine.TheVariants as line
-use Rattle.turn_score.specs.cave_world.declared.part.Part.TheVariants as part
-use Rattle.turn_score.specs.cave_world.declared.state.State.{State}
-use Rattle.turn_score.specs.turn_scene.Scene.{Scene, after_telling}
-use Rattle.turn_score.specs.Score.{score_of, max_score_of}
-use Rattle.turn_score.specs.rule_rows.declared.tables.Table.TheVariants as table
-use Rattle.turn_rules.specs.Rows.{Effect, Row, deed, plain_row, after_all, otherwise, by_table}
-use Rattle.turn_rules.specs.Rows.{note_row}
-use Rattle.turn_rules.specs.Tests.{deaths}
-use Rattle.turn_rules.specs.Effects.{change, in_scene, when, say, tell}
+use Rattle.data_rows.specs.declared.role.Role.TheVariants as role
+use Rattle.data_rows.specs.declared.rows.Hint.{Hint}
+use Rattle.cave_data.specs.CaveView.{CaveView}
+use Rattle.cave_world.specs.declared.ending.Question.{Question}
+use Rattle.cave_world.specs.declared.ending.Question.TheVariants as question
+use Rattle.cave_world.specs.declared.part.NumberLine.TheVariants as line
+use Rattle.cave_world.specs.declared.part.Part.TheVariants as part
+use Rattle.cave_world.specs.declared.state.State.{State}
+use Rattle.turn_scene.specs.Scene.{Scene, after_telling}
+use Rattle.turn_ends.specs.Score.{score_of, max_score_of}
+use Rattle.cave_world.specs.declared.tables.Table.TheVariants as table
+use Rattle.turn_scene.specs.Rows.{Test, Effect, Row, deed, plain_row, after_all, otherwise, by_table}
+use Rattle.turn_scene.specs.Rows.{note_row}
+use Rattle.turn_scene.specs.Tests.{deaths}
+use Rattle.turn_scene.specs.Effects.{change, in_scene, say, tell}
 
 abbrev pub is_score_quit : Question → Bool
 is_score_quit question.ScoreQuit = true
@@ -62,12 +62,12 @@ question_row (question.Take h) = 6
 question_row question.Oyster = 7
 question_row question.Dragon = 8
 
--- the message of a question is said
-abbrev pub pose : Question → Effect Question
-pose asked d = tell_question asked (note_row table.Questions (question_row asked) d)
+-- the message of the question is said
+abbrev pub pose : Effect Question
+pose d = tell_question d.about (note_row table.Questions (question_row d.about) d)
 
 abbrev pub after_question : CaveView → Question → Scene → Scene
-after_question cave asked p = (pose asked (deed cave asked p)).scene
+after_question cave asked p = (pose (deed cave asked p)).scene
 
 -- the score up to now, and the greatest that there is
 abbrev pub tell_score_now : Effect Question
@@ -78,11 +78,17 @@ tell_score_now d =
 abbrev pub with_question : Question → State → State
 with_question asked s = record s { question = Some asked }
 
+abbrev pub about_score : Test Question
+about_score d = is_score_quit d.about
+
 -- the score comes before the question that is about it
+unfoldable pub asking_rows : List (Row Question (Unit {0}))
+asking_rows =
+    plain_row (about_score ∷ []) (tell_score_now ∷ pose ∷ [])
+    ∷ otherwise (pose ∷ [])
+
 unfoldable pub ask_question : Question → List (Effect Question)
-ask_question asked =
-    when (λ d. is_score_quit d.about) tell_score_now ∷ pose asked
-    ∷ change (with_question asked) ∷ []
+ask_question asked = by_table table.Asking asking_rows ∷ change (with_question asked) ∷ []
 
 -- a question is asked
 unfoldable pub after_ask : CaveView → Question → Scene → Scene

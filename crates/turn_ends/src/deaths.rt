@@ -1,12 +1,14 @@
 ghost use Rattle.std.specs.Prelude.{◌≡◌, IsTrue};
-ghost use Rattle.turn_score.specs.cave_world.State.{takes_no_command};
-ghost use Rattle.turn_score.specs.turn_scene.Bounds.{GoesOnSaying, HasRoom, parts_of_death};
-ghost use Rattle.turn_score.specs.turn_scene.Scene.{scene_of, cave_of};
+ghost use Rattle.cave_world.specs.State.{takes_no_command};
+ghost use Rattle.turn_scene.specs.Bounds.{GoesOnSaying, HasRoom, parts_of_death};
+ghost use Rattle.turn_scene.specs.Scene.{scene_of, cave_of};
 ghost use Rattle.turn_ends.specs.Endings.{with_one_death, after_die};
 
 use crate::endings::end;
 use crate::questions::ask;
-use turn_score::{Ending, Question, Role, RowNotes, Rules, Scene, State, Table};
+use cave_world::{Ending, Question, RowNotes, State, Table};
+use data_rows::Role;
+use turn_scene::{Rules, Scene};
 
 /// One death more is counted.
 pub fn count_death(state: &mut State)

@@ -1,16 +1,19 @@
 ghost use Rattle.std.specs.Prelude.{◌≡◌, ◌≤◌, [], ◌∷◌, IsTrue, Some};
-ghost use Rattle.turn_score.specs.cave_data.Printing.{rating};
-ghost use Rattle.turn_score.specs.cave_world.State.{takes_no_command};
-ghost use Rattle.turn_score.specs.turn_scene.Bounds.{GoesOnSaying, HasRoom, parts_of_end};
-ghost use Rattle.turn_score.specs.turn_scene.Scene.{scene_of, cave_of};
-ghost use Rattle.turn_score.specs.Score.{score_of};
-ghost use Rattle.turn_score.specs.rule_rows.declared.tables.Table.TheVariants as table;
-ghost use Rattle.turn_rules.specs.Rows.{Does, by_table};
+ghost use Rattle.cave_data.specs.Printing.{rating};
+ghost use Rattle.cave_world.specs.State.{takes_no_command};
+ghost use Rattle.turn_scene.specs.Bounds.{GoesOnSaying, HasRoom, parts_of_end};
+ghost use Rattle.turn_scene.specs.Scene.{scene_of, cave_of};
+ghost use Rattle.turn_ends.specs.Score.{score_of};
+ghost use Rattle.cave_world.specs.declared.tables.Table.TheVariants as table;
+ghost use Rattle.turn_scene.specs.Rows.{Does, by_table};
 ghost use Rattle.turn_ends.specs.Endings.{points_wanted, class_rows, tell_score, with_ending};
 ghost use Rattle.turn_ends.specs.Endings.{after_end};
 
-use turn_score::scores::{max_score, score};
-use turn_score::{Ending, NumberLine, Part, Rating, Role, RowNotes, Rules, Scene, State, Table};
+use crate::scores::{max_score, score};
+use cave_data::Rating;
+use cave_world::{Ending, NumberLine, Part, RowNotes, State, Table};
+use data_rows::Role;
+use turn_scene::{Rules, Scene};
 
 /// The game ends, and its score is printed.
 #[tactic(auto, unfolding(crate::specs::Endings::after_end))]

@@ -1,22 +1,22 @@
 ghost use Rattle.std.specs.Prelude.{◌≡◌, [], ◌∷◌, IsTrue};
 ghost use Rattle.std.specs.FinMap.{get};
-ghost use Rattle.turn_score.specs.cave_world.State.{takes_no_command};
-ghost use Rattle.turn_score.specs.cave_world.declared.ending.Question.TheVariants as question_is;
-ghost use Rattle.turn_score.specs.turn_scene.Bounds.{GoesOnSaying, HasRoom, parts_of_question};
-ghost use Rattle.turn_score.specs.turn_scene.Scene.{scene_of, cave_of};
-ghost use Rattle.turn_score.specs.rule_rows.declared.tables.Table.TheVariants as table;
-ghost use Rattle.turn_rules.specs.Rows.{Does, by_table};
-ghost use Rattle.turn_rules.specs.Effects.{when};
-ghost use Rattle.turn_ends.specs.Questions.{is_score_quit, die_rows, after_offer, after_question};
-ghost use Rattle.turn_ends.specs.Questions.{tell_score_now, with_question, after_ask, question_row};
+ghost use Rattle.cave_world.specs.State.{takes_no_command};
+ghost use Rattle.cave_world.specs.declared.ending.Question.TheVariants as question_is;
+ghost use Rattle.turn_scene.specs.Bounds.{GoesOnSaying, HasRoom, parts_of_question};
+ghost use Rattle.turn_scene.specs.Scene.{scene_of, cave_of};
+ghost use Rattle.cave_world.specs.declared.tables.Table.TheVariants as table;
+ghost use Rattle.turn_scene.specs.Rows.{Does, by_table};
+ghost use Rattle.turn_ends.specs.Questions.{asking_rows, die_rows, after_offer, after_question};
+ghost use Rattle.turn_ends.specs.Questions.{with_question, after_ask, question_row};
 
-use turn_score::scores::{max_score, score};
-use turn_score::{
-    Cave, HintNumber, NumberLine, Part, Question, Role, RowNotes, Rules, Scene, State, Table,
-};
+use crate::scores::{max_score, score};
+use cave_data::Cave;
+use cave_world::{HintNumber, NumberLine, Part, Question, RowNotes, State, Table};
+use data_rows::Role;
+use turn_scene::{Rules, Scene};
 
 /// A question is asked, and the next line answers it.
-#[tactic(auto, unfolding(crate::specs::Questions::after_ask, crate::specs::Questions::ask_question, turn_score::specs::takes_no_command))]
+#[tactic(auto, unfolding(crate::specs::Questions::after_ask, crate::specs::Questions::ask_question, cave_world::specs::State::takes_no_command))]
 pub fn ask<N: RowNotes>(rules: &Rules<'_>, question: &Question, scene: &mut Scene<'_, N>)
     requires { HasRoom parts_of_question scene.old }
     ensures scene { scene_of N.rows scene.new
@@ -24,8 +24,7 @@ pub fn ask<N: RowNotes>(rules: &Rules<'_>, question: &Question, scene: &mut Scen
     ensures says { GoesOnSaying parts_of_question scene.old scene.new }
     ensures over { IsTrue (takes_no_command scene.new.state.now) }
 {
-    tell_preface(rules, question, scene);
-    tell_question(rules, question, scene);
+    begin_asking(rules, question, scene);
     set_question(question, scene.state);
 }
 
@@ -99,16 +98,22 @@ pub fn tell_question<N: RowNotes>(rules: &Rules<'_>, question: &Question, scene:
     }
 }
 
-/// Before the question that is about the score, the score is printed.
-fn tell_preface<N: RowNotes>(rules: &Rules<'_>, question: &Question, scene: &mut Scene<'_, N>)
-    requires { HasRoom 1 scene.old }
-    ensures score { Does N.rows (when (λ d. is_score_quit d.about) tell_score_now ∷ []) 1
+/// The message of a question is printed, and the score before the question that is about it.
+#[tactic(auto, unfolding(crate::specs::Questions::asking_rows))]
+fn begin_asking<N: RowNotes>(rules: &Rules<'_>, question: &Question, scene: &mut Scene<'_, N>)
+    requires { HasRoom parts_of_question scene.old }
+    ensures rows { Does N.rows (by_table table.Asking asking_rows ∷ []) parts_of_question
         rules.now question.now scene.old scene.new }
 {
     if let Question::ScoreQuit = question {
+        scene.note(Table::Asking, 1);
         let score = score(rules, scene.state);
         scene.tell(Part::Number(NumberLine::ScoreNow, score, max_score(rules)));
+        tell_question(rules, question, scene);
+        return;
     }
+    scene.note(Table::Asking, 2);
+    tell_question(rules, question, scene);
 }
 
 fn set_question(question: &Question, state: &mut State)

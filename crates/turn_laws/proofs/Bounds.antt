@@ -1,21 +1,33 @@
--- How many deaths, carried objects and dwarves there are, where the player is, what is open, and
--- that a closing cave lets nobody out.
-use Rattle.std.specs.Prelude.{◌/◌}
+-- How many deaths, objects in the hands and dwarves there are, where the player is, what is open,
+-- and that a closing cave lets nobody out.
+use Rattle.std.proofs.Common.{Bool, List, [], ap, arith, false, get_or, inl, inr, length, refl}
+use Rattle.std.proofs.Common.{subst, suc, sym, true, zero, ℕ, ◌+◌, ◌-◌, ◌<◌, ◌∙◌, ◌∷◌, ◌≡◌, ◌≤◌}
+use Rattle.std.proofs.Common.{◌⊎◌}
+use Rattle.std.proofs.lemmas.Bool.{false≢true, true≢false}
+use Rattle.std.proofs.lemmas.Bool.Decides.{nat_tests}
+use Rattle.std.specs.Prelude.{◌/◌, None, Option, Some, is_some, map, min, nat_le, not, ◌&&◌, ◌==◌}
+use Rattle.cave_data.specs.CaveView.{CaveView}
+use Rattle.cave_world.specs.State.{asleep, far_closing, starting_state, no_dwarf}
+use Rattle.cave_world.specs.declared.ending.Ending.{Ending}
+use Rattle.cave_world.specs.declared.ending.Question.{Question}
+use Rattle.cave_world.specs.declared.state.State.{State}
+use Rattle.turn_scene.specs.Scene.{thing}
+use Rattle.turn_scene.specs.Homes.{second_home, home}
+use Rattle.turn_scene.specs.Places.{building_place, outside_place}
+use Rattle.world_objects.specs.Objects.{in_hands_up_to, is_in_hands, spot_of, objects_in_hands}
+use Rattle.world_objects.specs.Objects.{is_spot_in_hands, spot_at}
 use Rattle.cave_turn.specs.Turns.{start_of_game}
-use Rattle.cave_turn.specs.cave_world.State.{asleep, far_closing, starting_state}
-use Rattle.cave_turn.specs.turn_begin.Begin.{all_objects, begun_state, starting_objects}
-use Rattle.cave_turn.specs.turn_dwarves.Band.{dwarf_of}
-use Rattle.cave_turn.specs.turn_things.Homes.{second_home}
-use Rattle.cave_turn.specs.world_objects.Objects.{carried_up_to, is_carried, spot_of}
-use Rattle.cave_turn.specs.world_objects.declared.spot.Spot.{Spot}
-use Rattle.cave_turn.specs.cave_world.declared.ending.Question.TheVariants as question
-use Rattle.cave_turn.specs.world_objects.declared.spot.Spot.TheVariants as spot
-use Rattle.cave_turn.specs.cave_words.declared.named.Named.TheVariants as name
+use Rattle.turn_ends.specs.Begin.{all_objects, begun_state, starting_objects}
+use Rattle.turn_dwarves.specs.Band.{dwarf_of}
+use Rattle.world_objects.specs.declared.spot.Spot.{Spot}
+use Rattle.cave_world.specs.declared.ending.Question.TheVariants as question
+use Rattle.world_objects.specs.declared.spot.Spot.TheVariants as spot
+use Rattle.cave_words.specs.declared.named.Named.TheVariants as name
 use Rattle.turn_laws.specs.Courses.{AskedInTime, DeathsComeOneByOne, IsOutsideCave, NobodyGetsOut}
 use Rattle.turn_laws.specs.Courses.{PutsInside}
 use Rattle.turn_laws.specs.DwarfLaws.{FewDwarves, GoneForGood}
 use Rattle.turn_laws.specs.Laws.{FewDeaths, IsSomewhere, PlayerIsSomewhere, is_input, is_no_answer}
-use Rattle.turn_laws.specs.ObjectLaws.{FewCarried}
+use Rattle.turn_laws.specs.ObjectLaws.{FewInHands}
 use Rattle.turn_laws.specs.Reachable.{HintsAreKnown, IsOpenKnown, NeverBoth}
 use Rattle.turn_laws.proofs.Counted.{change_holds, dismissed_gone, dismissed_living, fewer}
 use Rattle.turn_laws.proofs.Counted.{five_at_most, held_fewer, no_hand, taken_more}
@@ -26,17 +38,10 @@ use Rattle.turn_laws.proofs.View.{Asks, Bands, Begins, Buries, Burns, Claim, Clo
 use Rattle.turn_laws.proofs.View.{Ends, IsFound, IsPut, Keeps, Kills, Line, Moves, Passes, Puts}
 use Rattle.turn_laws.proofs.View.{Revives, Shifts, Takes, View, between, choose, from_one, line_of}
 use Rattle.turn_laws.proofs.View.{living, not_asked, not_die, some_place}
-use Rattle.turn_laws.proofs.Words.{Bool, CaveView, Ending, List, None, Option, Question, Some}
-use Rattle.turn_laws.proofs.Words.{State, [], ap, arith, building_place, carried_objects, false}
-use Rattle.turn_laws.proofs.Words.{false≢true, get_or, home, inl, inr, is_carried_spot}
-use Rattle.turn_laws.proofs.Words.{is_some, length, map, min, nat_le, nat_tests, no_dwarf, not}
-use Rattle.turn_laws.proofs.Words.{outside_place, refl, spot_at, subst, suc, sym, thing, true}
-use Rattle.turn_laws.proofs.Words.{true≢false, zero, ℕ, ◌&&◌, ◌+◌, ◌-◌, ◌<◌, ◌==◌, ◌∙◌, ◌∷◌, ◌≡◌}
-use Rattle.turn_laws.proofs.Words.{◌≤◌, ◌⊎◌}
 
--- at most eight objects are carried
+-- at most eight objects are in the hands
 abbrev FewHeld : Claim
-FewHeld v = length (carried_objects v.objects) ≤ 8
+FewHeld v = length (objects_in_hands v.objects) ≤ 8
 
 held_kept : (cave : CaveView) (l : Line) → Keeps cave l FewHeld FewHeld
 held_kept cave l (Shifts c) v is h =
@@ -48,28 +53,28 @@ held_kept cave l (Takes xs) v is h =
     omega (arith, few, room, most)
 held_kept cave l _ v is h = h
 
--- a placed object isn't carried
+-- a placed object isn't in the hands
 none_first : (f : ℕ → ℕ) (xs : List ℕ) (y : ℕ)
-    → is_carried_spot (get_or (map (λ x. spot_at (f x)) xs) y spot.Away) ≡ true → ⊥
+    → is_spot_in_hands (get_or (map (λ x. spot_at (f x)) xs) y spot.Away) ≡ true → ⊥
 none_first f [] y held = false≢true held
 none_first f (x ∷ xs) zero held = no_hand (f x) held
 none_first f (x ∷ xs) (suc y) held = none_first f xs y held
 
--- nothing is carried as a game begins
+-- the hands are empty as a game begins
 none_carried : (cave : CaveView) (seed y : ℕ)
-    → is_carried (start_of_game cave seed).state.objects y ≡ true → ⊥
-unfolding start_of_game begun_state starting_state starting_objects is_carried spot_of
+    → is_in_hands (start_of_game cave seed).state.objects y ≡ true → ⊥
+unfolding start_of_game begun_state starting_state starting_objects is_in_hands spot_of
 none_carried cave seed y held =
-    choose (λ (t : Spot). is_carried_spot t ≡ true → ⊥) (y == 0) spot.Away _
+    choose (λ (t : Spot). is_spot_in_hands t ≡ true → ⊥) (y == 0) spot.Away _
     (λ _ now. false≢true now) (λ _ now. none_first (home cave) all_objects (y - 1) now) held
 
-pub few_carried : FewCarried
-unfolding carried_up_to
-few_carried =
+pub few_in_hands : FewInHands
+unfolding in_hands_up_to
+few_in_hands =
     lasts (λ cave. FewHeld)
     (λ cave seed.
     let o = (start_of_game cave seed).state.objects in
-    let none = fewer (λ _. false) (is_carried o) 1 100
+    let none = fewer (λ _. false) (is_in_hands o) 1 100
     (λ y _ held. absurd (none_carried cave seed y held)) in
     omega (arith, none)) held_kept
 

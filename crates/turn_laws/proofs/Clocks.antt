@@ -1,36 +1,48 @@
 -- What the clocks, and the lamp with them, make of a claim.
-use Rattle.std.specs.Prelude.{int_le}
-use Rattle.std.proofs.Common.{◌++◌}
-use Rattle.cave_turn.specs.cave_world.Sight.{LAMP_ON}
-use Rattle.cave_turn.specs.turn_clocks.Clocks.{clock_rows, run_clocks, tick_clocks}
-use Rattle.cave_turn.specs.turn_clocks.FirstClock.{all_seen, begin_closing, closing_bear_rows}
-use Rattle.cave_turn.specs.turn_clocks.FirstClock.{some_turns_left, with_first_clock_down}
-use Rattle.cave_turn.specs.turn_clocks.FirstClock.{without_dwarves}
-use Rattle.cave_turn.specs.turn_clocks.Lamp.{burn, burning_rows, can_change_batteries}
-use Rattle.cave_turn.specs.turn_clocks.Lamp.{care_for_lamp, change_batteries, go_out, lamp}
-use Rattle.cave_turn.specs.turn_clocks.Lamp.{lamp_rows, turns_left, warn, warning_rows}
-use Rattle.cave_turn.specs.turn_clocks.Lamp.{with_warning}
-use Rattle.cave_turn.specs.turn_clocks.Repository.{all_of, close_cave, northeast_things}
-use Rattle.cave_turn.specs.turn_clocks.Repository.{southwest_things, with_empty_hands}
-use Rattle.cave_turn.specs.turn_clocks.Repository.{with_second_clock_down, without_all}
-use Rattle.cave_turn.specs.turn_rules.Effects.{put_player}
-use Rattle.cave_turn.specs.turn_rules.Troll.{after_troll, troll_goes, troll_leaves}
-use Rattle.cave_turn.specs.turn_rules.Rows.{act_of}
-use Rattle.cave_turn.specs.turn_rules.Putting.{after_lay_down, lay_down_rows}
-use Rattle.cave_turn.specs.turn_rules.Tests.{place_of, player_at}
-use Rattle.cave_turn.specs.turn_things.Effects.{with_objects}
-use Rattle.cave_turn.specs.turn_things.Homes.{hold_of}
-use Rattle.cave_turn.specs.turn_things.Props.{AXE_FREE, BATTERIES_USED, BIRD_CAGED, BOTTLE_EMPTY}
-use Rattle.cave_turn.specs.turn_things.Props.{CHAIN_UNLOCKED, FISSURE_OPEN, GRATE_LOCKED}
-use Rattle.cave_turn.specs.turn_things.Props.{PLANT_SMALL, SEEN, SNAKE_GONE}
-use Rattle.cave_turn.specs.world_objects.Objects.{after_move_to, anchor_at}
-use Rattle.cave_turn.specs.world_objects.declared.spot.Anchor.TheVariants as anchor
-use Rattle.cave_turn.specs.data_rows.declared.place_role.PlaceRole.TheVariants as landmark
-use Rattle.cave_turn.specs.cave_words.declared.named.Named.TheVariants as name
-use Rattle.cave_turn.specs.turn_clocks.declared.clocks.Clocks.TheVariants as clocks
-use Rattle.cave_turn.specs.data_rows.declared.role.Role.TheVariants as role
-use Rattle.cave_turn.specs.rule_rows.declared.tables.Table.TheVariants as table
-use Rattle.cave_turn.specs.rule_rows.declared.tables.RuleRow.{RuleRow}
+use Rattle.std.proofs.Common.{◌++◌, Bool, List, [], arith, false, inl, inr, negsuc, pos, refl}
+use Rattle.std.proofs.Common.{subst, sym, true, ℕ, ℤ, ◌∙◌, ◌∷◌, ◌≡◌}
+use Rattle.std.proofs.lemmas.Bool.{true≢false}
+use Rattle.std.proofs.lemmas.Int.{ints}
+use Rattle.std.specs.Int.{int_min}
+use Rattle.std.specs.Ordering.{int_eq}
+use Rattle.std.specs.Prelude.{int_le, if◌then◌else◌, None, Option, Some, is_some, unwrap_or, ◌&&◌}
+use Rattle.std.specs.Prelude.{◌+ℤ◌, ◌-ℤ◌}
+use Rattle.cave_data.specs.CaveView.{CaveView}
+use Rattle.cave_world.specs.Limits.{MAX_LAMP_TURNS}
+use Rattle.cave_world.specs.declared.state.State.{State}
+use Rattle.turn_clocks.specs.declared.clocks.Clocks.{Clocks}
+use Rattle.turn_scene.specs.Effects.{put_player, change, say, set_prop, with_charge}
+use Rattle.turn_scene.specs.Rows.{act_of, Act, Deed, after_all, all_hold, always, by_table, deed}
+use Rattle.turn_scene.specs.Rows.{noted, nothing_but}
+use Rattle.turn_scene.specs.Tests.{place_of, player_at, in_the_depths, no, the}
+use Rattle.turn_scene.specs.Scene.{Scene, thing}
+use Rattle.turn_scene.specs.Homes.{hold_of, home}
+use Rattle.turn_scene.specs.Places.{place_named}
+use Rattle.turn_scene.specs.Props.{SNAKE_GONE, CHAIN_UNLOCKED, FISSURE_OPEN, GRATE_LOCKED}
+use Rattle.turn_scene.specs.Props.{PLANT_SMALL, SEEN, AXE_FREE, BATTERIES_USED, BIRD_CAGED}
+use Rattle.turn_scene.specs.Props.{BOTTLE_EMPTY, LAMP_OFF, UNSEEN}
+use Rattle.turn_scene.specs.Reach.{has_prop}
+use Rattle.world_objects.specs.Objects.{after_move_to, anchor_at, objects_in_hands}
+use Rattle.cave_world.specs.Sight.{LAMP_ON}
+use Rattle.turn_clocks.specs.Clocks.{clock_rows, run_clocks, tick_clocks}
+use Rattle.turn_clocks.specs.FirstClock.{all_seen, begin_closing, closing_bear_rows}
+use Rattle.turn_clocks.specs.FirstClock.{some_turns_left, with_first_clock_down, without_dwarves}
+use Rattle.turn_clocks.specs.Lamp.{burn, burning_rows, can_change_batteries, care_for_lamp}
+use Rattle.turn_clocks.specs.Lamp.{change_batteries, go_out, lamp_clock, lamp_rows, turns_left}
+use Rattle.turn_clocks.specs.Lamp.{warn}
+use Rattle.turn_clocks.specs.Lamp.{warning_rows, with_warning}
+use Rattle.turn_clocks.specs.Repository.{all_of, close_cave, northeast_things, southwest_things}
+use Rattle.turn_clocks.specs.Repository.{with_empty_hands, with_second_clock_down, without_all}
+use Rattle.turn_scene.specs.Troll.{after_troll, troll_goes, troll_leaves}
+use Rattle.turn_scene.specs.Putting.{after_lay_down, lay_down_rows}
+use Rattle.turn_scene.specs.Parts.{with_objects}
+use Rattle.world_objects.specs.declared.spot.Anchor.TheVariants as anchor
+use Rattle.data_rows.specs.declared.place_role.PlaceRole.TheVariants as landmark
+use Rattle.cave_words.specs.declared.named.Named.TheVariants as name
+use Rattle.turn_clocks.specs.declared.clocks.Clocks.TheVariants as clocks
+use Rattle.data_rows.specs.declared.role.Role.TheVariants as role
+use Rattle.cave_world.specs.declared.tables.Table.TheVariants as table
+use Rattle.cave_world.specs.declared.tables.RuleRow.{RuleRow}
 use Rattle.turn_laws.specs.Courses.{is_lit}
 use Rattle.turn_laws.specs.Laws.{before_lamp, is_changed, unless_closed}
 use Rattle.turn_laws.proofs.Effects.{by_guarded, effects, fails_alone, guarded, holds_alone}
@@ -39,17 +51,8 @@ use Rattle.turn_laws.proofs.Effects.{more_charge, moved, moved_all, quiet, tests
 use Rattle.turn_laws.proofs.View.{Begins, Burns, Change, Claim, Counts, Hold, IsKept, IsMoved}
 use Rattle.turn_laws.proofs.View.{Juggle, Leaves, Line, On, Place, Prop, Ready, Shifts, Shuts}
 use Rattle.turn_laws.proofs.View.{Somewhere, There, Ticks, View, after, burnt, led, left_of, view}
-use Rattle.turn_laws.proofs.Words.{if◌then◌else◌}
-use Rattle.turn_laws.proofs.Words.{Act, Bool, CaveView, Clocks, Deed, LAMP_OFF, List}
-use Rattle.turn_laws.proofs.Words.{MAX_LAMP_TURNS, None, Option, Scene, Some, State, UNSEEN, []}
-use Rattle.turn_laws.proofs.Words.{after_all, all_hold, always, arith, ints, by_table, carried_objects, change}
-use Rattle.turn_laws.proofs.Words.{deed, false, has_prop, home, in_the_depths, inl, inr}
-use Rattle.turn_laws.proofs.Words.{int_eq, int_min, is_some, negsuc, no, noted, nothing_but}
-use Rattle.turn_laws.proofs.Words.{place_named, pos, refl, say, set_prop, subst, sym, the, thing}
-use Rattle.turn_laws.proofs.Words.{true, true≢false, unwrap_or, with_charge, ℕ, ℤ, ◌&&◌, ◌+ℤ◌, ◌-ℤ◌}
-use Rattle.turn_laws.proofs.Words.{◌∙◌, ◌∷◌, ◌≡◌}
 
--- an object is put at a place, with a prop for when it was carried
+-- an object is put at a place, with a prop for when it was in the hands
 abbrev stored : ℕ → ℕ → ℤ → List Change
 stored place x v = Place x place ∷ Prop x (UNSEEN -ℤ v) ∷ []
 
@@ -170,7 +173,7 @@ module _ {game : CaveView} {l : Line} {Q P : Claim} (k : IsKept game l Q P) wher
       let e = all_of southwest_things (put_player (place_of landmark.Ne)
       (all_of northeast_things (change with_second_clock_down
       (record d { scene = record d.scene { rows = notes } })))) in
-      let held = emptied_kept (carried_objects e.scene.state.objects) _ hung in
+      let held = emptied_kept (objects_in_hands e.scene.state.objects) _ hung in
       record { holds = held; place = there _ (search tests) }
 
   -- the first clock goes only while it is above 0
@@ -200,7 +203,7 @@ After P cave before (clocks.Closed place) s = AfterClosure P cave before s
 -- the lamp goes on, or is passed over
 abbrev passed : CaveView → Bool → Scene → Act Clocks
 passed cave closed p =
-    if closed then act_of p (clocks.Closed p.state.trail.here) else lamp (deed cave tt p)
+    if closed then act_of p (clocks.Closed p.state.trail.here) else lamp_clock (deed cave tt p)
 
 -- the lamp is in a scene, if it is reached, as laws say of a line
 pub record IsLampOf (cave : CaveView) (l : Line) (o : Option Scene) : Type 0 where
@@ -282,7 +285,7 @@ module _ {cave : CaveView} {l : Line} {Q P : Claim} (k : IsKept cave l Q P) wher
   -- the lamp goes on, or the player gives up
   lamp_kept : (before : ℕ) (p : Scene) → IsLampOf cave l (Some p)
       → On (Ready (Somewhere l) Q) p.state
-      → (let a = lamp (deed cave tt p) in After R cave before a.step a.scene.state)
+      → (let a = lamp_clock (deed cave tt p) in After R cave before a.step a.scene.state)
   unfolding care_for_lamp lamp_rows
   lamp_kept before p of h =
       let dims = burnt_kept p of.lit h in let stays = lasts (lit p) in

@@ -1,29 +1,32 @@
--- How many objects are carried, and how many dwarves live, once something becomes of them.
-use Rattle.std.proofs.Common.{cond}
+-- How many objects are in the hands, and how many dwarves live, once something becomes of them.
+use Rattle.std.proofs.Common.{cond, Bool, List, [], ap, arith, false, get_or, inl, inr, length}
+use Rattle.std.proofs.Common.{refl, set, subst, suc, sym, true, zero, ℕ, ℤ, ◌+◌, ◌-◌, ◌<◌, ◌∙◌, ◌∷◌}
+use Rattle.std.proofs.Common.{◌≡◌, ◌≤◌, ◌⊎◌}
+use Rattle.std.proofs.lemmas.Bool.{false≢true, true≢false}
+use Rattle.std.proofs.lemmas.Bool.Decides.{nat_tests}
+use Rattle.std.proofs.lemmas.List.Sums.{sum_by-set, count_by-le-length, length-filter}
+use Rattle.std.specs.Prelude.{if◌then◌else◌, None, Option, Some, filter, map, min, nat_le, not}
+use Rattle.std.specs.Prelude.{take, ◌&&◌, ◌==◌, ◌||◌}
+use Rattle.cave_world.specs.State.{no_dwarf}
+use Rattle.cave_world.specs.declared.dwarves.Dwarf.{Dwarf}
+use Rattle.turn_clocks.specs.FirstClock.{dismissed_dwarf}
+use Rattle.world_objects.specs.Objects.{with_spot, in_hands_up_to, is_in_hands, spot_of}
+use Rattle.world_objects.specs.Objects.{with_anchor, with_prop, after_carry, after_juggle}
+use Rattle.world_objects.specs.Objects.{after_move_to, anchor_of, Layout, objects_in_hands}
+use Rattle.world_objects.specs.Objects.{is_spot_in_hands, spot_at}
+use Rattle.world_objects.specs.declared.spot.Anchor.{Anchor}
 use Rattle.std.proofs.Math.Seq.{take-set-lt}
 use Rattle.std.proofs.lemmas.Grind.{common_steps}
 use Rattle.std.proofs.lemmas.List.{length-take}
 use Rattle.std.proofs.lemmas.List.Quantifiers.{position-Some}
-use Rattle.std.proofs.lemmas.List.Sums.{sum_by-set}
 use Rattle.std.specs.List.{list_any, position, prefix_len, range_with_len}
-use Rattle.cave_turn.specs.cave_verbs.Throwing.{killed_dwarf, without_first_at, without_one}
-use Rattle.cave_turn.specs.turn_things.Reach.{is_dwarf_at}
-use Rattle.cave_turn.specs.world_objects.Objects.{after_carry, after_juggle, after_move_to}
-use Rattle.cave_turn.specs.world_objects.Objects.{anchor_of, carried_up_to, is_carried, spot_of}
-use Rattle.cave_turn.specs.world_objects.Objects.{with_anchor, with_prop, with_spot}
-use Rattle.cave_turn.specs.world_objects.declared.spot.Spot.{Spot}
-use Rattle.cave_turn.specs.world_objects.declared.spot.Spot.TheVariants as spot
+use Rattle.cave_verbs.specs.Throwing.{killed_dwarf, without_first_at, without_one}
+use Rattle.turn_scene.specs.Reach.{is_dwarf_at}
+use Rattle.world_objects.specs.declared.spot.Spot.{Spot}
+use Rattle.world_objects.specs.declared.spot.Spot.TheVariants as spot
 use Rattle.turn_laws.specs.DwarfLaws.{is_living}
 use Rattle.turn_laws.proofs.View.{Band, Change, HasRoom, Hold, IsBandAfter, Juggle, Place, Prop}
 use Rattle.turn_laws.proofs.View.{after_change, after_taking, choose, kept_by_set, living}
-use Rattle.turn_laws.proofs.Words.{if◌then◌else◌}
-use Rattle.turn_laws.proofs.Words.{Anchor, Bool, Dwarf, Layout, List, None, Option, Some, [], ap}
-use Rattle.turn_laws.proofs.Words.{arith, carried_objects, count_by-le-length, dismissed_dwarf}
-use Rattle.turn_laws.proofs.Words.{false, false≢true, filter, get_or, inl, inr}
-use Rattle.turn_laws.proofs.Words.{is_carried_spot, length, length-filter, map, min, nat_le}
-use Rattle.turn_laws.proofs.Words.{nat_tests, no_dwarf, not, refl, set, spot_at, subst, suc, sym}
-use Rattle.turn_laws.proofs.Words.{take, true, true≢false, zero, ℕ, ℤ, ◌&&◌, ◌+◌, ◌-◌, ◌<◌, ◌==◌}
-use Rattle.turn_laws.proofs.Words.{◌||◌, ◌∙◌, ◌∷◌, ◌≡◌, ◌≤◌, ◌⊎◌}
 
 -- where one condition follows from another, and one count is at most another, so it is with one
 -- more of each
@@ -67,75 +70,75 @@ one_more f g x a (suc n) each =
     here (inl has) = inl has
     here (inr same) = inr (fewer f g (a + 1) n (λ y low has. past y low same (each y has)))
 
--- what is carried once the first half of an object is brought to a spot was carried before, or is
--- the object
-spotted : {T : Type 0} (o : Layout) (x y : ℕ) (s : Spot) → is_carried (with_spot o x s) y ≡ true
-    → (is_carried o y ≡ true → T) → (y ≡ x → is_carried_spot s ≡ true → T) → T
-unfolding with_spot is_carried spot_of
+-- what is in the hands once the first half of an object is brought to a spot was there before, or
+-- is the object
+spotted : {T : Type 0} (o : Layout) (x y : ℕ) (s : Spot) → is_in_hands (with_spot o x s) y ≡ true
+    → (is_in_hands o y ≡ true → T) → (y ≡ x → is_spot_in_hands s ≡ true → T) → T
+unfolding with_spot is_in_hands spot_of
 spotted {T} o x y s held before now =
-    choose (λ (l : Layout). is_carried l y ≡ true → T) (x == 0) o _ (λ _. before)
-    (λ some. choose (λ (t : Spot). is_carried_spot t ≡ true → T) (y == 0) spot.Away
+    choose (λ (l : Layout). is_in_hands l y ≡ true → T) (x == 0) o _ (λ _. before)
+    (λ some. choose (λ (t : Spot). is_spot_in_hands t ≡ true → T) (y == 0) spot.Away
     (get_or (set o.first (x - 1) s) (y - 1) spot.Away) (λ _ never. absurd (false≢true never))
-    (λ other. kept_by_set (λ (t : Spot). is_carried_spot t ≡ true → T) o.first (x - 1) (y - 1) s
+    (λ other. kept_by_set (λ (t : Spot). is_spot_in_hands t ≡ true → T) o.first (x - 1) (y - 1) s
     spot.Away (λ was. before (was_carried other was)) (λ same. now (same_object some other same))))
     held
   where
     was_carried : (y == 0) ≡ false
-        → is_carried_spot (get_or o.first (y - 1) spot.Away) ≡ true → is_carried o y ≡ true
+        → is_spot_in_hands (get_or o.first (y - 1) spot.Away) ≡ true → is_in_hands o y ≡ true
     was_carried other was =
-        choose (λ (t : Spot). is_carried_spot t ≡ true) (y == 0) spot.Away _
+        choose (λ (t : Spot). is_spot_in_hands t ≡ true) (y == 0) spot.Away _
         (λ none. absurd (true≢false (sym none ∙ other))) (λ _. was)
 
     same_object : (x == 0) ≡ false → (y == 0) ≡ false → y - 1 ≡ x - 1 → y ≡ x
     same_object some other same = grind (arith, nat_tests)
 
 -- a place is no hand
-pub no_hand : (place : ℕ) → is_carried_spot (spot_at place) ≡ true → ⊥
+pub no_hand : (place : ℕ) → is_spot_in_hands (spot_at place) ≡ true → ⊥
 no_hand place held =
-    choose (λ (s : Spot). is_carried_spot s ≡ true → ⊥) (place == 0) spot.Away (spot.At place)
+    choose (λ (s : Spot). is_spot_in_hands s ≡ true → ⊥) (place == 0) spot.Away (spot.At place)
     (λ _ now. false≢true now) (λ _ now. false≢true now) held
 
--- what is carried in the second layout is carried in the first
+-- what is in the hands in the second layout is there in the first
 abbrev pub Holds : Layout → Layout → Type 0
-Holds o p = (y : ℕ) → is_carried p y ≡ true → is_carried o y ≡ true
+Holds o p = (y : ℕ) → is_in_hands p y ≡ true → is_in_hands o y ≡ true
 
 anchored_holds : (o : Layout) (x : ℕ) (a : Anchor) → Holds o (with_anchor o x a)
-unfolding with_anchor is_carried spot_of
+unfolding with_anchor is_in_hands spot_of
 anchored_holds o x a y held =
-    choose (λ (p : Layout). is_carried p y ≡ true → is_carried o y ≡ true) (x == 0) o _
+    choose (λ (p : Layout). is_in_hands p y ≡ true → is_in_hands o y ≡ true) (x == 0) o _
     (λ _ now. now) (λ _ now. now) held
 
 -- no change takes an object
 pub change_holds : (c : Change) (o : Layout) → Holds o (after_change c o)
-unfolding after_move_to with_prop after_juggle is_carried spot_of
+unfolding after_move_to with_prop after_juggle is_in_hands spot_of
 change_holds (Place x place) o y held =
     spotted o x y (spot_at place) held (λ was. was) (λ _ now. absurd (no_hand place now))
 change_holds (Hold x a) o y held = anchored_holds o x a y held
 change_holds (Prop x v) o y held =
-    choose (λ (p : Layout). is_carried p y ≡ true → is_carried o y ≡ true) (x == 0) o _
+    choose (λ (p : Layout). is_in_hands p y ≡ true → is_in_hands o y ≡ true) (x == 0) o _
     (λ _ now. now) (λ _ now. now) held
 change_holds (Juggle x) o y held =
     let once = with_spot o x (spot_of o x) in
-    choose (λ (p : Layout). is_carried p y ≡ true → is_carried o y ≡ true) (is_carried o x) o
+    choose (λ (p : Layout). is_in_hands p y ≡ true → is_in_hands o y ≡ true) (is_in_hands o x) o
     (with_anchor once x (anchor_of once x)) (λ _ now. now)
     (λ free now. spotted o x y (spot_of o x) (anchored_holds once x (anchor_of once x) y now)
     (λ was. was) (λ _ carried. absurd (false≢true (sym free ∙ carried)))) held
 
 -- an object that is taken is one more at most
 carried_more : (o : Layout) (x : ℕ)
-    → length (carried_objects (after_carry o x)) ≤ length (carried_objects o) + 1
-unfolding after_carry carried_up_to
+    → length (objects_in_hands (after_carry o x)) ≤ length (objects_in_hands o) + 1
+unfolding after_carry in_hands_up_to
 carried_more o x =
-    choose (λ (p : Layout). length (carried_objects p) ≤ length (carried_objects o) + 1)
-    (is_carried o x) o (with_spot o x spot.Carried) (λ _. omega arith)
-    (λ _. one_more (is_carried o) (is_carried (with_spot o x spot.Carried)) x 1 100
-    (λ y held. spotted o x y spot.Carried held (λ was. inl was) (λ same _. inr same)))
+    choose (λ (p : Layout). length (objects_in_hands p) ≤ length (objects_in_hands o) + 1)
+    (is_in_hands o x) o (with_spot o x spot.InHands) (λ _. omega arith)
+    (λ _. one_more (is_in_hands o) (is_in_hands (with_spot o x spot.InHands)) x 1 100
+    (λ y held. spotted o x y spot.InHands held (λ was. inl was) (λ same _. inr same)))
 
--- as many are carried at most
+-- as many are in the hands at most
 pub held_fewer : (o p : Layout) → Holds o p
-    → length (carried_objects p) ≤ length (carried_objects o)
-unfolding carried_up_to
-held_fewer o p holds = fewer (is_carried o) (is_carried p) 1 100 (λ y _ held. holds y held)
+    → length (objects_in_hands p) ≤ length (objects_in_hands o)
+unfolding in_hands_up_to
+held_fewer o p holds = fewer (is_in_hands o) (is_in_hands p) 1 100 (λ y _ held. holds y held)
 
 -- hands that aren't full have room for two objects
 pub room : (n : ℕ) → (nat_le 7 n && true) ≡ false → n ≤ 6
@@ -147,9 +150,9 @@ room_still o x v few =
     let same = held_fewer o (with_prop o x v) (change_holds (Prop x v) o) in
     omega (arith, few, same)
 
--- no more are carried than were, and those that are taken
+-- no more are in the hands than were, and those that are taken
 pub taken_more : (xs : List ℕ) (o : Layout)
-    → length (carried_objects (after_taking xs o)) ≤ length (carried_objects o) + length xs
+    → length (objects_in_hands (after_taking xs o)) ≤ length (objects_in_hands o) + length xs
 taken_more [] o = omega arith
 taken_more (x ∷ xs) o =
     let one = carried_more o x in

@@ -1,35 +1,37 @@
 -- What the dwarves do keeps each claim that what happens while the player stays keeps.
-use Rattle.cave_turn.specs.turn_rules.Rows.{act_of_row, answer_row, note_row, noted_row}
-use Rattle.cave_turn.specs.turn_rules.Rows.{otherwise_row}
-use Rattle.cave_turn.specs.cave_words.Stream.{next}
-use Rattle.cave_turn.specs.turn_dwarves.Ahead.{ways_of_dwarf}
-use Rattle.cave_turn.specs.cave_world.Limits.{PIRATE}
-use Rattle.cave_turn.specs.turn_dwarves.Band.{dwarf_of, gone, with_anger, with_dwarf}
-use Rattle.cave_turn.specs.turn_dwarves.Booty.{after_thefts, hide_chest, steal, take_booty}
-use Rattle.cave_turn.specs.turn_dwarves.Booty.{theft_rows, with_pirate_home}
-use Rattle.cave_turn.specs.turn_dwarves.Dwarves.{anger_rows, awake, encounter_dwarves}
-use Rattle.cave_turn.specs.turn_dwarves.Knives.{Raider, attack, attacker, dwarf_turn, let_dwarf_act}
-use Rattle.cave_turn.specs.turn_dwarves.Knives.{move_attacker, no_attack, raid, raider, threat_rows}
-use Rattle.cave_turn.specs.turn_dwarves.Knives.{threaten, with_knife_here}
-use Rattle.cave_turn.specs.turn_dwarves.Lines.{dwarf_rows, knife_rows, provoked_rows, tell_attack}
-use Rattle.cave_turn.specs.turn_dwarves.Moving.{after_dwarf_move, chosen_way, dwarf_in_sight}
-use Rattle.cave_turn.specs.turn_dwarves.Moving.{dwarf_on_way}
-use Rattle.cave_turn.specs.turn_dwarves.Pirate.{after_pirate, chase_rows, move_pirate, pirate_rows}
-use Rattle.cave_turn.specs.turn_dwarves.Pirate.{pirate_turn_rows}
-use Rattle.cave_turn.specs.turn_dwarves.Waking.{apart_rows, keep_one_apart, leaving_rows, wake}
-use Rattle.cave_turn.specs.turn_dwarves.Waking.{waking_rows, with_dwarf_at, without_dwarf}
-use Rattle.cave_turn.specs.turn_dwarves.declared.knives.Attack.{Attack}
-use Rattle.cave_turn.specs.turn_rules.Effects.{for_each_from}
-use Rattle.cave_turn.specs.rule_rows.declared.tables.Table.TheVariants as table
+use Rattle.std.proofs.Common.{Bool, List, [], arith, false, refl, subst, sym, true, ℕ, ◌<◌, ◌∷◌}
+use Rattle.std.proofs.Common.{◌≡◌, ◌≤◌}
+use Rattle.std.specs.Prelude.{min, ◌&&◌, ◌==◌}
+use Rattle.cave_data.specs.CaveView.{CaveView}
+use Rattle.cave_world.specs.declared.dwarves.Dwarf.{Dwarf}
+use Rattle.cave_world.specs.declared.state.State.{State}
+use Rattle.turn_scene.specs.Rows.{act_of_row, answer_row, note_row, noted_row, otherwise_row, Act}
+use Rattle.turn_scene.specs.Rows.{Deed, after_all, always, by_table, deed, noted, nothing_but}
+use Rattle.turn_scene.specs.Scene.{Scene}
+use Rattle.cave_words.specs.Stream.{next}
+use Rattle.turn_dwarves.specs.Ahead.{ways_of_dwarf}
+use Rattle.cave_world.specs.Limits.{PIRATE}
+use Rattle.turn_dwarves.specs.Band.{dwarf_of, gone, with_anger, with_dwarf}
+use Rattle.turn_dwarves.specs.Booty.{after_stealing_all, hide_chest, steal, take_booty, theft_rows}
+use Rattle.turn_dwarves.specs.Booty.{with_pirate_home}
+use Rattle.turn_dwarves.specs.Dwarves.{anger_rows, awake, encounter_dwarves}
+use Rattle.turn_dwarves.specs.Knives.{Raider, attack, attacker, dwarf_turn, let_dwarf_act}
+use Rattle.turn_dwarves.specs.Knives.{move_attacker, no_attack, raid, raider, threat_rows, threaten}
+use Rattle.turn_dwarves.specs.Knives.{thrown_rows}
+use Rattle.turn_dwarves.specs.Lines.{dwarf_rows, knife_rows, provoked_rows, tell_attack}
+use Rattle.turn_dwarves.specs.Moving.{after_dwarf_move, chosen_way, dwarf_in_sight, dwarf_on_way}
+use Rattle.turn_dwarves.specs.Pirate.{after_pirate, chase_rows, move_pirate, pirate_rows}
+use Rattle.turn_dwarves.specs.Pirate.{pirate_turn_rows}
+use Rattle.turn_dwarves.specs.Waking.{apart_rows, keep_one_apart, leaving_rows, wake, waking_rows}
+use Rattle.turn_dwarves.specs.Waking.{with_dwarf_at, without_dwarf}
+use Rattle.turn_dwarves.specs.declared.knives.Attack.{Attack}
+use Rattle.turn_scene.specs.Effects.{for_each_from}
+use Rattle.cave_world.specs.declared.tables.Table.TheVariants as table
 use Rattle.turn_laws.proofs.Counted.{angrier, changed, isnt_gone}
 use Rattle.turn_laws.proofs.Effects.{banded, by_guarded, each_kept, effects, fails_alone}
 use Rattle.turn_laws.proofs.Effects.{first_holds, guarded, holds_alone, kept_by, placed}
 use Rattle.turn_laws.proofs.Effects.{quiet, second_holds}
 use Rattle.turn_laws.proofs.View.{Claim, IsKept, Line, On, Ready, Somewhere, some_place, view}
-use Rattle.turn_laws.proofs.Words.{Act, Bool, CaveView, Deed, Dwarf, List, Scene, State, []}
-use Rattle.turn_laws.proofs.Words.{after_all, always, arith, by_table, deed, false}
-use Rattle.turn_laws.proofs.Words.{min, noted, nothing_but, refl, subst, sym, true, ℕ}
-use Rattle.turn_laws.proofs.Words.{◌&&◌, ◌<◌, ◌==◌, ◌∷◌, ◌≡◌, ◌≤◌}
 
 -- the pirate is none of the five dwarves
 not_low : 5 < 5 → ⊥
@@ -121,10 +123,15 @@ module _ {game : CaveView} {l : Line} {Q P : Claim} (k : IsKept game l Q P) wher
       (dwarf_kept n moved (record (p.state) { stream = next p.state.stream })
       (λ _ low gone. absurd (living low gone)) h))
 
+  thrown_kept : (d : Deed Raider) → On R d.scene.state
+      → On R (by_table table.KnifeThrown thrown_rows d).scene.state
+  unfolding thrown_rows
+  thrown_kept d h = quiet R (noted table.KnifeThrown thrown_rows) (search parts 20) d h
+
   threatened_kept : (d : Deed Raider) → On R d.scene.state → On R (threaten d).scene.state
-  unfolding threaten threat_rows with_knife_here
+  unfolding threaten threat_rows
   threatened_kept d h =
-      kept_by R (noted table.Threats threat_rows) attack (search parts 20) d h
+      kept_by R (noted table.Threats threat_rows) attack (search thrown_kept parts 20) d h
 
   turn_kept : (d : Deed Raider) → On R d.scene.state → On R (dwarf_turn d).scene.state
   unfolding dwarf_turn
@@ -163,7 +170,7 @@ module _ {game : CaveView} {l : Line} {Q P : Claim} (k : IsKept game l Q P) wher
       quiet R (noted table.Theft theft_rows) (search effects parts 20) (deed cave x p) h
 
   all_stolen_kept : (cave : CaveView) (xs : List ℕ) (p : Scene) → On R p.state
-      → On R (after_thefts cave xs p).state
+      → On R (after_stealing_all cave xs p).state
   all_stolen_kept cave [] p h = h
   all_stolen_kept cave (x ∷ xs) p h =
       all_stolen_kept cave xs (steal cave x p) (stolen_kept cave x p h)

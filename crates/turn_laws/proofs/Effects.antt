@@ -1,24 +1,32 @@
 -- What rows make of a claim, by what their effects make of it: of one that is kept by what happens
 -- while the player stays.
-use Rattle.cave_turn.specs.turn_rules.Effects.{after_sending, for_each_down_from, for_each_from}
-use Rattle.turn_laws.proofs.Words.{if◌then◌else◌}
-use Rattle.turn_laws.proofs.Words.{Act, Anchor, Bool, CaveView, Closing, Deed, Dwarf, Ending}
-use Rattle.turn_laws.proofs.Words.{Layout, List, MAX_LAMP_TURNS, None, Option, Question, Scene}
-use Rattle.turn_laws.proofs.Words.{Some, State, Tallies, [], after_drawing, after_look_at, all_hold}
-use Rattle.turn_laws.proofs.Words.{arith, by_rows, by_table, deed, false, first_fitting_or}
-use Rattle.turn_laws.proofs.Words.{inl, inr, int_min, ints, min, noted, nothing_but, pos, refl}
-use Rattle.turn_laws.proofs.Words.{slice_set, subst, suc, sym, true, zero, ℕ, ℤ, ◌&&◌, ◌+ℤ◌, ◌+◌}
-use Rattle.turn_laws.proofs.Words.{◌∷◌, ◌≡◌, ◌≤◌, ◌⊎◌}
-use Rattle.cave_turn.specs.rule_rows.declared.tables.Table.TheVariants as table
-use Rattle.cave_turn.specs.turn_rules.Rows.{Row, Test, act_of_row, after_trying_by, fits_by}
-use Rattle.cave_turn.specs.turn_rules.Losses.{after_loss_to_snake, loss_to_snake_rows}
-use Rattle.cave_turn.specs.turn_rules.Panic.{after_panic, panic_rows}
-use Rattle.cave_turn.specs.turn_rules.Putting.{after_lay_down, after_put, caged_bird_rows}
-use Rattle.cave_turn.specs.turn_rules.Putting.{free_bird_rows, lay_down_rows, put_down, vessel}
-use Rattle.cave_turn.specs.turn_rules.Troll.{after_troll, troll_leaves}
-use Rattle.cave_turn.specs.verb_commands.Effects.{after_default}
-use Rattle.cave_turn.specs.world_objects.Objects.{after_juggle, after_move_to, with_anchor}
-use Rattle.cave_turn.specs.world_objects.Objects.{with_prop}
+use Rattle.std.proofs.Common.{Bool, List, [], arith, false, inl, inr, pos, refl, subst, suc, sym}
+use Rattle.std.proofs.Common.{true, zero, ℕ, ℤ, ◌+◌, ◌∷◌, ◌≡◌, ◌≤◌, ◌⊎◌}
+use Rattle.std.proofs.lemmas.Int.{ints}
+use Rattle.std.specs.Int.{int_min}
+use Rattle.std.specs.Prelude.{if◌then◌else◌, None, Option, Some, min, slice_set, ◌&&◌, ◌+ℤ◌}
+use Rattle.cave_data.specs.CaveView.{CaveView}
+use Rattle.cave_world.specs.Limits.{MAX_LAMP_TURNS}
+use Rattle.cave_world.specs.declared.closing.Closing.{Closing}
+use Rattle.cave_world.specs.declared.dwarves.Dwarf.{Dwarf}
+use Rattle.cave_world.specs.declared.ending.Ending.{Ending}
+use Rattle.cave_world.specs.declared.ending.Question.{Question}
+use Rattle.cave_world.specs.declared.state.State.{State}
+use Rattle.cave_world.specs.declared.state.Tallies.{Tallies}
+use Rattle.turn_scene.specs.Rows.{Row, Test, act_of_row, after_trying_by, fits_by, Act, Deed}
+use Rattle.turn_scene.specs.Rows.{after_drawing, all_hold, by_rows, by_table, deed}
+use Rattle.turn_scene.specs.Rows.{first_fitting_or, noted, nothing_but}
+use Rattle.turn_scene.specs.Scene.{Scene, after_look_at}
+use Rattle.world_objects.specs.Objects.{after_juggle, after_move_to, with_anchor, with_prop, Layout}
+use Rattle.world_objects.specs.declared.spot.Anchor.{Anchor}
+use Rattle.turn_scene.specs.Effects.{after_sending, for_each_down_from, for_each_from}
+use Rattle.cave_world.specs.declared.tables.Table.TheVariants as table
+use Rattle.turn_scene.specs.Losses.{after_loss_to_snake, loss_to_snake_rows}
+use Rattle.turn_scene.specs.Panic.{after_panic, panic_rows}
+use Rattle.turn_scene.specs.Putting.{after_lay_down, after_put, caged_bird_rows, free_bird_rows}
+use Rattle.turn_scene.specs.Putting.{lay_down_rows, put_down, vessel}
+use Rattle.turn_scene.specs.Troll.{after_troll, troll_leaves}
+use Rattle.cave_verbs.specs.Effects.{after_default}
 use Rattle.turn_laws.proofs.Counted.{angrier}
 use Rattle.turn_laws.proofs.View.{Band, Bands, Change, Claim, Hints, Hold, IsBandAfter}
 use Rattle.turn_laws.proofs.View.{IsChargeAfter, IsKept, IsMoved, Juggle, Line, Loses, Moves, On}
@@ -163,12 +171,6 @@ pub moved_all : (P : Claim) → IsMoved P → (cs : List Change) (v : View) → 
 moved_all P moves [] v h = h
 moved_all P moves (c ∷ cs) v h =
     moved_all P moves cs (record v { objects = after_change c v.objects }) (moves v c h)
-
--- an object changes, or none does
-pub moved_if : (P : Claim) → IsMoved P → (b : Bool) (c : Change) (v : View) → P v
-    → P (record v { objects = if b then after_change c v.objects else v.objects })
-moved_if P moves b c v h =
-    choose (λ (o : Layout). P (record v { objects = o })) b _ _ (λ _. moves v c h) (λ _. h)
 
 -- more turns of the lamp, up to the most
 pub more_charge : (b : ℤ) (n : ℕ) → IsChargeAfter b (int_min (b +ℤ pos n) (pos MAX_LAMP_TURNS))

@@ -1,9 +1,10 @@
 -- The count of hints that were taken never falls.
+use Rattle.std.proofs.Common.{Bool, List, [], arith, false, suc, true, zero, ℕ, ◌∷◌, ◌≤◌}
+use Rattle.std.specs.Prelude.{slice_set}
+use Rattle.cave_data.specs.CaveView.{CaveView}
 use Rattle.turn_laws.specs.Courses.{HintsNeverFall, taken_hints}
 use Rattle.turn_laws.proofs.Lines.{lasting}
 use Rattle.turn_laws.proofs.View.{Claim, Hints, Keeps, Line}
-use Rattle.turn_laws.proofs.Words.{Bool, CaveView, List, [], arith, false, slice_set, suc, true}
-use Rattle.turn_laws.proofs.Words.{zero, ℕ, ◌∷◌, ◌≤◌}
 
 -- no fewer hints are taken where one more is
 one_taken : (xs : List Bool) (i : ℕ) → taken_hints xs ≤ taken_hints (slice_set xs i true)

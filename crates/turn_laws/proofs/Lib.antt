@@ -1,4 +1,3 @@
-pub mod Words
 pub mod View
 pub mod Counted
 pub mod Effects
@@ -15,3 +14,6 @@ pub mod OnePlace
 pub mod Onward
 pub mod HintCount
 pub mod Reaching
+pub mod OneList
+pub mod Missing
+pub mod WordLines

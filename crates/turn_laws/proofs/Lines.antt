@@ -1,30 +1,45 @@
 -- What a line makes of a claim, which lines change nothing, and which are turns.
+use Rattle.std.proofs.Common.{Bool, List, [], ap, arith, false, inr, pos, refl, subst, sym, true, ℕ}
+use Rattle.std.proofs.Common.{ℤ, ◌∙◌, ◌∷◌, ◌≡◌}
+use Rattle.std.proofs.lemmas.Bool.{false≢true, true≢false}
+use Rattle.std.proofs.lemmas.Int.{ints}
+use Rattle.std.specs.Prelude.{take as first_of, if◌then◌else◌, None, Option, Some, is_some, not}
+use Rattle.std.specs.Prelude.{◌&&◌, ◌||◌}
+use Rattle.cave_turn.specs.Answers.{is_of_hint, quit, reply_rows, after_reply, after_answer}
+use Rattle.cave_turn.specs.Answers.{after_no, after_yes, give_instructions, answer_in, answers}
+use Rattle.cave_turn.specs.Answers.{is_yes, without_question}
+use Rattle.cave_turn.specs.Turns.{silent_turn, start_of_game, turn_of, turn_on_line, with_seed}
+use Rattle.cave_turn.specs.Turns.{Turn, turn_of_input, turn_on_log_line}
+use Rattle.base_lines.specs.LogLine.{IsLogLine, IsSeedLine, log_line}
+use Rattle.base_lines.specs.declared.log_line.LogLine.{LogLine}
+use Rattle.cave_data.specs.CaveView.{CaveView}
+use Rattle.cave_world.specs.declared.ending.Ending.{Ending}
+use Rattle.cave_world.specs.declared.ending.Question.{Question}
+use Rattle.cave_world.specs.declared.state.State.{State}
+use Rattle.turn_ends.specs.Questions.{with_question, is_dragon}
+use Rattle.turn_scene.specs.Rows.{by_rows, Deed, after_all, by_table, deed, noted}
+use Rattle.turn_scene.specs.Scene.{after_row, scene_at_start, Scene, after_look_at, thing}
+use Rattle.turn_scene.specs.Scene.{with_state}
+use Rattle.turn_scene.specs.Places.{start_place}
 use Rattle.std.specs.FinMap as map
-use Rattle.std.specs.Prelude.{take as first_of}
 use Rattle.base_lines.proofs.LogLines.{IsLogLine-log_line, log_line-only}
-use Rattle.cave_turn.specs.Answers.{after_answer, after_no, after_yes, give_instructions}
-use Rattle.cave_turn.specs.Answers.{is_of_hint, quit, reply_scene}
-use Rattle.cave_turn.specs.Commands.{command_scene}
+use Rattle.cave_turn.specs.Commands.{begin_command, after_command}
 use Rattle.cave_turn.specs.Dragon.{after_gather, after_settle, fight, gathering_rows, lair}
 use Rattle.cave_turn.specs.Dragon.{settle}
-use Rattle.cave_turn.specs.Finish.{end_of_turn}
+use Rattle.cave_turn.specs.Finish.{after_end_of_turn}
 use Rattle.cave_turn.specs.Revival.{bury}
-use Rattle.cave_turn.specs.Turns.{silent_turn, start_of_game, turn_of, turn_on_line, with_seed}
-use Rattle.cave_turn.specs.base_lines.LogLine.{IsLogLine, IsSeedLine}
-use Rattle.cave_turn.specs.cave_world.State.{state_with_player_at}
+use Rattle.cave_world.specs.State.{state_with_player_at}
 use Rattle.cave_turn.specs.declared.answers.Answer.{Answer}
 use Rattle.cave_turn.specs.declared.answers.Answer.TheVariants.{Neither, No, Yes}
-use Rattle.cave_turn.specs.turn_hints.Hints.{give_rows, price_rows}
-use Rattle.cave_turn.specs.turn_scene.Scene.{scene_at_start}
-use Rattle.cave_turn.specs.turn_things.Props.{DRAGON_DEAD, RUG_FREE}
-use Rattle.cave_turn.specs.world_objects.declared.spot.Anchor.TheVariants as anchor
-use Rattle.cave_turn.specs.cave_world.declared.ending.Ending.TheVariants as ending_is
-use Rattle.cave_turn.specs.base_lines.declared.log_line.LogLine.TheVariants as kind
-use Rattle.cave_turn.specs.cave_words.declared.named.Named.TheVariants as name
-use Rattle.cave_turn.specs.cave_world.declared.ending.Question.TheVariants as question
-use Rattle.cave_turn.specs.turn_ends.Questions.{with_question}
+use Rattle.turn_clocks.specs.Hints.{give_rows, price_rows}
+use Rattle.turn_scene.specs.Props.{DRAGON_DEAD, RUG_FREE}
+use Rattle.world_objects.specs.declared.spot.Anchor.TheVariants as anchor
+use Rattle.cave_world.specs.declared.ending.Ending.TheVariants as ending_is
+use Rattle.base_lines.specs.declared.log_line.LogLine.TheVariants as kind
+use Rattle.cave_words.specs.declared.named.Named.TheVariants as name
+use Rattle.cave_world.specs.declared.ending.Question.TheVariants as question
 use Rattle.turn_laws.specs.Courses.{is_lit}
-use Rattle.turn_laws.specs.Laws.{HasEnded, IsQuiet, Lasts, before_clocks, before_lamp, is_changed}
+use Rattle.turn_laws.specs.Laws.{HasEnded, IsQuiet, Lasts, before_lamp, is_changed}
 use Rattle.turn_laws.specs.Laws.{is_command, is_input_kind, is_no_answer, is_priced, pays}
 use Rattle.turn_laws.proofs.Effects.{by_guarded, each_kept, effects, holds_alone, look, moved}
 use Rattle.turn_laws.proofs.Effects.{moved_all, paid_by, quiet}
@@ -34,18 +49,10 @@ use Rattle.turn_laws.proofs.Turns.{commanded_kept, finished_kept, mourned, rebor
 use Rattle.turn_laws.proofs.View.{Anywhere, Asks, Claim, Closes, Hints, Hold, IsCalm, IsChargeAfter}
 use Rattle.turn_laws.proofs.View.{IsKept, IsMoved, Keeps, Line, Moves, On, Passes, Pays, Place}
 use Rattle.turn_laws.proofs.View.{Prop, Puts, Ready, choose, is_die, lair_from, led, line_of, view}
-use Rattle.turn_laws.proofs.Words.{if◌then◌else◌}
-use Rattle.turn_laws.proofs.Words.{Bool, CaveView, Deed, Ending, List, LogLine, None, Option}
-use Rattle.turn_laws.proofs.Words.{Question, Scene, Some, State, Turn, [], after_all, after_look_at}
-use Rattle.turn_laws.proofs.Words.{answer_in, answers, ap, arith, by_table, deed, false, false≢true}
-use Rattle.turn_laws.proofs.Words.{inr, ints, is_dragon, is_some, is_yes, log_line, not}
-use Rattle.turn_laws.proofs.Words.{noted, pos, refl, start_place, subst, sym, thing, true}
-use Rattle.turn_laws.proofs.Words.{true≢false, turn_of_input, turn_on_log_line, with_state}
-use Rattle.turn_laws.proofs.Words.{without_question, ℕ, ℤ, ◌&&◌, ◌||◌, ◌∙◌, ◌∷◌, ◌≡◌}
-use Rattle.cave_turn.specs.rule_rows.declared.tables.Table.TheVariants as table
-use Rattle.cave_turn.specs.turn_rules.Effects.{for_each_from}
-use Rattle.cave_turn.specs.turn_things.Effects.{with_objects}
-use Rattle.cave_turn.specs.world_objects.Objects.{after_move_to}
+use Rattle.cave_world.specs.declared.tables.Table.TheVariants as table
+use Rattle.turn_scene.specs.Effects.{for_each_from}
+use Rattle.turn_scene.specs.Parts.{with_objects}
+use Rattle.world_objects.specs.Objects.{after_move_to}
 
 -- all that is by the dragon is moved to a place
 gathered_kept : (P : Claim) → IsMoved P → (cave : CaveView) (place : ℕ) (p : Scene) → On P p.state
@@ -90,10 +97,10 @@ closed_same s none = ap (λ (q : Option Question). record s { question = q }) (s
 module _ {cave : CaveView} {l : Line} {Q P : Claim} (k : IsKept cave l Q P) where
   -- the price of a hint is said
   priced_kept : (i : ℕ) (p : Scene) → On (Ready Anywhere P) p.state
-      → On P (by_table table.HintPrice price_rows (deed cave i p)).scene.state
+      → On P (by_rows price_rows (deed cave i p)).scene.state
   unfolding price_rows
   priced_kept i p h =
-      by_guarded P (deed cave i p) (noted table.HintPrice price_rows)
+      by_guarded P (deed cave i p) price_rows
       (search (asking_kept P, asked, h.holds) parts 20)
     where
       asked : (is_some (map.get cave.hints i) && true) ≡ true
@@ -190,11 +197,14 @@ module _ {cave : CaveView} {l : Line} {Q P : Claim} (k : IsKept cave l Q P) wher
     asked_kept : (q : Question) (a : Answer) (p : Scene)
         → (is_yes a && is_priced q ≡ true → l.is_paid ≡ true)
         → p.state.question ≡ Some q → p.state.ending ≡ None → On Q p.state
-        → On P (reply_scene cave q a p).state
+        → On P (after_reply cave q a p).state
+    unfolding reply_rows
     asked_kept q Yes p paid asked goes h =
-        agreed_kept q p paid asked goes h (λ other. closed_kept q p.state other asked goes h)
+        agreed_kept q (after_row table.Replies 1 p) paid asked goes h
+        (λ other. closed_kept q p.state other asked goes h)
     asked_kept q No p paid asked goes h =
-        declined_kept q p asked goes h (λ other. closed_kept q p.state other asked goes h)
+        declined_kept q (after_row table.Replies 2 p) asked goes h
+        (λ other. closed_kept q p.state other asked goes h)
     asked_kept q Neither p paid asked goes h =
         question_kept P cave q _ (k.keeps Passes (view p.state) unlit h)
 
@@ -204,15 +214,15 @@ module _ {cave : CaveView} {l : Line} {Q P : Claim} (k : IsKept cave l Q P) wher
         → On P (after_answer cave q line s).state
     unfolding after_answer
     answered_kept q line s paid asked goes h =
-        let r = reply_scene cave q (answer_in cave line) (scene_at_start false s) in
+        let r = after_reply cave q (answer_in cave line) (scene_at_start false s) in
         let a = asked_kept q (answer_in cave line) (scene_at_start false s) paid asked goes h in
-        choose (λ (p : Scene). On P p.state) (is_of_hint q) r (end_of_turn cave r) (λ _. a)
+        choose (λ (p : Scene). On P p.state) (is_of_hint q) r (after_end_of_turn cave r) (λ _. a)
         (λ _. finished_kept k r a)
 
 -- a line of a log, where commands, and prices that are paid, are as laws say
 module _ {cave : CaveView} {l : Line} {Q P : Claim} (k : IsKept cave l Q P) (line : List ℕ)
     (s : State) (does : l.is_command ≡ true → On (Ready Anywhere Q) (without_question s)
-    → On P (command_scene cave line (without_question s)).state)
+    → On P (after_command cave line (without_question s)).state)
     (unlit : l.is_command ≡ false → l.is_lit ≡ false) where
   played_kept : (e : Option Ending) (q : Option Question)
       → l.is_command ≡ (not (is_some e) && is_no_answer cave line q)
@@ -220,7 +230,7 @@ module _ {cave : CaveView} {l : Line} {Q P : Claim} (k : IsKept cave l Q P) (lin
       → On P (turn_of_input cave line e q s).state
   played_kept (Some how) q is paid goes asked h = k.keeps Passes (view s) (unlit is) h
   played_kept None None is paid goes asked h =
-      subst (λ (t : State). On P (command_scene cave line t).state) (closed_same s asked)
+      subst (λ (t : State). On P (after_command cave line t).state) (closed_same s asked)
       (does is (record {
         holds = subst (λ (o : Option Question). Q (record (view s) { question = o })) asked h;
         calm = (refl, goes);
@@ -230,7 +240,7 @@ module _ {cave : CaveView} {l : Line} {Q P : Claim} (k : IsKept cave l Q P) (lin
       let leaves = is ∙ sym (leaves_is (is_dragon q) (is_yes (answer_in cave line))) in
       choose (λ (t : Turn). On P t.state) (answers cave line q)
       (turn_of false (after_answer cave q line s))
-      (turn_of true (command_scene cave line (without_question s)))
+      (turn_of true (after_command cave line (without_question s)))
       (λ answered. answered_kept k (unlit (leaves ∙ ap not answered)) q line s paid asked goes h)
       (λ left. does (leaves ∙ ap not left) (record {
         holds = k.keeps (Closes q) (view s) (unanswered cave line q left, asked, goes) h;
@@ -254,7 +264,7 @@ pub turned : (cave : CaveView) (Q P : Claim) (s : State) (line : List ℕ)
 unfolding turn_on_line
 turned cave Q P s line keeps h =
     let k : IsKept cave (line_of cave s line) Q P = record { keeps = keeps } in
-    let t = without_question s in let o = before_lamp cave (before_clocks cave t) in
+    let t = without_question s in let o = before_lamp cave (begin_command cave t) in
     as_kept k line s
     (λ command r. commanded_kept k line t
     (record {

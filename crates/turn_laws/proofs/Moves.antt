@@ -1,42 +1,42 @@
 -- What motions and places make of a claim.
-use Rattle.cave_turn.specs.cave_data.CaveView.{ways_from}
-use Rattle.cave_turn.specs.cave_world.State.{state_after_set_out, without_visits}
-use Rattle.cave_turn.specs.cave_world.Travel.{TravelResult, after_condition, after_go, after_row}
-use Rattle.cave_turn.specs.cave_world.Travel.{first_way, from_listed, holds, outcome_or}
-use Rattle.cave_turn.specs.cave_world.Travel.{row_condition, row_destination, row_outcome}
-use Rattle.cave_turn.specs.cave_world.Travel.{rows_to_try, travel, travel_by_rows}
-use Rattle.cave_turn.specs.cave_world.declared.travel_rows.Outcome.{Outcome}
-use Rattle.cave_turn.specs.data_rows.Rows.{Going}
-use Rattle.cave_turn.specs.data_rows.declared.targets.Condition.{Condition}
-use Rattle.cave_turn.specs.data_rows.declared.targets.Condition.TheVariants.{Chance}
-use Rattle.cave_turn.specs.data_rows.declared.targets.Destination.{Destination}
-use Rattle.cave_turn.specs.data_rows.declared.targets.Destination.TheVariants.{PutsEmeraldDown}
-use Rattle.cave_turn.specs.data_rows.declared.targets.Special.TheVariants.{Bridge, Squeeze}
-use Rattle.cave_turn.specs.turn_moves.Arrival.{after_arrival, after_forced_motions}
-use Rattle.cave_turn.specs.turn_moves.Arrival.{description_anew, stop_at}
-use Rattle.cave_turn.specs.turn_moves.Bridge.{break_bridge, bridge_rows, cross_bridge, demand_toll}
-use Rattle.cave_turn.specs.turn_moves.Bridge.{pass_troll, spices_rows, toll_rows}
-use Rattle.cave_turn.specs.turn_moves.Back.{back_rows, go_back, place_back}
-use Rattle.cave_turn.specs.turn_moves.Journeys.{enough_rows, journey_by}
-use Rattle.cave_turn.specs.turn_moves.Journeys.{journey_by_request, journey_by_rows}
-use Rattle.cave_turn.specs.turn_moves.Journeys.{journey_of_outcome, look_round, own_motion}
-use Rattle.cave_turn.specs.turn_moves.Journeys.{refusal_rows, set_forth}
-use Rattle.cave_turn.specs.turn_moves.Squeeze.{squeeze_rows, squeeze_through}
-use Rattle.cave_turn.specs.turn_scene.Scene.{after_setting_out, with_left}
-use Rattle.cave_turn.specs.cave_words.declared.named.Named.TheVariants as name
-use Rattle.cave_turn.specs.cave_world.declared.travel_rows.Outcome.TheVariants as outcome
-use Rattle.cave_turn.specs.turn_rules.Rows.{act_of}
+use Rattle.std.proofs.Common.{Bool, List, [], arith, false, subst, suc, sym, true, zero, ℕ, ◌+◌}
+use Rattle.std.proofs.Common.{◌-◌, ◌∷◌, ◌≡◌}
+use Rattle.std.specs.Prelude.{if◌then◌else◌, None, Option, Some, is_some, slice_set, ◌==◌}
+use Rattle.cave_data.specs.CaveView.{ways_from, CaveView}
+use Rattle.cave_world.specs.declared.state.State.{State}
+use Rattle.turn_scene.specs.Rows.{act_of, Act, Deed, after_all, always, by_table, deed, noted}
+use Rattle.turn_scene.specs.Rows.{nothing_but}
+use Rattle.turn_scene.specs.Tests.{here}
+use Rattle.turn_scene.specs.Scene.{after_setting_out, with_left, Scene, thing}
+use Rattle.cave_world.specs.State.{state_after_set_out, without_visits}
+use Rattle.cave_world.specs.Travel.{Try, TravelResult, after_condition, after_go, after_trying_row}
+use Rattle.cave_world.specs.Travel.{count_unlisted, from_listed, holds, is_passed, result_of}
+use Rattle.cave_world.specs.Travel.{result_of_last, row_condition, row_destination, row_outcome}
+use Rattle.cave_world.specs.Travel.{travel, travel_by_rows, tries, try_of}
+use Rattle.cave_world.specs.declared.travel_rows.Outcome.{Outcome}
+use Rattle.data_rows.specs.Rows.{Going}
+use Rattle.data_rows.specs.declared.targets.Condition.{Condition}
+use Rattle.data_rows.specs.declared.targets.Condition.TheVariants.{Chance}
+use Rattle.data_rows.specs.declared.targets.Destination.{Destination}
+use Rattle.data_rows.specs.declared.targets.Destination.TheVariants.{PutsEmeraldDown}
+use Rattle.data_rows.specs.declared.targets.Special.TheVariants.{Bridge, Squeeze}
+use Rattle.turn_moves.specs.Arrival.{after_arrival, after_forced_motions, after_description}
+use Rattle.turn_moves.specs.Arrival.{stop_at}
+use Rattle.turn_moves.specs.Bridge.{break_bridge, bridge_rows, cross_bridge, demand_toll}
+use Rattle.turn_moves.specs.Bridge.{pass_troll, spices_rows, toll_rows}
+use Rattle.turn_moves.specs.Back.{back_rows, go_back, place_back}
+use Rattle.turn_moves.specs.Journeys.{enough_rows, journey_by, journey_by_request, journey_by_rows}
+use Rattle.turn_moves.specs.Journeys.{journey_of_outcome, look_round, own_motion, refusal_rows}
+use Rattle.turn_moves.specs.Journeys.{set_forth}
+use Rattle.turn_moves.specs.Squeeze.{squeeze_rows, squeeze_through}
+use Rattle.cave_words.specs.declared.named.Named.TheVariants as name
+use Rattle.cave_world.specs.declared.travel_rows.Outcome.TheVariants as outcome
 use Rattle.turn_laws.proofs.Effects.{effects, guarded, kept_by, placed, quiet, state_chosen}
 use Rattle.turn_laws.proofs.Places.{Reaches, Stopped, falling_kept, seen_kept, shown_kept}
 use Rattle.turn_laws.proofs.Places.{shown_open}
 use Rattle.turn_laws.proofs.View.{Anywhere, Claim, IsCalm, IsKept, Line, On, Ready, There, View}
 use Rattle.turn_laws.proofs.View.{choose, view}
-use Rattle.turn_laws.proofs.Words.{if◌then◌else◌}
-use Rattle.turn_laws.proofs.Words.{Act, Bool, CaveView, Deed, List, None, Option, Scene, Some}
-use Rattle.turn_laws.proofs.Words.{State, [], after_all, always, arith, by_table, deed, false, here, length}
-use Rattle.turn_laws.proofs.Words.{noted, nothing_but, slice_set, subst, suc, sym, thing, true}
-use Rattle.turn_laws.proofs.Words.{zero, ℕ, ◌-◌, ◌==◌, ◌∷◌, ◌≡◌}
-use Rattle.cave_turn.specs.rule_rows.declared.tables.Table.TheVariants as table
+use Rattle.cave_world.specs.declared.tables.Table.TheVariants as table
 
 module _ {cave : CaveView} {l : Line} {Q P : Claim} (k : IsKept cave l Q P) where
   abbrev R : Claim
@@ -54,36 +54,39 @@ module _ {cave : CaveView} {l : Line} {Q P : Claim} (k : IsKept cave l Q P) wher
   gone_kept emerald PutsEmeraldDown s h = placed k emerald s.trail.here h
   gone_kept emerald _ s h = h
 
-  row_kept : (emerald : ℕ) (s : State) (row : Going) → On R s → On R (after_row emerald s row)
-  unfolding after_row
+  row_kept : (emerald : ℕ) (s : State) (row : Going) → On R s → On R (after_trying_row emerald s row)
+  unfolding after_trying_row
   row_kept emerald s row h =
       let m = row_condition row in let d = row_destination row in let t = after_condition m s in
       let g = drawn_kept m s h in
       state_chosen k (holds m s) (after_go emerald d t) t (gone_kept emerald d t g) g
 
-  -- a journey that ends or goes on
-  ends_kept : (o : Option Outcome) (s : State) (j : TravelResult) → On R s → On R j.state
-      → On R (outcome_or o s j).state
-  ends_kept None s j h later = later
-  ends_kept (Some outcome) s j h later = h
-
-  -- the first way that leads somewhere
-  way_kept : (emerald : ℕ) (s : State) (rows : List Going) → On R s
-      → On R (first_way emerald s rows).state
-  way_kept emerald s [] h = h
-  way_kept emerald s (row ∷ rows) h =
-      let t = after_row emerald s row in
-      ends_kept (row_outcome s row) t (first_way emerald t rows) (row_kept emerald s row h)
-      (way_kept emerald t rows (row_kept emerald s row h))
+  -- rows that are tried, where the last try before them led as given
+  tries_kept : (emerald : ℕ) (s : State) (failed : Option ℕ) (number : ℕ) (rows : List Going)
+      (before : TravelResult) → On R s → On R before.state
+      → On R (result_of_last before (tries emerald s failed number rows)).state
+  tries_kept emerald s failed number [] before h led = led
+  tries_kept emerald s failed number (row ∷ rows) before h led =
+      let t = after_trying_row emerald s row in
+      let one = try_of emerald s number row in
+      let later = tries emerald t (Some row.target) (number + 1) rows in
+      choose (λ (all : List Try). On R (result_of_last before all).state) (is_passed failed row)
+      (tries emerald s failed (number + 1) rows)
+      (one ∷ (if is_some (row_outcome s row) then [] else later))
+      (λ _. tries_kept emerald s failed (number + 1) rows before h led)
+      (λ _. choose (λ (all : List Try). On R (result_of_last (result_of one) all).state)
+      (is_some (row_outcome s row)) [] later
+      (λ _. row_kept emerald s row h)
+      (λ _. tries_kept emerald t (Some row.target) (number + 1) rows (result_of one)
+      (row_kept emerald s row h) (row_kept emerald s row h)))
 
   travelled_kept : (emerald motion : ℕ) (s : State) → On R s
       → On R (travel cave emerald motion s).state
   unfolding travel travel_by_rows
   travelled_kept emerald motion s h =
-      let listed = from_listed motion (ways_from cave s.trail.here) in
-      choose (λ (j : TravelResult). On R j.state) (length listed == 0)
-      (record { state = s; outcome = outcome.NoMotion }) (first_way emerald s (rows_to_try listed))
-      (λ _. h) (λ _. way_kept emerald s (rows_to_try listed) h)
+      let ways = ways_from cave s.trail.here in
+      tries_kept emerald s None (count_unlisted motion ways) (from_listed motion ways)
+      (record { state = s; outcome = outcome.NoMotion }) h h
 
   squeezed_kept : (d : Deed (Unit {0})) → On R d.scene.state → On R (squeeze_through d).scene.state
   unfolding squeeze_through squeeze_rows
@@ -154,7 +157,7 @@ module _ {cave : CaveView} {l : Line} {Q P : Claim} (k : IsKept cave l Q P) wher
   arriving_open before new p h calm stays =
       carried_kept p.left _ _ (shown_open k before new p h calm stays)
 
-  pub describing_kept : (p : Scene) → On R p.state → On P (description_anew cave p).state
+  pub describing_kept : (p : Scene) → On R p.state → On P (after_description cave p).state
   describing_kept p h = carried_kept p.left _ _ (seen_kept k p h)
 
   -- the player looks round

@@ -1,14 +1,15 @@
 -- Each half of an object stays in one list.
+use Rattle.std.proofs.Common.{List, [], ℕ, ◌∷◌}
+use Rattle.cave_data.specs.CaveView.{CaveView}
+use Rattle.world_objects.specs.Objects.{after_move_to, Layout}
 use Rattle.cave_turn.specs.Turns.{start_of_game}
-use Rattle.cave_turn.specs.world_objects.Objects.{after_move_to}
-use Rattle.cave_turn.specs.turn_begin.Begin.{begun_state}
-use Rattle.turn_lists.proofs.OneList.{games_begin_so, halves_stay}
-use Rattle.turn_lists.specs.OneList.{AreInOneList}
+use Rattle.turn_ends.specs.Begin.{begun_state}
+use Rattle.turn_laws.proofs.OneList.{games_begin_so, halves_stay}
+use Rattle.turn_laws.specs.OneList.{AreInOneList}
 use Rattle.turn_laws.specs.ObjectLaws.{StayInOnePlace}
 use Rattle.turn_laws.proofs.Lines.{lasts}
 use Rattle.turn_laws.proofs.View.{Change, Claim, Hold, Juggle, Keeps, Line, Moves, Place, Prop}
 use Rattle.turn_laws.proofs.View.{Shifts, Takes, after_change, after_taking}
-use Rattle.turn_laws.proofs.Words.{CaveView, Layout, List, [], ℕ, ◌∷◌}
 
 abbrev InOneList : Claim
 InOneList v = AreInOneList v.objects

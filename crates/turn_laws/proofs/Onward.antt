@@ -1,10 +1,19 @@
 -- What only ever goes one way, in which order the cave closes, how the lamp's charge goes down, and
 -- what stays within bounds.
+use Rattle.std.proofs.Common.{Bool, ap, arith, false, inl, inr, length, negsuc, pos, refl, sym}
+use Rattle.std.proofs.Common.{true, ℕ, ℤ, ◌-◌, ◌<◌, ◌∙◌, ◌≡◌, ◌≤ℤ◌, ◌≤◌, ◌⊎◌}
+use Rattle.std.proofs.lemmas.Bool.{false≢true, true≢false}
+use Rattle.std.proofs.lemmas.Int.{ints}
+use Rattle.std.proofs.lemmas.List.Sums.{count_by-le-length, length-filter}
+use Rattle.std.specs.Int.{int_min}
+use Rattle.std.specs.Ordering.{int_eq}
+use Rattle.std.specs.Prelude.{slice_index_or}
+use Rattle.cave_data.specs.CaveView.{CaveView}
+use Rattle.cave_world.specs.declared.state.State.{State}
 use Rattle.cave_turn.specs.Turns.{start_of_game}
-use Rattle.cave_turn.specs.cave_world.State.{MAX_LOST, far_closing, full_lamp, is_hint_taken}
-use Rattle.cave_turn.specs.cave_world.State.{starting_state}
-use Rattle.cave_turn.specs.turn_begin.Begin.{begun_state}
-use Rattle.cave_turn.specs.turn_things.Treasures.{is_known, known_treasures, treasures}
+use Rattle.cave_world.specs.State.{MAX_LOST, far_closing, full_lamp, is_hint_taken, starting_state}
+use Rattle.turn_ends.specs.Begin.{begun_state}
+use Rattle.turn_scene.specs.Treasures.{is_known, known_treasures, treasures}
 use Rattle.turn_laws.specs.Courses.{AreAwake, ClosedIsClosing, LampBurnsByOne, NothingGoesBack}
 use Rattle.turn_laws.specs.Courses.{TreasuresGoOneWay, burns, charge_after}
 use Rattle.turn_laws.specs.Laws.{LampBurnsDown}
@@ -14,10 +23,6 @@ use Rattle.turn_laws.proofs.View.{Bands, Begins, Buries, Burns, Claim, Counts, F
 use Rattle.turn_laws.proofs.View.{IsChargeAfter, Keeps, Line, Loses, Panics, Passes, Pays, Revives}
 use Rattle.turn_laws.proofs.View.{Shortens, Shuts, Ticks, burnt, choose, kept_by_set, left_of}
 use Rattle.turn_laws.proofs.View.{line_of}
-use Rattle.turn_laws.proofs.Words.{Bool, CaveView, State, ap, arith, count_by-le-length, false}
-use Rattle.turn_laws.proofs.Words.{false≢true, inl, inr, int_eq, int_min, ints, length}
-use Rattle.turn_laws.proofs.Words.{length-filter, negsuc, pos, refl, slice_index_or, sym, true}
-use Rattle.turn_laws.proofs.Words.{true≢false, ℕ, ℤ, ◌-◌, ◌<◌, ◌∙◌, ◌≡◌, ◌≤ℤ◌, ◌≤◌, ◌⊎◌}
 
 -- what never goes back is as it was in a state, or has come
 abbrev Since : State → Claim

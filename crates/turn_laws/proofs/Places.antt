@@ -1,46 +1,50 @@
 -- What the score, the questions and a death make of a claim, and what is shown and met where a
 -- player arrives.
+use Rattle.std.proofs.Common.{Bool, List, [], arith, false, inl, inr, refl, sym, true, ℕ, ℤ, ◌-◌}
+use Rattle.std.proofs.Common.{◌∙◌, ◌∷◌, ◌≡◌, ◌≤◌, ◌⊎◌}
+use Rattle.std.proofs.lemmas.Bool.{true≢false}
+use Rattle.std.specs.Prelude.{None, Option, Some, is_some, nat_le, not, ◌&&◌, ◌==◌, ◌||◌}
+use Rattle.cave_data.specs.CaveView.{CaveView}
+use Rattle.cave_world.specs.declared.ending.Ending.{Ending}
+use Rattle.cave_world.specs.declared.ending.Question.{Question}
+use Rattle.cave_world.specs.declared.state.State.{State}
+use Rattle.turn_ends.specs.Endings.{tell_turns, after_die, after_end, class_rows, death_rows}
+use Rattle.turn_ends.specs.Endings.{tell_score, with_ending, with_one_death}
+use Rattle.turn_scene.specs.Effects.{change, say, set_prop}
+use Rattle.turn_scene.specs.Rows.{Act, Deed, after_all, always, by_table, deed, first_fitting_or}
+use Rattle.turn_scene.specs.Rows.{note_row, noted, nothing_but}
+use Rattle.turn_scene.specs.Scene.{scene_at_place, Scene, with_state}
+use Rattle.turn_scene.specs.Places.{outside_place}
 use Rattle.std.specs.FinMap as map
-use Rattle.cave_turn.specs.cave_world.State.{state_with_player_at, takes_no_command, with_visit}
-use Rattle.cave_turn.specs.data_rows.declared.rows.Hint.{Hint}
-use Rattle.cave_turn.specs.turn_dwarves.Dwarves.{encounter_dwarves}
-use Rattle.cave_turn.specs.turn_ends.Endings.{after_die, after_end, class_rows, death_rows}
-use Rattle.cave_turn.specs.turn_ends.Endings.{tell_score, tell_turns}
-use Rattle.cave_turn.specs.turn_ends.Questions.{after_ask, after_offer, after_question}
-use Rattle.cave_turn.specs.turn_ends.Questions.{ask_question, die_rows, is_score_quit, pose}
-use Rattle.cave_turn.specs.turn_ends.Questions.{tell_score_now, with_question}
-use Rattle.cave_turn.specs.turn_moves.Arrival.{block, blocking_rows, come_on, come_to, hit_rows}
-use Rattle.cave_turn.specs.turn_moves.Arrival.{meet, new, over_rows, place_rows, stop_at}
-use Rattle.cave_turn.specs.turn_moves.Description.{after_describe, bear_rows, description_rows}
-use Rattle.cave_turn.specs.turn_moves.Description.{feel_place, hollow_rows, see_place, stop_here}
-use Rattle.cave_turn.specs.turn_moves.Description.{stop_rows, tell_place, text_rows}
-use Rattle.cave_turn.specs.turn_moves.Description.{with_visit_here}
-use Rattle.cave_turn.specs.turn_moves.Dying.{after_die_at, with_all_left_at}
-use Rattle.cave_turn.specs.turn_moves.Objects.{after_object, after_objects, find_treasure}
-use Rattle.cave_turn.specs.turn_moves.Objects.{last_treasure_rows, object_rows, object_text_rows}
-use Rattle.cave_turn.specs.turn_moves.Objects.{with_one_less_unseen}
-use Rattle.cave_turn.specs.turn_rules.Tests.{it}
-use Rattle.cave_turn.specs.turn_scene.Scene.{scene_at_place}
-use Rattle.cave_turn.specs.world_objects.Lists.{halves_at}
-use Rattle.cave_turn.specs.world_objects.declared.object.Half.{Half}
-use Rattle.cave_turn.specs.cave_world.declared.ending.Ending.TheVariants as ending_is
-use Rattle.cave_turn.specs.cave_world.declared.ending.Question.TheVariants as question
-use Rattle.cave_turn.specs.data_rows.declared.role.Role.TheVariants as role
-use Rattle.cave_turn.specs.turn_rules.Panic.{after_panic}
+use Rattle.cave_world.specs.State.{state_with_player_at, takes_no_command, with_visit}
+use Rattle.data_rows.specs.declared.rows.Hint.{Hint}
+use Rattle.turn_dwarves.specs.Dwarves.{encounter_dwarves}
+use Rattle.turn_ends.specs.Questions.{after_ask, after_offer, after_question, ask_question}
+use Rattle.turn_ends.specs.Questions.{asking_rows, die_rows, pose, question_row, tell_question}
+use Rattle.turn_ends.specs.Questions.{tell_score_now, with_question}
+use Rattle.turn_moves.specs.Arrival.{block, blocking_rows, come_on, come_to, hit_rows, meet, new}
+use Rattle.turn_moves.specs.Arrival.{over_rows, place_rows, stop_at}
+use Rattle.turn_moves.specs.Description.{after_describe, bear_rows, description_rows, feel_place}
+use Rattle.turn_moves.specs.Description.{hollow_rows, see_place, stop_here, stop_rows, tell_place}
+use Rattle.turn_moves.specs.Description.{text_rows, with_visit_here}
+use Rattle.turn_moves.specs.Dying.{after_die_at, with_all_left_at}
+use Rattle.turn_moves.specs.Objects.{after_object, after_all_objects, find_treasure}
+use Rattle.turn_moves.specs.Objects.{last_treasure_rows}
+use Rattle.turn_moves.specs.Objects.{object_rows, object_text_rows, with_one_less_unseen}
+use Rattle.turn_scene.specs.Tests.{it}
+use Rattle.world_objects.specs.Lists.{halves_at}
+use Rattle.world_objects.specs.declared.object.Half.{Half}
+use Rattle.cave_world.specs.declared.ending.Ending.TheVariants as ending_is
+use Rattle.cave_world.specs.declared.ending.Question.TheVariants as question
+use Rattle.data_rows.specs.declared.role.Role.TheVariants as role
+use Rattle.turn_scene.specs.Panic.{after_panic}
 use Rattle.turn_laws.proofs.Dwarves.{dwarves_kept}
 use Rattle.turn_laws.proofs.Effects.{by_guarded, effects, fails_alone, guarded, holds_alone}
 use Rattle.turn_laws.proofs.Effects.{panicked, propped, quiet}
 use Rattle.turn_laws.proofs.View.{Anywhere, Claim, Comes, Dies, Ends, Finds, IsCalm, IsKept, Kills}
 use Rattle.turn_laws.proofs.View.{Line, On, Panics, Ready, Shortens, Somewhere, There, View}
 use Rattle.turn_laws.proofs.View.{anywhere, choose, from_one, view}
-use Rattle.turn_laws.proofs.Words.{Act, Bool, CaveView, Deed, Ending, List, None, Option, Question}
-use Rattle.turn_laws.proofs.Words.{Scene, Some, State, [], after_all, always, arith, by_table}
-use Rattle.turn_laws.proofs.Words.{change, deed, false, first_fitting_or, inl, inr, is_some}
-use Rattle.turn_laws.proofs.Words.{nat_le, not, noted, nothing_but, outside_place, refl, say}
-use Rattle.turn_laws.proofs.Words.{set_prop, sym, true, true≢false, with_ending}
-use Rattle.turn_laws.proofs.Words.{with_one_death, with_state, ℕ, ℤ, ◌&&◌, ◌-◌, ◌==◌, ◌||◌, ◌∙◌}
-use Rattle.turn_laws.proofs.Words.{◌∷◌, ◌≡◌, ◌≤◌, ◌⊎◌}
-use Rattle.cave_turn.specs.rule_rows.declared.tables.Table.TheVariants as table
+use Rattle.cave_world.specs.declared.tables.Table.TheVariants as table
 
 pub ended_kept : (P : Claim) (cave : CaveView) (how : Ending) (p : Scene)
     → On P (with_ending how p.state) → On P (after_end cave how p).state
@@ -59,11 +63,20 @@ die_kept : (P : Claim) (d : Deed Question) → On P d.scene.state
 unfolding die_rows
 die_kept P d h = quiet P (noted table.Die die_rows) (search parts 20) d h
 
+-- the message of a question changes no state
+asked_aloud_kept : (P : Claim) (asked : Question) (d : Deed Question) → On P d.scene.state
+    → On P (tell_question asked d).scene.state
+asked_aloud_kept P question.Die d h = die_kept P d h
+asked_aloud_kept P (question.Hint i) d h = offer_kept P (map.get d.cave.hints i) d.scene h
+asked_aloud_kept P _ d h = h
+
+posed_kept : (P : Claim) (d : Deed Question) → On P d.scene.state → On P (pose d).scene.state
+posed_kept P d h =
+    asked_aloud_kept P d.about (note_row table.Questions (question_row d.about) d) h
+
 pub question_kept : (P : Claim) (cave : CaveView) (q : Question) (p : Scene) → On P p.state
     → On P (after_question cave q p).state
-question_kept P cave question.Die p h = die_kept P _ h
-question_kept P cave (question.Hint i) p h = offer_kept P (map.get cave.hints i) _ h
-question_kept P cave _ p h = h
+question_kept P cave q p h = posed_kept P (deed cave q p) h
 
 -- a claim would hold if a question were asked
 abbrev Asked : Claim → Question → Claim
@@ -72,13 +85,16 @@ Asked P q v = P (record v { question = Some q })
 -- the score may be told before the question
 pub asking_kept : (P : Claim) (cave : CaveView) (q : Question) (p : Scene)
     → On P (with_question q p.state) → On P (after_ask cave q p).state
-unfolding after_ask ask_question
+unfolding after_ask ask_question asking_rows
 asking_kept P cave q p h =
-    let d = deed cave q p in
-    choose (λ (e : Deed Question). On P (change (with_question q) (pose q e)).scene.state)
-    (is_score_quit q) (tell_score_now d) d
-    (λ _. question_kept (Asked P q) cave q (tell_score_now d).scene h)
-    (λ _. question_kept (Asked P q) cave q p h)
+    quiet (Asked P q) (noted table.Asking asking_rows) (
+      (λ d g. ((λ _. (posed (tell_score_now (note_row table.Asking 1 d)) g, tt)), (λ _. g))),
+      ((λ d g. (posed (note_row table.Asking 2 d) g, tt)), tt),
+    ) (deed cave q p) h
+  where
+    posed : (e : Deed Question) → On (Asked P q) e.scene.state
+        → On (Asked P q) (pose e).scene.state
+    posed e g = posed_kept (Asked P q) e g
 
 module _ {game : CaveView} {l : Line} {Q P : Claim} (k : IsKept game l Q P)
     (cave : CaveView) where
@@ -103,7 +119,7 @@ module _ {game : CaveView} {l : Line} {Q P : Claim} (k : IsKept game l Q P)
           k.keeps (Dies p.state.trail.here)
           (record (view p.state) { here = before }) (calm, fails_alone _ free) h
 
-  -- the player dies, and what is carried is put somewhere
+  -- the player dies, and what is in the hands is put somewhere
   pub falling_kept : (place : ℕ) (p : Scene) → On (Ready Anywhere P) p.state
       → On P (after_die_at cave place p).state
   unfolding after_die_at
@@ -211,7 +227,7 @@ module _ {cave : CaveView} {l : Line} {Q P : Claim} (k : IsKept cave l Q P) wher
       (deed cave x p) h
 
   objects_kept : (halves : List Half) (p : Scene) → On R p.state
-      → On R (after_objects cave halves p).state
+      → On R (after_all_objects cave halves p).state
   objects_kept [] p h = h
   objects_kept (half ∷ halves) p h = objects_kept halves (after_object cave _ p) (object_kept _ p h)
 

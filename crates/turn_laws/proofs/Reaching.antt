@@ -1,17 +1,18 @@
 -- What holds as a game begins and is kept by each line holds of each state that a game comes to.
-use Rattle.std.specs.Prelude.{IfSome}
+use Rattle.std.proofs.Common.{List, [], subst, sym, ℕ, ◌∷◌, ◌≡◌, ◌≤◌}
+use Rattle.std.specs.Prelude.{IfSome, None, Option, Some, unwrap_or}
+use Rattle.cave_data.specs.CaveView.{CaveView}
+use Rattle.cave_world.specs.declared.state.State.{State}
 use Rattle.cave_turn.specs.Turns.{turn_on_line}
-use Rattle.cave_turn.specs.cave_data.Ranges.{IsPlace}
-use Rattle.turn_score.proofs.Most.{score_within}
+use Rattle.cave_data.specs.Ranges.{IsPlace}
+use Rattle.turn_ends.proofs.Most.{score_within}
 use Rattle.turn_laws.specs.DwarfLaws.{HasFewDwarves}
 use Rattle.turn_laws.specs.Laws.{IsSomewhere, Lasts}
 use Rattle.turn_laws.specs.Reachable.{HasPlaces, IsReachable, ReachableIsLawful, after_lines}
-use Rattle.turn_laws.proofs.Bounds.{asked_in_time, few_carried, few_deaths, few_dwarves}
+use Rattle.turn_laws.proofs.Bounds.{asked_in_time, few_in_hands, few_deaths, few_dwarves}
 use Rattle.turn_laws.proofs.Bounds.{hints_are_known, never_both, player_is_somewhere}
 use Rattle.turn_laws.proofs.OnePlace.{stay_in_one_place}
 use Rattle.turn_laws.proofs.Onward.{closed_is_closing, stays_bounded}
-use Rattle.turn_laws.proofs.Words.{CaveView, List, None, Option, Some, State, [], subst, sym}
-use Rattle.turn_laws.proofs.Words.{unwrap_or, ℕ, ◌∷◌, ◌≡◌, ◌≤◌}
 
 module _ {Holds : CaveView → State → Type 0} (lasts : Lasts Holds) (cave : CaveView) where
   -- what lasts holds after lines, one after another
@@ -43,7 +44,7 @@ reachable_is_lawful cave s places is =
     let both = reached placed cave s is places in
     record {
       deaths = reached few_deaths cave s is;
-      hands = reached few_carried cave s is;
+      hands = reached few_in_hands cave s is;
       one_place = reached stay_in_one_place cave s is;
       closing = reached closed_is_closing cave s is;
       asked = reached asked_in_time cave s is;

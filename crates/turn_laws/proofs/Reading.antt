@@ -1,4 +1,8 @@
 -- To read words keeps each claim: it changes no state.
+use Rattle.std.proofs.Common.{Bool, ℕ}
+use Rattle.std.specs.Prelude.{None, Option, Some, if◌then◌else◌}
+use Rattle.cave_data.specs.CaveView.{CaveView}
+use Rattle.turn_scene.specs.Rows.{Act, Deed}
 use Rattle.cave_turn.specs.ObjectWords.{object_word}
 use Rattle.cave_turn.specs.Request.{acts_by, by_object_alone, by_object_before, two_words}
 use Rattle.cave_turn.specs.Request.{word_alone, word_aloud, word_before, word_entered}
@@ -7,7 +11,6 @@ use Rattle.cave_turn.specs.declared.object_words.ObjectWord.{ObjectWord}
 use Rattle.cave_turn.specs.declared.object_words.ObjectWord.TheVariants as object_is
 use Rattle.turn_laws.proofs.Effects.{act_chosen}
 use Rattle.turn_laws.proofs.View.{Claim, IsKept, Line, On, Ready, Somewhere, choose}
-use Rattle.turn_laws.proofs.Words.{Act, Bool, CaveView, Deed, None, Option, Some, if◌then◌else◌, ℕ}
 
 module _ {game : CaveView} {l : Line} {Q P : Claim} (k : IsKept game l Q P) where
   abbrev R : Claim

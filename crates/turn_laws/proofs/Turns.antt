@@ -1,57 +1,67 @@
 -- What a command makes of a claim.
-use Rattle.cave_turn.specs.cave_words.Stream.{next}
-use Rattle.cave_turn.specs.Commands.{Done, after_clocks, after_puzzle, after_travel, begin_command}
-use Rattle.cave_turn.specs.Commands.{clocks_scene, command_scene, done, done_by_action}
-use Rattle.cave_turn.specs.Commands.{done_by_request, done_by_verb, half_command_kept, kept_scene}
-use Rattle.cave_turn.specs.Commands.{next_scene, puzzle_rows, scene_of_understood, scene_of_words}
-use Rattle.cave_turn.specs.Finish.{end_of_turn, end_rows, hands_rows, is_hidden_in_hand}
-use Rattle.cave_turn.specs.Finish.{layout_with_object_shown}
+use Rattle.std.proofs.Common.{Bool, List, arith, false, inl, refl, subst, sym, true, ℕ, ℤ, ◌≡◌}
+use Rattle.std.specs.Prelude.{take as first_of, None, Option, Some, drop, is_some, nat_le, ◌&&◌}
+use Rattle.std.specs.Prelude.{◌==◌, ◌||◌}
+use Rattle.cave_turn.specs.Answers.{without_question}
+use Rattle.cave_data.specs.CaveView.{default_message, CaveView}
+use Rattle.cave_verbs.specs.Acting.{act, next_of_step}
+use Rattle.cave_world.specs.declared.state.State.{State}
+use Rattle.turn_clocks.specs.declared.clocks.Clocks.{Clocks}
+use Rattle.turn_ends.specs.Endings.{with_one_death}
+use Rattle.turn_scene.specs.Effects.{for_each_down_from, for_each_from, change}
+use Rattle.turn_scene.specs.Rows.{Deed, after_all, by_table, deed, noted}
+use Rattle.turn_scene.specs.Scene.{after_telling, happens, scene_at_start, thing, Scene, after_draw}
+use Rattle.turn_scene.specs.Scene.{after_look_at}
+use Rattle.turn_scene.specs.Places.{building_place}
+use Rattle.cave_verbs.specs.declared.next.Next.{Next}
+use Rattle.cave_verbs.specs.declared.verb.Verb.{Verb}
+use Rattle.cave_words.specs.Stream.{next}
+use Rattle.cave_turn.specs.Commands.{Done, after_clocks, after_unknown_word, after_travel}
+use Rattle.cave_turn.specs.Commands.{begin_command}
+use Rattle.cave_turn.specs.Commands.{after_timed_words, after_command, done, do_action}
+use Rattle.cave_turn.specs.Commands.{do_request, do_verb, keep_half_command, after_keeping}
+use Rattle.cave_turn.specs.Commands.{forget_knife_rows, after_next, unknown_word_rows}
+use Rattle.cave_turn.specs.Commands.{after_understood}
+use Rattle.cave_turn.specs.Commands.{after_words, with_magic_waiting}
+use Rattle.cave_turn.specs.Finish.{after_object_shown, after_end_of_turn, end_rows, hands_rows}
+use Rattle.cave_turn.specs.Finish.{shown_rows}
 use Rattle.cave_turn.specs.Revival.{after_fall, come_back, fall_rows, put_out_rows, reborn_rows}
 use Rattle.cave_turn.specs.Revival.{revival_rows, revive}
-use Rattle.cave_turn.specs.cave_data.CaveView.{default_message}
-use Rattle.cave_turn.specs.cave_verbs.Acting.{act}
-use Rattle.cave_turn.specs.cave_words.Words.{words_of}
-use Rattle.cave_turn.specs.cave_words.declared.words.Words.{Words}
-use Rattle.cave_turn.specs.cave_world.State.{takes_no_command}
+use Rattle.cave_words.specs.Words.{words_of}
+use Rattle.cave_words.specs.declared.words.Words.{Words}
+use Rattle.cave_words.specs.declared.named.Named.TheVariants as name
+use Rattle.cave_world.specs.Sight.{dark}
+use Rattle.cave_world.specs.State.{takes_no_command}
 use Rattle.cave_turn.specs.declared.request.HalfCommand.{HalfCommand}
 use Rattle.cave_turn.specs.declared.request.Request.{Request}
 use Rattle.cave_turn.specs.declared.request.Understood.{Understood}
-use Rattle.cave_turn.specs.turn_clocks.Clocks.{run_clocks}
-use Rattle.cave_turn.specs.turn_hints.Hints.{after_consider, guard_rows, hint_rows, offer_rows}
-use Rattle.cave_turn.specs.turn_moves.Journeys.{journey_by_request}
-use Rattle.cave_turn.specs.turn_scene.Scene.{after_telling, happens}
-use Rattle.cave_turn.specs.turn_things.Effects.{with_objects}
-use Rattle.cave_turn.specs.verb_commands.Rows.{command_of}
-use Rattle.cave_turn.specs.verb_commands.Verbs.{verb_of}
-use Rattle.cave_turn.specs.world_objects.Objects.{after_move_to, prop_of, with_prop}
-use Rattle.cave_turn.specs.turn_clocks.declared.clocks.Clocks.TheVariants as clocks
-use Rattle.cave_turn.specs.cave_world.declared.ending.Ending.TheVariants as ending_is
-use Rattle.cave_turn.specs.verb_commands.declared.next.Next.TheVariants as next_is
-use Rattle.cave_turn.specs.cave_world.declared.part.Part.TheVariants as part
-use Rattle.cave_turn.specs.cave_world.declared.ending.Question.TheVariants as question
+use Rattle.turn_clocks.specs.Clocks.{run_clocks}
+use Rattle.turn_clocks.specs.Hints.{after_consider, guard_rows, hint_rows, offer_rows}
+use Rattle.turn_moves.specs.Journeys.{journey_by_request}
+use Rattle.turn_scene.specs.Parts.{with_objects}
+use Rattle.cave_verbs.specs.Rows.{command_of}
+use Rattle.cave_verbs.specs.Verbs.{verb_of}
+use Rattle.world_objects.specs.Objects.{after_move_to, with_prop}
+use Rattle.turn_clocks.specs.declared.clocks.Clocks.TheVariants as clocks
+use Rattle.cave_world.specs.declared.ending.Ending.TheVariants as ending_is
+use Rattle.cave_verbs.specs.declared.next.Next.TheVariants as next_is
+use Rattle.cave_world.specs.declared.part.Part.TheVariants as part
+use Rattle.cave_world.specs.declared.ending.Question.TheVariants as question
 use Rattle.cave_turn.specs.declared.request.Request.TheVariants as request
-use Rattle.turn_laws.specs.Laws.{before_clocks, before_lamp}
+use Rattle.turn_laws.specs.Laws.{before_lamp}
 use Rattle.turn_laws.proofs.Reading.{read_kept}
-use Rattle.cave_turn.specs.turn_ends.Questions.{with_question}
+use Rattle.turn_ends.specs.Questions.{with_question}
 use Rattle.std.specs.FinMap as map
-use Rattle.std.specs.Prelude.{take as first_of}
 use Rattle.turn_laws.proofs.Clocks.{After, IsLampOf, clocks_kept}
 use Rattle.turn_laws.proofs.Effects.{by_guarded, each_kept, each_kept_down, fails_alone, moved}
-use Rattle.turn_laws.proofs.Effects.{moved_if, quiet, tests}
+use Rattle.turn_laws.proofs.Effects.{quiet, tests}
 use Rattle.turn_laws.proofs.Moves.{arriving_kept, arriving_open, describing_kept, motion_kept}
 use Rattle.turn_laws.proofs.Places.{asking_kept, ended_kept, ending_kept, none_over}
 use Rattle.turn_laws.proofs.Verbs.{acted_kept, is_asking_apart, known}
 use Rattle.turn_laws.proofs.View.{Anywhere, Asks, Buries, Claim, IsKept, IsMoved, Line, Moves, On}
 use Rattle.turn_laws.proofs.View.{Place, Prop, Puts, Ready, Revives, Somewhere, View, anywhere}
 use Rattle.turn_laws.proofs.View.{choose, view, with_death}
-use Rattle.turn_laws.proofs.Words.{Bool, CaveView, Clocks, Deed, Layout, List, Next, None}
-use Rattle.turn_laws.proofs.Words.{Option, Scene, Some, State, UNSEEN, Verb, after_all, after_draw}
-use Rattle.turn_laws.proofs.Words.{after_look_at, arith, building_place, by_table, change, deed}
-use Rattle.turn_laws.proofs.Words.{drop, false, inl, is_some, nat_le, next_of_step, noted}
-use Rattle.turn_laws.proofs.Words.{refl, subst, sym, true, with_one_death, without_question, ℕ, ℤ}
-use Rattle.turn_laws.proofs.Words.{◌&&◌, ◌-ℤ◌, ◌==◌, ◌||◌, ◌≡◌}
-use Rattle.cave_turn.specs.rule_rows.declared.tables.Table.TheVariants as table
-use Rattle.cave_turn.specs.turn_rules.Effects.{for_each_down_from, for_each_from}
+use Rattle.cave_world.specs.declared.tables.Table.TheVariants as table
 
 -- where a row with another test fits one that has that test too doesn't, so that test fails
 test_fails : (a b : Bool) → (a && true) ≡ true → (a && (b && true)) ≡ false → b ≡ false
@@ -59,13 +69,17 @@ test_fails a b fit other = grind (arith, fit, other)
 
 -- objects that are shown, or that fall, one after another
 module _ (P : Claim) (moves : IsMoved P) where
-  shown_kept : (v : View) → P v
-      → P (record v { objects = for_each_from 1 100 layout_with_object_shown v.objects })
-  unfolding layout_with_object_shown
-  shown_kept v h =
-      each_kept (λ (o : Layout). P (record v { objects = o })) 1 100 layout_with_object_shown
-      (λ x o g. moved_if P moves (is_hidden_in_hand o x) (Prop x (UNSEEN -ℤ prop_of o x))
-      (record v { objects = o }) g) v.objects h
+  shown_kept : (cave : CaveView) (p : Scene) → On P p.state
+      → On P (for_each_from 1 100 (after_object_shown cave) p).state
+  unfolding after_object_shown shown_rows
+  shown_kept cave p h =
+      each_kept (λ (q : Scene). On P q.state) 1 100 (after_object_shown cave)
+      (λ x q g. quiet P (noted table.ObjectShown shown_rows) (search turned parts 20)
+      (deed cave x q) g) p h
+    where
+      turned : (x : ℕ) (w : ℤ) (s : State) → On P s
+          → On P (with_objects (with_prop s.objects x w) s)
+      turned x w s h = moves (view s) (Prop x w) h
 
   fallen_kept : (cave : CaveView) (p : Scene) → On P p.state
       → On P (for_each_down_from 100 (after_fall cave) p).state
@@ -80,13 +94,13 @@ module _ (P : Claim) (moves : IsMoved P) where
 
 -- what is kept of a command for the next one
 settled_kept : (P : Claim) (o : Option HalfCommand) (x : ℕ) (p : Scene) → On P p.state
-    → On P (kept_scene o x p).state
-unfolding kept_scene
+    → On P (after_keeping o x p).state
+unfolding after_keeping
 settled_kept P None x p h = h
 settled_kept P (Some half) x p h = h
 
-half_same : (d : Deed Done) → (half_command_kept d).scene.state ≡ d.scene.state
-unfolding half_command_kept
+half_same : (d : Deed Done) → (keep_half_command d).scene.state ≡ d.scene.state
+unfolding keep_half_command
 half_same d = grind arith
 
 module _ {cave : CaveView} {l : Line} {Q P : Claim} (k : IsKept cave l Q P) where
@@ -130,23 +144,19 @@ module _ {cave : CaveView} {l : Line} {Q P : Claim} (k : IsKept cave l Q P) wher
       → On P (by_table table.Hands hands_rows d).scene.state
   unfolding hands_rows
   hands_kept d h =
-      quiet P (noted table.Hands hands_rows) (search (looked, all_shown) parts 20) d h
+      quiet P (noted table.Hands hands_rows) (search (looked, shown_kept P moves) parts 20) d h
     where
       looked : (x : ℕ) (w : ℤ) (p : Scene) → On P p.state → On P (after_look_at x w p).state
       looked x w p h = choose (λ (q : Scene). On P q.state) (x == 0) p _ (λ _. h) (λ _. h)
 
-      all_shown : (s : State) → On P s
-          → On P (with_objects (for_each_from 1 100 layout_with_object_shown s.objects) s)
-      all_shown s h = shown_kept P moves (view s) h
-
-  pub finished_kept : (p : Scene) → On P p.state → On P (end_of_turn cave p).state
-  unfolding end_of_turn end_rows
+  pub finished_kept : (p : Scene) → On P p.state → On P (after_end_of_turn cave p).state
+  unfolding after_end_of_turn end_rows
   finished_kept p h =
       by_guarded P (deed cave tt p) end_rows (search (hints_kept, hands_kept) parts 20)
 
   -- what follows what a verb did
   following_kept : (next : Next) (p : Scene) → is_asking_apart next ≡ false
-      → On (Ready Here P) p.state → On P (next_scene cave next p).state
+      → On (Ready Here P) p.state → On P (after_next cave next p).state
   following_kept next_is.Stay p other h = h.holds
   following_kept next_is.Keep p other h = h.holds
   following_kept next_is.Describe p other h = describing_kept k p (anywhere h)
@@ -158,8 +168,8 @@ module _ {cave : CaveView} {l : Line} {Q P : Claim} (k : IsKept cave l Q P) wher
 
   -- an action is done, or what the cave says of it is said
   acting_kept : (o : Option Verb) (number x : ℕ) (word : List ℕ) (p : Scene)
-      → On (Ready Here P) p.state → On P (done_by_action cave o number x word p).scene.state
-  unfolding done_by_verb
+      → On (Ready Here P) p.state → On P (do_action cave o number x word p).scene.state
+  unfolding do_verb
   acting_kept (Some v) number x word p h =
       let a = act cave (command_of v x word) p in
       let acted = acted_kept k cave (command_of v x word) p h in
@@ -169,10 +179,10 @@ module _ {cave : CaveView} {l : Line} {Q P : Claim} (k : IsKept cave l Q P) wher
       (after_telling (part.Message (default_message cave number)) p) (λ _. h.holds) (λ _. h.holds)
 
   done_kept : (r : Request) (p : Scene) → On (Ready Here P) p.state
-      → On P (done_by_request cave r p).scene.state
-  unfolding after_travel after_puzzle puzzle_rows
+      → On P (do_request cave r p).scene.state
+  unfolding after_travel after_unknown_word unknown_word_rows
   done_kept request.Unknown p h =
-      quiet P (noted table.UnknownWord puzzle_rows) (search parts 20)
+      quiet P (noted table.UnknownWord unknown_word_rows) (search parts 20)
       (deed cave (happens 20 p) (after_draw p)) h.holds
   done_kept (request.Motion motion) p h =
       let j = journey_by_request cave motion p in
@@ -184,27 +194,27 @@ module _ {cave : CaveView} {l : Line} {Q P : Claim} (k : IsKept cave l Q P) wher
 
   -- what was understood is carried out
   carried_out_kept : (u : Understood) (p : Scene) → On (Ready Here P) p.state
-      → On P (scene_of_understood cave u p).state
-  unfolding scene_of_understood
+      → On P (after_understood cave u p).state
+  unfolding after_understood
   carried_out_kept u p h =
-      let a = done_by_request cave u.request p in
+      let a = do_request cave u.request p in
       let d = deed cave (done u a.step) a.scene in
       settled_kept P _ _ _ (subst (On P) (sym (half_same d)) (done_kept u.request p h))
 
   -- the words of a line are done
   done_for_kept : (words : Words) (p : Scene) → On (Ready Here P) p.state
-      → On P (scene_of_words cave words.first words.second p).state
+      → On P (after_words cave words.first words.second p).state
   done_for_kept words p h = by_first words.first
     where
       by_first : (o : Option (List ℕ))
-          → On P (scene_of_words cave o words.second p).state
+          → On P (after_words cave o words.second p).state
       by_first None = h.holds
       by_first (Some word) = carried_out_kept _ _ (read_kept k _ h)
 
   -- what the clocks leave of a command
   after_clocks_kept : (words : Words) (before : ℕ) (o : Clocks) (p : Scene)
       → After (Ready Here P) cave before o p.state → On P (after_clocks cave words o p).state
-  unfolding kept_scene
+  unfolding after_keeping
   after_clocks_kept words before clocks.GoOn p h = done_for_kept words p h
   after_clocks_kept words before clocks.GaveUp p h = ending_kept k cave ending_is.Quit p h
   after_clocks_kept words before (clocks.Closed place) p h =
@@ -212,17 +222,25 @@ module _ {cave : CaveView} {l : Line} {Q P : Claim} (k : IsKept cave l Q P) wher
       arriving_open k before place p h.holds.holds h.holds.calm
       (λ some. k.keeps (Puts p.state.trail.here) v (some, inl h.place) h.holds.holds)
 
+  -- a command begins
+  begun_kept : (R : Claim) (s : State) → On R s → On R (begin_command cave s).state
+  unfolding begin_command forget_knife_rows
+  begun_kept R s h =
+      let t = with_magic_waiting s in
+      let p = scene_at_start (dark cave (thing cave name.Lamp) t) t in
+      quiet R (noted table.KnifeForgotten forget_knife_rows) (search parts 20) (deed cave tt p) h
+
   -- the clocks run, and what they leave is done
   pub commanded_kept : (line : List ℕ) (s : State)
-      → IsLampOf cave l (before_lamp cave (before_clocks cave s)) → On (Ready Here Q) s
-      → On P (command_scene cave line s).state
-  unfolding command_scene begin_command clocks_scene
+      → IsLampOf cave l (before_lamp cave (begin_command cave s)) → On (Ready Here Q) s
+      → On P (after_command cave line s).state
+  unfolding after_command after_timed_words
   commanded_kept line s of h =
-      let p = before_clocks cave s in
+      let p = begin_command cave s in
       let words = words_of cave.letters line in
       let t = run_clocks cave p in
-      let after = clocks_kept k p of h in
-      finished_kept (clocks_scene cave words p)
+      let after = clocks_kept k p of (begun_kept (Ready Here Q) s h) in
+      finished_kept (after_timed_words cave words p)
       (after_clocks_kept words after.0 t.step t.scene after.1)
 
   -- a player who died, and whose death was counted, may come back, or is dead for good
@@ -250,7 +268,7 @@ module _ {cave : CaveView} {l : Line} {Q P : Claim} (k : IsKept cave l Q P) wher
   back_moved : IsMoved Back
   back_moved v c r = moved k _ c r
 
-  -- a player is back, without what was carried
+  -- a player is back with empty hands
   returned_kept : (p : Scene) → On Back p.state
       → On P (after_all (drop 1 revive) (deed cave question.Die p)).scene.state
   unfolding revive

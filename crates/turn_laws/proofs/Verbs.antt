@@ -1,42 +1,52 @@
 -- What verbs do keeps each claim that what happens in a game keeps, and no verb asks whether to
 -- come back from death, or about a hint.
-use Rattle.cave_turn.specs.cave_words.Stream.{next}
-use Rattle.std.specs.Prelude.{take as first_of}
-use Rattle.cave_turn.specs.cave_verbs.Acting.{act, act_bare, act_on, act_once, act_within, rows_of}
-use Rattle.cave_turn.specs.cave_verbs.Blasting.{blast_rows}
-use Rattle.cave_turn.specs.cave_verbs.Breaking.{break_rows, wake_rows}
-use Rattle.cave_turn.specs.cave_verbs.Dropping.{drop_rows}
-use Rattle.cave_turn.specs.cave_verbs.Feeding.{bare_eat_rows, eat_rows, feed_rows}
-use Rattle.cave_turn.specs.cave_verbs.Finding.{bare_inventory_rows, bear_along_rows, find_rows}
-use Rattle.cave_turn.specs.cave_verbs.Killing.{bare_kill_rows, kill_rows}
-use Rattle.cave_turn.specs.cave_verbs.Light.{darkened_rows, off_rows, on_rows}
-use Rattle.cave_turn.specs.cave_verbs.Magic.{bare_foo_rows, eggs_rows}
-use Rattle.cave_turn.specs.cave_verbs.Opening.{bare_open_rows, open_rows}
-use Rattle.cave_turn.specs.cave_verbs.Pouring.{bare_fill_rows, drink_rows, fill_rows, pour_rows}
-use Rattle.cave_turn.specs.cave_verbs.Reading.{bare_read_rows, read_rows}
-use Rattle.cave_turn.specs.cave_verbs.Small.{bare_brief_rows, bare_quit_rows, bare_rows}
-use Rattle.cave_turn.specs.cave_verbs.Small.{bare_score_rows, nothing_rows, other_rows}
-use Rattle.cave_turn.specs.cave_verbs.Taking.{bare_take_rows, take_rows}
-use Rattle.cave_turn.specs.cave_verbs.Throwing.{throw_rows, without_first_at}
-use Rattle.cave_turn.specs.cave_verbs.Waving.{rub_rows, wave_rows}
-use Rattle.cave_turn.specs.turn_things.Reach.{is_dwarf_at, is_dwarf_here}
-use Rattle.cave_turn.specs.verb_commands.Rows.{VerbRow, first_fitting, going_on, stays}
-use Rattle.cave_turn.specs.verb_commands.declared.command.Command.{Command}
-use Rattle.cave_turn.specs.verb_commands.declared.next.Next.TheVariants.{Ask}
-use Rattle.cave_turn.specs.verb_commands.declared.next.Step.{Step}
-use Rattle.cave_turn.specs.verb_commands.declared.next.Step.TheVariants.{Done, GoOn}
-use Rattle.cave_turn.specs.world_objects.Objects.{after_carry, with_prop}
-use Rattle.cave_turn.specs.cave_world.declared.ending.Question.TheVariants as question
-use Rattle.cave_turn.specs.verb_commands.declared.verb.Verb.TheVariants as verb
-use Rattle.turn_laws.proofs.Words.{Act, Bool, CaveView, Closing, Deed, Dwarf, Ending, Layout, List}
-use Rattle.turn_laws.proofs.Words.{Next, Option, Question, Scene, Tallies, Verb, [], arith}
-use Rattle.turn_laws.proofs.Words.{carried_objects, deed, drop, false, here, length, min, nat_le}
-use Rattle.turn_laws.proofs.Words.{next_of_step, noted, nothing_but, refl, suc, true, true≢false}
-use Rattle.turn_laws.proofs.Words.{zero, ℕ, ℤ, ◌&&◌, ◌+◌, ◌==◌, ◌∷◌, ◌≡◌, ◌≤◌}
+use Rattle.std.proofs.Common.{Bool, List, [], arith, false, length, refl, suc, true, zero, ℕ, ℤ}
+use Rattle.std.proofs.Common.{◌+◌, ◌∷◌, ◌≡◌, ◌≤◌}
+use Rattle.std.proofs.lemmas.Bool.{true≢false}
+use Rattle.std.specs.Prelude.{take as first_of, Option, drop, min, nat_le, ◌&&◌, ◌==◌}
+use Rattle.cave_data.specs.CaveView.{CaveView}
+use Rattle.cave_verbs.specs.Acting.{act, act_bare, act_on, act_once, act_within, rows_of}
+use Rattle.cave_verbs.specs.Acting.{next_of_step}
+use Rattle.cave_world.specs.declared.closing.Closing.{Closing}
+use Rattle.cave_world.specs.declared.dwarves.Dwarf.{Dwarf}
+use Rattle.cave_world.specs.declared.ending.Ending.{Ending}
+use Rattle.cave_world.specs.declared.ending.Question.{Question}
+use Rattle.cave_world.specs.declared.state.Tallies.{Tallies}
+use Rattle.turn_scene.specs.Rows.{Act, Deed, deed, noted, nothing_but}
+use Rattle.turn_scene.specs.Tests.{here}
+use Rattle.turn_scene.specs.Scene.{Scene}
+use Rattle.cave_verbs.specs.declared.next.Next.{Next}
+use Rattle.cave_verbs.specs.declared.verb.Verb.{Verb}
+use Rattle.world_objects.specs.Objects.{after_carry, with_prop, Layout, objects_in_hands}
+use Rattle.cave_words.specs.Stream.{next}
+use Rattle.cave_verbs.specs.Blasting.{blast_rows}
+use Rattle.cave_verbs.specs.Breaking.{break_rows, wake_rows}
+use Rattle.cave_verbs.specs.Dropping.{drop_rows}
+use Rattle.cave_verbs.specs.Feeding.{bare_eat_rows, eat_rows, feed_rows}
+use Rattle.cave_verbs.specs.Finding.{bare_inventory_rows, bear_along_rows, find_rows}
+use Rattle.cave_verbs.specs.Killing.{bare_kill_rows, kill_rows}
+use Rattle.cave_verbs.specs.Light.{darkened_rows, off_rows, on_rows}
+use Rattle.cave_verbs.specs.Magic.{bare_foo_rows, eggs_rows}
+use Rattle.cave_verbs.specs.Opening.{bare_open_rows, open_rows}
+use Rattle.cave_verbs.specs.Pouring.{bare_fill_rows, drink_rows, fill_rows, pour_rows}
+use Rattle.cave_verbs.specs.Reading.{bare_read_rows, read_rows}
+use Rattle.cave_verbs.specs.Small.{bare_brief_rows, bare_quit_rows, bare_rows, bare_score_rows}
+use Rattle.cave_verbs.specs.Small.{nothing_rows, other_rows}
+use Rattle.cave_verbs.specs.Taking.{bare_take_rows, take_rows}
+use Rattle.cave_verbs.specs.Throwing.{throw_rows, without_first_at}
+use Rattle.cave_verbs.specs.Waving.{rub_rows, wave_rows}
+use Rattle.turn_scene.specs.Reach.{is_dwarf_at, is_dwarf_here}
+use Rattle.cave_verbs.specs.Rows.{VerbRow, first_fitting, going_on, stays}
+use Rattle.cave_verbs.specs.declared.command.Command.{Command}
+use Rattle.cave_verbs.specs.declared.next.Next.TheVariants.{Ask}
+use Rattle.cave_verbs.specs.declared.next.VerbStep.{VerbStep}
+use Rattle.cave_verbs.specs.declared.next.VerbStep.TheVariants.{Done, GoOn}
+use Rattle.cave_world.specs.declared.ending.Question.TheVariants as question
+use Rattle.cave_verbs.specs.declared.verb.Verb.TheVariants as verb
 use Rattle.turn_laws.proofs.Effects.{LeadRows, Leads, Left, banded, banded_as, effects, first_holds}
 use Rattle.turn_laws.proofs.Effects.{first_leads, guarded, propped, second_holds, shown}
 use Rattle.std.specs.List.{list_any}
-use Rattle.cave_turn.specs.rule_rows.declared.tables.Table.TheVariants as table
+use Rattle.cave_world.specs.declared.tables.Table.TheVariants as table
 use Rattle.turn_laws.specs.Reachable.{IsKnown}
 use Rattle.turn_laws.proofs.Counted.{room, room_still, struck}
 use Rattle.turn_laws.proofs.View.{Band, Claim, HasRoom, IsKept, Line, On, Ready, Somewhere, Takes}
@@ -61,7 +71,7 @@ abbrev pub is_asking_apart : Next → Bool
 is_asking_apart (Ask q) = is_apart q
 is_asking_apart _ = false
 
-abbrev pub Spared : Step → Type 0
+abbrev pub Spared : VerbStep → Type 0
 Spared step = is_asking_apart (next_of_step step) ≡ false
 
 -- rows keep a claim while commands can follow
@@ -74,7 +84,7 @@ module _ {game : CaveView} {l : Line} {Q P : Claim} (k : IsKept game l Q P) wher
   abbrev Here : ℕ → Type 0
   Here = Somewhere l
 
-  abbrev Keep : (Deed Command → Act Step) → Type 0
+  abbrev Keep : (Deed Command → Act VerbStep) → Type 0
   Keep f = Leads (Ready Here P) (Ready Here P) Spared f
 
   by_rows : (rows : List _) → KeepRows Here P rows → Keep (first_fitting rows)
@@ -84,7 +94,7 @@ module _ {game : CaveView} {l : Line} {Q P : Claim} (k : IsKept game l Q P) wher
 
   -- objects are taken where there is room for them, the cage by its bird that is tamed
   abbrev Free : Layout → Type 0
-  Free o = (nat_le 7 (length (carried_objects o)) && true) ≡ false
+  Free o = (nat_le 7 (length (objects_in_hands o)) && true) ≡ false
 
   taken : (v : View) (xs : List ℕ) → length xs ≤ 2 → HasRoom v.objects → Ready Here P v
       → Ready Here P (record v { objects = after_taking xs v.objects })
@@ -168,10 +178,10 @@ module _ {game : CaveView} {l : Line} {Q P : Claim} (k : IsKept game l Q P) wher
       (λ v x. within_kept left (deed d.cave (going_on d.about v x) (act_once d).scene)
       (once_kept d h).0)
     where
-      stepped : (o : Act Step) (step : Step) → o.step ≡ step → Left (Ready Here P) Spared o
+      stepped : (o : Act VerbStep) (step : VerbStep) → o.step ≡ step → Left (Ready Here P) Spared o
           → ((v : Verb) (x : ℕ) → Left (Ready Here P) Spared
           (act_within left (deed d.cave (going_on d.about v x) o.scene)))
-          → Left (Ready Here P) Spared (elim step as (λ _. Act Step) [
+          → Left (Ready Here P) Spared (elim step as (λ _. Act VerbStep) [
             | Done next ↦ o
             | GoOn v x ↦ act_within left (deed d.cave (going_on d.about v x) o.scene)
           ])

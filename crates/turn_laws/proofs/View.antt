@@ -1,25 +1,38 @@
 -- What laws speak of in a state, and what happens to it in a game.
-use Rattle.std.specs.Int.{int_max}
-use Rattle.std.specs.Prelude.{int_le, ◌/◌}
-use Rattle.cave_turn.specs.cave_words.declared.named.Named.TheVariants as name
-use Rattle.cave_turn.specs.cave_world.declared.dwarves.Dwarves.{Dwarves}
-use Rattle.cave_turn.specs.turn_things.Homes.{second_home}
-use Rattle.cave_turn.specs.world_objects.Objects.{after_carry, after_juggle, after_move_to}
-use Rattle.cave_turn.specs.world_objects.Objects.{with_anchor, with_prop}
-use Rattle.cave_turn.specs.data_rows.declared.place_role.PlaceRole.TheVariants as landmark
-use Rattle.cave_turn.specs.cave_world.declared.ending.Question.TheVariants as question
+use Rattle.std.proofs.Common.{Bool, List, [], ap, arith, false, get_or, length, negsuc, pos, refl}
+use Rattle.std.proofs.Common.{set, suc, sym, true, zero, ℕ, ℤ, ◌+◌, ◌-◌, ◌<◌, ◌∙◌, ◌∷◌, ◌≡◌, ◌≤ℤ◌}
+use Rattle.std.proofs.Common.{◌≤◌, ◌⊎◌}
+use Rattle.std.proofs.lemmas.Bool.{true≢false}
+use Rattle.std.proofs.lemmas.Bool.Decides.{nat_tests}
+use Rattle.std.specs.Int.{int_max, int_min}
+use Rattle.std.specs.Ordering.{int_eq}
+use Rattle.std.specs.Prelude.{int_le, ◌/◌, None, Option, Some, filter, if◌then◌else◌, int_lt}
+use Rattle.std.specs.Prelude.{is_some, map, min, nat_le, slice_index_or, slice_set, take, ◌&&◌}
+use Rattle.std.specs.Prelude.{◌-ℤ◌, ◌==◌}
+use Rattle.cave_data.specs.CaveView.{CaveView}
+use Rattle.cave_world.specs.Limits.{MAX_LAMP_TURNS}
+use Rattle.cave_world.specs.State.{no_dwarf}
+use Rattle.cave_world.specs.declared.closing.Closing.{Closing}
+use Rattle.cave_world.specs.declared.dwarves.Dwarf.{Dwarf}
+use Rattle.cave_world.specs.declared.ending.Ending.{Ending}
+use Rattle.cave_world.specs.declared.ending.Question.{Question}
+use Rattle.cave_world.specs.declared.state.State.{State}
+use Rattle.cave_world.specs.declared.state.Tallies.{Tallies}
+use Rattle.turn_clocks.specs.FirstClock.{dismissed_dwarf}
+use Rattle.turn_scene.specs.Scene.{thing}
+use Rattle.turn_scene.specs.Homes.{second_home, home}
+use Rattle.turn_scene.specs.Places.{building_place, outside_place, place_named}
+use Rattle.world_objects.specs.Objects.{with_prop, after_carry, after_juggle, after_move_to}
+use Rattle.world_objects.specs.Objects.{with_anchor, Layout, objects_in_hands}
+use Rattle.world_objects.specs.declared.spot.Anchor.{Anchor}
+use Rattle.cave_words.specs.declared.named.Named.TheVariants as name
+use Rattle.cave_world.specs.declared.dwarves.Dwarves.{Dwarves}
+use Rattle.data_rows.specs.declared.place_role.PlaceRole.TheVariants as landmark
+use Rattle.cave_world.specs.declared.ending.Question.TheVariants as question
 use Rattle.turn_laws.specs.Courses.{burns}
 use Rattle.turn_laws.specs.DwarfLaws.{is_living}
 use Rattle.turn_laws.specs.Laws.{brings_batteries, is_command, pays}
 use Rattle.turn_laws.specs.Reachable.{IsKnown}
-use Rattle.turn_laws.proofs.Words.{Anchor, Bool, CaveView, Closing, Dwarf, Ending, Layout, List}
-use Rattle.turn_laws.proofs.Words.{MAX_LAMP_TURNS, None, Option, Question, Some, State, Tallies, []}
-use Rattle.turn_laws.proofs.Words.{ap, arith, building_place, carried_objects, dismissed_dwarf}
-use Rattle.turn_laws.proofs.Words.{false, filter, get_or, home, if◌then◌else◌, int_eq, int_lt, int_min}
-use Rattle.turn_laws.proofs.Words.{is_some, length, map, min, nat_le, nat_tests, negsuc, no_dwarf}
-use Rattle.turn_laws.proofs.Words.{outside_place, place_named, pos, refl, set, slice_index_or}
-use Rattle.turn_laws.proofs.Words.{slice_set, suc, sym, take, thing, true, true≢false, zero, ℕ, ℤ, ◌&&◌}
-use Rattle.turn_laws.proofs.Words.{◌+◌, ◌-ℤ◌, ◌-◌, ◌<◌, ◌==◌, ◌∙◌, ◌∷◌, ◌≡◌, ◌≤ℤ◌, ◌≤◌, ◌⊎◌}
 
 -- the question whether to come back
 abbrev pub is_die : Question → Bool
@@ -108,7 +121,7 @@ after_taking (x ∷ xs) o = after_taking xs (after_carry o x)
 
 -- the hands have room for two objects
 abbrev pub HasRoom : Layout → Type 0
-HasRoom o = length (carried_objects o) ≤ 6
+HasRoom o = length (objects_in_hands o) ≤ 6
 
 -- so many of the first dwarves of a list live
 abbrev pub living : ℕ → List Dwarf → ℕ

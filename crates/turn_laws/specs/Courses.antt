@@ -4,22 +4,22 @@ use Rattle.std.specs.Prelude.{false, ◌&&◌, if◌then◌else◌, List, Option
 use Rattle.std.specs.Prelude.{length, filter}
 use Rattle.std.specs.Int.{int_min}
 use Rattle.std.specs.Ordering.{int_eq}
-use Rattle.cave_turn.specs.cave_data.CaveView.{CaveView}
-use Rattle.cave_turn.specs.data_rows.declared.place_role.PlaceRole.TheVariants as place
-use Rattle.cave_turn.specs.cave_words.declared.named.Named.TheVariants as name
-use Rattle.cave_turn.specs.cave_world.declared.ending.Question.TheVariants as question
-use Rattle.cave_turn.specs.cave_world.declared.state.State.{State}
-use Rattle.cave_turn.specs.turn_things.Homes.{home, second_home}
-use Rattle.cave_turn.specs.turn_things.Places.{outside_place, place_named}
-use Rattle.cave_turn.specs.turn_scene.Scene.{Scene, thing}
-use Rattle.cave_turn.specs.turn_things.Reach.{has_prop}
-use Rattle.cave_turn.specs.cave_world.Sight.{LAMP_ON}
-use Rattle.cave_turn.specs.cave_world.State.{is_hint_taken, MAX_LOST}
-use Rattle.cave_turn.specs.turn_score.Score.{score_of, max_score_of}
+use Rattle.cave_data.specs.CaveView.{CaveView}
+use Rattle.data_rows.specs.declared.place_role.PlaceRole.TheVariants as place
+use Rattle.cave_words.specs.declared.named.Named.TheVariants as name
+use Rattle.cave_world.specs.declared.ending.Question.TheVariants as question
+use Rattle.cave_world.specs.declared.state.State.{State}
+use Rattle.turn_scene.specs.Homes.{home, second_home}
+use Rattle.turn_scene.specs.Places.{outside_place, place_named}
+use Rattle.turn_scene.specs.Scene.{Scene, thing}
+use Rattle.turn_scene.specs.Reach.{has_prop}
+use Rattle.cave_world.specs.Sight.{LAMP_ON}
+use Rattle.cave_world.specs.State.{is_hint_taken, MAX_LOST}
+use Rattle.turn_ends.specs.Score.{score_of, max_score_of}
 use Rattle.cave_turn.specs.Answers.{without_question}
 use Rattle.cave_turn.specs.Turns.{turn_on_line}
-use Rattle.turn_laws.specs.Laws.{Lasts, before_clocks, before_lamp, brings_batteries, is_command}
-use Rattle.turn_laws.specs.Laws.{pays}
+use Rattle.turn_laws.specs.Laws.{Lasts, before_lamp, brings_batteries, is_command, pays}
+use Rattle.cave_turn.specs.Commands.{begin_command}
 
 -- dwarves are awake once their anger is 2
 abbrev pub AreAwake : State → Type 0
@@ -118,7 +118,7 @@ is_lit cave (Some p) = has_prop p.state (thing cave name.Lamp) LAMP_ON
 abbrev pub burns : CaveView → State → List ℕ → Bool
 burns cave s line =
     is_command cave s line
-    && is_lit cave (before_lamp cave (before_clocks cave (without_question s)))
+    && is_lit cave (before_lamp cave (begin_command cave (without_question s)))
 
 -- the charge after a turn in which the lamp burns, or doesn't: it goes out as its last turn is
 -- burnt

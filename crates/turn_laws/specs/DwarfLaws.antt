@@ -1,10 +1,10 @@
 -- How many dwarves there are.
 use Rattle.std.specs.Prelude.{◌≡◌, ℕ, ◌+◌, ◌≤◌, ◌<◌, Bool, true, ◌==◌, not, List, length, filter}
 use Rattle.std.specs.Prelude.{take}
-use Rattle.cave_turn.specs.cave_data.CaveView.{CaveView}
-use Rattle.cave_turn.specs.cave_world.declared.dwarves.Dwarf.{Dwarf}
-use Rattle.cave_turn.specs.cave_world.declared.state.State.{State}
-use Rattle.cave_turn.specs.turn_dwarves.Band.{dwarf_of}
+use Rattle.cave_data.specs.CaveView.{CaveView}
+use Rattle.cave_world.specs.declared.dwarves.Dwarf.{Dwarf}
+use Rattle.cave_world.specs.declared.state.State.{State}
+use Rattle.turn_dwarves.specs.Band.{dwarf_of}
 use Rattle.cave_turn.specs.Turns.{turn_on_line, start_of_game}
 use Rattle.turn_laws.specs.Laws.{IsSomewhere}
 

@@ -1,21 +1,19 @@
 -- Laws of the game: each says what a line makes of any state in any cave.
 use Rattle.std.specs.Prelude.{◌≡◌, ◌≤◌, ◌⊎◌, ℕ, negsuc, ◌≤ℤ◌, Bool, false, true, ◌&&◌, not, List}
 use Rattle.std.specs.Prelude.{[], Option, None, Some, is_some, if◌then◌else◌}
-use Rattle.cave_turn.specs.cave_data.CaveView.{CaveView}
-use Rattle.cave_turn.specs.base_lines.LogLine.{IsSeedLine, log_line}
-use Rattle.cave_turn.specs.base_lines.declared.log_line.LogLine.{LogLine}
-use Rattle.cave_turn.specs.base_lines.declared.log_line.LogLine.TheVariants as kind
-use Rattle.cave_turn.specs.cave_words.declared.named.Named.TheVariants as name
-use Rattle.cave_turn.specs.cave_world.Sight.{dark}
-use Rattle.cave_turn.specs.cave_world.declared.ending.Question.{Question}
-use Rattle.cave_turn.specs.cave_world.declared.ending.Question.TheVariants as question
-use Rattle.cave_turn.specs.cave_world.declared.state.State.{State}
-use Rattle.cave_turn.specs.turn_things.Places.{building_place, start_place}
-use Rattle.cave_turn.specs.turn_scene.Scene.{Scene, scene_at_start, thing}
-use Rattle.cave_turn.specs.turn_clocks.Clocks.{tick_clocks}
-use Rattle.cave_turn.specs.turn_clocks.Lamp.{burn, can_change_batteries}
-use Rattle.cave_turn.specs.turn_rules.Rows.{deed, all_hold}
-use Rattle.cave_turn.specs.turn_ends.Questions.{is_dragon}
+use Rattle.cave_data.specs.CaveView.{CaveView}
+use Rattle.base_lines.specs.LogLine.{IsSeedLine, log_line}
+use Rattle.base_lines.specs.declared.log_line.LogLine.{LogLine}
+use Rattle.base_lines.specs.declared.log_line.LogLine.TheVariants as kind
+use Rattle.cave_world.specs.declared.ending.Question.{Question}
+use Rattle.cave_world.specs.declared.ending.Question.TheVariants as question
+use Rattle.cave_world.specs.declared.state.State.{State}
+use Rattle.turn_scene.specs.Places.{building_place, start_place}
+use Rattle.turn_scene.specs.Scene.{Scene}
+use Rattle.turn_clocks.specs.Clocks.{tick_clocks}
+use Rattle.turn_clocks.specs.Lamp.{burn, can_change_batteries}
+use Rattle.turn_scene.specs.Rows.{deed, all_hold}
+use Rattle.turn_ends.specs.Questions.{is_dragon}
 use Rattle.cave_turn.specs.Answers.{answer_in, answers, without_question, is_yes}
 use Rattle.cave_turn.specs.Commands.{begin_command}
 use Rattle.cave_turn.specs.Turns.{Turn, turn_on_line, start_of_game, with_seed, silent_turn}
@@ -124,11 +122,6 @@ abbrev pub pays : CaveView → List ℕ → Option Question → Bool
 pays cave line None = false
 pays cave line (Some question) = is_yes (answer_in cave line) && is_priced question
 
--- the scene in which the clocks begin to run, in a command that begins in a state
-abbrev pub before_clocks : CaveView → State → Scene
-before_clocks cave s =
-    let t = begin_command s in scene_at_start (dark cave (thing cave name.Lamp) t) t
-
 -- the lamp isn't reached where the clocks closed the cave
 abbrev pub unless_closed : Bool → Scene → Option Scene
 unless_closed closed p = if closed then None else Some p
@@ -144,7 +137,7 @@ is_changed cave (Some p) = all_hold can_change_batteries (burn (deed cave tt p))
 
 -- the lamp gets new batteries in a command that begins in a state
 abbrev pub gets_batteries : CaveView → State → Bool
-gets_batteries cave s = is_changed cave (before_lamp cave (before_clocks cave s))
+gets_batteries cave s = is_changed cave (before_lamp cave (begin_command cave s))
 
 -- a line is a command in which the lamp gets new batteries; a question that it leaves is closed
 abbrev pub brings_batteries : CaveView → State → List ℕ → Bool

@@ -3,3 +3,6 @@ pub mod Courses
 pub mod DwarfLaws
 pub mod ObjectLaws
 pub mod Reachable
+pub mod OneList
+pub mod Missing
+pub mod Unmet

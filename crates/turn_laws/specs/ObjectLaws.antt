@@ -1,26 +1,25 @@
--- Where objects are, and how many are carried.
+-- Where objects are, and how many are in the hands.
 use Rattle.std.specs.Prelude.{◌≡◌, ℕ, ◌+◌, true, false, ◌≤◌, length}
-use Rattle.cave_turn.specs.world_objects.Objects.{Layout, is_listed, spot_of, anchor_of, is_carried}
-use Rattle.cave_turn.specs.world_objects.Objects.{carried_objects, place_of_spot, place_of_anchor}
-use Rattle.cave_turn.specs.world_objects.Objects.{is_place}
-use Rattle.cave_turn.specs.world_objects.Lists.{halves_at}
-use Rattle.cave_turn.specs.cave_world.declared.state.State.{State}
-use Rattle.turn_lists.specs.OneList.{AreInOneList}
+use Rattle.world_objects.specs.Objects.{Layout, is_listed, spot_of, anchor_of, is_in_hands}
+use Rattle.world_objects.specs.Objects.{objects_in_hands, place_of_spot, place_of_anchor, is_place}
+use Rattle.world_objects.specs.Lists.{halves_at}
+use Rattle.cave_world.specs.declared.state.State.{State}
+use Rattle.turn_laws.specs.OneList.{AreInOneList}
 use Rattle.turn_laws.specs.Laws.{Lasts}
 
--- at most eight objects are carried
-abbrev pub CarriesFew : State → Type 0
-CarriesFew s = length (carried_objects s.objects) ≤ 8
+-- at most eight objects are in the hands
+abbrev pub HasFewInHands : State → Type 0
+HasFewInHands s = length (objects_in_hands s.objects) ≤ 8
 
 -- a game begins so, and each line keeps it so
-abbrev pub FewCarried : Type 0
-FewCarried = Lasts (λ cave s. CarriesFew s)
+abbrev pub FewInHands : Type 0
+FewInHands = Lasts (λ cave s. HasFewInHands s)
 
--- an object is in one place: the first half of one that is carried is in no list, and each half is
+-- an object is in one place: the first half of one in the hands is in no list, and each half is
 -- in the list of the place where its object says it is, and in no other
 pub record IsInOnePlace (o : Layout) (object : ℕ) : Type 0 where
-  pub carried :
-      is_carried o object ≡ true → (place : ℕ)
+  pub in_hands :
+      is_in_hands o object ≡ true → (place : ℕ)
       → is_listed object (halves_at place o.lists) ≡ false
   pub first : (place : ℕ)
       → is_listed object (halves_at place o.lists)

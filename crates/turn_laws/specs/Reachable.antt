@@ -2,18 +2,18 @@
 use Rattle.std.specs.Prelude.{◌≡◌, ◌≤◌, ◌⊎◌, ℕ, ℤ, pos, negsuc, ◌≤ℤ◌, true, List, [], ◌∷◌}
 use Rattle.std.specs.Prelude.{Option, None, Some, is_some}
 use Rattle.std.specs.FinMap as map
-use Rattle.cave_turn.specs.cave_data.CaveView.{CaveView}
-use Rattle.cave_turn.specs.cave_world.declared.ending.Question.{Question}
-use Rattle.cave_turn.specs.cave_world.declared.ending.Question.TheVariants as question
-use Rattle.cave_turn.specs.cave_world.declared.state.State.{State}
-use Rattle.cave_turn.specs.turn_things.Places.{building_place, start_place}
-use Rattle.cave_turn.specs.turn_score.Score.{score_of, max_score_of}
+use Rattle.cave_data.specs.CaveView.{CaveView}
+use Rattle.cave_world.specs.declared.ending.Question.{Question}
+use Rattle.cave_world.specs.declared.ending.Question.TheVariants as question
+use Rattle.cave_world.specs.declared.state.State.{State}
+use Rattle.turn_scene.specs.Places.{building_place, start_place}
+use Rattle.turn_ends.specs.Score.{score_of, max_score_of}
 use Rattle.cave_turn.specs.Turns.{turn_on_line, start_of_game}
-use Rattle.turn_lists.specs.OneList.{AreInOneList}
+use Rattle.turn_laws.specs.OneList.{AreInOneList}
 use Rattle.turn_laws.specs.Courses.{ClosesInOrder, IsAskedInTime}
 use Rattle.turn_laws.specs.DwarfLaws.{HasFewDwarves}
 use Rattle.turn_laws.specs.Laws.{HasFewDeaths, IsSomewhere, Lasts}
-use Rattle.turn_laws.specs.ObjectLaws.{CarriesFew}
+use Rattle.turn_laws.specs.ObjectLaws.{HasFewInHands}
 
 -- the state that lines of a log lead to, one after another
 abbrev pub after_lines : CaveView → State → List (List ℕ) → State
@@ -34,14 +34,14 @@ pub record IsWithin (first second charge : ℤ) (unseen lost : ℕ) : Type 0 whe
   pub seen : unseen ≤ 30
   pub gone : lost ≤ 60000
 
-abbrev pub IsBounded : State → Type 0
-IsBounded s =
+abbrev pub HasBoundedNumbers : State → Type 0
+HasBoundedNumbers s =
     IsWithin s.closing.first_clock s.closing.second_clock s.lamp.charge s.tallies.unseen
     s.tallies.lost
 
 -- a game begins so, and each line keeps it so
 abbrev pub StaysBounded : Type 0
-StaysBounded = Lasts (λ cave s. IsBounded s)
+StaysBounded = Lasts (λ cave s. HasBoundedNumbers s)
 
 -- a question is open or the game has ended, or neither: never both
 abbrev pub AsksOrEnds : State → Type 0
@@ -72,13 +72,13 @@ HasPlaces cave = (1 ≤ start_place cave) × (1 ≤ building_place cave)
 -- what holds of a state of a game
 pub record IsLawful (cave : CaveView) (s : State) : Type 0 where
   pub deaths : HasFewDeaths s
-  pub hands : CarriesFew s
+  pub hands : HasFewInHands s
   pub one_place : AreInOneList s.objects
   pub closing : ClosesInOrder s
   pub asked : IsAskedInTime s
   pub either : AsksOrEnds s
   pub hint : IsOpenKnown cave s.question
-  pub bounds : IsBounded s
+  pub bounds : HasBoundedNumbers s
   pub score : score_of cave s ≤ max_score_of cave
   pub place : IsSomewhere s
   pub dwarves : HasFewDwarves s

@@ -24,7 +24,7 @@ pub fn treasures_go_one_way()
 {}
 
 /// No state scores more than the greatest score of its cave.
-#[tactic(auto, using(turn_score::proofs::Most::score_within))]
+#[tactic(auto, using(turn_ends::proofs::Most::score_within))]
 pub fn no_score_is_greater()
     ensures { NoScoreIsGreater }
 {}

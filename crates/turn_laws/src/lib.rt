@@ -4,8 +4,10 @@
 pub mod carrying;
 pub mod courses;
 pub mod dwarf_laws;
+pub mod list_laws;
 pub mod object_laws;
 pub mod reachable;
+pub mod unmet_laws;
 
 ghost use Rattle.turn_laws.specs.Laws.{CommandsTick, DragonIsFoughtOrLeft, EndIsQuiet, FewDeaths};
 ghost use Rattle.turn_laws.specs.Laws.{LampBurnsDown, PlayerIsSomewhere, SeedsAlone};

@@ -3,15 +3,16 @@
 ghost use Rattle.std.specs.Prelude.{◌<◌};
 ghost use Rattle.turn_laws.specs.ObjectLaws.{IsInOnePlace, StayInOnePlace};
 
-use cave_turn::{Object, State};
+use cave_world::State;
+use world_objects::Object;
 
-/// In each state an object is in one place: the first half of one that is carried is in no list,
+/// In each state an object is in one place: the first half of one in the hands is in no list,
 /// and each half is in the list of the place where the object says it is, and in no other.
 pub fn object_is_in_one_place(state: &State, object: Object)
     ensures { 0 < object → IsInOnePlace state.now.objects object }
 {
     // What these three promise is the law.
-    let _carried = state.objects.is_carried(object);
+    let _in_hands = state.objects.is_in_hands(object);
     let _spot = state.objects.spot(object);
     let _anchor = state.objects.anchor(object);
 }

@@ -3,8 +3,8 @@
 ghost use Rattle.turn_laws.specs.Reachable.{HasPlaces, HintsAreKnown, NeverBoth};
 ghost use Rattle.turn_laws.specs.Reachable.{ReachableIsLawful, StaysBounded};
 
-use cave_turn::Cave;
-use turn_things::PlaceRole;
+use cave_data::Cave;
+use data_rows::PlaceRole;
 
 /// The clocks, the lamp and the counts of treasures are within their bounds: a game begins so, and
 /// each line keeps it so.

@@ -1,10 +1,10 @@
 -- A player whom forced motions move on from place to place.
 use Rattle.std.proofs.Common.{◌≡◌, ℕ, Bool, zero, suc, ◌-◌, ◌<◌, true, false, refl, ap, ◌∙◌, arith}
-use Rattle.turn_dwarves.specs.cave_data.CaveView.{CaveView}
-use Rattle.turn_ends.specs.turn_rules.Rows.{Act, act_of}
+use Rattle.cave_data.specs.CaveView.{CaveView}
+use Rattle.turn_scene.specs.Rows.{Act, act_of}
 use Rattle.turn_moves.specs.Arrival.{after_forced_motions, stop_at}
 use Rattle.turn_moves.specs.Journeys.{set_forth}
-use Rattle.turn_dwarves.specs.turn_scene.Scene.{Scene, with_left}
+use Rattle.turn_scene.specs.Scene.{Scene, with_left}
 
 -- without a forced motion the player stays
 stays : (left : ℕ) (cave : CaveView) (s : Act Bool) → s.step ≡ false

@@ -2,22 +2,21 @@
 use Rattle.std.specs.Prelude.{ℕ, zero, suc, Bool, ◌==◌, ◌&&◌, if◌then◌else◌, List, [], ◌∷◌, take}
 use Rattle.std.specs.Prelude.{true, false}
 use Rattle.std.specs.List.{list_any}
-use Rattle.turn_dwarves.specs.data_rows.declared.role.Role.TheVariants as role
-use Rattle.turn_dwarves.specs.cave_data.CaveView.{CaveView}
-use Rattle.turn_dwarves.specs.cave_world.Limits.{PIRATE}
-use Rattle.turn_dwarves.specs.cave_world.Motions.{any_motion}
-use Rattle.turn_dwarves.specs.cave_world.declared.dwarves.Dwarf.{Dwarf}
-use Rattle.turn_dwarves.specs.turn_scene.Scene.{Scene, after_saying, with_left, scene_at_place}
-use Rattle.turn_dwarves.specs.turn_things.declared.conditions.PlaceCondition.TheVariants.{NoPirate}
+use Rattle.data_rows.specs.declared.role.Role.TheVariants as role
+use Rattle.cave_data.specs.CaveView.{CaveView}
+use Rattle.cave_world.specs.Limits.{PIRATE}
+use Rattle.cave_world.specs.Motions.{any_motion}
+use Rattle.cave_world.specs.declared.dwarves.Dwarf.{Dwarf}
+use Rattle.turn_scene.specs.Scene.{Scene, after_saying, with_left, scene_at_place}
+use Rattle.turn_scene.specs.declared.conditions.PlaceCondition.TheVariants.{NoPirate}
 use Rattle.turn_dwarves.specs.Dwarves.{encounter_dwarves}
-use Rattle.turn_dwarves.specs.rule_rows.declared.tables.Table.TheVariants as table
-use Rattle.turn_ends.specs.turn_rules.Rows.{Deed, Act, Test, Row, deed, row_then, answer_row}
-use Rattle.turn_ends.specs.turn_rules.Rows.{first_fitting_or, nothing_but, always, otherwise_then}
-use Rattle.turn_ends.specs.turn_rules.Rows.{noted}
-use Rattle.turn_ends.specs.turn_rules.Tests.{no, same, here, outside, cave_closing, forced_at}
-use Rattle.turn_ends.specs.turn_rules.Tests.{place_has, over, there_is}
-use Rattle.turn_ends.specs.turn_rules.Effects.{say}
-use Rattle.turn_ends.specs.turn_rules.Panic.{panic}
+use Rattle.cave_world.specs.declared.tables.Table.TheVariants as table
+use Rattle.turn_scene.specs.Rows.{Deed, Act, Test, Row, deed, row_then, answer_row}
+use Rattle.turn_scene.specs.Rows.{first_fitting_or, nothing_but, always, otherwise_then, noted}
+use Rattle.turn_scene.specs.Tests.{no, same, here, outside, cave_closing, forced_at, place_has}
+use Rattle.turn_scene.specs.Tests.{over, there_is}
+use Rattle.turn_scene.specs.Effects.{say}
+use Rattle.turn_scene.specs.Panic.{panic}
 use Rattle.turn_ends.specs.Endings.{die}
 use Rattle.turn_moves.specs.Description.{tell_place, describe_place, stop_here}
 use Rattle.turn_moves.specs.Journeys.{set_forth}
@@ -92,20 +91,20 @@ stop_at cave place p = first_fitting_or over_rows come_on (deed cave place p)
 
 -- a player who is moved on sets out by any motion, and is shown the next place; so many forced
 -- motions are left then
-abbrev pub moved_on : ℕ → CaveView → Scene → Act Bool
-moved_on left cave p =
+abbrev pub move_on : ℕ → CaveView → Scene → Act Bool
+move_on left cave p =
     let j = set_forth cave any_motion (with_left left p) in stop_at cave j.step j.scene
 
 -- so it goes on, while the player is where a forced motion moves the player on and some are left
 unfoldable pub after_forced_motions : ℕ → CaveView → Act Bool → Scene
 after_forced_motions zero cave s = if s.step then after_saying role.ForcedLimit s.scene else s.scene
 after_forced_motions (suc left) cave s =
-    if s.step then after_forced_motions left cave (moved_on left cave s.scene) else s.scene
+    if s.step then after_forced_motions left cave (move_on left cave s.scene) else s.scene
 
 -- the player arrives at a place; the forced motions that are left are those of the whole turn
 abbrev pub after_arrival : CaveView → ℕ → Scene → Scene
 after_arrival cave place p = after_forced_motions p.left cave (stop_at cave place p)
 
 -- the player's place is described anew, without an arrival
-abbrev pub description_anew : CaveView → Scene → Scene
-description_anew cave p = after_forced_motions p.left cave (stop_here (deed cave tt p))
+abbrev pub after_description : CaveView → Scene → Scene
+after_description cave p = after_forced_motions p.left cave (stop_here (deed cave tt p))

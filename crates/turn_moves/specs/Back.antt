@@ -3,26 +3,28 @@ use Rattle.std.specs.Prelude.{ℕ, Bool, false, ◌&&◌, if◌then◌else◌, L
 use Rattle.std.specs.Prelude.{None, option_map, is_some, slice_index}
 use Rattle.std.specs.List.{find}
 use Rattle.std.specs.Option.{option_or}
-use Rattle.turn_dwarves.specs.data_rows.Rows.{Going}
-use Rattle.turn_dwarves.specs.data_rows.Targets.{leads_to_place}
-use Rattle.turn_dwarves.specs.data_rows.declared.role.Role.TheVariants as role
-use Rattle.turn_dwarves.specs.data_rows.declared.targets.Destination.{Destination}
-use Rattle.turn_dwarves.specs.data_rows.declared.targets.Destination.TheVariants.{Place}
-use Rattle.turn_dwarves.specs.cave_data.CaveView.{CaveView, ways_from}
-use Rattle.turn_dwarves.specs.cave_world.Sight.{forced}
-use Rattle.turn_dwarves.specs.cave_world.Travel.{row_destination}
-use Rattle.turn_dwarves.specs.rule_rows.declared.tables.Table.TheVariants as table
-use Rattle.turn_ends.specs.turn_rules.Rows.{Deed, Act, Test, Row, deed, row_then, answer_row}
-use Rattle.turn_ends.specs.turn_rules.Rows.{otherwise_row, otherwise_then, act_by_table, always}
-use Rattle.turn_ends.specs.turn_rules.Rows.{first_fitting_or, nothing_but, noted}
-use Rattle.turn_ends.specs.turn_rules.Tests.{same, here, old, older, forced_at}
-use Rattle.turn_ends.specs.turn_rules.Effects.{say, set_out}
+use Rattle.data_rows.specs.Rows.{Going}
+use Rattle.data_rows.specs.Targets.{leads_to_place}
+use Rattle.data_rows.specs.declared.role.Role.TheVariants as role
+use Rattle.data_rows.specs.declared.targets.Destination.{Destination}
+use Rattle.data_rows.specs.declared.targets.Destination.TheVariants.{Place}
+use Rattle.cave_data.specs.CaveView.{CaveView, ways_from}
+use Rattle.cave_world.specs.Sight.{forced}
+use Rattle.cave_world.specs.Travel.{row_destination}
+use Rattle.cave_world.specs.declared.tables.Table.TheVariants as table
+use Rattle.turn_scene.specs.Rows.{Deed, Act, Test, Row, deed, row_then, answer_row, otherwise_row}
+use Rattle.turn_scene.specs.Rows.{otherwise_then, act_by_table, always, first_fitting_or}
+use Rattle.turn_scene.specs.Rows.{nothing_but, noted}
+use Rattle.turn_scene.specs.Tests.{same, here, old, older, forced_at}
+use Rattle.turn_scene.specs.Effects.{say, set_out}
 
 -- where a player who goes back wants to go: where the player came from, or, if that was a place of
 -- forced motion, where the player was before that
+abbrev pub place_back_rows : List (Row (Unit {0}) ℕ)
+place_back_rows = answer_row (forced_at old ∷ []) older ∷ []
+
 unfoldable pub place_back : Deed (Unit {0}) → Act ℕ
-place_back d = act_by_table table.BackFrom
-    (answer_row (forced_at old ∷ []) older ∷ [])
+place_back d = act_by_table table.BackFrom place_back_rows
     (otherwise_row [] old) d
 
 -- the row leads to the place that is sought

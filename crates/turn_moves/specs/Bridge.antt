@@ -1,19 +1,18 @@
 -- The bridge that a troll guards.
 use Rattle.std.specs.Prelude.{ℕ, ◌==◌, if◌then◌else◌, List, [], ◌∷◌, Option, Some, None}
-use Rattle.turn_dwarves.specs.data_rows.declared.role.Role.TheVariants as role
-use Rattle.turn_dwarves.specs.cave_words.declared.named.Named.TheVariants as name
-use Rattle.turn_dwarves.specs.turn_scene.Scene.{thing}
-use Rattle.turn_dwarves.specs.turn_things.Homes.{hold_of}
-use Rattle.turn_dwarves.specs.turn_things.Props.{BEAR_DEAD, CHASM_UNBRIDGED, TROLL_CALM, TROLL_FLED}
-use Rattle.turn_dwarves.specs.turn_things.Props.{TROLL_RETURNING, UNSEEN}
-use Rattle.turn_dwarves.specs.rule_rows.declared.tables.Table.TheVariants as table
-use Rattle.turn_ends.specs.turn_rules.Rows.{Deed, Act, Test, Effect, Row, row_then, plain_row}
-use Rattle.turn_ends.specs.turn_rules.Rows.{first_fitting_or, nothing_but, otherwise_then, noted}
-use Rattle.turn_ends.specs.turn_rules.Rows.{by_table}
-use Rattle.turn_ends.specs.turn_rules.Tests.{the, no, in_hand, prop, prop_up_to, here, home_of}
-use Rattle.turn_ends.specs.turn_rules.Tests.{second_home_of, there_is}
-use Rattle.turn_ends.specs.turn_rules.Effects.{say, look, move, destroy, fix, loosen, juggle}
-use Rattle.turn_ends.specs.turn_rules.Effects.{set_prop, lose_one, attach}
+use Rattle.data_rows.specs.declared.role.Role.TheVariants as role
+use Rattle.cave_words.specs.declared.named.Named.TheVariants as name
+use Rattle.turn_scene.specs.Scene.{thing}
+use Rattle.turn_scene.specs.Homes.{hold_of}
+use Rattle.turn_scene.specs.Props.{BEAR_DEAD, CHASM_UNBRIDGED, TROLL_CALM, TROLL_FLED}
+use Rattle.turn_scene.specs.Props.{TROLL_RETURNING, UNSEEN}
+use Rattle.cave_world.specs.declared.tables.Table.TheVariants as table
+use Rattle.turn_scene.specs.Rows.{Deed, Act, Test, Effect, Row, row_then, plain_row}
+use Rattle.turn_scene.specs.Rows.{first_fitting_or, nothing_but, otherwise_then, noted, by_table}
+use Rattle.turn_scene.specs.Tests.{the, no, carried, prop, prop_up_to, here, home_of}
+use Rattle.turn_scene.specs.Tests.{second_home_of, there_is}
+use Rattle.turn_scene.specs.Effects.{say, look, move, destroy, fix, loosen, juggle, set_prop}
+use Rattle.turn_scene.specs.Effects.{lose_one, attach}
 use Rattle.turn_moves.specs.Ways.{Passage, other_end, passable, end_of, die_at}
 
 -- an end of a bridge is a place of the cave, and 0 is none
@@ -69,7 +68,7 @@ break_bridge =
 
 -- the bear is carried once the troll has let the player pass
 abbrev pub bear_comes_along : Test (Unit {0})
-bear_comes_along d = in_hand (the name.Bear) (pass_troll d)
+bear_comes_along d = carried (the name.Bear) (pass_troll d)
 
 -- no way, or the troll, holds the player back; the bridge bears the player, but not the bear too
 unfoldable pub bridge_rows : List (Row (Unit {0}) ℕ)

@@ -1,28 +1,28 @@
 -- How the player's place is described.
 use Rattle.std.specs.Prelude.{◌%◌, Bool, true, false, ◌==◌, List, [], ◌∷◌, ◌++◌, is_some}
 use Rattle.std.specs.FinMap as map
-use Rattle.turn_dwarves.specs.data_rows.declared.place_role.PlaceRole.TheVariants as place
-use Rattle.turn_dwarves.specs.data_rows.declared.role.Role.TheVariants as role
-use Rattle.turn_dwarves.specs.cave_data.CaveView.{CaveView}
-use Rattle.turn_dwarves.specs.cave_words.declared.named.Named.TheVariants as name
-use Rattle.turn_dwarves.specs.world_objects.Lists.{halves_at}
-use Rattle.turn_dwarves.specs.cave_world.State.{visits_of, with_visit}
-use Rattle.turn_dwarves.specs.cave_world.declared.part.Part.TheVariants as part
-use Rattle.turn_dwarves.specs.cave_world.declared.state.State.{State}
-use Rattle.turn_dwarves.specs.turn_scene.Scene.{Scene}
-use Rattle.turn_dwarves.specs.rule_rows.declared.tables.Table.TheVariants as table
-use Rattle.turn_ends.specs.turn_rules.Rows.{Deed, Act, Test, Effect, Row, deed, row_then, plain_row}
-use Rattle.turn_ends.specs.turn_rules.Rows.{chance_row, first_fitting_or, nothing_but, by_table}
-use Rattle.turn_ends.specs.turn_rules.Rows.{always, otherwise, otherwise_then, noted}
-use Rattle.turn_ends.specs.turn_rules.Tests.{the, no, carries, percent, player_at, cave_closing}
-use Rattle.turn_ends.specs.turn_rules.Tests.{here, forced_at, in_the_dark, was_dark}
-use Rattle.turn_ends.specs.turn_rules.Effects.{say, tell, change, follow}
-use Rattle.turn_moves.specs.Objects.{after_objects}
+use Rattle.data_rows.specs.declared.place_role.PlaceRole.TheVariants as place
+use Rattle.data_rows.specs.declared.role.Role.TheVariants as role
+use Rattle.cave_data.specs.CaveView.{CaveView}
+use Rattle.cave_words.specs.declared.named.Named.TheVariants as name
+use Rattle.world_objects.specs.Lists.{halves_at}
+use Rattle.cave_world.specs.State.{visits_of, with_visit}
+use Rattle.cave_world.specs.declared.part.Part.TheVariants as part
+use Rattle.cave_world.specs.declared.state.State.{State}
+use Rattle.turn_scene.specs.Scene.{Scene}
+use Rattle.cave_world.specs.declared.tables.Table.TheVariants as table
+use Rattle.turn_scene.specs.Rows.{Deed, Act, Test, Effect, Row, deed, row_then, plain_row}
+use Rattle.turn_scene.specs.Rows.{chance_row, first_fitting_or, nothing_but, by_table, always}
+use Rattle.turn_scene.specs.Rows.{otherwise, otherwise_then, noted}
+use Rattle.turn_scene.specs.Tests.{the, no, in_hands, percent, player_at, cave_closing, here}
+use Rattle.turn_scene.specs.Tests.{forced_at, in_the_dark, was_dark}
+use Rattle.turn_scene.specs.Effects.{say, tell, change, follow}
+use Rattle.turn_moves.specs.Objects.{after_all_objects}
 use Rattle.turn_moves.specs.Ways.{die_at}
 
--- a bear that is carried is mentioned before the text
+-- a bear in the hands is mentioned before the text
 unfoldable pub bear_rows : List (Row (Unit {0}) (Unit {0}))
-bear_rows = plain_row (carries (the name.Bear) ∷ []) (say role.BearFollows ∷ []) ∷ []
+bear_rows = plain_row (in_hands (the name.Bear) ∷ []) (say role.BearFollows ∷ []) ∷ []
 
 abbrev pub brief : Test (Unit {0})
 brief d = d.scene.state.talk.is_brief
@@ -63,7 +63,7 @@ with_visit_here s = with_visit s s.trail.here
 
 abbrev pub after_objects_here : CaveView → Scene → Scene
 after_objects_here cave p =
-    after_objects cave (halves_at p.state.trail.here p.state.objects.lists) p
+    after_all_objects cave (halves_at p.state.trail.here p.state.objects.lists) p
 
 -- of a place of forced motion the text alone is printed
 unfoldable pub tell_place : List (Effect (Unit {0}))

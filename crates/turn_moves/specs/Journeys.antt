@@ -1,29 +1,29 @@
 -- Where a motion leads a player.
 use Rattle.std.specs.Prelude.{ℕ, ◌+◌, false, ◌==◌, nat_lt, List, [], ◌∷◌, Option, Some, None}
 use Rattle.std.specs.List.{list_any}
-use Rattle.turn_dwarves.specs.data_rows.declared.role.Role.TheVariants as role
-use Rattle.turn_dwarves.specs.data_rows.declared.targets.Special.TheVariants.{Squeeze, Bridge}
-use Rattle.turn_dwarves.specs.cave_data.CaveView.{CaveView}
-use Rattle.turn_dwarves.specs.cave_words.declared.named.Named.TheVariants as name
-use Rattle.turn_dwarves.specs.cave_world.Motions.{motion_number}
-use Rattle.turn_dwarves.specs.cave_world.declared.motion.Motion.{Motion}
-use Rattle.turn_dwarves.specs.cave_world.declared.motion.Motion.TheVariants as motion
-use Rattle.turn_dwarves.specs.cave_world.State.{without_visits}
-use Rattle.turn_dwarves.specs.cave_world.Travel.{rows_tried_from, travel}
-use Rattle.turn_dwarves.specs.cave_world.declared.part.Part.TheVariants as part
-use Rattle.turn_dwarves.specs.cave_world.declared.state.State.{State}
-use Rattle.turn_dwarves.specs.cave_world.declared.travel_rows.Outcome.{Outcome}
-use Rattle.turn_dwarves.specs.cave_world.declared.travel_rows.Outcome.TheVariants as outcome
-use Rattle.turn_dwarves.specs.turn_scene.Scene.{Scene, thing, with_state, after_telling}
-use Rattle.turn_dwarves.specs.turn_scene.Scene.{after_rows, after_saying, after_setting_out}
-use Rattle.turn_dwarves.specs.turn_things.Places.{outside_place}
-use Rattle.turn_dwarves.specs.turn_things.Effects.{with_talk}
-use Rattle.turn_dwarves.specs.rule_rows.declared.tables.Table.TheVariants as table
-use Rattle.turn_ends.specs.turn_rules.Rows.{Deed, Act, Test, Effect, Row, deed, act_of, row_then}
-use Rattle.turn_ends.specs.turn_rules.Rows.{plain_row, answer_row, otherwise_row, nothing_but}
-use Rattle.turn_ends.specs.turn_rules.Rows.{always, otherwise, by_table, answer_by_table}
-use Rattle.turn_ends.specs.turn_rules.Tests.{here, MAX_DETAILS}
-use Rattle.turn_ends.specs.turn_rules.Effects.{in_scene, say, change}
+use Rattle.data_rows.specs.declared.role.Role.TheVariants as role
+use Rattle.data_rows.specs.declared.targets.Special.TheVariants.{Squeeze, Bridge}
+use Rattle.cave_data.specs.CaveView.{CaveView}
+use Rattle.cave_words.specs.declared.named.Named.TheVariants as name
+use Rattle.cave_world.specs.Motions.{motion_number}
+use Rattle.cave_world.specs.declared.motion.Motion.{Motion}
+use Rattle.cave_world.specs.declared.motion.Motion.TheVariants as motion
+use Rattle.cave_world.specs.State.{without_visits}
+use Rattle.cave_world.specs.Travel.{rows_tried_from, travel}
+use Rattle.cave_world.specs.declared.part.Part.TheVariants as part
+use Rattle.cave_world.specs.declared.state.State.{State}
+use Rattle.cave_world.specs.declared.travel_rows.Outcome.{Outcome}
+use Rattle.cave_world.specs.declared.travel_rows.Outcome.TheVariants as outcome
+use Rattle.turn_scene.specs.Scene.{Scene, thing, with_state, after_telling, after_rows}
+use Rattle.turn_scene.specs.Scene.{after_saying, after_setting_out}
+use Rattle.turn_scene.specs.Places.{outside_place}
+use Rattle.turn_scene.specs.Parts.{with_talk}
+use Rattle.cave_world.specs.declared.tables.Table.TheVariants as table
+use Rattle.turn_scene.specs.Rows.{Deed, Act, Test, Effect, Row, deed, act_of, row_then, plain_row}
+use Rattle.turn_scene.specs.Rows.{answer_row, otherwise_row, nothing_but, always, otherwise}
+use Rattle.turn_scene.specs.Rows.{by_table, answer_by_table}
+use Rattle.turn_scene.specs.Tests.{here, MAX_DETAILS}
+use Rattle.turn_scene.specs.Effects.{in_scene, say, change}
 use Rattle.turn_moves.specs.Back.{go_back}
 use Rattle.turn_moves.specs.Bridge.{cross_bridge}
 use Rattle.turn_moves.specs.Squeeze.{squeeze_through}
@@ -75,13 +75,16 @@ abbrev pub motion_back : Deed ℕ → Act (Option ℕ)
 motion_back d = go_back (deed d.cave tt d.scene)
 
 -- what a motion comes to that the player asks for: some have rules of their own
-unfoldable pub own_motion : Deed ℕ → Act (Option ℕ)
-own_motion d = answer_by_table table.OwnMotions
-    (answer_row (is_motion motion.Nowhere ∷ []) no_travel
+abbrev pub own_motion_rows : List (Row ℕ (Act (Option ℕ)))
+own_motion_rows =
+    answer_row (is_motion motion.Nowhere ∷ []) no_travel
     ∷ row_then (is_motion motion.Look ∷ []) look_round no_travel
     ∷ row_then (is_motion motion.Cave ∷ before_cave ∷ []) (say role.CaveOut ∷ []) no_travel
     ∷ row_then (is_motion motion.Cave ∷ []) (say role.CaveIn ∷ []) no_travel
-    ∷ answer_row (is_motion motion.Back ∷ []) motion_back ∷ [])
+    ∷ answer_row (is_motion motion.Back ∷ []) motion_back ∷ []
+
+unfoldable pub own_motion : Deed ℕ → Act (Option ℕ)
+own_motion d = answer_by_table table.OwnMotions own_motion_rows
     (otherwise_row [] that_motion) d
 
 -- how many parts are said of it at most: one where the player doesn't travel

@@ -1,20 +1,20 @@
 -- How the objects at a place are described.
 use Rattle.std.specs.Prelude.{ℕ, ℤ, pos, ◌-◌, ◌==◌, ◌&&◌, not, int_lt, List, [], ◌∷◌}
 use Rattle.std.specs.Int.{int_min}
-use Rattle.turn_dwarves.specs.cave_data.CaveView.{CaveView}
-use Rattle.turn_dwarves.specs.cave_words.declared.named.Named.TheVariants as name
-use Rattle.turn_dwarves.specs.world_objects.Lists.{object_of}
-use Rattle.turn_dwarves.specs.world_objects.Objects.{prop_of, anchor_of, place_of_anchor, is_place}
-use Rattle.turn_dwarves.specs.world_objects.declared.object.Half.{Half}
-use Rattle.turn_dwarves.specs.cave_world.declared.part.Part.TheVariants as part
-use Rattle.turn_dwarves.specs.cave_world.declared.state.State.{State}
-use Rattle.turn_dwarves.specs.turn_scene.Scene.{Scene}
-use Rattle.turn_dwarves.specs.turn_things.Props.{SEEN, SEEN_FASTENED, STEPS_FROM_ABOVE}
-use Rattle.turn_dwarves.specs.turn_things.Effects.{with_tallies}
-use Rattle.turn_dwarves.specs.rule_rows.declared.tables.Table.TheVariants as table
-use Rattle.turn_ends.specs.turn_rules.Rows.{Test, Effect, Row, deed, plain_row, otherwise, by_table}
-use Rattle.turn_ends.specs.turn_rules.Tests.{the, either, it, same, carries, cave_closed, here}
-use Rattle.turn_ends.specs.turn_rules.Effects.{tell, set_prop, change, with_charge, for_each}
+use Rattle.cave_data.specs.CaveView.{CaveView}
+use Rattle.cave_words.specs.declared.named.Named.TheVariants as name
+use Rattle.world_objects.specs.Lists.{object_of}
+use Rattle.world_objects.specs.Objects.{prop_of, anchor_of, place_of_anchor, is_place}
+use Rattle.world_objects.specs.declared.object.Half.{Half}
+use Rattle.cave_world.specs.declared.part.Part.TheVariants as part
+use Rattle.cave_world.specs.declared.state.State.{State}
+use Rattle.turn_scene.specs.Scene.{Scene}
+use Rattle.turn_scene.specs.Props.{SEEN, SEEN_FASTENED, STEPS_FROM_ABOVE}
+use Rattle.turn_scene.specs.Parts.{with_tallies}
+use Rattle.cave_world.specs.declared.tables.Table.TheVariants as table
+use Rattle.turn_scene.specs.Rows.{Test, Effect, Row, deed, plain_row, otherwise, by_table}
+use Rattle.turn_scene.specs.Tests.{the, either, it, same, in_hands, cave_closed, here}
+use Rattle.turn_scene.specs.Effects.{tell, set_prop, change, with_charge, for_each}
 
 -- an object with a prop below 0 counts as unseen
 abbrev pub unseen : Test ℕ
@@ -67,11 +67,11 @@ find_treasure v =
     ∷ by_table table.ObjectText object_text_rows
     ∷ []
 
--- the steps aren't described to a player who carries the gold, nor is a treasure that a closed cave
+-- the steps aren't described while the gold is in the hands, nor is a treasure that a closed cave
 -- hides; the rug and the chain are held fast once they are seen
 unfoldable pub object_rows : List (Row ℕ (Unit {0}))
 object_rows =
-    plain_row (same it (the name.Steps) ∷ carries (the name.Gold) ∷ []) []
+    plain_row (same it (the name.Steps) ∷ in_hands (the name.Gold) ∷ []) []
     ∷ plain_row (unseen ∷ cave_closed ∷ []) []
     ∷ plain_row (unseen ∷ either (same it (the name.Rug)) (same it (the name.Chain)) ∷ [])
     (find_treasure SEEN_FASTENED)
@@ -83,5 +83,5 @@ unfoldable pub after_object : CaveView → ℕ → Scene → Scene
 after_object cave x p = (by_table table.ObjectHere object_rows (deed cave x p)).scene
 
 -- the objects of a list are described one after another
-abbrev pub after_objects : CaveView → List Half → Scene → Scene
-after_objects cave halves p = for_each halves (λ half. after_object cave (object_of half)) p
+abbrev pub after_all_objects : CaveView → List Half → Scene → Scene
+after_all_objects cave halves p = for_each halves (λ half. after_object cave (object_of half)) p

@@ -1,27 +1,27 @@
 -- The narrow passage.
 use Rattle.std.specs.Prelude.{ℕ, ◌==◌, List, [], ◌∷◌}
-use Rattle.turn_dwarves.specs.data_rows.declared.place_role.PlaceRole.TheVariants as place
-use Rattle.turn_dwarves.specs.data_rows.declared.role.Role.TheVariants as role
-use Rattle.turn_dwarves.specs.cave_words.declared.named.Named.TheVariants as name
-use Rattle.turn_dwarves.specs.turn_things.Places.{place_named}
-use Rattle.turn_dwarves.specs.rule_rows.declared.tables.Table.TheVariants as table
-use Rattle.turn_ends.specs.turn_rules.Rows.{Deed, Act, Test, Row, row_then, first_fitting_or}
-use Rattle.turn_ends.specs.turn_rules.Rows.{nothing_but, otherwise_then, noted}
-use Rattle.turn_ends.specs.turn_rules.Tests.{the, no, either, both, carries, held, here}
-use Rattle.turn_ends.specs.turn_rules.Effects.{say}
+use Rattle.data_rows.specs.declared.place_role.PlaceRole.TheVariants as place
+use Rattle.data_rows.specs.declared.role.Role.TheVariants as role
+use Rattle.cave_words.specs.declared.named.Named.TheVariants as name
+use Rattle.turn_scene.specs.Places.{place_named}
+use Rattle.cave_world.specs.declared.tables.Table.TheVariants as table
+use Rattle.turn_scene.specs.Rows.{Deed, Act, Test, Row, row_then, first_fitting_or, nothing_but}
+use Rattle.turn_scene.specs.Rows.{otherwise_then, noted}
+use Rattle.turn_scene.specs.Tests.{the, no, either, both, in_hands, held, here}
+use Rattle.turn_scene.specs.Effects.{say}
 use Rattle.turn_moves.specs.Ways.{Passage, other_end, passable, end_of}
 
 unfoldable pub squeeze : Passage (Unit {0})
 squeeze d =
     other_end (here d) (place_named d.cave place.Alcove) (place_named d.cave place.Plover)
 
--- so many objects are carried
+-- this many objects are in the hands
 abbrev pub has_load : ℕ → Test (Unit {0})
 has_load n d = held d == n
 
--- nothing is carried, or the emerald alone
+-- the hands are empty, or have the emerald alone
 abbrev pub slim : Test (Unit {0})
-slim = either (has_load 0) (both (has_load 1) (carries (the name.Emerald)))
+slim = either (has_load 0) (both (has_load 1) (in_hands (the name.Emerald)))
 
 unfoldable pub squeeze_rows : List (Row (Unit {0}) ℕ)
 squeeze_rows =

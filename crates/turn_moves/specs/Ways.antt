@@ -1,8 +1,8 @@
 -- Words of the rules about ways and places: what they ask, do, and where a player goes by them.
 use Rattle.std.specs.Prelude.{ℕ, ◌==◌, if◌then◌else◌, Option, Some, None, is_some, unwrap_or}
-use Rattle.turn_ends.specs.turn_rules.Rows.{Deed, Act, Test, Effect, act_of}
-use Rattle.turn_ends.specs.turn_rules.Effects.{in_scene}
-use Rattle.turn_dwarves.specs.turn_scene.Scene.{Scene, here_of}
+use Rattle.turn_scene.specs.Rows.{Deed, Act, Test, Effect, act_of}
+use Rattle.turn_scene.specs.Effects.{in_scene}
+use Rattle.turn_scene.specs.Scene.{Scene, here_of}
 use Rattle.turn_moves.specs.Dying.{after_die_at}
 
 -- where a passage leads from here: to the other of its ends, if the player is at one
@@ -27,6 +27,6 @@ module _ {C : Type 0} where
   abbrev pub end_of : Passage C → Deed C → ℕ
   end_of passage d = unwrap_or (passage d) 0
 
-  -- the player dies, and what is carried will be at a place
+  -- the player dies, and what is in the hands will be at a place
   abbrev pub die_at : (Deed C → ℕ) → Effect C
   die_at place d = in_scene (after_die_at d.cave (place d) d.scene) d

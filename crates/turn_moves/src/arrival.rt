@@ -1,29 +1,29 @@
 ghost use Rattle.std.specs.Prelude.{◌≡◌, ◌+◌, true, false, [], ◌∷◌, IsTrue};
 ghost use Rattle.std.specs.List.{list_any};
-ghost use Rattle.turn_dwarves.specs.turn_scene.Scene.{cave_of, scene_of};
-ghost use Rattle.turn_dwarves.specs.cave_world.State.{takes_no_command};
-ghost use Rattle.turn_dwarves.specs.turn_things.declared.conditions.PlaceCondition.TheVariants.{NoPirate};
-ghost use Rattle.turn_dwarves.specs.turn_scene.Bounds.{GoesOnSaying, HasRoom, MovesOnSaying};
-ghost use Rattle.turn_dwarves.specs.turn_scene.Bounds.{SaysUpTo, parts_of_dwarves, parts_of_place};
-ghost use Rattle.turn_dwarves.specs.turn_scene.Bounds.{parts_of_passing, parts_of_stop};
-ghost use Rattle.turn_dwarves.specs.turn_scene.Bounds.{parts_of_text, parts_of_forced_motions};
-ghost use Rattle.turn_dwarves.specs.turn_scene.Bounds.{parts_of_arrival};
-ghost use Rattle.turn_ends.specs.turn_rules.Rows.{PlaysBy, act_of, all_hold, deed};
-ghost use Rattle.turn_ends.specs.turn_rules.Tests.{no, same, here, outside, there_is, cave_closing};
-ghost use Rattle.turn_ends.specs.turn_rules.Tests.{forced_at, place_has};
+ghost use Rattle.turn_scene.specs.Scene.{cave_of, scene_of};
+ghost use Rattle.cave_world.specs.State.{takes_no_command};
+ghost use Rattle.turn_scene.specs.declared.conditions.PlaceCondition.TheVariants.{NoPirate};
+ghost use Rattle.turn_scene.specs.Bounds.{GoesOnSaying, HasRoom, MovesOnSaying, SaysUpTo};
+ghost use Rattle.turn_scene.specs.Bounds.{parts_of_dwarves, parts_of_place, parts_of_passing};
+ghost use Rattle.turn_scene.specs.Bounds.{parts_of_stop, parts_of_text, parts_of_forced_motions};
+ghost use Rattle.turn_scene.specs.Bounds.{parts_of_arrival};
+ghost use Rattle.turn_scene.specs.Rows.{PlaysBy, act_of, all_hold, deed};
+ghost use Rattle.turn_scene.specs.Tests.{no, same, here, outside, there_is, cave_closing};
+ghost use Rattle.turn_scene.specs.Tests.{forced_at, place_has};
 ghost use Rattle.turn_moves.specs.Arrival.{new, comes_from, dwarf_from, block, meet, come_to};
 ghost use Rattle.turn_moves.specs.Arrival.{stop_at, after_forced_motions, after_arrival};
-ghost use Rattle.turn_moves.specs.Arrival.{description_anew};
+ghost use Rattle.turn_moves.specs.Arrival.{after_description};
 
 use crate::description::{describe, stop_here, tell_place};
 use crate::dying::die_at;
 use crate::journeys::set_forth;
 use crate::ways::stay;
-use turn_dwarves::{
-    Dwarf, Motion, PIRATE, Place, PlaceCondition, Role, RowNotes, Rules, Scene, Table,
-    encounter_dwarves, forced, has_condition_of, outside_place, start_panic,
-};
+use cave_world::{Dwarf, Motion, PIRATE, RowNotes, Table, forced};
+use data_rows::Role;
+use turn_dwarves::encounter_dwarves;
 use turn_ends::die;
+use turn_scene::{PlaceCondition, Rules, Scene, has_condition_of, outside_place, start_panic};
+use world_objects::Place;
 
 /// The player arrives at a place, and is moved on from there while forced motions are left.
 #[tactic(auto, unfolding(crate::specs::Arrival::after_forced_motions))]
@@ -183,7 +183,7 @@ fn follow_forced_motions<N: RowNotes>(rules: &Rules<'_>, scene: &mut Scene<'_, N
 pub fn describe_here<N: RowNotes>(rules: &Rules<'_>, scene: &mut Scene<'_, N>)
     requires { HasRoom (parts_of_arrival scene.old.left) scene.old }
     ensures scene { scene_of N.rows scene.new
-        ≡ description_anew (cave_of rules.now) (scene_of N.rows scene.old) }
+        ≡ after_description (cave_of rules.now) (scene_of N.rows scene.old) }
     ensures says { MovesOnSaying (parts_of_arrival scene.old.left) scene.old scene.new }
 {
     if stop_here(rules, scene) {

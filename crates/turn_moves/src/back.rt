@@ -1,13 +1,16 @@
 ghost use Rattle.std.specs.Prelude.{◌≡◌, Some, map, option_map};
-ghost use Rattle.turn_dwarves.specs.data_rows.RowViews.{going};
-ghost use Rattle.turn_dwarves.specs.turn_scene.Scene.{cave_of};
-ghost use Rattle.turn_dwarves.specs.turn_scene.Bounds.{HasRoom};
-ghost use Rattle.turn_ends.specs.turn_rules.Rows.{PlaysBy};
+ghost use Rattle.data_rows.specs.RowViews.{going};
+ghost use Rattle.turn_scene.specs.Scene.{cave_of};
+ghost use Rattle.turn_scene.specs.Bounds.{HasRoom};
+ghost use Rattle.turn_scene.specs.Rows.{PlaysBy};
 ghost use Rattle.turn_moves.specs.Back.{place_back, leads_at_once, leads_through, direct_row};
 ghost use Rattle.turn_moves.specs.Back.{indirect_row, first_motion, go_back};
 ghost use Rattle.turn_moves.specs.Journeys.{parts_of_own_motion};
 
-use turn_dwarves::{Destination, Place, Role, Row, RowNotes, Rules, Scene, Table, forced};
+use cave_world::{RowNotes, Table, forced};
+use data_rows::{Destination, Role, Row};
+use turn_scene::{Rules, Scene};
+use world_objects::Place;
 
 /// Where a player who goes back wants to go.
 #[tactic(auto, unfolding(crate::specs::Back::place_back))]

@@ -3,25 +3,29 @@
 ghost use Rattle.std.specs.Prelude.{◌≡◌, false, [], ◌∷◌, Some, IsTrue, if◌then◌else◌};
 ghost use Rattle.turn_moves.specs.Bridge.{bridgehead, bridge, demand_toll, spices_rows};
 ghost use Rattle.turn_moves.specs.Bridge.{break_bridge, cross_bridge};
-ghost use Rattle.turn_ends.specs.turn_rules.Rows.{Does, PlaysBy, by_table, deed};
-ghost use Rattle.turn_dwarves.specs.rule_rows.declared.tables.Table.TheVariants as table;
-ghost use Rattle.turn_dwarves.specs.cave_words.declared.named.Named.TheVariants as name;
-ghost use Rattle.turn_dwarves.specs.world_objects.Objects.{with_prop};
-ghost use Rattle.turn_dwarves.specs.turn_things.Effects.{with_objects};
-ghost use Rattle.turn_dwarves.specs.turn_things.Props as defined;
-ghost use Rattle.turn_dwarves.specs.turn_things.Reach.{has_prop};
-ghost use Rattle.turn_dwarves.specs.turn_scene.Bounds.{GoesOnSaying, HasRoom, SaysUpTo};
-ghost use Rattle.turn_dwarves.specs.turn_scene.Bounds.{parts_of_journey};
-ghost use Rattle.turn_dwarves.specs.turn_scene.Scene.{after_row, cave_of, scene_of, thing};
-ghost use Rattle.turn_dwarves.specs.cave_world.State.{takes_no_command};
+ghost use Rattle.turn_scene.specs.Rows.{Does, PlaysBy, by_table, deed};
+ghost use Rattle.cave_world.specs.declared.tables.Table.TheVariants as table;
+ghost use Rattle.cave_words.specs.declared.named.Named.TheVariants as name;
+ghost use Rattle.world_objects.specs.Objects.{with_prop};
+ghost use Rattle.turn_scene.specs.Parts.{with_objects};
+ghost use Rattle.turn_scene.specs.Props as defined;
+ghost use Rattle.turn_scene.specs.Reach.{has_prop};
+ghost use Rattle.turn_scene.specs.Bounds.{GoesOnSaying, HasRoom, SaysUpTo, parts_of_journey};
+ghost use Rattle.turn_scene.specs.Scene.{after_row, cave_of, scene_of, thing};
+ghost use Rattle.cave_world.specs.State.{takes_no_command};
 
 use crate::dying::die_at;
 use crate::ways::{other_end, stay};
-use turn_dwarves::{
-    Anchor, BEAR_DEAD, CHASM_UNBRIDGED, Named, Place, Prop, Role, RowNotes, Rules, Scene, State,
-    TROLL_CALM, TROLL_FLED, TROLL_RETURNING, Table, UNSEEN, has_prop, has_prop_up_to, hold, home,
-    is_in_hand, lose_one, second_home,
+use cave_words::Named;
+use cave_world::{RowNotes, State, Table};
+use data_rows::Role;
+use turn_scene::props::{
+    BEAR_DEAD, CHASM_UNBRIDGED, TROLL_CALM, TROLL_FLED, TROLL_RETURNING, UNSEEN,
 };
+use turn_scene::{
+    Rules, Scene, has_prop, has_prop_up_to, hold, home, is_carried, lose_one, second_home,
+};
+use world_objects::{Anchor, Place, Prop};
 
 /// Where the bridge leads a player at one of its ends.
 #[tactic(auto, unfolding(crate::specs::Bridge::cross_bridge, crate::specs::Bridge::bridge_rows, crate::specs::Bridge::toll_rows, crate::specs::Bridge::bridge))]
@@ -41,7 +45,7 @@ pub fn cross_bridge<N: RowNotes>(rules: &Rules<'_>, scene: &mut Scene<'_, N>) ->
         return scene.state.trail.here;
     }
     let was_calm = pass_troll(rules, scene.state);
-    if is_in_hand(rules, scene.state, rules.thing(Named::Bear)) {
+    if is_carried(rules, scene.state, rules.thing(Named::Bear)) {
         scene.note(Table::Bridge, 4);
         note_toll(was_calm, scene);
         break_bridge(rules, end, scene);

@@ -1,20 +1,20 @@
 ghost use Rattle.std.specs.Prelude.{◌≡◌, [], ◌∷◌, IsTrue};
-ghost use Rattle.turn_dwarves.specs.turn_scene.Scene.{cave_of, scene_of};
-ghost use Rattle.turn_dwarves.specs.turn_scene.Bounds.{GoesOnSaying, HasRoom, SaysUpTo};
-ghost use Rattle.turn_dwarves.specs.turn_scene.Bounds.{parts_of_place, parts_of_text};
-ghost use Rattle.turn_dwarves.specs.turn_scene.Bounds.{parts_of_darkness};
-ghost use Rattle.turn_dwarves.specs.data_rows.declared.place_role.PlaceRole.TheVariants as role_place;
-ghost use Rattle.turn_dwarves.specs.rule_rows.declared.tables.Table.TheVariants as table;
-ghost use Rattle.turn_ends.specs.turn_rules.Rows.{Does, PlaysBy, all_hold, deed, by_table};
-ghost use Rattle.turn_ends.specs.turn_rules.Tests.{player_at, no, cave_closing};
+ghost use Rattle.turn_scene.specs.Scene.{cave_of, scene_of};
+ghost use Rattle.turn_scene.specs.Bounds.{GoesOnSaying, HasRoom, SaysUpTo, parts_of_place};
+ghost use Rattle.turn_scene.specs.Bounds.{parts_of_text, parts_of_darkness};
+ghost use Rattle.data_rows.specs.declared.place_role.PlaceRole.TheVariants as role_place;
+ghost use Rattle.cave_world.specs.declared.tables.Table.TheVariants as table;
+ghost use Rattle.turn_scene.specs.Rows.{Does, PlaysBy, all_hold, deed, by_table};
+ghost use Rattle.turn_scene.specs.Tests.{player_at, no, cave_closing};
 ghost use Rattle.turn_moves.specs.Description.{bear_rows, text_rows, hollow_rows, tell_place};
 ghost use Rattle.turn_moves.specs.Description.{see_place, feel_place, after_describe, stop_here};
 
 use crate::dying::die_at;
 use crate::objects::tell_objects;
-use turn_dwarves::{
-    Named, Part, PlaceRole, Role, RowNotes, Rules, Scene, Table, forced, is_place, place_named,
-};
+use cave_words::Named;
+use cave_world::{Part, RowNotes, Table, forced};
+use data_rows::{PlaceRole, Role};
+use turn_scene::{Rules, Scene, is_place, place_named};
 
 #[tactic(auto, unfolding(crate::specs::Description::bear_rows))]
 fn tell_bear<N: RowNotes>(rules: &Rules<'_>, scene: &mut Scene<'_, N>)

@@ -1,12 +1,11 @@
 ghost use Rattle.std.specs.List.{list_any};
 ghost use Rattle.std.specs.Prelude.{◌≡◌, ◌==◌, [], ◌∷◌, false};
-ghost use Rattle.turn_dwarves.specs.turn_scene.Scene.{cave_of, scene_of};
-ghost use Rattle.turn_dwarves.specs.cave_world.Motions.{motion_number};
-ghost use Rattle.turn_dwarves.specs.cave_world.State.{takes_no_command};
-ghost use Rattle.turn_dwarves.specs.turn_scene.Bounds.{GoesOnSaying, HasRoom, SaysUpTo};
-ghost use Rattle.turn_dwarves.specs.turn_scene.Bounds.{parts_of_journey};
-ghost use Rattle.turn_dwarves.specs.rule_rows.declared.tables.Table.TheVariants as table;
-ghost use Rattle.turn_ends.specs.turn_rules.Rows.{Does, PlaysBy, act_of, by_table};
+ghost use Rattle.turn_scene.specs.Scene.{cave_of, scene_of};
+ghost use Rattle.cave_world.specs.Motions.{motion_number};
+ghost use Rattle.cave_world.specs.State.{takes_no_command};
+ghost use Rattle.turn_scene.specs.Bounds.{GoesOnSaying, HasRoom, SaysUpTo, parts_of_journey};
+ghost use Rattle.cave_world.specs.declared.tables.Table.TheVariants as table;
+ghost use Rattle.turn_scene.specs.Rows.{Does, PlaysBy, act_of, by_table};
 ghost use Rattle.turn_moves.specs.Journeys.{after_refusal, journey_of_outcome, journey_by_rows};
 ghost use Rattle.turn_moves.specs.Journeys.{set_forth, enough_rows, look_round, own_motion};
 ghost use Rattle.turn_moves.specs.Journeys.{parts_of_own_motion, journey_by_request};
@@ -15,10 +14,11 @@ use crate::back::go_back;
 use crate::bridge::cross_bridge;
 use crate::squeeze::squeeze_through;
 use crate::ways::stay;
-use turn_dwarves::{
-    MAX_DETAILS, Motion, Named, Outcome, Part, Place, Role, RowNotes, Rules, Scene, Special, Table,
-    note_travel, outside_place,
-};
+use cave_words::Named;
+use cave_world::{MAX_DETAILS, Motion, Outcome, Part, RowNotes, Table, note_travel};
+use data_rows::{Role, Special};
+use turn_scene::{Rules, Scene, outside_place};
+use world_objects::Place;
 
 /// Where a motion that the player asks for leads.
 #[tactic(auto, unfolding(crate::specs::Journeys::journey_by_request))]

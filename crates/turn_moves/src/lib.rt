@@ -13,4 +13,3 @@ pub mod ways;
 
 pub use arrival::{arrive, describe_here};
 pub use journeys::journey_by_request;
-pub use turn_ends::{ask, count_death, end, max_score, question_row, score, tell_question};

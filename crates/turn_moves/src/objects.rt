@@ -1,18 +1,19 @@
 ghost use Rattle.std.specs.Prelude.{◌≡◌, [], ◌∷◌, length};
-ghost use Rattle.turn_dwarves.specs.world_objects.Lists.{halves_at, last_half};
-ghost use Rattle.turn_dwarves.specs.turn_scene.Scene.{cave_of, scene_of};
-ghost use Rattle.turn_dwarves.specs.turn_scene.Bounds.{GoesOnSaying, HasRoom};
-ghost use Rattle.turn_dwarves.specs.rule_rows.declared.tables.Table.TheVariants as table;
-ghost use Rattle.turn_ends.specs.turn_rules.Rows.{Does, deed, by_table};
+ghost use Rattle.world_objects.specs.Lists.{halves_at, last_half};
+ghost use Rattle.turn_scene.specs.Scene.{cave_of, scene_of};
+ghost use Rattle.turn_scene.specs.Bounds.{GoesOnSaying, HasRoom};
+ghost use Rattle.cave_world.specs.declared.tables.Table.TheVariants as table;
+ghost use Rattle.turn_scene.specs.Rows.{Does, deed, by_table};
 ghost use Rattle.turn_moves.specs.Objects.{unseen, is_second_here, with_one_less_unseen};
 ghost use Rattle.turn_moves.specs.Objects.{is_rest_lost, with_short_lamp, object_text_rows};
 ghost use Rattle.turn_moves.specs.Objects.{last_treasure_rows, find_treasure, after_object};
-ghost use Rattle.turn_moves.specs.Objects.{after_objects};
+ghost use Rattle.turn_moves.specs.Objects.{after_all_objects};
 
-use turn_dwarves::{
-    Charge, Half, Named, Object, Part, Prop, RowNotes, Rules, SEEN, SEEN_FASTENED,
-    STEPS_FROM_ABOVE, Scene, State, Table,
-};
+use cave_words::Named;
+use cave_world::{Charge, Part, RowNotes, State, Table};
+use turn_scene::props::{SEEN, SEEN_FASTENED, STEPS_FROM_ABOVE};
+use turn_scene::{Rules, Scene};
+use world_objects::{Half, Object, Prop};
 
 /// The most turns for which the lamp burns once as many treasures count as lost as count as unseen.
 const SHORT_LAMP: i32 = 35;
@@ -134,7 +135,7 @@ fn tell_object<N: RowNotes>(rules: &Rules<'_>, object: Object, scene: &mut Scene
 fn tell_all<N: RowNotes>(rules: &Rules<'_>, halves: &[Half], scene: &mut Scene<'_, N>)
     requires { HasRoom (length halves.now) scene.old }
     ensures scene { scene_of N.rows scene.new
-        ≡ after_objects (cave_of rules.now) halves.now (scene_of N.rows scene.old) }
+        ≡ after_all_objects (cave_of rules.now) halves.now (scene_of N.rows scene.old) }
     ensures says { GoesOnSaying (length halves.now) scene.old scene.new }
 {
     for half in halves {
@@ -148,7 +149,7 @@ pub fn tell_objects<N: RowNotes>(rules: &Rules<'_>, scene: &mut Scene<'_, N>)
     ensures scene { let state = scene.old.state.now in
         let halves = halves_at state.trail.here state.objects.lists in
         scene_of N.rows scene.new
-        ≡ after_objects (cave_of rules.now) halves (scene_of N.rows scene.old) }
+        ≡ after_all_objects (cave_of rules.now) halves (scene_of N.rows scene.old) }
     ensures says { GoesOnSaying last_half scene.old scene.new }
 {
     let here = scene.state.trail.here;

@@ -2,12 +2,16 @@
 
 ghost use Rattle.std.specs.Prelude.{◌≡◌, [], ◌∷◌};
 ghost use Rattle.turn_moves.specs.Squeeze.{squeeze, slim, squeeze_through};
-ghost use Rattle.turn_ends.specs.turn_rules.Rows.{PlaysBy, all_hold, deed};
-ghost use Rattle.turn_dwarves.specs.turn_scene.Bounds.{HasRoom};
-ghost use Rattle.turn_dwarves.specs.turn_scene.Scene.{scene_of, cave_of};
+ghost use Rattle.turn_scene.specs.Rows.{PlaysBy, all_hold, deed};
+ghost use Rattle.turn_scene.specs.Bounds.{HasRoom};
+ghost use Rattle.turn_scene.specs.Scene.{scene_of, cave_of};
 
 use crate::ways::{other_end, stay};
-use turn_dwarves::{Named, Place, PlaceRole, Role, RowNotes, Rules, Scene, Table, place_named};
+use cave_words::Named;
+use cave_world::{RowNotes, Table};
+use data_rows::{PlaceRole, Role};
+use turn_scene::{Rules, Scene, place_named};
+use world_objects::Place;
 
 /// The other end of the narrow passage, where the player is at one end.
 #[tactic(auto, unfolding(crate::specs::Squeeze::squeeze))]
@@ -19,16 +23,16 @@ fn squeeze<N: RowNotes>(rules: &Rules<'_>, scene: &Scene<'_, N>) -> Option<Place
     other_end(scene.state.trail.here, alcove, plover)
 }
 
-/// Whether nothing is carried, or the emerald alone.
+/// Whether the hands are empty, or have the emerald alone.
 fn is_slim<N: RowNotes>(rules: &Rules<'_>, scene: &Scene<'_, N>) -> bool
     ensures { result
         ≡ all_hold (slim ∷ []) (deed (cave_of rules.now) tt (scene_of N.rows scene.now)) }
 {
-    let carried = scene.state.holding();
-    carried == 0 || (carried == 1 && scene.state.toting(rules.thing(Named::Emerald)))
+    let held = scene.state.holding();
+    held == 0 || (held == 1 && scene.state.toting(rules.thing(Named::Emerald)))
 }
 
-/// Through the narrow passage, in which nothing but the emerald may be carried.
+/// Through the narrow passage, which lets nothing but the emerald through in the player's hands.
 #[tactic(auto, unfolding(crate::specs::Squeeze::squeeze, crate::specs::Squeeze::squeeze_through, crate::specs::Squeeze::squeeze_rows))]
 pub fn squeeze_through<N: RowNotes>(rules: &Rules<'_>, scene: &mut Scene<'_, N>) -> Place
     requires { HasRoom 1 scene.old }

@@ -1,10 +1,13 @@
 ghost use Rattle.std.specs.Prelude.{◌≡◌};
 ghost use Rattle.turn_moves.specs.Ways.{other_end, staying};
-ghost use Rattle.turn_ends.specs.turn_rules.Rows.{act_of};
-ghost use Rattle.turn_dwarves.specs.turn_scene.Bounds.{GoesOnSaying, HasRoom};
-ghost use Rattle.turn_dwarves.specs.turn_scene.Scene.{after_saying, scene_of};
+ghost use Rattle.turn_scene.specs.Rows.{act_of};
+ghost use Rattle.turn_scene.specs.Bounds.{GoesOnSaying, HasRoom};
+ghost use Rattle.turn_scene.specs.Scene.{after_saying, scene_of};
 
-use turn_dwarves::{Place, Role, RowNotes, Scene};
+use cave_world::RowNotes;
+use data_rows::Role;
+use turn_scene::Scene;
+use world_objects::Place;
 
 /// The other end of a passage between two places, from one of its ends.
 pub fn other_end(here: Place, one: Option<Place>, other: Option<Place>) -> Option<Place>

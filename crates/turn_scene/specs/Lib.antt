@@ -1,9 +1,18 @@
 pub mod Bounds
 pub mod Scene
-pub use Rattle.cave_world.specs.cave_data as cave_data
-pub use Rattle.cave_world.specs.cave_words as cave_words
-pub use Rattle.cave_world.specs as cave_world
-pub use Rattle.cave_world.specs.data_numbers as data_numbers
-pub use Rattle.cave_world.specs.data_rows as data_rows
-pub use Rattle.cave_world.specs.rule_rows as rule_rows
-pub use Rattle.cave_world.specs.world_objects as world_objects
+pub mod Parts
+pub mod Homes
+pub mod Liquids
+pub mod Places
+pub mod Props
+pub mod Reach
+pub mod SpecialWords
+pub mod Treasures
+pub mod Effects
+pub mod RowLaws
+pub mod Losses
+pub mod Panic
+pub mod Putting
+pub mod Rows
+pub mod Tests
+pub mod Troll

@@ -2,20 +2,20 @@
 use Rattle.std.specs.Prelude.{◌≡◌, ℕ, ℤ, Bool, ◌==◌, if◌then◌else◌, List, [], ◌∷◌, ◌++◌, true}
 use Rattle.std.specs.Prelude.{false, ◌&&◌, not, nat_le, Option, Some, None}
 use Rattle.std.specs.List.{list_any}
-use Rattle.cave_world.specs.data_rows.declared.role.Role.{Role}
-use Rattle.cave_world.specs.cave_words.Stream.{next, pct}
+use Rattle.data_rows.specs.declared.role.Role.{Role}
+use Rattle.cave_words.specs.Stream.{next, pct}
 use Rattle.cave_world.specs.State.{state_with_player_at, state_after_set_out}
 use Rattle.cave_world.specs.declared.part.Part.{Part}
 use Rattle.cave_world.specs.declared.part.Part.TheVariants as part
 use Rattle.cave_world.specs.declared.state.State.{State}
-use Rattle.cave_world.specs.rule_rows.declared.tables.RuleRow.{RuleRow}
-use Rattle.cave_world.specs.rule_rows.declared.tables.RuleRow.TheVariants as rule_row
-use Rattle.cave_world.specs.rule_rows.declared.tables.Table.{Table}
-use Rattle.cave_world.specs.cave_data.CaveView.{CaveView}
-use Rattle.cave_world.specs.cave_words.Named.{object_named}
-use Rattle.cave_world.specs.cave_words.declared.named.Named.{Named}
-use Rattle.cave_world.specs.cave_words.declared.named.Named.TheVariants as named
-use Rattle.cave_world.specs.data_numbers.Numbers.{LAST_OBJECT}
+use Rattle.cave_world.specs.declared.tables.RuleRow.{RuleRow}
+use Rattle.cave_world.specs.declared.tables.RuleRow.TheVariants as rule_row
+use Rattle.cave_world.specs.declared.tables.Table.{Table}
+use Rattle.cave_data.specs.CaveView.{CaveView}
+use Rattle.cave_words.specs.Named.{object_named}
+use Rattle.cave_words.specs.declared.named.Named.{Named}
+use Rattle.cave_words.specs.declared.named.Named.TheVariants as named
+use Rattle.base_lines.specs.Numbers.{LAST_OBJECT}
 use Rattle.turn_scene.specs.declared.scene.Scene.{Scene as OpenScene}
 use Rattle.turn_scene.specs.declared.rules.Rules.{Rules}
 

@@ -1,20 +1,37 @@
-//! The scene of a turn: the rules of a cave, what a turn changes and says, and how many parts that
-//! is.
+//! The scene of a turn; what rules ask of things and do to them; and the rows of tests and effects in
+//! which rules are written.
 #![tactic(auto)]
 
+pub mod conditions;
+pub mod homes;
+pub mod liquids;
+pub mod losses;
 pub mod objects;
+pub mod panicking;
+pub mod places;
+pub mod props;
+pub mod putting;
+pub mod reach;
+pub mod row_laws;
 pub mod rules;
 pub mod scene;
+pub mod special_words;
+pub mod treasures;
+pub mod troll;
 
-pub use cave_world::hints::HINTS;
-pub use cave_world::{
-    Anchor, CLUE_HINT, Cave, Charge, Class, Condition, Count, DEFAULT_BUILDING, DEFAULT_DEEP,
-    DEFAULT_OUTSIDE, DEFAULT_START, DWARVES, Destination, Dwarf, Ending, Half, Hint, HintNumber,
-    Knife, LAMP_ON, LIVES, LOW_CHARGE, Lexicon, MAX_DETAILS, MAX_TREASURES, MAX_TURNS_IN_AREA,
-    Magic, Meaning, Motion, Named, NumberLine, OBJECTS, Object, Objects, Out, Outcome, PIRATE,
-    Part, Place, PlaceRole, Prop, Question, Rating, Role, Row, RowNotes, RuleRow, Special, Spot,
-    State, Stream, Table, Unnoted, Word, WordLine, forced, has_condition, note_travel,
-};
+pub use conditions::{PlaceCondition, has_condition_of};
+pub use homes::{hold, home, is_at_home, is_home_elsewhere, is_home_here, second_home};
+pub use liquids::{is_liquid, lake, liquid};
+pub use losses::{lose_one, lose_to_snake};
 pub use objects::or_no_object;
+pub use panicking::start_panic;
+pub use places::{building_place, deep_place, is_place, outside_place, place_named, start_place};
+pub use putting::{lay_down, put_down};
+pub use reach::{
+    has_other_prop, has_prop, has_prop_up_to, is_carried, is_dwarf_here, is_fixed, is_near,
+};
 pub use rules::Rules;
 pub use scene::Scene;
+pub use special_words::special;
+pub use treasures::{is_known, is_treasure};
+pub use troll::remove_troll;

@@ -3,7 +3,8 @@
 ghost use Rattle.std.specs.Prelude.{◌≡◌};
 ghost use Rattle.turn_scene.specs.Scene.{or_no_object};
 
-use cave_world::{LAST_OBJECT, Object};
+use base_lines::numbers::LAST_OBJECT;
+use world_objects::Object;
 
 /// The object of a number; object 0 where there is none.
 pub fn or_no_object(object: Option<u16>) -> Object

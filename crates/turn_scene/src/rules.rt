@@ -1,12 +1,14 @@
 //! What a cave says, by which its rules go: the cave, its words, and the objects that rules name.
 
 ghost use Rattle.std.specs.Prelude.{◌≡◌};
-ghost use Rattle.cave_world.specs.cave_words.Lexicon.{IsLexiconOf};
-ghost use Rattle.cave_world.specs.cave_words.Meanings.{meaning};
-ghost use Rattle.cave_world.specs.cave_words.Words.{words_of};
+ghost use Rattle.cave_words.specs.Lexicon.{IsLexiconOf};
+ghost use Rattle.cave_words.specs.Meanings.{meaning};
+ghost use Rattle.cave_words.specs.Words.{words_of};
 
 use crate::objects::or_no_object;
-use cave_world::{Cave, Lexicon, Meaning, Named, Object, Word, Words};
+use cave_data::Cave;
+use cave_words::{Lexicon, Meaning, Named, Word, Words};
+use world_objects::Object;
 
 /// The rules of a cave: what its database says, and the objects that rules name.
 #[derive(Clone, Copy)]

@@ -1,7 +1,9 @@
 ghost use Rattle.std.specs.Prelude.{◌≡◌, ◌+◌, []};
 ghost use Rattle.arrayvec.specs.ArrayVec.{array_vec_len};
 
-use cave_world::{Object, Out, Part, Place, Role, RowNotes, RuleRow, State, Table};
+use cave_world::{Out, Part, RowNotes, RuleRow, State, Table};
+use data_rows::Role;
+use world_objects::{Object, Place};
 
 /// The most forced motions of a turn.
 pub const MAX_FORCED_MOTIONS: u8 = 20;

@@ -1,6 +1,6 @@
 -- The lines that the game itself words, round numbers and words.
 use Rattle.std.specs.Prelude.{ℕ, ◌==◌, if◌then◌else◌, List, ◌++◌, codes, decimal}
-use Rattle.cave_world.specs.base_lines.Bytes.{prefix_while, is_nonblank}
+use Rattle.base_lines.specs.Bytes.{prefix_while, is_nonblank}
 use Rattle.cave_world.specs.declared.part.NumberLine.{NumberLine}
 use Rattle.cave_world.specs.declared.part.NumberLine.TheVariants as number
 use Rattle.cave_world.specs.declared.part.WordLine.{WordLine}

@@ -2,9 +2,9 @@
 use Rattle.std.specs.Prelude.{ℕ, ℤ, pos, negsuc, List, [], ◌∷◌, ◌++◌, Option, Some, None}
 use Rattle.std.specs.Prelude.{option_map, unwrap_or, slice_index_or, codes}
 use Rattle.std.specs.FinMap as map
-use Rattle.cave_world.specs.cave_data.CaveView.{CaveView, name_of, look_of, class_of}
-use Rattle.cave_world.specs.data_rows.Role.{role_number, ROLE_NAMES}
-use Rattle.cave_world.specs.data_rows.declared.role.Role.{Role}
+use Rattle.cave_data.specs.CaveView.{CaveView, name_of, look_of, class_of}
+use Rattle.data_rows.specs.Role.{role_number, ROLE_NAMES}
+use Rattle.data_rows.specs.declared.role.Role.{Role}
 use Rattle.cave_world.specs.declared.part.Part.{Part}
 use Rattle.cave_world.specs.declared.part.Part.TheVariants as part
 use Rattle.turn_text.specs.OwnLines.{number_line, word_line, final_line}

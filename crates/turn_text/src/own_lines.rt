@@ -3,7 +3,8 @@ ghost use Rattle.turn_text.specs.OwnLines.{number_between, score_line, word_betw
 ghost use Rattle.turn_text.specs.OwnLines.{word_line, final_line, points_end, more_points};
 ghost use Rattle.turn_text.specs.OwnLines.{turn_count};
 
-use cave_world::{NumberLine, Word, WordLine};
+use cave_words::Word;
+use cave_world::{NumberLine, WordLine};
 use itoa::Buffer;
 use std::alloc::AllocError;
 

@@ -3,8 +3,11 @@ ghost use Rattle.turn_text.specs.Text.{text_of_part, text_of_all, message_text, 
 ghost use Rattle.turn_text.specs.Text.{look_text, class_text};
 
 use crate::own_lines::{push_final_line, push_number_line, push_word_line};
-use cave_world::{Cave, Object, Part, Role};
+use cave_data::Cave;
+use cave_world::Part;
+use data_rows::Role;
 use std::alloc::AllocError;
+use world_objects::Object;
 
 /// Appends what the parts print at a number of turns. Where memory runs out the text is as it was.
 pub fn render(cave: &Cave, parts: &[Part], turns: u32, text: &mut Vec<u8>) -> Result<(), AllocError>

@@ -7,5 +7,5 @@ pub mod Chains
 pub mod Relinked
 pub mod Walks
 pub mod Laid
-pub mod Carried
+pub mod InHands
 pub mod Standing

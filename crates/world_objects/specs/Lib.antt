@@ -5,4 +5,3 @@ pub mod Packed
 pub mod Objects
 pub mod SameLists
 pub mod SameObjects
-pub use Rattle.data_numbers.specs as data_numbers

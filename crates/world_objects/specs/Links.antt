@@ -7,7 +7,7 @@ use Rattle.world_objects.specs.declared.object.Half.{Half}
 use Rattle.world_objects.specs.declared.lists.PlacedHalf.{PlacedHalf}
 use Rattle.world_objects.specs.declared.lists.ObjectLists.TheInside.{Inside}
 use Rattle.world_objects.specs.Lists.{object_of, half_number, half_of, last_half, AreLists}
-use Rattle.data_numbers.specs.Numbers.{LAST_PLACE, LAST_OBJECT}
+use Rattle.base_lines.specs.Numbers.{LAST_PLACE, LAST_OBJECT}
 
 -- the number of the first half at a place
 unfoldable pub first_half : ℕ → List PlacedHalf → ℕ

@@ -4,7 +4,7 @@ use Rattle.std.specs.Prelude.{◌∷◌, map, filter, Option, Some, None, ◌+�
 use Rattle.world_objects.specs.declared.object.Half.{Half}
 use Rattle.world_objects.specs.declared.lists.PlacedHalf.{PlacedHalf}
 use Rattle.world_objects.specs.declared.object.Half.TheVariants.{First, Second}
-use Rattle.data_numbers.specs.Numbers.{LAST_OBJECT}
+use Rattle.base_lines.specs.Numbers.{LAST_OBJECT}
 
 -- the last number of a half: two for each object
 abbrev pub last_half : ℕ

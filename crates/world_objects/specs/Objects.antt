@@ -10,7 +10,7 @@ use Rattle.world_objects.specs.declared.spot.Spot.TheVariants as spot
 use Rattle.world_objects.specs.declared.spot.Anchor.{Anchor}
 use Rattle.world_objects.specs.declared.spot.Anchor.TheVariants as anchor
 use Rattle.world_objects.specs.Lists.{after_relist, halves_at, half_number}
-use Rattle.data_numbers.specs.Numbers.{LAST_OBJECT}
+use Rattle.base_lines.specs.Numbers.{LAST_OBJECT}
 use Rattle.world_objects.specs.declared.object.Half.{Half}
 use Rattle.world_objects.specs.declared.lists.PlacedHalf.{PlacedHalf}
 
@@ -25,17 +25,17 @@ spot_at place = if place == 0 then spot.Away else spot.At place
 -- the place where a first half is
 abbrev pub place_of_spot : Spot → Option ℕ
 place_of_spot spot.Away = None
-place_of_spot spot.Carried = None
+place_of_spot spot.InHands = None
 place_of_spot (spot.At place) = Some place
 
-abbrev pub is_carried_spot : Spot → Bool
-is_carried_spot spot.Away = false
-is_carried_spot spot.Carried = true
-is_carried_spot (spot.At place) = false
+abbrev pub is_spot_in_hands : Spot → Bool
+is_spot_in_hands spot.Away = false
+is_spot_in_hands spot.InHands = true
+is_spot_in_hands (spot.At place) = false
 
 abbrev pub is_away_spot : Spot → Bool
 is_away_spot spot.Away = true
-is_away_spot spot.Carried = false
+is_away_spot spot.InHands = false
 is_away_spot (spot.At place) = false
 
 -- the anchor of an object whose second half is at a place; at place 0 there is none
@@ -87,8 +87,8 @@ anchor_of o x = if x == 0 then anchor.Loose else slice_index_or o.second (x - 1)
 unfoldable pub prop_of : Layout → ℕ → ℤ
 prop_of o x = if x == 0 then pos 0 else slice_index_or o.props (x - 1) (pos 0)
 
-unfoldable pub is_carried : Layout → ℕ → Bool
-is_carried o x = is_carried_spot (spot_of o x)
+unfoldable pub is_in_hands : Layout → ℕ → Bool
+is_in_hands o x = is_spot_in_hands (spot_of o x)
 
 -- its first half is nowhere; object 0 is not gone
 unfoldable pub is_gone : Layout → ℕ → Bool
@@ -102,16 +102,16 @@ is_first_at o place x = is_place place (place_of_spot (spot_of o x))
 unfoldable pub is_object_at : Layout → ℕ → ℕ → Bool
 is_object_at o place x = is_first_at o place x || is_place place (place_of_anchor (anchor_of o x))
 
--- it is carried, or its first half is at the place
+-- it is in the hands, or its first half is at the place
 unfoldable pub is_at_hand : Layout → ℕ → ℕ → Bool
-is_at_hand o place x = is_carried o x || is_first_at o place x
+is_at_hand o place x = is_in_hands o x || is_first_at o place x
 
--- of the objects from 1 on so many, those that are carried
-unfoldable pub carried_up_to : Layout → ℕ → List ℕ
-carried_up_to o n = filter (is_carried o) (range_with_len 1 n)
+-- of the objects 1 to n, those in the hands
+unfoldable pub in_hands_up_to : Layout → ℕ → List ℕ
+in_hands_up_to o n = filter (is_in_hands o) (range_with_len 1 n)
 
-abbrev pub carried_objects : Layout → List ℕ
-carried_objects o = carried_up_to o LAST_OBJECT
+abbrev pub objects_in_hands : Layout → List ℕ
+objects_in_hands o = in_hands_up_to o LAST_OBJECT
 
 -- the first half of an object moved to a spot
 unfoldable pub with_spot : Layout → ℕ → Spot → Layout
@@ -138,13 +138,13 @@ with_prop o x v = if x == 0 then o else record o { props = slice_set o.props (x 
 unfoldable pub after_move_to : Layout → ℕ → ℕ → Layout
 after_move_to o x place = with_spot o x (spot_at place)
 
--- the first half taken from its list and carried, if it isn't carried yet
+-- the first half comes from its list into the hands, if it isn't there yet
 unfoldable pub after_carry : Layout → ℕ → Layout
-after_carry o x = if is_carried o x then o else with_spot o x spot.Carried
+after_carry o x = if is_in_hands o x then o else with_spot o x spot.InHands
 
--- both halves put to the front of the lists that they are in, if it isn't carried
+-- both halves come to the front of the lists that they are in, if it isn't in the hands
 unfoldable pub after_juggle : Layout → ℕ → Layout
-after_juggle o x = if is_carried o x then o else let once = with_spot o x (spot_of o x) in
+after_juggle o x = if is_in_hands o x then o else let once = with_spot o x (spot_of o x) in
     with_anchor once x (anchor_of once x)
 
 -- objects of which none is placed

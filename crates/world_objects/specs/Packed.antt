@@ -5,16 +5,16 @@ use Rattle.world_objects.specs.declared.spot.Spot.{Spot}
 use Rattle.world_objects.specs.declared.spot.Spot.TheVariants as spot
 use Rattle.world_objects.specs.declared.spot.Anchor.{Anchor}
 use Rattle.world_objects.specs.declared.spot.Anchor.TheVariants as anchor
-use Rattle.data_numbers.specs.Numbers.{LAST_PLACE}
+use Rattle.base_lines.specs.Numbers.{LAST_PLACE}
 
 abbrev pub code_of_spot : Spot → ℕ
 code_of_spot spot.Away = 0
-code_of_spot spot.Carried = 1
+code_of_spot spot.InHands = 1
 code_of_spot (spot.At place) = suc (suc place)
 
 abbrev pub spot_of_code : ℕ → Spot
 spot_of_code zero = spot.Away
-spot_of_code (suc zero) = spot.Carried
+spot_of_code (suc zero) = spot.InHands
 spot_of_code (suc (suc place)) = spot.At place
 
 abbrev pub code_of_anchor : Anchor → ℕ
@@ -43,7 +43,7 @@ anchor_back (suc (suc place)) = refl
 
 pub code_of_spot_back : (s : Spot) → spot_of_code (code_of_spot s) ≡ s
 code_of_spot_back spot.Away = refl
-code_of_spot_back spot.Carried = refl
+code_of_spot_back spot.InHands = refl
 code_of_spot_back (spot.At place) = refl
 
 pub code_of_anchor_back : (a : Anchor) → anchor_of_code (code_of_anchor a) ≡ a

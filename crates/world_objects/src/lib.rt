@@ -11,11 +11,8 @@ pub mod prop;
 pub mod site;
 pub mod spot;
 
-pub use data_numbers::{LAST_HINT, LAST_OBJECT, LAST_PLACE};
-pub use lists::{ObjectLists, PlacedHalf};
 pub use object::{Half, Object};
 pub use objects::Objects;
 pub use place::Place;
 pub use prop::Prop;
-pub use site::Site;
 pub use spot::{Anchor, Spot};

@@ -1,8 +1,8 @@
 ghost use Rattle.std.specs.Prelude.{◌≡◌, ◌≤◌, ◌==◌};
 ghost use Rattle.world_objects.specs.Lists.{object_of, half_number, half_of, last_half};
-ghost use Rattle.data_numbers.specs.Numbers as defined;
+ghost use Rattle.base_lines.specs.Numbers as defined;
 
-use data_numbers::LAST_OBJECT;
+use base_lines::numbers::LAST_OBJECT;
 use std::marker::Model;
 
 /// How many objects there may be, each of them in the arrays of a state.
@@ -19,7 +19,7 @@ pub struct Object {
 
 impl Model for Object {
     ghost use Rattle.std.specs.Prelude.{ℕ, ◌≤◌};
-    ghost use Rattle.data_numbers.specs.Numbers as defined;
+    ghost use Rattle.base_lines.specs.Numbers as defined;
 
     ghost Value = { ℕ };
 

@@ -1,14 +1,14 @@
 ghost use Rattle.std.specs.Prelude.{◌≡◌, ℕ, ◌==◌, ◌||◌, ◌+◌, ◌<◌, ◌≤◌, false, [], length, All};
 ghost use Rattle.std.specs.Prelude.{IsTrue};
-ghost use Rattle.world_objects.specs.Objects.{spot_of, anchor_of, prop_of, carried_objects};
-ghost use Rattle.world_objects.specs.Objects.{unplaced_objects, is_carried, is_gone, is_first_at};
+ghost use Rattle.world_objects.specs.Objects.{spot_of, anchor_of, prop_of, objects_in_hands};
+ghost use Rattle.world_objects.specs.Objects.{unplaced_objects, is_in_hands, is_gone, is_first_at};
 ghost use Rattle.world_objects.specs.Objects.{is_object_at, is_at_hand, with_spot, with_anchor};
 ghost use Rattle.world_objects.specs.Objects.{with_prop, after_move_to, after_carry, after_juggle};
 ghost use Rattle.world_objects.specs.Objects.{place_of_spot, place_of_anchor, spot_at, is_place};
 ghost use Rattle.world_objects.specs.Objects.{is_listed};
 ghost use Rattle.world_objects.specs.Lists.{halves_at, AreLists, AreRelisted, object_of};
 ghost use Rattle.world_objects.specs.Links.{AreEntriesWithin};
-ghost use Rattle.data_numbers.specs.Numbers.{LAST_OBJECT};
+ghost use Rattle.base_lines.specs.Numbers.{LAST_OBJECT};
 
 use crate::lists::{HALVES, ObjectLists};
 use crate::object::{Half, OBJECTS, Object};
@@ -148,14 +148,14 @@ impl Objects {
         self.props[usize::from(object.number()) - 1]
     }
 
-    /// Whether an object is carried.
-    #[tactic(auto, unfolding(crate::specs::Objects::is_carried))]
-    pub fn is_carried(&self, object: Object) -> bool
-        ensures value { result ≡ is_carried self.now object }
+    /// Whether an object is in the hands.
+    #[tactic(auto, unfolding(crate::specs::Objects::is_in_hands))]
+    pub fn is_in_hands(&self, object: Object) -> bool
+        ensures value { result ≡ is_in_hands self.now object }
         ensures unlisted { IsTrue result → 0 < object → (q : ℕ)
             → is_listed object (halves_at q self.now.lists) ≡ false }
     {
-        self.spot(object).is_carried()
+        self.spot(object).is_in_hands()
     }
 
     /// Whether there is the object, and its first half is nowhere.
@@ -200,15 +200,15 @@ impl Objects {
         self.is_first_at(place, object) || self.is_second_at(place, object)
     }
 
-    /// Whether an object is carried, or its first half is at a place.
+    /// Whether an object is in the hands, or its first half is at a place.
     #[tactic(auto, unfolding(crate::specs::Objects::is_at_hand))]
     pub fn is_at_hand(&self, place: Place, object: Object) -> bool
         ensures value { result ≡ is_at_hand self.now place object }
         ensures listed { 0 < object
-            → result ≡ (is_carried self.now object
+            → result ≡ (is_in_hands self.now object
             || is_listed object (halves_at place self.now.lists)) }
     {
-        self.is_carried(object) || self.is_first_at(place, object)
+        self.is_in_hands(object) || self.is_first_at(place, object)
     }
 
     /// Moves the first half of an object to a spot.
@@ -266,26 +266,26 @@ impl Objects {
         self.move_to_spot(object, Spot::at(place));
     }
 
-    /// Takes the first half of an object from its list, to be carried, if it isn't carried yet.
+    /// Takes the first half of an object from its list into the hands, if it isn't there yet.
     #[tactic(auto, unfolding(crate::specs::Objects::after_carry))]
     pub fn carry(&mut self, object: Object)
         ensures value { self.new ≡ after_carry self.old object }
         ensures lists { 0 < object
             → AreRelisted self.old.lists self.new.lists (Half.First object) None }
     {
-        if self.is_carried(object) {
+        if self.is_in_hands(object) {
             return;
         }
-        self.move_to_spot(object, Spot::Carried);
+        self.move_to_spot(object, Spot::InHands);
     }
 
     /// Puts both halves of an object to the front of the lists that they are in, if it isn't
-    /// carried.
+    /// in the hands.
     #[tactic(auto, unfolding(crate::specs::Objects::after_juggle))]
     pub fn juggle(&mut self, object: Object)
         ensures { self.new ≡ after_juggle self.old object }
     {
-        if self.is_carried(object) {
+        if self.is_in_hands(object) {
             return;
         }
         let spot = self.spot(object);
@@ -294,33 +294,33 @@ impl Objects {
         self.anchor_to(object, anchor);
     }
 
-    /// How many objects are carried.
-    #[tactic(auto, using(crate::proofs::Carried::counting_carried))]
-    pub fn count_carried(&self) -> usize
-        ensures value { result ≡ length (carried_objects self.now) }
+    /// How many objects are in the hands.
+    #[tactic(auto, using(crate::proofs::InHands::counting_in_hands))]
+    pub fn count_in_hands(&self) -> usize
+        ensures value { result ≡ length (objects_in_hands self.now) }
         ensures within { result ≤ LAST_OBJECT }
     {
         let mut count = 0;
         for before in 0..OBJECTS {
-            if self.is_carried(Object::new(before as u8 + 1)) {
+            if self.is_in_hands(Object::new(before as u8 + 1)) {
                 count += 1;
             }
         }
         count
     }
 
-    /// The objects that are carried, ascending.
-    #[tactic(auto, using(crate::proofs::Carried::carrying))]
-    pub fn carried(&self) -> ArrayVec<Object, OBJECTS>
-        ensures { result.items ≡ carried_objects self.now }
+    /// The objects in the hands, ascending.
+    #[tactic(auto, using(crate::proofs::InHands::listing_in_hands))]
+    pub fn in_hands(&self) -> ArrayVec<Object, OBJECTS>
+        ensures { result.items ≡ objects_in_hands self.now }
     {
-        let mut carried = ArrayVec::new();
+        let mut in_hands = ArrayVec::new();
         for before in 0..OBJECTS {
             let object = Object::new(before as u8 + 1);
-            if self.is_carried(object) {
-                carried.push(object);
+            if self.is_in_hands(object) {
+                in_hands.push(object);
             }
         }
-        carried
+        in_hands
     }
 }

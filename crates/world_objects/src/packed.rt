@@ -7,8 +7,8 @@ use std::marker::Model;
 /// The code of a spot that is away, and of an anchor that is loose.
 const NOWHERE_CODE: u16 = 0;
 
-/// The code of the spot of what is carried.
-const CARRIED_CODE: u16 = 1;
+/// The code of the spot of what is in the hands.
+const IN_HANDS_CODE: u16 = 1;
 
 /// The code of an anchor that is fixed.
 const FIXED_CODE: u16 = 1;
@@ -45,7 +45,9 @@ impl PackedSpot {
     {
         match spot {
             Spot::Away => PackedSpot { code: NOWHERE_CODE },
-            Spot::Carried => PackedSpot { code: CARRIED_CODE },
+            Spot::InHands => PackedSpot {
+                code: IN_HANDS_CODE,
+            },
             Spot::At(site) => PackedSpot {
                 code: site.place().number() + FIRST_PLACE_CODE,
             },
@@ -58,7 +60,7 @@ impl PackedSpot {
     {
         match self.code {
             NOWHERE_CODE => Spot::Away,
-            CARRIED_CODE => Spot::Carried,
+            IN_HANDS_CODE => Spot::InHands,
             code => Spot::at(Place::new(code - FIRST_PLACE_CODE)),
         }
     }

@@ -1,7 +1,7 @@
 ghost use Rattle.std.specs.Prelude.{◌≡◌, ◌≤◌};
-ghost use Rattle.data_numbers.specs.Numbers as defined;
+ghost use Rattle.base_lines.specs.Numbers as defined;
 
-use data_numbers::LAST_PLACE;
+use base_lines::numbers::LAST_PLACE;
 use std::marker::Model;
 
 /// How many places there may be.
@@ -15,7 +15,7 @@ pub struct Place {
 
 impl Model for Place {
     ghost use Rattle.std.specs.Prelude.{ℕ, ◌≤◌};
-    ghost use Rattle.data_numbers.specs.Numbers as defined;
+    ghost use Rattle.base_lines.specs.Numbers as defined;
 
     ghost Value = { ℕ };
 

@@ -12,7 +12,7 @@ pub struct Site {
 
 impl Model for Site {
     ghost use Rattle.std.specs.Prelude.{ℕ, ◌≤◌};
-    ghost use Rattle.data_numbers.specs.Numbers.{LAST_PLACE};
+    ghost use Rattle.base_lines.specs.Numbers.{LAST_PLACE};
 
     ghost Value = { ℕ };
 

@@ -1,5 +1,5 @@
 ghost use Rattle.std.specs.Prelude.{◌≡◌, ◌≢◌, Some};
-ghost use Rattle.world_objects.specs.Objects.{place_of_spot, is_carried_spot, is_away_spot};
+ghost use Rattle.world_objects.specs.Objects.{place_of_spot, is_spot_in_hands, is_away_spot};
 ghost use Rattle.world_objects.specs.Objects.{spot_at, place_of_anchor, anchor_at};
 
 use crate::place::Place;
@@ -9,7 +9,7 @@ use crate::site::Site;
 #[derive(Clone, Copy, Debug, PartialEq, Eq)]
 pub enum Spot {
     Away,
-    Carried,
+    InHands,
     At(Site),
 }
 
@@ -32,16 +32,16 @@ impl Spot {
         match self {
             Spot::At(site) => Some(site.place()),
             Spot::Away => None,
-            Spot::Carried => None,
+            Spot::InHands => None,
         }
     }
 
-    /// Whether the half is carried.
-    pub fn is_carried(&self) -> bool
-        ensures { result ≡ is_carried_spot self.now }
+    /// Whether the half is in the hands.
+    pub fn is_in_hands(&self) -> bool
+        ensures { result ≡ is_spot_in_hands self.now }
     {
         match self {
-            Spot::Carried => true,
+            Spot::InHands => true,
             Spot::Away => false,
             Spot::At(_) => false,
         }
@@ -53,7 +53,7 @@ impl Spot {
     {
         match self {
             Spot::Away => true,
-            Spot::Carried => false,
+            Spot::InHands => false,
             Spot::At(_) => false,
         }
     }

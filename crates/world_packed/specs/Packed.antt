@@ -1,6 +1,6 @@
 -- What the fields of a packed state are.
 use Rattle.std.specs.Prelude.{◌≡◌, ℕ, ◌-◌, List, ◌++◌, length, replicate}
-use Rattle.cave_world.specs.data_numbers.Numbers.{LAST_PLACE}
+use Rattle.base_lines.specs.Numbers.{LAST_PLACE}
 use Rattle.cave_world.specs.declared.state.State.{State}
 use Rattle.world_packed.specs.declared.packed_state.Fields.{Fields}
 

@@ -4,5 +4,4 @@
 mod packed_state;
 mod visited;
 
-pub use cave_world::{Ending, Lexicon, Object, Out, Part, State, Stream};
 pub use packed_state::PackedState;

@@ -1,14 +1,15 @@
 ghost use Rattle.std.specs.Prelude.{◌≡◌, ◌↔◌, IfOk, IsTrue};
 
 use crate::visited::{all_visits, visited};
+use cave_words::Stream;
 use cave_world::{
-    Closing, Dwarves, Ending, Hints, Lamp, Objects, Question, State, Stream, Talk, Tallies, Trail,
-    Visits,
+    Closing, Dwarves, Ending, Hints, Lamp, Question, State, Talk, Tallies, Trail, Visits,
 };
-use replay_marks::KeptState;
+use replay_checkpoints::KeptState;
 use std::alloc::{AllocError, Global};
 use std::marker::Model;
 use std::rc::Rc;
+use world_objects::Objects;
 
 /// The fields of a state. Objects that are the same as in the state kept before are shared with it.
 /// The places after those whose visits are here were never described.
@@ -39,7 +40,7 @@ pub struct PackedState {
 
 impl Model for PackedState {
     ghost use Rattle.std.specs.Prelude.{◌≤◌, length};
-    ghost use Rattle.cave_world.specs.data_numbers.Numbers.{LAST_PLACE};
+    ghost use Rattle.base_lines.specs.Numbers.{LAST_PLACE};
     ghost use Rattle.cave_world.specs.declared.state.State.{State};
     ghost use Rattle.world_packed.specs.Packed.{state_of_fields};
 

@@ -1,8 +1,9 @@
 ghost use Rattle.std.specs.Prelude.{◌≡◌, ◌≤◌, ◌↔◌, IsTrue, length};
-ghost use Rattle.cave_world.specs.data_numbers.Numbers.{LAST_PLACE};
+ghost use Rattle.base_lines.specs.Numbers.{LAST_PLACE};
 ghost use Rattle.world_packed.specs.Packed.{IsUnvisitedAfter, unvisited_block, visits_from};
 
-use cave_world::{Count, PLACES, Visits};
+use cave_world::{Count, Visits};
+use world_objects::place::PLACES;
 
 /// How many places are looked at together.
 const BLOCK: usize = 30;

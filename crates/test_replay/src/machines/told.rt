@@ -3,7 +3,9 @@ ghost use Rattle.std.specs.Prelude.{ℕ, List};
 use crate::machines::counts::Counts;
 use crate::machines::rule::RowRule;
 use crate::machines::state::State;
-use cave_replay::{Machine, Meter, Started, Stepped, Whole};
+use base_lines::Meter;
+use cave_replay::{Machine, Started, Stepped};
+use replay_checkpoints::Whole;
 use std::alloc::{AllocError, Global};
 
 /// A machine of plain rules that counts what it does.

@@ -5,14 +5,14 @@ use Rattle.cave_play.specs.Strict.{first_strict_fault}
 use Rattle.cave_play.specs.declared.fault.PlayFault.TheVariants as fault
 use Rattle.replay_scripts.specs.Views.{applied_item}
 use Rattle.replay_scripts.specs.declared.script.Item.{Item}
-use Rattle.replay_undo.specs.ScriptText.{groups_in}
-use Rattle.cave_play.specs.Edits.{IsApplied, kept_for}
-use Rattle.cave_play.specs.Undo.{backs_of}
-use Rattle.cave_play.proofs.EditLemmas.{Completes-none, Completes-more, IsApplied-whole}
-use Rattle.cave_play.proofs.EditLemmas.{game_after_items-more}
+use Rattle.replay_scripts.specs.ScriptText.{groups_in}
+use Rattle.play_edits.specs.Edits.{IsApplied, kept_for}
+use Rattle.play_edits.specs.Undo.{backs_of}
+use Rattle.play_edits.proofs.EditLemmas.{Completes-none, Completes-more, IsApplied-whole}
+use Rattle.play_edits.proofs.EditLemmas.{game_after_items-more}
 use Rattle.cave_play.proofs.StrictLemmas.{first_strict_fault-more, first_strict_fault-here}
 use Rattle.cave_play.proofs.StrictLemmas.{first_strict_fault-end}
-use Rattle.cave_play.proofs.BackLemmas.{kept-more, kept-whole}
+use Rattle.play_edits.proofs.BackLemmas.{kept-more, kept-whole}
 use Rattle.cave_play.proofs.edits.apply.Goals as goal
 
 pub loop-item-init : goal.loop-item-init

@@ -1,12 +1,12 @@
 -- What came of the items so far, with what is still to come, and the game that comes of it.
 use Rattle.std.proofs.Common.{◌≡◌, ◌≤◌, ◌*◌, ◌^◌, ◌++◌, drop, map}
 use Rattle.replay_scripts.specs.Views.{applied_item}
-use Rattle.replay_undo.specs.ScriptText.{groups_in}
-use Rattle.cave_play.specs.Edits.{kept_for}
-use Rattle.cave_play.specs.Output.{game_after_items}
-use Rattle.cave_play.specs.Undo.{backs_of}
+use Rattle.replay_scripts.specs.ScriptText.{groups_in}
+use Rattle.play_edits.specs.Edits.{kept_for}
+use Rattle.play_edits.specs.Items.{game_after_items}
+use Rattle.play_edits.specs.Undo.{backs_of}
 use Rattle.cave_play.specs.Strict.{first_strict_fault}
-use Rattle.cave_play.proofs.EditLemmas.{Completes}
+use Rattle.play_edits.proofs.EditLemmas.{Completes}
 use Rattle.cave_play.proofs.edits.apply.Given as goal
 
 abbrev pub invariant-loop-item : goal.invariant-loop-item

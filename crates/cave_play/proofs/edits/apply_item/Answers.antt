@@ -1,13 +1,13 @@
 use Rattle.std.proofs.Common.{◌∙◌, ◌++◌, ap, inr, refl}
-use Rattle.cave_replay.specs.replay_edits.Edit.{changes_of}
+use Rattle.replay_edits.specs.Edit.{changes_of}
 use Rattle.replay_scripts.specs.Views.{applied_item}
 use Rattle.std.proofs.lemmas.Result.{err_from_is_err_and}
-use Rattle.replay_undo.specs.ScriptText.{groups_in}
-use Rattle.cave_play.specs.Edits.{kept_for}
-use Rattle.cave_play.specs.Table.{last_state}
+use Rattle.replay_scripts.specs.ScriptText.{groups_in}
+use Rattle.play_edits.specs.Edits.{kept_for}
+use Rattle.play_edits.specs.Table.{last_state}
 use Rattle.cave_play.proofs.StrictLemmas.{strict_fault-outcome}
-use Rattle.cave_play.proofs.TableLemmas.{last_state-played, told-item}
-use Rattle.cave_play.proofs.BackLemmas.{back_of-outcome}
+use Rattle.play_edits.proofs.TableLemmas.{last_state-played, told-item}
+use Rattle.play_edits.proofs.BackLemmas.{back_of-outcome}
 use Rattle.cave_play.proofs.edits.apply_item.Goals as goal
 
 pub returns-clause-told : goal.returns-clause-told

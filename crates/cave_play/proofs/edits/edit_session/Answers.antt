@@ -1,19 +1,19 @@
 use Rattle.std.proofs.Common.{◌≡◌, List, [], ◌∷◌, ◌++◌, reverse, subst, ap, ◌∙◌}
 use Rattle.std.proofs.lemmas.Result.{err_from_is_err_and}
-use Rattle.data_bindings.specs.cave_data.CaveView.{CaveView}
+use Rattle.cave_data.specs.CaveView.{CaveView}
 use Rattle.std.specs.Global.{Vec}
-use Rattle.cave_replay.specs.replay_edits.Edit.{Game}
-use Rattle.replay_undo.specs.declared.script_text.BackEdit.{BackEdit}
+use Rattle.replay_edits.specs.Edit.{Game}
+use Rattle.replay_scripts.specs.declared.script_text.BackEdit.{BackEdit}
 use Rattle.replay_scripts.specs.Views.{items_of}
-use Rattle.replay_undo.specs.ScriptText.{groups_in}
-use Rattle.cave_play.specs.Edits.{ReadsBack, kept_for, text_at_end, text_at_start, text_of_item}
-use Rattle.cave_play.specs.Undo.{backs_of}
+use Rattle.replay_scripts.specs.ScriptText.{groups_in}
+use Rattle.play_edits.specs.Edits.{LogReadsBack, kept_for, text_at_end, text_at_start, text_of_item}
+use Rattle.play_edits.specs.Undo.{backs_of}
 use Rattle.cave_play.specs.Stages.{script_stage, strict_stage}
-use Rattle.cave_play.specs.Views.{text_of_items}
+use Rattle.play_edits.specs.Accounts.{text_of_items}
 use Rattle.cave_play.proofs.StageLemmas.{IsFoundIn-first, IsFoundIn-later, IsFoundIn-memory}
 use Rattle.cave_play.proofs.StageLemmas.{first_decided-later}
 use Rattle.cave_play.proofs.StrictLemmas.{IsFoundIn-strict, first_decided-strict}
-use Rattle.cave_play.proofs.BackLemmas.{groups_turned}
+use Rattle.play_edits.proofs.BackLemmas.{groups_turned}
 use Rattle.cave_play.proofs.ViewLemmas.{told-whole}
 use Rattle.cave_play.proofs.edits.edit_session.Goals as goal
 
@@ -121,7 +121,7 @@ returns g c =
     ∙ ap (λ (now : Game). c.apply.new.text.items
     ++ text_at_end view cave now totals.played totals.lines backs) same in
     let back =
-    subst (λ (now : Game). ReadsBack view now.log) same c.in_ok-push_end.ensures.reads_back in
+    subst (λ (now : Game). LogReadsBack view now.log) same c.in_ok-push_end.ensures.reads_back in
     let whole =
     told-whole view cave old.every items old.game guarded old.checkpoints applied.outcomes totals.played
     totals.lines backs c.apply.new.text.items c.push_end.new.text.items

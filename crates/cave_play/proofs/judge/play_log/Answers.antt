@@ -1,7 +1,7 @@
 use Rattle.std.proofs.Common.{◌∙◌}
 use Rattle.std.proofs.lemmas.Result.{err_from_is_err_and}
-use Rattle.cave_replay.specs.replay_edits.Edit.{game_of}
-use Rattle.cave_play.specs.Edits.{HoldsGame}
+use Rattle.replay_edits.specs.Edit.{game_of}
+use Rattle.play_machine.specs.HeldGame.{HoldsGame}
 use Rattle.cave_play.proofs.JudgeLemmas.{IsFoundIn-log, Judges-log}
 use Rattle.cave_play.proofs.judge.play_log.Goals as goal
 

@@ -1,6 +1,6 @@
 use Rattle.std.proofs.Common.{◌≡◌, ◌⊎◌, Some, subst, ◌∙◌}
 use Rattle.std.proofs.lemmas.Result.{err_from_is_err_and}
-use Rattle.data_bindings.specs.cave_data.Reads.{Reads}
+use Rattle.cave_data.specs.Reads.{Reads}
 use Rattle.cave_play.specs.Judge.{inputs_fault}
 use Rattle.cave_play.specs.declared.fault.PlayFault.TheVariants as fault
 use Rattle.cave_play.proofs.InputLemmas.{Says-some}

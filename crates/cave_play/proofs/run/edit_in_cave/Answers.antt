@@ -2,9 +2,9 @@ use Rattle.std.proofs.Common.{ℕ, List, [], ◌∷◌, subst, sym}
 use Rattle.std.specs.Global.{Vec}
 use Rattle.std.specs.Str.Lines.{lines}
 use Rattle.std.proofs.lemmas.Result.{err_from_is_err_and}
-use Rattle.data_bindings.specs.cave_data.CaveView.{CaveView}
-use Rattle.play_command.specs.play_options.declared.editing.Editing.{Editing}
-use Rattle.cave_replay.specs.replay_edits.Edit.{Game, IsGame, game_of}
+use Rattle.cave_data.specs.CaveView.{CaveView}
+use Rattle.play_command.specs.declared.editing.Editing.{Editing}
+use Rattle.replay_edits.specs.Edit.{Game, IsGame, game_of}
 use Rattle.cave_play.specs.Views.{IsEditOf}
 use Rattle.cave_play.specs.Run.{Judges}
 use Rattle.cave_play.specs.Stages.{Stage}

@@ -2,8 +2,8 @@ use Rattle.std.proofs.Common.{ℕ, List, [], ◌∷◌, ◌++◌, inl, inr, subs
 use Rattle.std.specs.Str.Lines.{lines}
 use Rattle.std.proofs.lemmas.Result.{err_from_is_err_and}
 use Rattle.std.proofs.KnownBytes.{Keeps-refl}
-use Rattle.play_command.specs.play_options.declared.editing.Editing.{Editing}
-use Rattle.cave_replay.specs.replay_edits.Edit.{game_of}
+use Rattle.play_command.specs.declared.editing.Editing.{Editing}
+use Rattle.replay_edits.specs.Edit.{game_of}
 use Rattle.cave_play.specs.Judge.{large_seed, every_fault}
 use Rattle.cave_play.specs.Stages.{Stage, judging_stage}
 use Rattle.cave_play.specs.Stages.{cave_stages, edit_stages, log_stage, script_stage, strict_stage}

@@ -1,6 +1,6 @@
 use Rattle.std.proofs.Common.{◌+◌, ap, sym, ◌∙◌, arith, rules}
 use Rattle.std.proofs.lemmas.Grind.{common_steps}
-use Rattle.replay_marks.specs.Marks.{marks_with_state}
+use Rattle.replay_checkpoints.specs.Marks.{marks_with_state}
 use Rattle.cave_replay.proofs.Marking.{marking_more}
 use Rattle.cave_replay.proofs.segment.play_line.Goals as goal
 

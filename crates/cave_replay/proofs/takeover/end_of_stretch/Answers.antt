@@ -1,4 +1,4 @@
-use Rattle.replay_marks.proofs.Counts.{place_within}
+use Rattle.replay_checkpoints.proofs.Counts.{place_within}
 use Rattle.cave_replay.proofs.takeover.end_of_stretch.Goals as goal
 
 pub returns-in-Some-clause-within : goal.returns-in-Some-clause-within

@@ -1,7 +1,7 @@
 use Rattle.std.proofs.Common.{rules, arith, ap, ◌∙◌}
-use Rattle.turn_begin.specs.turn_scene.Scene.{cave_of, scene_of}
+use Rattle.turn_scene.specs.Scene.{cave_of, scene_of}
 use Rattle.cave_turn.specs.Dragon.{after_gather}
-use Rattle.cave_verbs.specs.verb_commands.turn_rules.Effects.{for_each_from}
+use Rattle.turn_scene.specs.Effects.{for_each_from}
 use Rattle.cave_turn.proofs.dragon.gather.Goals as goal
 
 pub loop-before-init : goal.loop-before-init

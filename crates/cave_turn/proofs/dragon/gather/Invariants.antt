@@ -1,9 +1,9 @@
 -- The objects so far are gathered.
 use Rattle.std.proofs.Common.{◌≡◌}
-use Rattle.turn_begin.specs.turn_scene.Bounds.{GoesOnSaying}
-use Rattle.turn_begin.specs.turn_scene.Scene.{cave_of, scene_of}
+use Rattle.turn_scene.specs.Bounds.{GoesOnSaying}
+use Rattle.turn_scene.specs.Scene.{cave_of, scene_of}
 use Rattle.cave_turn.specs.Dragon.{after_gather}
-use Rattle.cave_verbs.specs.verb_commands.turn_rules.Effects.{for_each_from}
+use Rattle.turn_scene.specs.Effects.{for_each_from}
 use Rattle.cave_turn.proofs.dragon.gather.Given as goal
 
 abbrev pub invariant-loop-before : goal.invariant-loop-before

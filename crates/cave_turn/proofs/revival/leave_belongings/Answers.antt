@@ -1,6 +1,6 @@
 use Rattle.std.proofs.Common.{rules, ◌≡◌, ◌+◌, ◌-◌, ap, sym, ◌∙◌, arith}
-use Rattle.turn_begin.specs.turn_scene.Scene.{cave_of, scene_of}
-use Rattle.cave_verbs.specs.verb_commands.turn_rules.Effects.{for_each_down_from}
+use Rattle.turn_scene.specs.Scene.{cave_of, scene_of}
+use Rattle.turn_scene.specs.Effects.{for_each_down_from}
 use Rattle.cave_turn.specs.Revival.{after_fall}
 use Rattle.cave_turn.proofs.Steps.{one_less-down, none-down}
 use Rattle.cave_turn.proofs.revival.leave_belongings.Goals as goal

@@ -1,11 +1,11 @@
 use Rattle.std.proofs.Common.{◌≡◌, ℕ, ◌<◌, ◌≤◌, ◌-◌, suc, zero, arith, sym, ◌∙◌, ap, subst}
-use Rattle.verb_commands.specs.turn_scene.Scene.{scene_of, cave_of}
-use Rattle.verb_commands.specs.Rows.{going_on}
-use Rattle.verb_commands.specs.turn_rules.Rows.{Deed, Act, deed, act_of}
-use Rattle.verb_commands.specs.declared.next.Step.TheVariants.{Done, GoOn}
-use Rattle.verb_commands.specs.declared.verb.Verb.{Verb}
-use Rattle.verb_commands.specs.declared.command.Command.{Command}
-use Rattle.verb_commands.specs.declared.next.Step.{Step}
+use Rattle.turn_scene.specs.Scene.{scene_of, cave_of}
+use Rattle.cave_verbs.specs.Rows.{going_on}
+use Rattle.turn_scene.specs.Rows.{Deed, Act, deed, act_of}
+use Rattle.cave_verbs.specs.declared.next.VerbStep.TheVariants.{Done, GoOn}
+use Rattle.cave_verbs.specs.declared.verb.Verb.{Verb}
+use Rattle.cave_verbs.specs.declared.command.Command.{Command}
+use Rattle.cave_verbs.specs.declared.next.VerbStep.{VerbStep}
 use Rattle.cave_verbs.specs.Acting.{act_within, act_once}
 use Rattle.cave_verbs.proofs.acting.+act_within.Goals as goal
 
@@ -28,9 +28,9 @@ returns-in-GoOn-clause-rules g t c =
     (scene_of g.N.RowNotes.rows c.args.scene.now) in
     let once = c.act_once.ensures.rules.0 in
     let some = above _ _ c.args.left c.in-GoOn.ensures.ranks c.requires.rank in
-    let step = sym (ap (λ (a : Act Step). a.step) once) ∙ c.in-GoOn.is in
+    let step = sym (ap (λ (a : Act VerbStep). a.step) once) ∙ c.in-GoOn.is in
     let here =
-    λ (a : Act Step). act_of (scene_of g.N.RowNotes.rows c.act_within.new.scene)
+    λ (a : Act VerbStep). act_of (scene_of g.N.RowNotes.rows c.act_within.new.scene)
     (Done c.act_within.result)
     ≡ act_within (c.args.left - 1)
     (deed (cave_of c.args.rules.now)

@@ -1,5 +1,5 @@
 use Rattle.std.proofs.Common.{◌≡◌, ◌≤◌, length}
-use Rattle.verb_commands.specs.turn_scene.Scene.{cave_of}
+use Rattle.turn_scene.specs.Scene.{cave_of}
 use Rattle.cave_verbs.specs.Finding.{listed_up_to}
 use Rattle.cave_verbs.proofs.finding.listed.Given as goal
 

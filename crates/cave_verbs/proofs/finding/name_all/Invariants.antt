@@ -1,6 +1,6 @@
 use Rattle.std.proofs.Common.{◌≡◌, ◌+◌, ◌≤◌, take}
 use Rattle.arrayvec.specs.ArrayVec.{array_vec_len}
-use Rattle.verb_commands.specs.turn_scene.Scene.{scene_of, GoesOn}
+use Rattle.turn_scene.specs.Scene.{scene_of, GoesOn}
 use Rattle.cave_verbs.specs.Finding.{after_naming}
 use Rattle.cave_verbs.proofs.finding.name_all.Given as goal
 

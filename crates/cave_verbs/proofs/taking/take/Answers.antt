@@ -1,5 +1,5 @@
 -- TAKE goes on from a liquid to its bottle.
-use Rattle.verb_commands.specs.turn_scene.Scene.{cave_of}
+use Rattle.turn_scene.specs.Scene.{cave_of}
 use Rattle.cave_verbs.proofs.Falls.{take-falls}
 use Rattle.cave_verbs.proofs.taking.take.Goals as goal
 use Rattle.std.proofs.Common.{rules}

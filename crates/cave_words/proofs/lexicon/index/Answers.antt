@@ -1,6 +1,6 @@
 use Rattle.std.proofs.Common.{◌≡◌, length, take, refl, ap, ◌∙◌, arith}
 use Rattle.std.proofs.Math.Seq.{take-length}
-use Rattle.cave_data.specs.data_rows.RowViews.{word_entry}
+use Rattle.data_rows.specs.RowViews.{word_entry}
 use Rattle.cave_words.proofs.Indexes.{index_more}
 use Rattle.cave_words.specs.Lexicon.{meanings_in}
 use Rattle.cave_words.specs.Meanings.{meaning_of, meanings_of, with_meaning}

@@ -1,5 +1,5 @@
 use Rattle.std.proofs.Common.{◌≡◌, ◌+◌, map, drop}
-use Rattle.cave_words.specs.data_rows.RowViews.{going}
+use Rattle.data_rows.specs.RowViews.{going}
 use Rattle.cave_world.specs.Travel.{count_unlisted, from_listed}
 use Rattle.cave_world.proofs.travel_rows.count_unlisted.Given as goal
 

@@ -1,9 +1,9 @@
 use Rattle.std.proofs.Common.{rules, tests}
 use Rattle.std.proofs.lemmas.Iterator.{YieldsList-from_slice}
 use Rattle.std.proofs.lemmas.Iterator.Search.{any_from_yields_List}
-use Rattle.check_tables.specs.data_rows.RowViews.{going}
-use Rattle.check_tables.specs.data_rows.Rows.{Going}
-use Rattle.check_tables.specs.data_rows.declared.rows.Row.{Row}
+use Rattle.data_rows.specs.RowViews.{going}
+use Rattle.data_rows.specs.Rows.{Going}
+use Rattle.data_rows.specs.declared.rows.Row.{Row}
 use Rattle.check_tables.proofs.Rows.{any_mapped}
 use Rattle.check_doubts.specs.Places.{leads_to}
 use Rattle.check_doubts.proofs.places.any_leads_to.Goals as goal

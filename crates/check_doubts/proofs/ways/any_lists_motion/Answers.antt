@@ -1,11 +1,11 @@
 use Rattle.std.proofs.Common.{rules, tests}
 use Rattle.std.proofs.lemmas.Iterator.{YieldsList-from_slice}
 use Rattle.std.proofs.lemmas.Iterator.Search.{any_from_yields_List}
-use Rattle.check_tables.specs.data_rows.RowViews.{going}
-use Rattle.check_tables.specs.data_rows.Rows.{Going}
-use Rattle.check_tables.specs.data_rows.declared.rows.Row.{Row}
+use Rattle.data_rows.specs.RowViews.{going}
+use Rattle.data_rows.specs.Rows.{Going}
+use Rattle.data_rows.specs.declared.rows.Row.{Row}
 use Rattle.check_tables.proofs.Rows.{any_mapped}
-use Rattle.turn_score.specs.cave_world.Travel.{lists_motion}
+use Rattle.cave_world.specs.Travel.{lists_motion}
 use Rattle.check_doubts.proofs.ways.any_lists_motion.Goals as goal
 
 pub returns : goal.returns

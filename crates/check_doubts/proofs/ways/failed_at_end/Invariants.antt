@@ -1,5 +1,5 @@
 use Rattle.std.proofs.Common.{◌≡◌, [], None, drop, map, take}
-use Rattle.check_tables.specs.data_rows.RowViews.{going}
+use Rattle.data_rows.specs.RowViews.{going}
 use Rattle.check_doubts.specs.Ways.{failed_from}
 use Rattle.check_doubts.proofs.ways.failed_at_end.Given as goal
 

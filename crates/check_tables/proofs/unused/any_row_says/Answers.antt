@@ -1,9 +1,9 @@
 use Rattle.std.proofs.Common.{rules, tests}
 use Rattle.std.proofs.lemmas.Iterator.{YieldsList-from_slice}
 use Rattle.std.proofs.lemmas.Iterator.Search.{any_from_yields_List}
-use Rattle.data_bindings.specs.data_rows.RowViews.{going}
-use Rattle.data_bindings.specs.data_rows.Rows.{Going}
-use Rattle.data_bindings.specs.data_rows.declared.rows.Row.{Row}
+use Rattle.data_rows.specs.RowViews.{going}
+use Rattle.data_rows.specs.Rows.{Going}
+use Rattle.data_rows.specs.declared.rows.Row.{Row}
 use Rattle.check_tables.specs.Unused.{row_says}
 use Rattle.check_tables.proofs.Rows.{any_mapped}
 use Rattle.check_tables.proofs.unused.any_row_says.Goals as goal

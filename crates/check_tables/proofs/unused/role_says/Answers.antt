@@ -1,5 +1,5 @@
 use Rattle.std.specs.FinMap.{get}
-use Rattle.data_bindings.specs.data_rows.Role.{role_number}
+use Rattle.data_rows.specs.Role.{role_number}
 use Rattle.check_tables.specs.Unused.{is_number}
 use Rattle.check_tables.proofs.Rows.{any_of_keys}
 use Rattle.check_tables.proofs.unused.role_says.Goals as goal

@@ -1,6 +1,6 @@
 use Rattle.std.proofs.Common.{◌∙◌}
 use Rattle.std.specs.FinMap.{get}
-use Rattle.cave_data.specs.data_rows.PlaceRole.{place_number}
+use Rattle.data_rows.specs.PlaceRole.{place_number}
 use Rattle.data_bindings.specs.Listing.{leads_to_text, place_count, text_of_place}
 use Rattle.data_bindings.proofs.KeyLemmas.{count_of_keys}
 use Rattle.data_bindings.proofs.listing.count_places.Goals as goal

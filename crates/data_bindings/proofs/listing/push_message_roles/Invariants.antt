@@ -1,6 +1,6 @@
 use Rattle.std.proofs.Common.{◌≡◌, ◌++◌, take}
 use Rattle.std.specs.List.{flat_map}
-use Rattle.cave_data.specs.data_rows.Role.{role_number}
+use Rattle.data_rows.specs.Role.{role_number}
 use Rattle.data_bindings.specs.Listing.{message_key_line}
 use Rattle.data_bindings.proofs.listing.push_message_roles.Given as goal
 

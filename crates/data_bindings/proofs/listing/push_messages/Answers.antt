@@ -1,6 +1,6 @@
 use Rattle.std.proofs.Common.{◌++◌, ap, ◌∙◌}
 use Rattle.std.proofs.lemmas.Result.{on_ok_weaker}
-use Rattle.cave_data.specs.data_rows.Role.{role_number}
+use Rattle.data_rows.specs.Role.{role_number}
 use Rattle.data_bindings.specs.Listing.{message_key_line, message_lines}
 use Rattle.data_bindings.proofs.KeyLemmas.{lines_of_keys}
 use Rattle.data_bindings.proofs.listing.push_messages.Goals as goal

@@ -1,6 +1,6 @@
 use Rattle.std.proofs.Common.{◌≡◌, ◌++◌, take}
 use Rattle.std.specs.List.{flat_map}
-use Rattle.cave_data.specs.data_rows.PlaceRole.{place_number}
+use Rattle.data_rows.specs.PlaceRole.{place_number}
 use Rattle.data_bindings.specs.Listing.{place_key_line}
 use Rattle.data_bindings.proofs.listing.push_place_roles.Given as goal
 

@@ -1,6 +1,6 @@
 use Rattle.std.proofs.Common.{◌++◌, ap, ◌∙◌}
 use Rattle.std.proofs.lemmas.Result.{on_ok_weaker}
-use Rattle.cave_data.specs.data_rows.PlaceRole.{place_number}
+use Rattle.data_rows.specs.PlaceRole.{place_number}
 use Rattle.data_bindings.specs.Listing.{place_key_line, place_lines}
 use Rattle.data_bindings.proofs.KeyLemmas.{lines_of_keys}
 use Rattle.data_bindings.proofs.listing.push_places.Goals as goal

@@ -3,7 +3,7 @@ use Rattle.std.specs.List.{filter, sum_by}
 use Rattle.map_graph.specs.Map.{count_taken, count_ways, ends_taken, places_visited}
 use Rattle.map_graph.specs.Stops.{is_visited}
 use Rattle.map_ways.specs.Ways.{ends_of_ways}
-use Rattle.data_bindings.specs.data_numbers.Numbers.{LAST_PLACE}
+use Rattle.base_lines.specs.Numbers.{LAST_PLACE}
 use Rattle.map_ways.proofs.Rows.{mapped_few}
 use Rattle.map_graph.proofs.map.count_seen.Goals as goal
 

@@ -2,7 +2,7 @@ use Rattle.std.proofs.Common.{◌≡◌, ◌≤◌, ◌*◌, length, take}
 use Rattle.std.specs.List.{sum_by}
 use Rattle.map_graph.specs.Map.{ends_taken}
 use Rattle.map_ways.specs.Ways.{ends_of_ways}
-use Rattle.data_bindings.specs.data_numbers.Numbers.{LAST_PLACE}
+use Rattle.base_lines.specs.Numbers.{LAST_PLACE}
 use Rattle.map_graph.proofs.map.count_taken_and_all.Given as goal
 
 abbrev pub invariant-loop-from : goal.invariant-loop-from

@@ -1,5 +1,5 @@
 use Rattle.std.proofs.Common.{◌≡◌, ◌≤◌, ℕ, All, List, ◌++◌, OnOk, subst, sym, ap, ◌∙◌, append_assoc}
-use Rattle.data_bindings.specs.data_numbers.Numbers.{LAST_PLACE}
+use Rattle.base_lines.specs.Numbers.{LAST_PLACE}
 use Rattle.map_graph.specs.Map.{map_of_places, nodes_and_edges, sums}
 use Rattle.map_ways.proofs.Rows.{mapped_within}
 use Rattle.map_graph.proofs.map.push_map_of_places.Goals as goal

@@ -1,6 +1,6 @@
 use Rattle.std.proofs.Common.{◌≡◌, ◌++◌, take}
 use Rattle.std.specs.List.{flat_map}
-use Rattle.data_bindings.specs.data_rows.PlaceRole.{place_number}
+use Rattle.data_rows.specs.PlaceRole.{place_number}
 use Rattle.map_graph.specs.Places.{role_label_line}
 use Rattle.map_graph.proofs.nodes.push_roles.Given as goal
 

@@ -2,7 +2,7 @@ use Rattle.std.proofs.Common.{◌++◌, sym, ap, ◌∙◌}
 use Rattle.std.proofs.lemmas.List.Folds.{flat_map-map}
 use Rattle.std.proofs.lemmas.Result.{on_ok_weaker}
 use Rattle.std.specs.List.{flat_map}
-use Rattle.data_bindings.specs.data_rows.PlaceRole.{place_number}
+use Rattle.data_rows.specs.PlaceRole.{place_number}
 use Rattle.map_graph.specs.Places.{role_label_line}
 use Rattle.map_graph.proofs.nodes.push_roles_of_place.Goals as goal
 

@@ -1,5 +1,5 @@
 use Rattle.std.proofs.Common.{◌≡◌, ◌++◌, [], drop, map, take}
-use Rattle.data_bindings.specs.data_rows.RowViews.{going}
+use Rattle.data_rows.specs.RowViews.{going}
 use Rattle.map_graph.specs.WayTexts.{row_lines}
 use Rattle.map_graph.proofs.way_texts.push_rows.Given as goal
 

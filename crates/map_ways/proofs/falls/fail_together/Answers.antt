@@ -1,6 +1,6 @@
 use Rattle.std.specs.Prelude.{map}
-use Rattle.cave_world.specs.data_rows.RowViews.{going}
-use Rattle.cave_world.specs.data_rows.declared.targets.Condition.{Condition}
+use Rattle.data_rows.specs.RowViews.{going}
+use Rattle.data_rows.specs.declared.targets.Condition.{Condition}
 use Rattle.map_ways.specs.Conditions.{fails_among}
 use Rattle.map_ways.specs.Falls.{failed_of}
 use Rattle.map_ways.proofs.Passed.{both_pass, one_fails}

@@ -1,8 +1,8 @@
 use Rattle.std.proofs.Common.{rules, tests}
 use Rattle.std.proofs.lemmas.Iterator.{YieldsList-from_slice}
 use Rattle.std.proofs.lemmas.Iterator.Search.{any_from_yields_List}
-use Rattle.cave_world.specs.data_rows.RowViews.{going}
-use Rattle.cave_world.specs.data_rows.declared.rows.Row.{Row}
+use Rattle.data_rows.specs.RowViews.{going}
+use Rattle.data_rows.specs.declared.rows.Row.{Row}
 use Rattle.map_ways.specs.Falls.{has_to_fail}
 use Rattle.map_ways.proofs.Rows.{any_mapped}
 use Rattle.map_ways.proofs.falls.is_else.Goals as goal

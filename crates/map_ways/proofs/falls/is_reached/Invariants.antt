@@ -1,5 +1,5 @@
 use Rattle.std.proofs.Common.{◌≡◌, [], drop, map, take}
-use Rattle.cave_world.specs.data_rows.RowViews.{going}
+use Rattle.data_rows.specs.RowViews.{going}
 use Rattle.map_ways.specs.Falls.{is_reached}
 use Rattle.map_ways.specs.Leads.{emerald_of}
 use Rattle.map_ways.proofs.falls.is_reached.Given as goal

@@ -1,6 +1,6 @@
 use Rattle.std.proofs.Common.{[], map, sym, ap, ◌∙◌}
 use Rattle.std.specs.Prelude.{◌&&◌, ◌||◌}
-use Rattle.cave_world.specs.data_rows.RowViews.{going}
+use Rattle.data_rows.specs.RowViews.{going}
 use Rattle.map_ways.specs.Falls.{holds_after, holds_past_some, is_taken_after}
 use Rattle.map_ways.specs.Leads.{emerald_of}
 use Rattle.map_ways.proofs.States.{and_both}

@@ -3,7 +3,7 @@ use Rattle.std.specs.Option.{option_map}
 use Rattle.std.specs.List.{slice_get}
 use Rattle.std.proofs.lemmas.List.{length-map}
 use Rattle.std.proofs.lemmas.Option.{slice_get-map}
-use Rattle.cave_world.specs.data_rows.RowViews.{going}
+use Rattle.data_rows.specs.RowViews.{going}
 use Rattle.map_ways.proofs.Tried.{has_other_target, tried_after_last}
 use Rattle.map_ways.proofs.falls.is_tried_after.Goals as goal
 

@@ -1,6 +1,6 @@
 use Rattle.std.specs.Prelude.{map, not}
-use Rattle.cave_world.specs.data_rows.RowViews.{going}
-use Rattle.cave_world.specs.data_rows.declared.targets.Condition.{Condition}
+use Rattle.data_rows.specs.RowViews.{going}
+use Rattle.data_rows.specs.declared.targets.Condition.{Condition}
 use Rattle.map_ways.specs.Conditions.{implies}
 use Rattle.map_ways.proofs.Passed.{both_pass, one_fails}
 use Rattle.map_ways.proofs.falls.lets_all_fail.Goals as goal

@@ -2,9 +2,9 @@ use Rattle.std.proofs.Common.{rules, tests}
 use Rattle.std.specs.Prelude.{not}
 use Rattle.std.proofs.lemmas.Iterator.{YieldsList-from_slice}
 use Rattle.std.proofs.lemmas.Iterator.Search.{all_from_yields_List}
-use Rattle.cave_world.specs.data_rows.RowViews.{going}
-use Rattle.cave_world.specs.data_rows.Rows.{Going}
-use Rattle.cave_world.specs.data_rows.declared.rows.Row.{Row}
+use Rattle.data_rows.specs.RowViews.{going}
+use Rattle.data_rows.specs.Rows.{Going}
+use Rattle.data_rows.specs.declared.rows.Row.{Row}
 use Rattle.map_ways.specs.Conditions.{implies}
 use Rattle.map_ways.specs.Falls.{asked_of}
 use Rattle.map_ways.proofs.Rows.{all_mapped}

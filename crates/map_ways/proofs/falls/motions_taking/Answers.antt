@@ -1,5 +1,5 @@
 use Rattle.std.proofs.Common.{◌+◌, ◌++◌, map, ap, ap₂, sym, ◌∙◌, append_assoc}
-use Rattle.cave_world.specs.data_rows.RowViews.{going}
+use Rattle.data_rows.specs.RowViews.{going}
 use Rattle.map_ways.specs.Falls.{motions_from}
 use Rattle.map_ways.specs.Leads.{emerald_of}
 use Rattle.map_ways.proofs.Begun.{begun_at, next_begun, taking_from}

@@ -1,6 +1,6 @@
 use Rattle.std.proofs.Common.{ap, sym, ◌∙◌}
-use Rattle.cave_world.specs.cave_words.declared.meaning.Meaning.{Meaning}
-use Rattle.cave_world.specs.data_rows.RowViews.{word_entry}
+use Rattle.cave_words.specs.declared.meaning.Meaning.{Meaning}
+use Rattle.data_rows.specs.RowViews.{word_entry}
 use Rattle.map_ways.proofs.Emeralds.{all_words, emerald_found, emerald_in, emerald_later}
 use Rattle.map_ways.proofs.leads.emerald_of.Goals as goal
 

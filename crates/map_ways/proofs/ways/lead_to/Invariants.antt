@@ -1,5 +1,5 @@
 use Rattle.std.proofs.Common.{◌≡◌, [], drop, map, take}
-use Rattle.cave_world.specs.data_rows.RowViews.{going}
+use Rattle.data_rows.specs.RowViews.{going}
 use Rattle.map_ways.specs.Leads.{emerald_of}
 use Rattle.map_ways.specs.Ways.{lead_to}
 use Rattle.map_ways.proofs.ways.lead_to.Given as goal

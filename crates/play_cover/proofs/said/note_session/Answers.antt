@@ -2,7 +2,7 @@ use Rattle.std.proofs.Common.{ap, sym, subst, ◌∙◌}
 use Rattle.std.specs.List.{flat_map}
 use Rattle.play_cover.specs.Texts.{Notes, said_by_all}
 use Rattle.play_cover.specs.Plays.{texts_said_in}
-use Rattle.play_logs.specs.cave_data.CaveView.{CaveView}
+use Rattle.cave_data.specs.CaveView.{CaveView}
 use Rattle.play_cover.proofs.PlayLemmas.{noted-played}
 use Rattle.play_cover.proofs.said.note_session.Goals as goal
 

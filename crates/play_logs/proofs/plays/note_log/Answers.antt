@@ -1,6 +1,6 @@
 use Rattle.std.proofs.Common.{inl, subst}
 use Rattle.std.proofs.lemmas.Result.{err_from_is_err_and}
-use Rattle.cave_play.specs.cave_data.CaveView.{CaveView}
+use Rattle.cave_data.specs.CaveView.{CaveView}
 use Rattle.play_logs.specs.Faults.{NotesMore}
 use Rattle.play_logs.proofs.plays.note_log.Goals as goal
 

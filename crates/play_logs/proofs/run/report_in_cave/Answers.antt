@@ -3,7 +3,7 @@ use Rattle.std.proofs.lemmas.List.{length-map}
 use Rattle.std.proofs.lemmas.Result.{err_from_is_err_and}
 use Rattle.std.specs.Str.Lines.{lines}
 use Rattle.cave_play.specs.Input.{Says}
-use Rattle.cave_play.specs.replay_edits.Edit.{game_of}
+use Rattle.replay_edits.specs.Edit.{game_of}
 use Rattle.play_logs.specs.Faults.{games_of}
 use Rattle.play_logs.proofs.FaultLemmas.{AllSay-some, AllZip-length}
 use Rattle.play_logs.proofs.run.report_in_cave.Goals as goal

@@ -2,7 +2,7 @@ use Rattle.std.proofs.Common.{Ok, map, refl, subst, sym}
 use Rattle.std.specs.List.{AllZip}
 use Rattle.cave_play.specs.Input.{InputTexts, Says, input_left}
 use Rattle.cave_play.proofs.InputLemmas.{Says-some}
-use Rattle.cave_play.specs.play_command.declared.line.Line.{Line}
+use Rattle.play_command.specs.declared.line.Line.{Line}
 use Rattle.play_logs.proofs.FaultLemmas.{AllSay-some}
 use Rattle.play_program.specs.Runs.{RunsLine}
 use Rattle.play_program.proofs.command.run_command.Goals as goal

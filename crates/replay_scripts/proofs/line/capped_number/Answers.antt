@@ -1,6 +1,6 @@
 use Rattle.std.proofs.Common.{◌≡◌, ◌+◌, ◌-◌, ◌*◌, ◌∙◌, fold, min, rules}
 use Rattle.replay_scripts.proofs.Numbers.{number_capped}
-use Rattle.replay_edits.specs.base_limits.Limits.{max_script_number}
+use Rattle.base_lines.specs.Limits.{max_script_number}
 use Rattle.replay_scripts.proofs.line.capped_number.Goals as goal
 
 pub returns : goal.returns

@@ -1,7 +1,7 @@
 use Rattle.std.proofs.Common.{rules, ap, ◌∙◌, arith, take, None}
 use Rattle.std.specs.List.{filter_map}
-use Rattle.turn_rules.specs.cave_data.CaveView.{ways_from}
-use Rattle.turn_rules.specs.turn_scene.Scene.{cave_of}
+use Rattle.cave_data.specs.CaveView.{ways_from}
+use Rattle.turn_scene.specs.Scene.{cave_of}
 use Rattle.turn_dwarves.specs.Ahead.{place_ahead, without_repeats, places_ahead}
 use Rattle.turn_dwarves.proofs.Firsts.{full, short}
 use Rattle.turn_dwarves.proofs.ahead.places_ahead.Goals as goal

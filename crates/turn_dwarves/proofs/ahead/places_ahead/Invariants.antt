@@ -1,7 +1,7 @@
 use Rattle.std.proofs.Common.{◌≡◌, ◌++◌, ◌≤◌, None, map, drop, take, length}
 use Rattle.std.specs.List.{filter_map}
-use Rattle.turn_rules.specs.data_rows.RowViews.{going}
-use Rattle.turn_rules.specs.turn_scene.Scene.{cave_of}
+use Rattle.data_rows.specs.RowViews.{going}
+use Rattle.turn_scene.specs.Scene.{cave_of}
 use Rattle.turn_dwarves.specs.Ahead.{place_ahead, without_repeats}
 use Rattle.turn_dwarves.proofs.ahead.places_ahead.Given as goal
 

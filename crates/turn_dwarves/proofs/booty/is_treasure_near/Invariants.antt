@@ -1,8 +1,8 @@
 use Rattle.std.proofs.Common.{◌≡◌}
 use Rattle.std.specs.List.{list_any}
-use Rattle.turn_rules.specs.turn_things.Reach.{is_near}
-use Rattle.turn_rules.specs.turn_things.Treasures.{treasures}
-use Rattle.turn_rules.specs.turn_scene.Scene.{cave_of, scene_of}
+use Rattle.turn_scene.specs.Reach.{is_near}
+use Rattle.turn_scene.specs.Treasures.{treasures}
+use Rattle.turn_scene.specs.Scene.{cave_of, scene_of}
 use Rattle.turn_dwarves.proofs.Treasures.{treasures_from}
 use Rattle.turn_dwarves.proofs.booty.is_treasure_near.Given as goal
 

@@ -1,8 +1,8 @@
 use Rattle.std.proofs.Common.{◌≡◌}
-use Rattle.turn_rules.specs.turn_scene.Bounds.{GoesOnSaying}
-use Rattle.turn_rules.specs.turn_scene.Scene.{cave_of, scene_of}
-use Rattle.turn_rules.specs.Rows.{deed}
-use Rattle.turn_rules.specs.Effects.{for_each_from}
+use Rattle.turn_scene.specs.Bounds.{GoesOnSaying}
+use Rattle.turn_scene.specs.Scene.{cave_of, scene_of}
+use Rattle.turn_scene.specs.Rows.{deed}
+use Rattle.turn_scene.specs.Effects.{for_each_from}
 use Rattle.turn_dwarves.specs.Knives.{IsByUpTo, let_dwarf_act, no_attack}
 use Rattle.turn_dwarves.proofs.knives.raid.Given as goal
 

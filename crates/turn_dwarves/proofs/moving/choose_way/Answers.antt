@@ -1,6 +1,6 @@
 use Rattle.std.proofs.Common.{rules, arith, ◌==◌}
 use Rattle.std.proofs.lemmas.Bool.Decides.{nat_tests}
-use Rattle.turn_rules.specs.turn_scene.Scene.{cave_of}
+use Rattle.turn_scene.specs.Scene.{cave_of}
 use Rattle.turn_dwarves.specs.Ahead.{places_ahead, ways_of_dwarf}
 use Rattle.turn_dwarves.specs.Moving.{chosen_way}
 use Rattle.turn_dwarves.proofs.Firsts.{many, few}

@@ -1,5 +1,5 @@
 use Rattle.std.proofs.Common.{rules}
-use Rattle.turn_rules.specs.Effects.{for_each_from}
+use Rattle.turn_scene.specs.Effects.{for_each_from}
 use Rattle.turn_dwarves.proofs.waking.keep_apart.Goals as goal
 
 pub loop-number-init : goal.loop-number-init

@@ -1,7 +1,7 @@
 use Rattle.std.proofs.Common.{◌≡◌}
-use Rattle.turn_rules.specs.turn_scene.Bounds.{GoesOnSaying}
-use Rattle.turn_rules.specs.turn_scene.Scene.{cave_of, scene_of}
-use Rattle.turn_rules.specs.Effects.{for_each_from}
+use Rattle.turn_scene.specs.Bounds.{GoesOnSaying}
+use Rattle.turn_scene.specs.Scene.{cave_of, scene_of}
+use Rattle.turn_scene.specs.Effects.{for_each_from}
 use Rattle.turn_dwarves.specs.Waking.{keep_one_apart}
 use Rattle.turn_dwarves.proofs.waking.keep_apart.Given as goal
 

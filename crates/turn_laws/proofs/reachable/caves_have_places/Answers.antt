@@ -1,5 +1,5 @@
 use Rattle.std.proofs.Common.{arith}
-use Rattle.cave_turn.specs.turn_things.Places.{building_place, place_named, start_place}
+use Rattle.turn_scene.specs.Places.{building_place, place_named, start_place}
 use Rattle.turn_laws.proofs.Reaching.{place_or}
 use Rattle.turn_laws.proofs.reachable.caves_have_places.Goals as goal
 

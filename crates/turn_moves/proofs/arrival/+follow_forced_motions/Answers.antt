@@ -1,5 +1,5 @@
 use Rattle.std.proofs.Common.{arith}
-use Rattle.turn_dwarves.specs.turn_scene.Scene.{cave_of, scene_of}
+use Rattle.turn_scene.specs.Scene.{cave_of, scene_of}
 use Rattle.turn_moves.proofs.Carrying.{carried_no_further}
 use Rattle.turn_moves.proofs.arrival.+follow_forced_motions.Goals as goal
 

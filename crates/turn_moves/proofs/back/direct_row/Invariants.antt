@@ -1,5 +1,5 @@
 use Rattle.std.proofs.Common.{◌≡◌, map, drop}
-use Rattle.turn_dwarves.specs.data_rows.RowViews.{going}
+use Rattle.data_rows.specs.RowViews.{going}
 use Rattle.std.specs.List.{find}
 use Rattle.turn_moves.specs.Back.{leads_to}
 use Rattle.turn_moves.proofs.back.direct_row.Given as goal

@@ -1,7 +1,7 @@
 use Rattle.std.specs.Option.{option_or}
 use Rattle.std.proofs.Common.{◌≡◌, map, drop, option_map}
-use Rattle.turn_dwarves.specs.data_rows.RowViews.{going}
-use Rattle.turn_dwarves.specs.turn_scene.Scene.{cave_of}
+use Rattle.data_rows.specs.RowViews.{going}
+use Rattle.turn_scene.specs.Scene.{cave_of}
 use Rattle.turn_moves.specs.Back.{indirect_row}
 use Rattle.turn_moves.proofs.back.indirect_row.Given as goal
 

@@ -1,4 +1,4 @@
-use Rattle.cave_world.specs.world_objects.SameObjects.{objects_decides}
+use Rattle.world_objects.specs.SameObjects.{objects_decides}
 use Rattle.world_packed.proofs.packed_state.are_same.Goals as goal
 
 pub returns : goal.returns

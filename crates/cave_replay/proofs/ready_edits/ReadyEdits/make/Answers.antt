@@ -2,8 +2,8 @@ use Rattle.std.proofs.Common.{◌≡◌, ℕ, List, ◌++◌, length, take, drop
 use Rattle.std.specs.List.{splice}
 use Rattle.replay_edits.specs.LineText.{LineText}
 use Rattle.replay_edits.specs.Edit.{game_of, log_of}
-use Rattle.replay_edits.specs.Outcome.{texts_of}
-use Rattle.replay_marks.proofs.TurnLemmas.{lent_items}
+use Rattle.replay_edits.specs.Outcome.{new_texts}
+use Rattle.replay_checkpoints.proofs.TurnLemmas.{lent_items}
 use Rattle.cave_replay.proofs.Joins.{map-splice}
 use Rattle.cave_replay.proofs.ready_edits.ReadyEdits.make.Goals as goal
 
@@ -24,8 +24,8 @@ returns-clause-game c =
     let before = c.take_lines.ensures.before ∙ ap (λ l. take ready.head (log_of l)) value in
     let after = c.take_lines.ensures.after ∙ ap (λ l. drop ready.rest (log_of l)) value in
     let texts = c.take_lines.ensures.taken
-    ∙ ap (λ l. texts_of (log_of l) c.deref_mut.result.now) value
-    ∙ ap (texts_of old) c.deref_mut.ensures.value in
+    ∙ ap (λ l. new_texts (log_of l) c.deref_mut.result.now) value
+    ∙ ap (new_texts old) c.deref_mut.ensures.value in
     ap (game_of ready.seed) (whole
     ∙ ap (λ t. t ++ (log_of taken ++ drop ready.rest (log_of now))) before
     ∙ ap (λ t. take ready.head old ++ (log_of taken ++ t)) after

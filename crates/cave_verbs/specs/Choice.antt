@@ -1,0 +1,48 @@
+-- What a verb without an object could be meant for.
+use Rattle.std.specs.Prelude.{ℕ, Bool, ◌==◌, ◌&&◌, not, nat_le, if◌then◌else◌, List, [], ◌∷◌, ◌++◌}
+use Rattle.std.specs.Prelude.{length, fold}
+use Rattle.cave_words.specs.declared.named.Named.{Named}
+use Rattle.turn_scene.specs.Rows.{Deed, Test, Thing}
+use Rattle.turn_scene.specs.Tests.{the}
+use Rattle.cave_verbs.specs.declared.command.Command.{Command}
+
+-- of how many objects a verb without an object could be meant for one
+abbrev pub MAX_MEANT : ℕ
+MAX_MEANT = 5
+
+-- an object, and when the verb could be meant for it
+pub record Candidate : Type 0 where
+  pub object : Thing Command
+  pub test : Test Command
+
+abbrev pub candidate : Named → Test Command → Candidate
+candidate n test = record { object = the n; test = test }
+
+-- an object more, if the cave has it and the verb could be meant for it
+unfoldable pub with_meant : Bool → ℕ → List ℕ → List ℕ
+with_meant could_be x xs = if could_be && not (x == 0) then xs ++ x ∷ [] else xs
+
+-- of candidates, the objects that the verb could be meant for
+abbrev pub objects_meant : List Candidate → Deed Command → List ℕ
+objects_meant candidates d =
+    fold (λ xs (c : Candidate). with_meant (c.test d) (c.object d) xs) [] candidates
+
+abbrev pub first_or_none : List ℕ → ℕ
+first_or_none [] = 0
+first_or_none (x ∷ xs) = x
+
+abbrev pub only_of : List ℕ → ℕ
+only_of (x ∷ []) = x
+only_of _ = 0
+
+-- two or more
+abbrev pub several : (Deed Command → List ℕ) → Test Command
+several xs d = nat_le 2 (length (xs d))
+
+-- the first; 0 where there is none
+abbrev pub first : (Deed Command → List ℕ) → Thing Command
+first xs d = first_or_none (xs d)
+
+-- the only one; 0 where there are more, or none
+abbrev pub only : (Deed Command → List ℕ) → Thing Command
+only xs d = only_of (xs d)

@@ -1,0 +1,88 @@
+-- Rules of verbs as rows: they are about a command, and say what follows it.
+use Rattle.std.specs.Prelude.{ℕ, ◌+◌, List, drop}
+use Rattle.cave_world.specs.declared.ending.Ending.{Ending}
+use Rattle.cave_world.specs.declared.ending.Question.{Question}
+use Rattle.turn_scene.specs.declared.scene.Scene.{Scene as OpenScene}
+use Rattle.turn_scene.specs.declared.rules.Rules.{Rules}
+use Rattle.turn_scene.specs.Rows.{Deed, Act, Test, Effect, Thing, Row, row_then, act_of_row}
+use Rattle.turn_scene.specs.Rows.{first_fitting_or, nothing_but, noted_from, PlaysBy}
+use Rattle.cave_world.specs.declared.tables.RuleRow.{RuleRow}
+use Rattle.cave_world.specs.declared.tables.Table.{Table}
+use Rattle.cave_verbs.specs.Room.{parts_by}
+use Rattle.cave_verbs.specs.declared.next.Next.{Next}
+use Rattle.cave_verbs.specs.declared.next.Next.TheVariants as next_is
+use Rattle.cave_verbs.specs.declared.next.VerbStep.{VerbStep}
+use Rattle.cave_verbs.specs.declared.next.VerbStep.TheVariants.{Done, GoOn}
+use Rattle.cave_verbs.specs.declared.command.Command.{Command}
+use Rattle.cave_verbs.specs.declared.verb.Verb.{Verb}
+
+-- what a player commands
+abbrev pub command_of : Verb → ℕ → List ℕ → Command
+command_of v x word = record { verb = v; object = x; commanded = v; word = word }
+
+-- the command that a verb goes on with: what the player commands stays
+abbrev pub going_on : Command → Verb → ℕ → Command
+going_on command v x =
+    record { verb = v; object = x; commanded = command.commanded; word = command.word }
+
+abbrev pub VerbRow : Type 0
+VerbRow = Row Command VerbStep
+
+-- nothing follows
+abbrev pub stays : Deed Command → VerbStep
+stays d = Done next_is.Stay
+
+-- the verb is kept for the next line
+abbrev pub keeps : Deed Command → VerbStep
+keeps d = Done next_is.Keep
+
+abbrev pub describes : Deed Command → VerbStep
+describes d = Done next_is.Describe
+
+-- the player arrives again where the player is
+abbrev pub again : Deed Command → VerbStep
+again d = Done (next_is.Arrive d.scene.state.trail.here)
+
+abbrev pub poses : Question → Deed Command → VerbStep
+poses question d = Done (next_is.Ask question)
+
+abbrev pub ends : Ending → Deed Command → VerbStep
+ends how d = Done (next_is.End how)
+
+-- it goes on with a verb and an object
+abbrev pub does : Verb → Thing Command → Deed Command → VerbStep
+does verb x d = GoOn verb (x d)
+
+-- a row after which nothing follows
+abbrev pub row : List (Test Command) → List (Effect Command) → VerbRow
+row tests effects = row_then tests effects stays
+
+-- the rows of a table after so many, by the numbers that they have in it
+abbrev pub noted_after : Table → ℕ → List VerbRow → List VerbRow
+noted_after table n rows = noted_from table (n + 1) (drop n rows)
+
+-- what the first row that fits does, and nothing if none does
+abbrev pub first_fitting : List VerbRow → Deed Command → Act VerbStep
+first_fitting rows d = first_fitting_or rows (nothing_but stays) d
+
+-- the same turn has come to what a rule says of a command, and so has what follows
+abbrev pub ActsBy : {N : Type 0} → (N → List RuleRow) → (Deed Command → Act VerbStep) → Rules
+    → Command → OpenScene N → OpenScene N → VerbStep → Type 0
+ActsBy noted_rows f rules command old new step =
+    PlaysBy noted_rows f (parts_by step) rules command old new step
+
+abbrev pub ByRows : {N : Type 0} → (N → List RuleRow) → List VerbRow → Rules → Command
+    → OpenScene N → OpenScene N → VerbStep → Type 0
+ByRows noted_rows rows rules command old new step =
+    ActsBy noted_rows (first_fitting rows) rules command old new step
+
+-- nothing is gone on with
+abbrev pub DoneByRow : {N : Type 0} → (N → List RuleRow) → VerbRow → Rules → Command
+    → OpenScene N → OpenScene N → Next → Type 0
+DoneByRow noted_rows r rules command old new next =
+    ActsBy noted_rows (act_of_row r) rules command old new (Done next)
+
+abbrev pub DoneByRows : {N : Type 0} → (N → List RuleRow) → List VerbRow → Rules → Command
+    → OpenScene N → OpenScene N → Next → Type 0
+DoneByRows noted_rows rows rules command old new next =
+    ByRows noted_rows rows rules command old new (Done next)

@@ -1,0 +1,34 @@
+//! Rows that only proofs read.
+ghost use Rattle.std.specs.Prelude.{◌≡◌, List, [], ◌∷◌, ◌++◌};
+ghost use Rattle.std.specs.Borrow.{ftrue};
+ghost use Rattle.cave_world.specs.declared.tables.RuleRow.{RuleRow};
+
+use crate::tables::RuleRow;
+use std::marker::Model;
+
+/// Rows in order, for contracts alone: they take no memory, and nothing is done with them when the
+/// program runs.
+#[derive(Drop)]
+pub struct GhostRows {
+    pub ghost rows: { List RuleRow },
+}
+
+impl Model for GhostRows {
+    ghost also_owns = { λ _. ftrue };
+}
+
+impl GhostRows {
+    /// No row.
+    pub fn new() -> GhostRows
+        ensures { result.rows ≡ [] }
+    {
+        GhostRows {}
+    }
+
+    /// These rows, and one more.
+    pub fn and(&self, row: RuleRow) -> GhostRows
+        ensures { result.rows ≡ self.now.rows ++ row ∷ [] }
+    {
+        GhostRows {}
+    }
+}

@@ -1,3 +1,0 @@
-pub mod Clues
-pub mod Near
-pub mod NearKey

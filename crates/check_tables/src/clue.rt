@@ -1,0 +1,119 @@
+//! What is known of a fault of a cave beyond its cause.
+
+ghost use Rattle.std.specs.Prelude.{◌≡◌, IfOk};
+ghost use Rattle.std.specs.Str.Lines.{lines};
+ghost use Rattle.check_tables.specs.Clues.{clue_of, faulty_text, has_byte_order_mark, if_near};
+ghost use Rattle.check_tables.specs.Clues.{key_in, line_at_number};
+
+use crate::near_key::near_key;
+use base_lines::bytes::{skip_blanks, split_word};
+use base_lines::split_line;
+use data_rows::binding::Key;
+use data_rows::place_role::PLACE_NAMES;
+use data_rows::role::ROLE_NAMES;
+use data_rows::{Cause, CaveError, FaultSite};
+use std::alloc::{AllocError, Global};
+use std::fmt;
+
+/// What is known of a fault beyond its cause.
+#[derive(Clone, Copy, Debug, PartialEq, Eq)]
+pub enum Clue {
+    /// The file begins with a byte order mark.
+    ByteOrderMark,
+    /// The key is near to this one, and to no other.
+    NearKey(Key),
+}
+
+/// Writes a key that is made of a prefix and a name of a table.
+fn write_key<W: fmt::Write>(
+    f: &mut fmt::Formatter<W>,
+    prefix: &str,
+    names: &[&str],
+    number: u16,
+) -> fmt::Result {
+    let name = names.get(number as usize).copied().unwrap_or("");
+    write!(f, "did you mean {prefix}{name}?")
+}
+
+impl fmt::Display for Clue {
+    fn fmt<W: fmt::Write>(&self, f: &mut fmt::Formatter<W>) -> fmt::Result {
+        match *self {
+            Clue::ByteOrderMark => {
+                write!(
+                    f,
+                    "the file begins with a byte order mark: save it without one"
+                )
+            }
+            Clue::NearKey(Key::RoleKey(role)) => write_key(f, "msg.", &ROLE_NAMES, role),
+            Clue::NearKey(Key::PlaceKey(role)) => write_key(f, "place.", &PLACE_NAMES, role),
+            Clue::NearKey(Key::LettersKey) => write!(f, "did you mean num.letters?"),
+        }
+    }
+}
+
+/// Whether a text begins with a byte order mark, of UTF-8 or of either UTF-16.
+fn has_byte_order_mark(text: &[u8]) -> bool
+    ensures { result ≡ has_byte_order_mark text.now }
+{
+    text.starts_with(b"\xef\xbb\xbf")
+        || text.starts_with(b"\xff\xfe")
+        || text.starts_with(b"\xfe\xff")
+}
+
+/// The line with a number, from 1, of a text; empty where it has none.
+fn line_at(number: usize, text: &[u8]) -> &[u8]
+    ensures { result.now ≡ line_at_number number (lines text.now) }
+{
+    let mut number = number;
+    let mut rest = text;
+    while let Some((line, after)) = split_line(rest) {
+        if number <= 1 {
+            return line;
+        }
+        number -= 1;
+        rest = after;
+    }
+    &[]
+}
+
+/// The input that a fault is in.
+fn faulty_text<'a>(site: FaultSite, database: &'a [u8], bindings: &'a [u8]) -> &'a [u8]
+    ensures { result.now ≡ faulty_text site database.now bindings.now }
+{
+    match site {
+        FaultSite::Bindings => bindings,
+        FaultSite::Database | FaultSite::Section(_) => database,
+    }
+}
+
+/// The key of a line of bindings.
+fn key_in(line: &[u8]) -> &[u8]
+    ensures { result.now ≡ key_in line.now }
+{
+    split_word(skip_blanks(line)).0
+}
+
+/// The clue to a key, where it isn't known and one alone is near.
+fn if_near(alloc: Global, cause: Cause, key: &[u8]) -> Result<Option<Clue>, AllocError>
+    ensures { IfOk result (λ clue. clue ≡ if_near cause key.now) }
+{
+    match cause {
+        Cause::UnknownRole => Ok(near_key(alloc, key)?.map(Clue::NearKey)),
+        _ => Ok(None),
+    }
+}
+
+/// What is known of a fault of a database and its bindings beyond its cause.
+pub fn clue_of(
+    alloc: Global,
+    error: CaveError,
+    database: &[u8],
+    bindings: &[u8],
+) -> Result<Option<Clue>, AllocError>
+    ensures { IfOk result (λ clue. clue ≡ clue_of error database.now bindings.now) }
+{
+    if error.line == 1 && has_byte_order_mark(faulty_text(error.site, database, bindings)) {
+        return Ok(Some(Clue::ByteOrderMark));
+    }
+    if_near(alloc, error.cause, key_in(line_at(error.line, bindings)))
+}

@@ -1,3 +1,0 @@
-pub mod Bytes
-pub mod LabelLemmas
-pub mod LineLemmas

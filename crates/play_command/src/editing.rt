@@ -1,0 +1,60 @@
+ghost use Rattle.std.specs.Prelude.{◌≡◌};
+ghost use Rattle.play_command.specs.Views.{edit_view_named};
+
+/// What an edit of a log prints.
+#[derive(Clone, Copy, Debug, PartialEq, Eq)]
+pub enum EditView {
+    /// Whether each edit was accepted, and what playing the edited log prints.
+    Transcript,
+    /// What playing the edited log prints.
+    Play,
+    /// The lines of the edited log.
+    Log,
+    /// A script that takes back all edits that were accepted.
+    Undo,
+    /// What each edit replayed.
+    Reports,
+    /// The same as a table, with what each edit is and what it changed.
+    Table,
+    /// What each line of the edited log did.
+    Steps,
+    /// Where the score of the edited log comes from.
+    Score,
+    /// The state that the edited log leads to.
+    FinalState,
+}
+
+impl EditView {
+    /// The view of a name, if it is the name of one.
+    pub fn named(name: &str) -> Option<EditView>
+        ensures { result ≡ edit_view_named name.now }
+    {
+        match name {
+            "transcript" => Some(EditView::Transcript),
+            "play" => Some(EditView::Play),
+            "log" => Some(EditView::Log),
+            "undo" => Some(EditView::Undo),
+            "reports" => Some(EditView::Reports),
+            "table" => Some(EditView::Table),
+            "steps" => Some(EditView::Steps),
+            "score" => Some(EditView::Score),
+            "state" => Some(EditView::FinalState),
+            _ => None,
+        }
+    }
+}
+
+/// How a log is edited.
+#[derive(Clone, Copy, Debug, PartialEq, Eq)]
+pub struct Editing {
+    /// Where the random numbers begin.
+    pub seed: u32,
+    /// The most lines between two checkpoints.
+    pub every: u32,
+    /// What is printed.
+    pub view: EditView,
+    /// Whether nothing is printed where an edit is refused.
+    pub strict: bool,
+    /// Whether lines of the script may be guards.
+    pub guarded: bool,
+}

@@ -1,0 +1,38 @@
+-- The tables of the rules, by number and name, and the rows of each by their numbers.
+use Rattle.std.specs.Prelude.{◌≡◌, ℕ, ◌-◌, List, [], length, map, slice_index_or}
+use Rattle.std.specs.List.{range_with_len}
+use denote.Enum.Declared.{tag_of}
+use Rattle.cave_world.specs.contracts.tables.Table.{the_type}
+use Rattle.cave_world.specs.declared.tables.Table.{Table}
+use Rattle.play_cover.specs.EachTable.{declared, tables}
+
+abbrev pub TABLE_COUNT : ℕ
+TABLE_COUNT = length tables
+
+-- the number of each row is below it
+abbrev pub ROW_END : ℕ
+ROW_END = 32
+
+-- the place of a table among all, from 0, which is that of its variant
+abbrev pub table_number : Table → ℕ
+table_number t = tag_of the_type t
+
+-- what a table is called
+abbrev pub table_name : Table → List ℕ
+table_name t = (declared t).name
+
+-- when each row of a table applies, in words
+abbrev pub row_words : Table → List (List ℕ)
+row_words t = (declared t).words
+
+-- how many rows a table has
+abbrev pub row_count : Table → ℕ
+row_count t = length (row_words t)
+
+-- when a row of a table applies, in words; rows are counted from 1
+abbrev pub words_of : Table → ℕ → List ℕ
+words_of t number = slice_index_or (row_words t) (number - 1) []
+
+-- each table stands at its number
+abbrev pub TablesAreInOrder : Type 0
+TablesAreInOrder = map table_number tables ≡ range_with_len 0 TABLE_COUNT

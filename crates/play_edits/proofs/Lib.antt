@@ -1,0 +1,9 @@
+pub mod BackLemmas
+pub mod EditLemmas
+pub mod GameLemmas
+pub mod GuardLemmas
+mod KeptLemmas
+pub mod MetLemmas
+pub mod SayableLemmas
+mod StandingLemmas
+pub mod TableLemmas

@@ -1,0 +1,123 @@
+-- The guards of what is kept are met.
+use Rattle.std.proofs.Common.{◌≡◌, ℕ, ◌+◌, ◌<◌, Bool, true, false, List, [], ◌∷◌}
+use Rattle.std.proofs.Common.{take}
+use Rattle.std.proofs.Common.{◌++◌, length, map, drop, get_or, Option, None, Some}
+use Rattle.std.proofs.Common.{sym, ap, ◌∙◌, refl, arith, append_assoc, append-nil}
+use Rattle.std.specs.Prelude.{slice_get}
+use Rattle.std.specs.Option.{option_or}
+use Rattle.std.proofs.lemmas.List.{get_or-map, length-append, length-map}
+use Rattle.std.proofs.lemmas.List.{take_more}
+use Rattle.std.proofs.Math.Seq.{take-append_seam}
+use Rattle.replay_edits.specs.Edit.{Change, change_of, changes_of, deletes, inserts, log_after}
+use Rattle.replay_edits.specs.Edit.{replaces, reseeds}
+use Rattle.replay_edits.specs.declared.edit.Edit.{Edit}
+use Rattle.replay_edits.specs.Faults.{log_after_all}
+use Rattle.replay_edits.proofs.Groups.{changes_of-drop}
+use Rattle.replay_scripts.specs.Script.{Expectation}
+use Rattle.replay_scripts.specs.ScriptText.{Back}
+use Rattle.replay_scripts.specs.ScriptText.{guards_at, guards_from, line_after}
+use Rattle.replay_scripts.specs.ScriptText.{number_in, spelled_item}
+use Rattle.play_edits.specs.Refusal.{first_unmet}
+use Rattle.play_edits.specs.Undo.{backs_by, expected_at}
+use Rattle.play_edits.specs.Undo.{with_guards, without_guard}
+use Rattle.play_edits.proofs.GuardLemmas.{unmet-IsMet}
+
+expected_there : (change : Change) (log : List (List ℕ)) (line : List ℕ)
+    → expected_at change log ≡ Some line → slice_get log (number_in change) ≡ Some line
+expected_there (inserts place text) log line is = is
+expected_there (deletes place) log line is = is
+expected_there (replaces place text) log line is = is
+expected_there (reseeds seed) log line is = cc
+
+-- the guard of a change, if it has one, and the others
+met_then : (changes : List Change) (log : List (List ℕ)) (number after place : ℕ)
+    (expected : Option (List ℕ)) (more : List Expectation)
+    → ((line : List ℕ) → expected ≡ Some line
+    → slice_get (log_after_all (take after changes) log) place ≡ Some line)
+    → first_unmet changes more log ≡ None
+    → first_unmet changes (guards_at number after place expected ++ more) log ≡ None
+met_then changes log number after place None more there rest = rest
+met_then changes log number after place (Some line) more there rest =
+    let guard : Expectation =
+    record { line = number; place = place; text = line; after = after } in
+    ap (λ first. option_or first (first_unmet changes more log))
+    (unmet-IsMet changes log guard (λ free. there line refl)) ∙ rest
+
+log_after_all-more : (changes : List Change) (change : Change) (log : List (List ℕ))
+    → log_after_all (changes ++ change ∷ []) log ≡ log_after change (log_after_all changes log)
+log_after_all-more [] change log = refl
+log_after_all-more (first ∷ changes) change log =
+    log_after_all-more changes change (log_after first log)
+
+met_from : (number : ℕ) (before changes : List Change) (log : List (List ℕ))
+    → first_unmet (before ++ changes) (guards_from number (length before)
+    (with_guards changes (log_after_all before log))) log ≡ None
+met_from number before [] log = refl
+met_from number before (change ∷ changes) log =
+    let now = log_after_all before log in
+    let place = number_in change in
+    let expected = expected_at change now in
+    let next = line_after number expected + 1 in
+    let first : take (length before) (before ++ change ∷ changes) ≡ before =
+    take-append_seam before (change ∷ changes) in
+    let rest = met_from next (before ++ change ∷ []) changes log in
+    let more = rw (
+      append_assoc before (change ∷ []) changes,
+      length-append before (change ∷ []),
+      log_after_all-more before change log,
+    ) at rest in
+    met_then (before ++ change ∷ changes) log number (length before) place expected
+    (guards_from next (length before + 1) (with_guards changes (log_after change now)))
+    (λ line is. ap (λ some. slice_get (log_after_all some log) place) first
+    ∙ expected_there change now line is) more
+
+-- one edit more that has a guard
+pub guarded-more : (edits : List Edit) (log : List (List ℕ)) (i : ℕ) (edit : Edit)
+    (old new whole : List Back) → i < length edits → edit ≡ get_or edits i edit
+    → new ≡ old ++ (record {
+      change = change_of edit;
+      expected = expected_at (change_of edit) (log_after_all (take i (changes_of edits)) log);
+    }) ∷ []
+    → old ++ with_guards (changes_of (drop i edits)) (log_after_all (take i (changes_of edits)) log)
+    ≡ whole
+    → new ++ with_guards (changes_of (drop (i + 1) edits))
+    (log_after_all (take (i + 1) (changes_of edits)) log) ≡ whole
+guarded-more edits log i edit old new whole inside read grown so_far =
+    let changes = changes_of edits in
+    let change = change_of edit in
+    let now = log_after_all (take i changes) log in
+    let rest = changes_of (drop (i + 1) edits) in
+    let back : Back = record { change = change; expected = expected_at change now } in
+    let m = length-map edits change_of in
+    let here = get_or-map change_of edits i edit change inside ∙ ap change_of (sym read) in
+    let next : log_after_all (take (i + 1) changes) log ≡ log_after change now =
+    ap (λ some. log_after_all some log) (take_more changes i change (omega arith)
+    ∙ ap (λ c. take i changes ++ c ∷ []) here)
+    ∙ log_after_all-more (take i changes) change log in
+    ap (λ b. b ++ with_guards rest (log_after_all (take (i + 1) changes) log)) grown
+    ∙ append_assoc old (back ∷ []) (with_guards rest (log_after_all (take (i + 1) changes) log))
+    ∙ ap (λ l. old ++ back ∷ with_guards rest l) next
+    ∙ ap (λ some. old ++ with_guards some now) (sym (changes_of-drop edits i edit inside read))
+    ∙ so_far
+
+unguarded_from : (number after : ℕ) (changes : List Change)
+    → guards_from number after (map without_guard changes) ≡ []
+unguarded_from number after [] = refl
+unguarded_from number after (change ∷ changes) =
+    unguarded_from (number + 1) (after + 1) changes
+
+pub guards_met : (guarded : Bool) (number : ℕ) (changes : List Change) (log : List (List ℕ))
+    → (let item = spelled_item number (backs_by guarded changes log) in
+    first_unmet changes item.guards log ≡ None)
+guards_met false number [] log = refl
+guards_met false number (change ∷ []) log = refl
+guards_met false number (first ∷ second ∷ more) log =
+    ap (λ guards. first_unmet (first ∷ second ∷ more) guards log)
+    (unguarded_from (number + 1) 0 (first ∷ second ∷ more))
+guards_met true number [] log = refl
+guards_met true number (change ∷ []) log =
+    let guard = guards_at number 0 (number_in change) (expected_at change log) in
+    ap (λ guards. first_unmet (change ∷ []) guards log) (sym (append-nil guard))
+    ∙ met_from number [] (change ∷ []) log
+guards_met true number (first ∷ second ∷ more) log =
+    met_from (number + 1) [] (first ∷ second ∷ more) log

@@ -1,0 +1,72 @@
+use Rattle.std.proofs.Common.{take, sym, ◌∙◌, arith}
+use Rattle.std.proofs.lemmas.List.{length-take-le}
+use Rattle.replay_edits.specs.Edit.{changes_of, log_of}
+use Rattle.replay_scripts.specs.Views.{expectation_in}
+use Rattle.play_edits.proofs.GuardLemmas.{draft_own, first_unmet-here, first_unmet-more}
+use Rattle.play_edits.proofs.GuardLemmas.{free_changes, line_reached, unmet-past, unmet-reached}
+use Rattle.play_edits.proofs.GuardLemmas.{within_edits}
+use Rattle.replay_edits.proofs.Lines.{length-log_of}
+use Rattle.play_edits.proofs.guards.first_unmet.Goals as goal
+use Rattle.play_edits.proofs.guards.first_unmet.Goals.{else-after-free}
+use Rattle.play_edits.proofs.guards.first_unmet.Goals.{then-after-free+in_ok-move_to+in_default}
+
+pub slice_bounds-free-end : goal.slice_bounds-free-end
+slice_bounds-free-end c =
+    let edits = c.args.edits.now in
+    let counted = c.free_count.ensures (log_of c.args.log.now) (length-log_of c.args.log.now) in
+    sym (length-take-le c.free_count.result edits
+    (within_edits edits (log_of c.args.log.now) c.free_count.result counted))
+
+pub new-requires : goal.new-requires
+new-requires c =
+    let counted = c.free_count.ensures (log_of c.args.log.now) (length-log_of c.args.log.now) in
+    free_changes c.args.edits.now (log_of c.args.log.now) c.free_count.result counted
+
+pub returns-in-Some : goal.returns-in-Some
+returns-in-Some c =
+    let edits = c.args.edits.now in
+    let log = log_of c.args.log.now in
+    let counted = c.free_count.ensures log (length-log_of c.args.log.now) in
+    let guard = expectation_in c.guard-item.result in
+    let free = length-take-le c.free_count.result edits
+    (within_edits edits log c.free_count.result counted) in
+    let there = line_reached edits c.args.log.now c.free_count.result c.min-after.result
+    guard.place c.move_to.new.draft c.in_ok-move_to.ensures in
+    let is = unmet-reached edits log c.free_count.result counted guard c.min-after.result
+    c.min-after.ensures (omega (arith, c.if-after-free.true, free)) _
+    (c.line.ensures ∙ there) in
+    let found = is ∙ sym c.other_line.ensures ∙ c.in-Some.is in
+    sym (sym c.loop-guard.invariant.met
+    ∙ first_unmet-here (changes_of edits) log c.args.guards.now c.loop-guard.guard-index
+    c.guard-item.result c.in-Some.refused c.loop-guard-test.true c.guard-item.is found)
+
+pub loop-guard-preserved : goal.loop-guard-preserved
+loop-guard-preserved c =
+    let edits = c.args.edits.now in
+    let log = log_of c.args.log.now in
+    let counted = c.free_count.ensures log (length-log_of c.args.log.now) in
+    let guard = expectation_in c.guard-item.result in
+    let free = length-take-le c.free_count.result edits
+    (within_edits edits log c.free_count.result counted) in
+    let before = c.loop-guard.invariant in
+    let more = first_unmet-more (changes_of edits) log c.args.guards.now
+    c.loop-guard.guard-index c.guard-item.result c.loop-guard-test.true c.guard-item.is in
+    elim c.if-after-free.branch [
+      | then-after-free+in_ok-move_to+in_default w ↦
+          let there = line_reached edits c.args.log.now c.free_count.result c.min-after.result
+          guard.place w.move_to.new.draft w.in_ok-move_to.ensures in
+          let is = unmet-reached edits log c.free_count.result counted guard c.min-after.result
+          c.min-after.ensures (omega (arith, w.if-after-free.true, free)) _
+          (w.line.ensures ∙ there) in
+          record {
+            met = more (is ∙ sym w.other_line.ensures ∙ w.in_default.is) ∙ before.met;
+            draft = rw w.draft-is (draft_own (take c.free_count.result edits) c.args.log.now
+                c.min-after.result w.move_to.new.draft w.in_ok-move_to.ensures);
+          }
+      | else-after-free w ↦
+          record {
+            met = more (unmet-past edits log c.free_count.result counted guard c.min-after.result
+                c.min-after.ensures (omega (arith, w.if-after-free.false, free))) ∙ before.met;
+            draft = rw w.draft-is before.draft;
+          }
+    ]

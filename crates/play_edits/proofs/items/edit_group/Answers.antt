@@ -1,0 +1,87 @@
+use Rattle.std.proofs.Common.{◌≡◌, ℕ, None, Some, length, sym, subst, ap, ◌∙◌}
+use Rattle.replay_checkpoints.specs.Spacing.{IsSpaced}
+use Rattle.replay_edits.specs.Edit.{changes_of, apply_all, inverses_of, Game}
+use Rattle.replay_edits.specs.declared.fault.EditFault.TheVariants as cause
+use Rattle.replay_scripts.specs.Views.{applied_item}
+use Rattle.cave_data.specs.CaveView.{CaveView}
+use Rattle.play_edits.specs.Outcome.{standing_of}
+use Rattle.play_edits.specs.Refusal.{group_refusal}
+use Rattle.play_edits.specs.declared.refusal.Refusal.TheVariants.{Edit}
+use Rattle.play_edits.specs.declared.refusal.RefusedItem.{RefusedItem}
+use Rattle.play_edits.proofs.GuardLemmas.{item_refusal-met}
+use Rattle.play_edits.proofs.EditLemmas.{group_refusal-fresh, accepted_without, refused_by}
+use Rattle.play_edits.proofs.EditLemmas.{game_after_item-accepted, game_after_item-refused}
+use Rattle.play_edits.proofs.EditLemmas.{IsReport-same}
+use Rattle.play_edits.proofs.items.edit_group.Goals as goal
+
+pub returns-in-Ok : goal.returns-in-Ok
+returns-in-Ok c =
+    let old = c.args.session.now in
+    let changes = changes_of c.args.item.now.edits.items in
+    let same = ap changes_of c.deref.ensures.value in
+    let fresh =
+    group_refusal-fresh _ changes old.game.log c.new-meter.result same c.new-meter.ensures in
+    let none = sym fresh ∙ accepted_without _ _ _ c.in-Ok.is c.edit_group.ensures.faults in
+    let accepted =
+    item_refusal-met (applied_item c.args.item.now) old.game.log None c.requires none in
+    let made = c.in-Ok.ensures.game ∙ ap (λ said. apply_all said old.game) same
+    ∙ sym (game_after_item-accepted (applied_item c.args.item.now) old.game accepted) in
+    let cave_is = ap (λ m. m.rules.cave.now) c.in-Ok.ensures.kept.machine in
+    record {
+      applies = record {
+        came = record {
+          accepted = accepted;
+          report =
+              IsReport-same _ _ _ _ _ _ same c.replay_of.ensures.from c.replay_of.ensures.met
+              c.replay_of.ensures.played c.in-Ok.ensures.report;
+          lines = c.replay_of.ensures.lines ∙ ap (λ (g : Game). length g.log) made;
+          standing = c.replay_of.ensures.standing
+              ∙ ap (λ (k : CaveView). standing_of k c.edit_group.new.self.game) cave_is
+              ∙ ap (standing_of old.machine.rules.cave.now) made;
+        };
+        holds = record {
+          cave_is = cave_is;
+          game_is = made;
+        };
+        every = c.in-Ok.ensures.kept.every;
+        left = subst
+            (λ e. IsSpaced e c.edit_group.new.self.checkpoints
+            (length c.edit_group.new.self.game.log)) c.in-Ok.ensures.kept.every
+            c.replay_of.ensures.spaced;
+      };
+      inverse = λ _. c.in-Ok.ensures.inverse ∙ ap (λ said. inverses_of said old.game) same;
+      back_free = λ _. c.in-Ok.ensures.back_accepted;
+    }
+
+pub returns : goal.returns
+returns c =
+    let game = c.args.session.now.game in
+    let fresh =
+    group_refusal-fresh _ (changes_of c.args.item.now.edits.items) game.log c.new-meter.result
+    (ap changes_of c.deref.ensures.value) c.new-meter.ensures in
+    let other : c.in-Err.fault.cause ≡ cause.Memory
+    → ⊥ = λ is. let yes = c.is_memory.ensures.1 is in cc in
+    let some : group_refusal (changes_of c.args.item.now.edits.items) game.log
+    ≡ Some c.in-Err.fault =
+    sym fresh ∙ refused_by _ c.in-Err.fault _ c.in-Err.is other c.edit_group.ensures.faults in
+    let stays = c.in-Err.ensures.refused in
+    let line = c.line_of.ensures in
+    let refusal : ℕ → RefusedItem =
+    λ number. record { line = number; cause = Edit c.in-Err.fault.cause } in
+    let refused =
+    item_refusal-met (applied_item c.args.item.now) game.log (Some c.in-Err.fault) c.requires some
+    ∙ ap (λ number. Some (refusal number)) (sym line) in
+    record {
+      applies = record {
+        came = refused;
+        holds = record {
+          cave_is = ap (λ s. s.machine.rules.cave.now) stays;
+          game_is = ap (λ s. s.game) stays
+              ∙ sym (game_after_item-refused (applied_item c.args.item.now) game _ refused);
+        };
+        every = ap (λ s. s.every) stays;
+        left = ap (λ s. s.checkpoints) stays;
+      };
+      inverse = λ accepted. cc;
+      back_free = λ accepted. cc;
+    }

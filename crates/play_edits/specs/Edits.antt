@@ -1,0 +1,116 @@
+-- What a session holds after items of a script, and what is written of them.
+use Rattle.std.specs.Prelude.{◌≡◌, ℕ, List, [], ◌++◌, ⊤}
+use Rattle.play_machine.specs.Piece.{Piece}
+use Rattle.std.specs.List.{sum_by}
+use Rattle.std.specs.Str.Lines.{lines}
+use Rattle.cave_data.specs.CaveView.{CaveView}
+use Rattle.play_command.specs.declared.editing.EditView.{EditView}
+use Rattle.play_command.specs.declared.editing.EditView.TheVariants as asked
+use Rattle.cave_replay.specs.Session.{SessionView}
+use Rattle.cave_replay.specs.LogText.{log_text}
+use Rattle.replay_edits.specs.Edit.{Change, Game, inverses_of}
+use Rattle.play_tables.specs.ItemRow.{item_head_row}
+use Rattle.replay_scripts.specs.Script.{Applied}
+use Rattle.replay_scripts.specs.ScriptText.{Back, script_text}
+use Rattle.cave_world.specs.declared.state.State.{State}
+use Rattle.play_edits.specs.Accounts.{account, text_of_items, totals_line}
+use Rattle.play_machine.specs.FinalState.{final_state_text}
+use Rattle.play_machine.specs.HeldGame.{HoldsGame}
+use Rattle.play_edits.specs.Items.{game_after_item, item_report_by}
+use Rattle.play_edits.specs.Outcome.{IsItemOutcome, AreLeft, AreOutcomes, lines_in, played_in}
+use Rattle.play_edits.specs.Outcome.{refusal_in}
+use Rattle.play_machine.specs.Score.{score_text}
+use Rattle.play_machine.specs.Steps.{steps_text}
+use Rattle.play_edits.specs.Table.{last_state, row_by}
+use Rattle.play_machine.specs.Transcript.{play_text}
+use Rattle.play_machine.specs.declared.machine.CaveMachine.{CaveMachine}
+use Rattle.play_edits.specs.declared.outcome.ItemOutcome.{ItemOutcome}
+
+-- an item was applied to what a session held, and this came of it
+pub record Applies (item : Applied) (old new : SessionView CaveMachine Piece State)
+    (outcome : ItemOutcome) : Type 0 where
+  pub came : IsItemOutcome old.machine.rules.cave.now old.every item old.game
+      old.checkpoints outcome
+  pub holds : HoldsGame old.machine.rules.cave.now (game_after_item item old.game) new
+  pub every : new.every ≡ old.every
+  pub left : AreLeft old.every outcome old.checkpoints new.game new.checkpoints
+
+-- what is written before all items, by what is asked for
+abbrev pub text_at_start : EditView → List ℕ
+text_at_start asked.Transcript = []
+text_at_start asked.Play = []
+text_at_start asked.Log = []
+text_at_start asked.Undo = []
+text_at_start asked.Reports = []
+text_at_start asked.Table = item_head_row
+text_at_start asked.Steps = []
+text_at_start asked.Score = []
+text_at_start asked.FinalState = []
+
+-- what is written of an item, by what came of it, with the changes that take it back and the last
+-- states of the log before it and after it
+abbrev pub text_by : EditView → Applied → ItemOutcome → List Change → State → State → List ℕ
+text_by asked.Transcript item outcome inverses s t = item_report_by item (refusal_in outcome)
+text_by asked.Play item outcome inverses s t = []
+text_by asked.Log item outcome inverses s t = []
+text_by asked.Undo item outcome inverses s t = []
+text_by asked.Reports item outcome inverses s t = account item outcome
+text_by asked.Table item outcome inverses s t = row_by item outcome inverses s t
+text_by asked.Steps item outcome inverses s t = []
+text_by asked.Score item outcome inverses s t = []
+text_by asked.FinalState item outcome inverses s t = []
+
+-- what is written of an item that is applied to a game
+abbrev pub text_of_item : EditView → CaveView → Applied → Game → ItemOutcome → List ℕ
+text_of_item view cave item game outcome =
+    text_by view item outcome (inverses_of item.changes game) (last_state cave game)
+    (last_state cave (game_after_item item game))
+
+-- what is kept of changes that take items back, by what is asked for
+abbrev pub kept_for : EditView → List (List Back) → List (List Back)
+kept_for asked.Transcript backs = []
+kept_for asked.Play backs = []
+kept_for asked.Log backs = []
+kept_for asked.Undo backs = backs
+kept_for asked.Reports backs = []
+kept_for asked.Table backs = []
+kept_for asked.Steps backs = []
+kept_for asked.Score backs = []
+kept_for asked.FinalState backs = []
+
+-- items were applied to what a session held: the text grew by what is written of each, and the
+-- totals are theirs
+pub record IsApplied (view : EditView) (items : List Applied)
+    (old : SessionView CaveMachine Piece State) (before after : List ℕ)
+    (played lines : ℕ) : Type 0 where
+  pub outcomes : List ItemOutcome
+  pub came : AreOutcomes old.machine.rules.cave.now old.every items old.game old.checkpoints
+      outcomes
+  pub told : after ≡ before
+      ++ text_of_items (text_of_item view old.machine.rules.cave.now) items old.game outcomes
+  pub played_is : played ≡ sum_by played_in outcomes
+  pub lines_are : lines ≡ sum_by lines_in outcomes
+
+-- what is written after all items, by what is asked for
+abbrev pub text_at_end : EditView → CaveView → Game → ℕ → ℕ → List (List Back) → List ℕ
+text_at_end asked.Transcript cave game played lines backs = play_text cave game
+text_at_end asked.Play cave game played lines backs = play_text cave game
+text_at_end asked.Log cave game played lines backs = log_text game.log
+text_at_end asked.Undo cave game played lines backs = script_text backs
+text_at_end asked.Reports cave game played lines backs = totals_line played lines
+text_at_end asked.Table cave game played lines backs = []
+text_at_end asked.Steps cave game played lines backs = steps_text cave game
+text_at_end asked.Score cave game played lines backs = score_text cave game
+text_at_end asked.FinalState cave game played lines backs = final_state_text cave game
+
+-- the written log reads back
+abbrev pub LogReadsBack : EditView → List (List ℕ) → Type 0
+LogReadsBack asked.Transcript log = ⊤
+LogReadsBack asked.Play log = ⊤
+LogReadsBack asked.Log log = lines (log_text log) ≡ log
+LogReadsBack asked.Undo log = ⊤
+LogReadsBack asked.Reports log = ⊤
+LogReadsBack asked.Table log = ⊤
+LogReadsBack asked.Steps log = ⊤
+LogReadsBack asked.Score log = ⊤
+LogReadsBack asked.FinalState log = ⊤

@@ -1,0 +1,106 @@
+//! Whether a log meets the guards of an item, and guards that it meets.
+
+ghost use Rattle.std.specs.Prelude.{◌≡◌, ◌≤◌, ℕ, List, None, length};
+ghost use Rattle.std.specs.Prelude.{IfOk, OnOk, map, option_map};
+ghost use Rattle.replay_edits.specs.Draft.{IsDraft, made_in};
+ghost use Rattle.replay_edits.specs.Edit.{changes_of, log_of};
+ghost use Rattle.replay_edits.specs.Faults.{fault_of_all};
+ghost use Rattle.replay_scripts.specs.Views.{expectation_in, expectations_of};
+ghost use Rattle.play_edits.specs.Refusal.{IsFreeCount, first_unmet, other_line};
+
+use crate::refusal::{KeptLine, Refusal, RefusedItem};
+use cave_replay::Session;
+use play_machine::CaveMachine;
+use replay_edits::plan::plan_edits;
+use replay_edits::{Draft, Edit, LineText};
+use replay_scripts::{Guard, Item};
+use std::alloc::{AllocError, Global};
+
+/// The refusal for the first guard of an item that the held game doesn't meet.
+pub(crate) fn unmet_guard(
+    alloc: Global,
+    session: &Session<CaveMachine<'_>>,
+    item: &Item,
+) -> Result<Option<RefusedItem>, AllocError>
+    ensures { let changes = changes_of item.now.edits.items in
+        IfOk result (λ refused. refused
+        ≡ first_unmet changes (expectations_of item.now.guards) session.now.game.log) }
+{
+    if item.guards.is_empty() {
+        return Ok(None);
+    }
+    first_unmet(alloc, session.log(), &item.edits, &item.guards)
+}
+
+/// The refusal for the first of the guards among edits that a log doesn't meet.
+fn first_unmet(
+    alloc: Global,
+    log: &[LineText],
+    edits: &[Edit],
+    guards: &[Guard],
+) -> Result<Option<RefusedItem>, AllocError>
+    ensures { IfOk result (λ refused. refused
+        ≡ first_unmet (changes_of edits.now) (map expectation_in guards.now) (log_of log.now)) }
+{
+    let free = &edits[..free_count(edits, log.len())];
+    let mut draft = Draft::new(alloc, free, log)?;
+    for guard in guards {
+        let after = guard.after.min(edits.len());
+        if after <= free.len() {
+            move_to(alloc, free, log, &mut draft, after)?;
+            if let Some(refused) = other_line(guard, draft.line(guard.place as usize)) {
+                return Ok(Some(refused));
+            }
+        }
+    }
+    Ok(None)
+}
+
+/// How many of the edits of a log of `lines` lines are made before one is refused.
+fn free_count(edits: &[Edit], lines: usize) -> usize
+    ensures { (log : List (List ℕ)) → length log ≡ lines
+        → IsFreeCount (changes_of edits.now) log result }
+{
+    match plan_edits(edits, lines) {
+        Ok(_) => edits.len(),
+        Err(fault) => fault.at,
+    }
+}
+
+/// Makes edits of a draft until so many are made, anew where more are.
+fn move_to<'a>(
+    alloc: Global,
+    edits: &'a [Edit],
+    log: &'a [LineText],
+    draft: &mut Draft<'a>,
+    after: usize,
+) -> Result<(), AllocError>
+    requires free { fault_of_all (changes_of edits.now) (log_of log.now) 0 ≡ None }
+    requires draft { IsDraft edits.now log.now (made_in draft.old) draft.old }
+    requires within { after ≤ length edits.now }
+    ensures { OnOk result (IsDraft edits.now log.now after draft.new) }
+{
+    if after < draft.made() {
+        *draft = Draft::new(alloc, edits, log)?;
+    }
+    while draft.made() < after {
+        draft.make_next(alloc)?;
+    }
+    Ok(())
+}
+
+/// The refusal for a guard where the log has this line at its place, or none.
+fn other_line(guard: &Guard, line: Option<&[u8]>) -> Option<RefusedItem>
+    ensures { let there = option_map (λ line. line.now) line.entry in
+        result ≡ other_line (expectation_in guard.now) there }
+{
+    let cause = match line {
+        None => Refusal::NoLine,
+        Some(line) if line == guard.text.as_slice() => return None,
+        Some(line) => Refusal::OtherLine(KeptLine::of(line)),
+    };
+    Some(RefusedItem {
+        line: guard.line,
+        cause,
+    })
+}

@@ -1,0 +1,131 @@
+//! Why an item of a script is refused, and what is said of it.
+
+ghost use Rattle.std.specs.Prelude.{◌≡◌};
+ghost use Rattle.play_edits.specs.Refusal.{edit_number, kept_line, refusal_number, shown_kept_line};
+ghost use Rattle.play_edits.specs.Accounts.{edit_fault_words, refusal_words, line_said};
+
+use replay_edits::EditFault;
+use std::{fmt, str};
+
+/// How many bytes of a line are kept: as many as a line of a log may have.
+const MAX_KEPT: usize = 255;
+
+/// A line of a log, which lies in the value itself.
+#[derive(Clone, Copy, Debug, PartialEq, Eq)]
+pub struct KeptLine {
+    bytes: [u8; MAX_KEPT],
+    len: u8,
+}
+
+impl KeptLine {
+    /// The first bytes of a line, all of them where a log may have it.
+    pub(crate) fn of(line: &[u8]) -> KeptLine
+        ensures { result ≡ kept_line line.now }
+    {
+        let cut = &line[..MAX_KEPT.min(line.len())];
+        let mut bytes = [0; MAX_KEPT];
+        for (i, byte) in cut.iter().enumerate() {
+            bytes[i] = *byte;
+        }
+        KeptLine {
+            bytes,
+            len: cut.len() as u8,
+        }
+    }
+
+    /// The line.
+    pub fn as_slice(&self) -> &[u8]
+        ensures { result.now ≡ shown_kept_line self.now }
+    {
+        &self.bytes[..usize::from(self.len)]
+    }
+}
+
+/// Why an item of a script is refused, as reports say it.
+#[derive(Clone, Copy, Debug, PartialEq, Eq)]
+pub enum Refusal {
+    /// An edit is refused.
+    Edit(EditFault),
+    /// A guard expects a line at a place where the log has none.
+    NoLine,
+    /// A guard expects another line than the one that the log has.
+    OtherLine(KeptLine),
+}
+
+/// A refusal, with the line of the script by which it is reported.
+#[derive(Clone, Copy, Debug, PartialEq, Eq)]
+pub struct RefusedItem {
+    pub line: usize,
+    pub cause: Refusal,
+}
+
+impl Refusal {
+    /// The number by which a report names it.
+    pub(crate) fn number(self) -> u8
+        ensures { result ≡ refusal_number self }
+    {
+        match self {
+            Refusal::Edit(fault) => edit_number(fault),
+            Refusal::NoLine | Refusal::OtherLine(_) => 8,
+        }
+    }
+
+    /// What is said beside the number.
+    pub(crate) fn words(self) -> &'static str
+        ensures { result.now ≡ refusal_words self }
+    {
+        match self {
+            Refusal::Edit(fault) => edit_words(fault),
+            Refusal::NoLine => "no line",
+            Refusal::OtherLine(_) => "another line: ",
+        }
+    }
+
+    /// The line of the log that is said after the words.
+    pub(crate) fn line(&self) -> &[u8]
+        ensures { result.now ≡ line_said self.now }
+    {
+        match self {
+            Refusal::OtherLine(line) => line.as_slice(),
+            Refusal::Edit(_) | Refusal::NoLine => &[],
+        }
+    }
+}
+
+impl fmt::Display for Refusal {
+    fn fmt<W: fmt::Write>(&self, f: &mut fmt::Formatter<W>) -> fmt::Result {
+        let (number, words) = (self.number(), self.words());
+        let line = str::from_utf8(self.line()).unwrap_or("");
+        write!(f, "refused {number}, {words}{line}")
+    }
+}
+
+/// The number by which a report names the refusal of an edit.
+fn edit_number(fault: EditFault) -> u8
+    ensures { result ≡ edit_number fault }
+{
+    match fault {
+        EditFault::NoSuchPlace => 1,
+        EditFault::BadLine => 2,
+        EditFault::LogFull => 3,
+        EditFault::BadSeed => 4,
+        EditFault::MeterFull => 5,
+        EditFault::Memory => 6,
+        EditFault::EmptyGroup => 7,
+    }
+}
+
+/// What is said beside the number of the refusal of an edit.
+fn edit_words(fault: EditFault) -> &'static str
+    ensures { result.now ≡ edit_fault_words fault }
+{
+    match fault {
+        EditFault::NoSuchPlace => "no such line",
+        EditFault::BadLine => "a bad line",
+        EditFault::LogFull => "a full log",
+        EditFault::BadSeed => "a bad seed",
+        EditFault::MeterFull => "a full meter",
+        EditFault::Memory => "no memory",
+        EditFault::EmptyGroup => "an empty group",
+    }
+}

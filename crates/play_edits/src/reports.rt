@@ -1,0 +1,211 @@
+//! What is written of the items of a script.
+
+ghost use Rattle.std.specs.Prelude.{◌≡◌, ◌++◌, IfOk, OnOk, string_bytes};
+ghost use Rattle.replay_edits.specs.Edit.{changes_of};
+ghost use Rattle.replay_scripts.specs.Views.{applied_item};
+ghost use Rattle.replay_scripts.specs.ScriptText.{groups_in};
+ghost use Rattle.play_edits.specs.Accounts.{account, ending_text, ending_words, met_text};
+ghost use Rattle.play_edits.specs.Accounts.{refusal_text, standing_text, totals_line};
+ghost use Rattle.play_edits.specs.Edits.{LogReadsBack, text_at_end, text_at_start, text_by};
+ghost use Rattle.play_edits.specs.Items.{item_report_by};
+ghost use Rattle.play_edits.specs.declared.outcome.ItemOutcome.TheVariants.{Replayed};
+
+use crate::outcome::{ItemOutcome, ItemReplay, Standing, Totals};
+use crate::refusal::RefusedItem;
+use crate::table::{Done, push_row};
+use cave_replay::Session;
+use cave_world::Ending;
+use play_command::EditView;
+use play_machine::{CaveMachine, push_final_state, push_play, push_score, push_steps};
+use play_tables::push_item_head_row;
+use replay_scripts::{BackEdit, Item, push_script};
+use std::alloc::{AllocError, Global};
+
+/// Appends what is written before all items of a script.
+pub fn push_start(view: EditView, text: &mut Vec<u8>) -> Result<(), AllocError>
+    ensures { OnOk result (text.new.items ≡ text.old.items ++ text_at_start view) }
+{
+    match view {
+        EditView::Table => push_item_head_row(text),
+        EditView::Transcript | EditView::Play | EditView::Log | EditView::Undo => Ok(()),
+        EditView::Reports | EditView::Steps | EditView::Score | EditView::FinalState => Ok(()),
+    }
+}
+
+/// Writes of an item what is asked for.
+pub fn push_outcome(
+    alloc: Global,
+    text: &mut Vec<u8>,
+    item: &Item,
+    view: EditView,
+    done: &Done<'_>,
+) -> Result<(), AllocError>
+    ensures { OnOk result (text.new.items ≡ text.old.items ++ text_by view (applied_item item.now)
+        done.now.outcome (changes_of done.now.inverse.now) done.now.before.now
+        done.now.after.now) }
+{
+    match view {
+        EditView::Transcript => push_report(alloc, text, item, done.outcome.refusal()),
+        EditView::Reports => push_account(alloc, text, item, done.outcome),
+        EditView::Table => push_row(alloc, text, item, done),
+        EditView::Play | EditView::Log | EditView::Undo => Ok(()),
+        EditView::Steps | EditView::Score | EditView::FinalState => Ok(()),
+    }
+}
+
+/// Appends what is written after all items of a script.
+pub fn push_end(
+    alloc: Global,
+    session: &Session<CaveMachine<'_>>,
+    view: EditView,
+    totals: Totals,
+    backs: &[Vec<BackEdit>],
+    text: &mut Vec<u8>,
+) -> Result<(), AllocError>
+    ensures told { OnOk result (text.new.items ≡ text.old.items
+        ++ text_at_end view session.now.machine.rules.cave.now session.now.game totals.played
+        totals.lines (groups_in backs.now)) }
+    ensures reads_back { OnOk result (LogReadsBack view session.now.game.log) }
+{
+    match view {
+        EditView::Transcript | EditView::Play => push_play(alloc, session, text),
+        EditView::Log => session.push_log(text),
+        EditView::Undo => push_script(alloc, text, backs),
+        EditView::Reports => push_totals(alloc, text, totals),
+        EditView::Table => Ok(()),
+        EditView::Steps => push_steps(alloc, session, text),
+        EditView::Score => push_score(alloc, session, text),
+        EditView::FinalState => push_final_state(alloc, session, text),
+    }
+}
+
+/// Writes how many lines were played for all items.
+fn push_totals(alloc: Global, text: &mut Vec<u8>, totals: Totals) -> Result<(), AllocError>
+    ensures { OnOk result
+        (text.new.items ≡ text.old.items ++ totals_line totals.played totals.lines) }
+{
+    let Totals { played, lines } = totals;
+    let told = format!(in alloc;
+        "played {played} lines; from the start it would have been {lines}\n"
+    )?;
+    text.extend_from_slice(told.as_bytes())
+}
+
+/// Reports on an item: that it was accepted, or why it was refused.
+fn push_report(
+    alloc: Global,
+    text: &mut Vec<u8>,
+    item: &Item,
+    refusal: Option<RefusedItem>,
+) -> Result<(), AllocError>
+    ensures { OnOk result
+        (text.new.items ≡ text.old.items ++ item_report_by (applied_item item.now) refusal) }
+{
+    let report = match refusal {
+        None => {
+            let line = item.line;
+            format!(in alloc; "line {line}: ok\n")?
+        }
+        Some(refused) => {
+            let (line, number) = (refused.line, refused.cause.number());
+            format!(in alloc; "line {line}: refused {number}\n")?
+        }
+    };
+    text.extend_from_slice(report.as_bytes())
+}
+
+/// The place at which a replay met the old play, as it is written.
+fn met_text(alloc: Global, met: Option<u32>) -> Result<String, AllocError>
+    ensures { IfOk result (λ told. string_bytes told ≡ met_text met) }
+{
+    match met {
+        None => String::from_str(alloc, "none"),
+        Some(place) => format!(in alloc; "{place}"),
+    }
+}
+
+/// How a game has ended, in a few words.
+fn ending_words(ending: Ending) -> &'static str
+    ensures { result.now ≡ ending_words ending }
+{
+    match ending {
+        Ending::Quit => ", ended: quit",
+        Ending::Killed => ", ended: killed",
+        Ending::Klutz => ", ended: klutz",
+        Ending::WrongWay => ", ended: wrong way",
+        Ending::Success => ", ended: success",
+    }
+}
+
+fn ending_text(ending: Option<Ending>) -> &'static str
+    ensures { result.now ≡ ending_text ending }
+{
+    match ending {
+        None => "",
+        Some(ending) => ending_words(ending),
+    }
+}
+
+/// Where a game is after its last line, as it is written.
+fn standing_text(alloc: Global, standing: Standing) -> Result<String, AllocError>
+    ensures { IfOk result (λ told. string_bytes told ≡ standing_text standing) }
+{
+    let Standing {
+        score,
+        most,
+        turns,
+        place,
+        ending,
+    } = standing;
+    let ended = ending_text(ending);
+    format!(in alloc; ", score {score} of {most}, turns {turns}, at {place}{ended}")
+}
+
+fn account_text(alloc: Global, item: &Item, replay: ItemReplay) -> Result<String, AllocError>
+    ensures { IfOk result (λ told.
+        string_bytes told ≡ account (applied_item item.now) (Replayed replay)) }
+{
+    let line = item.line;
+    let ItemReplay {
+        from,
+        met,
+        played,
+        lines,
+        standing,
+    } = replay;
+    let met = met_text(alloc, met)?;
+    let told = standing_text(alloc, standing)?;
+    format!(in alloc; "line {line}: ok, from {from}, met {met}, played {played} of {lines}{told}\n")
+}
+
+/// Writes what an item replayed, or why it was refused.
+fn push_account(
+    alloc: Global,
+    text: &mut Vec<u8>,
+    item: &Item,
+    outcome: ItemOutcome,
+) -> Result<(), AllocError>
+    ensures { OnOk result (text.new.items ≡ text.old.items
+        ++ account (applied_item item.now) outcome) }
+{
+    match outcome {
+        ItemOutcome::Refused(refused) => push_refusal(alloc, text, refused),
+        ItemOutcome::Replayed(replay) => {
+            let told = account_text(alloc, item, replay)?;
+            text.extend_from_slice(told.as_bytes())
+        }
+    }
+}
+
+/// Writes why an item was refused.
+fn push_refusal(alloc: Global, text: &mut Vec<u8>, refused: RefusedItem) -> Result<(), AllocError>
+    ensures { OnOk result (text.new.items ≡ text.old.items ++ refusal_text refused) }
+{
+    let (line, cause) = (refused.line, refused.cause);
+    let (number, words) = (cause.number(), cause.words());
+    let told = format!(in alloc; "line {line}: refused {number}, {words}")?;
+    text.extend_from_slice(told.as_bytes())?;
+    text.extend_from_slice(cause.line())?;
+    text.push(b'\n')?;
+    Ok(())
+}

@@ -1,0 +1,3 @@
+mod FinalStateLemmas
+mod Shown
+mod TranscriptLemmas

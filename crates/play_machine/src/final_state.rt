@@ -1,0 +1,31 @@
+//! The state that a play leads to.
+
+ghost use Rattle.std.specs.Prelude.{◌≡◌, ◌++◌, OnOk};
+ghost use Rattle.play_machine.specs.FinalState.{final_state_text};
+
+use crate::machine::CaveMachine;
+use cave_replay::Session;
+use cave_words::Stream;
+use play_state_text::{Counts, push_state};
+use std::alloc::{AllocError, Global};
+use turn_ends::begun_state;
+
+/// Appends the text of the state that the play of a session of the machine leads to.
+pub fn push_final_state(
+    alloc: Global,
+    session: &Session<CaveMachine<'_>>,
+    text: &mut Vec<u8>,
+) -> Result<(), AllocError>
+    ensures { OnOk result (text.new.items ≡ text.old.items
+        ++ final_state_text session.now.machine.rules.cave.now session.now.game) }
+{
+    let machine = session.machine();
+    let cave = machine.cave();
+    let begun = begun_state(cave, Stream::seeded(0));
+    let state = session.state();
+    let lines = session.lines();
+    let turns = session.ticks(lines);
+    let score = machine.score(state);
+    let counts = Counts { turns, score };
+    push_state(alloc, text, cave, &begun.objects, counts, state)
+}

@@ -1,0 +1,17 @@
+//! The machine of a cave, and what is written of a play that it made: the transcript, tables of its
+//! lines and of its score, and its last state.
+#![tactic(auto)]
+
+pub mod final_state;
+pub mod machine;
+pub mod piece;
+pub mod score;
+pub mod steps;
+pub mod transcript;
+
+pub use final_state::push_final_state;
+pub use machine::CaveMachine;
+pub use piece::Piece;
+pub use score::push_score;
+pub use steps::push_steps;
+pub use transcript::push_play;

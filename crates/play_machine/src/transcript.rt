@@ -1,0 +1,100 @@
+//! The transcript of a play.
+
+ghost use Rattle.std.specs.Prelude.{◌≡◌, ◌≤◌, ◌++◌, OnOk};
+ghost use Rattle.base_lines.specs.LogLine.{log_line};
+ghost use Rattle.play_machine.specs.Machine.{rendering_of};
+ghost use Rattle.play_machine.specs.Transcript.{echo, is_shown, last_line, play_text, shown_line};
+
+use crate::machine::CaveMachine;
+use base_lines::is_skipped;
+use cave_data::Cave;
+use cave_replay::Session;
+use cave_world::Part;
+use std::alloc::{AllocError, Global};
+use turn_text::render;
+
+/// How many bytes a line of a log and what is said at it take in many transcripts.
+const USUAL_LINE: usize = 64;
+
+/// Appends the transcript of the play that a session of the machine holds.
+pub fn push_play(
+    alloc: Global,
+    session: &Session<CaveMachine<'_>>,
+    text: &mut Vec<u8>,
+) -> Result<(), AllocError>
+    ensures { OnOk result (text.new.items ≡ text.old.items
+        ++ play_text session.now.machine.rules.cave.now session.now.game) }
+{
+    let machine = session.machine();
+    let cave = machine.cave();
+    let pieces = session.pieces();
+    let lines = session.lines();
+    text.reserve(USUAL_LINE * lines as usize)?;
+    render(cave, session.opening(), 0, text)?;
+    for (place, turns) in session.tick_counts().enumerate() {
+        let line = session.line(place as u32);
+        push_line(cave, text, line, &pieces[place], turns)?;
+    }
+    let score = machine.score(session.state());
+    push_last_line(
+        alloc,
+        text,
+        score,
+        machine.max_score(),
+        session.ticks(lines),
+    )
+}
+
+#[tactic(auto, using(crate::proofs::Shown::shown_unless_skipped))]
+fn is_shown(line: &[u8]) -> bool
+    ensures { result ≡ is_shown (log_line line.now) }
+{
+    !is_skipped(line)
+}
+
+/// Appends a line of the log as it is shown.
+fn push_echo(text: &mut Vec<u8>, line: &[u8]) -> Result<(), AllocError>
+    ensures { OnOk result (text.new.items ≡ text.old.items ++ echo line.now) }
+{
+    // A byte is pushed faster than a slice of it is copied.
+    text.push(b'\n')?;
+    text.push(b'>')?;
+    text.push(b' ')?;
+    text.extend_from_slice(line)?;
+    text.push(b'\n')?;
+    Ok(())
+}
+
+/// Appends the line of the score, the greatest score, and how many turns were taken. It is asked
+/// for no score above the greatest.
+fn push_last_line(
+    alloc: Global,
+    text: &mut Vec<u8>,
+    score: u32,
+    most: u32,
+    turns: u32,
+) -> Result<(), AllocError>
+    requires { score ≤ most }
+    ensures { OnOk result (text.new.items ≡ text.old.items ++ last_line score most turns) }
+{
+    let line = format!(in alloc; "-- score {score} of {most}, turns {turns}\n")?;
+    text.extend_from_slice(line.as_bytes())
+}
+
+/// Appends a line of the log and what was said at it, where the line is shown.
+fn push_line(
+    cave: &Cave,
+    text: &mut Vec<u8>,
+    line: &[u8],
+    piece: &[Part],
+    turns: u32,
+) -> Result<(), AllocError>
+    ensures { OnOk result (text.new.items ≡ text.old.items
+        ++ shown_line (rendering_of cave.now) line.now piece.now turns) }
+{
+    if !is_shown(line) {
+        return Ok(());
+    }
+    push_echo(text, line)?;
+    render(cave, piece, turns, text)
+}

@@ -1,0 +1,72 @@
+-- The stops of the plays of logs, and the map with what they saw.
+use Rattle.std.specs.Prelude.{◌≡◌, ℕ, Bool, true, false, ◌&&◌, not, Option, Some, List, [], ◌∷◌}
+use Rattle.std.specs.Prelude.{length}
+use Rattle.std.specs.List.{flat_map}
+use Rattle.std.specs.Str.Lines.{lines}
+use Rattle.cave_data.specs.CaveView.{CaveView}
+use Rattle.cave_data.specs.Reads.{Reads}
+use Rattle.play_machine.specs.Machine.{cave_rules}
+use Rattle.cave_world.specs.declared.ending.Question.{Question}
+use Rattle.cave_world.specs.declared.ending.Question.TheVariants as question
+use Rattle.cave_world.specs.declared.part.Part.{Part}
+use Rattle.cave_world.specs.declared.state.State.{State}
+use Rattle.cave_replay.specs.Play.{MachineRules}
+use Rattle.replay_edits.specs.Edit.{Game, game_of}
+use Rattle.map_graph.specs.Map.{map_of_places}
+use Rattle.map_graph.specs.Stops.{stop}
+use Rattle.map_graph.specs.declared.stops.Stop.{Stop}
+use Rattle.std.specs.List.Sorted.{IsPermutation}
+use Rattle.cave_play.specs.Run.{AtMostOne}
+
+abbrev pub asks_of_dragon : Option Question → Bool
+asks_of_dragon (Some question.Dragon) = true
+asks_of_dragon _ = false
+
+-- the line kills the dragon: it answers the question whether to fight it, and is no command
+abbrev pub is_fight : MachineRules State (List Part) → State → List ℕ → Bool
+is_fight rules state line = asks_of_dragon state.question && not (rules.ticked state line)
+
+-- the stops at the states that follow a state, one at each line
+abbrev pub stops_after : MachineRules State (List Part) → State → List (List ℕ) → List Stop
+stops_after rules state [] = []
+stops_after rules state (line ∷ lines) =
+    stop state.trail.here (rules.after state line).trail (is_fight rules state line)
+    ∷ stops_after rules (rules.after state line) lines
+
+-- the stops of playing a game; none is before the first state
+unfoldable pub stops_in : CaveView → Game → List Stop
+stops_in cave game =
+    let rules = cave_rules cave in
+    let begun = rules.begun game.seed in
+    stop 0 begun.trail false ∷ stops_after rules begun game.log
+
+-- the map of a cave with what the plays of games saw of it
+abbrev pub map_of_games : CaveView → List Game → List ℕ
+map_of_games cave games = map_of_places cave (flat_map (stops_in cave) games) (length games)
+
+abbrev pub stops_in_log : CaveView → ℕ → List ℕ → List Stop
+stops_in_log cave seed log = stops_in cave (game_of seed (lines log))
+
+-- the stops where each log is played by itself
+abbrev pub stops_in_all : CaveView → ℕ → List (List ℕ) → List Stop
+stops_in_all cave seed logs = flat_map (stops_in_log cave seed) logs
+
+abbrev pub map_text : CaveView → ℕ → List (List ℕ) → List ℕ
+map_text cave seed logs = map_of_places cave (stops_in_all cave seed logs) (length logs)
+
+-- the output is the map of the logs in the cave of the database and its bindings
+abbrev pub IsMapped : List ℕ → List ℕ → List (List ℕ) → ℕ → List ℕ → Type 0
+IsMapped database bindings logs seed output =
+    (cave : CaveView) × Reads database bindings cave × (output ≡ map_text cave seed logs)
+
+-- the order of the logs changes no byte of a map
+abbrev pub OrderOfLogsIsNothing : Type 0
+OrderOfLogsIsNothing =
+    (cave : CaveView) (seed : ℕ) (logs others : List (List ℕ))
+    → IsPermutation logs others → map_text cave seed others ≡ map_text cave seed logs
+
+-- a database with its bindings, logs and a seed have one map at most
+abbrev pub OneMap : Type 0
+OneMap =
+    (database bindings : List ℕ) (logs : List (List ℕ)) (seed : ℕ)
+    → AtMostOne (IsMapped database bindings logs seed)

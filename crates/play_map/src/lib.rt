@@ -1,0 +1,6 @@
+//! Runs that draw a map of a cave with what logs saw of it.
+#![tactic(auto)]
+
+pub mod laws;
+pub mod plays;
+pub mod run;

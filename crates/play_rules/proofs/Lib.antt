@@ -1,3 +1,0 @@
-pub mod LawLemmas
-pub mod Telling
-pub mod LineLemmas

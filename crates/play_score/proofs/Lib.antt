@@ -1,3 +1,0 @@
-pub mod Others
-pub mod Summing
-pub mod Walking

@@ -1,8 +1,0 @@
-use Rattle.std.proofs.Common.{◌≡◌}
-use Rattle.play_steps.specs.Draws.{draws_between}
-use Rattle.play_steps.proofs.Drawing.{draws_from}
-use Rattle.play_steps.proofs.draws.draws_between.Given as goal
-
--- the draws so far and those that are left are all
-abbrev pub invariant-loop-drawn : goal.invariant-loop-drawn
-invariant-loop-drawn l = draws_from l.drawn l.at l.to ≡ draws_between l.fn.from l.to

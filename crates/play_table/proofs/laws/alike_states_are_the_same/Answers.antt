@@ -1,5 +1,0 @@
-use Rattle.play_table.proofs.Alike.{alike_states}
-use Rattle.play_table.proofs.laws.alike_states_are_the_same.Goals as goal
-
-pub returns : goal.returns
-returns c = alike_states

@@ -1,0 +1,7 @@
+pub mod Draws
+pub mod Events
+pub mod Step
+pub mod ScoreRows
+pub mod ScoreTable
+pub mod Kinds
+pub mod ItemRow

@@ -1,0 +1,19 @@
+//! Tables of a play: what each line did, where the score comes from, and what each edit changed.
+#![tactic(auto)]
+
+pub mod columns;
+pub mod differences;
+pub mod draws;
+pub mod events;
+pub mod item_row;
+pub mod kinds;
+pub mod laws;
+pub mod score_ends;
+pub mod score_names;
+pub mod score_rows;
+pub mod score_table;
+pub mod step;
+
+pub use item_row::{AcceptedRow, push_accepted_row, push_item_head_row, push_refused_row};
+pub use score_table::push_score_table;
+pub use step::{StepRow, push_step_head_row, push_step_row};

@@ -1,0 +1,9 @@
+pub mod Contents
+pub mod Counts
+pub mod JoinLemmas
+pub mod NextPlaceLemmas
+pub mod OfferLemmas
+pub mod Places
+pub mod Runs
+pub mod ThinningLemmas
+pub mod TurnLemmas

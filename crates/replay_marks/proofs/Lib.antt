@@ -1,9 +1,0 @@
-pub mod Contents
-pub mod Counts
-pub mod NextPlaceLemmas
-pub mod JoinLemmas
-pub mod OfferLemmas
-pub mod Places
-pub mod Runs
-pub mod ThinningLemmas
-pub mod TurnLemmas

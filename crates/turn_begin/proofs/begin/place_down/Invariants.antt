@@ -1,9 +1,0 @@
-use Rattle.std.proofs.Common.{◌≡◌, ◌-◌}
-use Rattle.turn_begin.specs.Placing.{after_placing_all}
-use Rattle.turn_begin.proofs.Countdown.{due_from}
-use Rattle.turn_begin.proofs.begin.place_down.Given as goal
-
--- so far the last objects are placed
-abbrev pub invariant-loop-i : goal.invariant-loop-i
-invariant-loop-i l =
-    l.objects ≡ after_placing_all l.cave (due_from l.cave l.twice (101 - l.i) l.i) l.initial.objects

@@ -1,0 +1,377 @@
+//! Hints: one is offered to a player who stays for long where it helps, and who needs it.
+
+ghost use Rattle.std.specs.Prelude.{◌≡◌, ◌<◌, ◌≤◌, ◌+◌, ◌*◌, ◌⊎◌, ℕ, IsTrue, false, true, [], ◌∷◌};
+ghost use Rattle.std.specs.Prelude.{Some, min};
+ghost use Rattle.std.specs.FinMap.{get};
+ghost use Rattle.cave_data.specs.CaveView.{CaveView, cond_of};
+ghost use Rattle.cave_data.specs.Tables.{IsAbove};
+ghost use Rattle.cave_world.specs.Sight.{has_condition};
+ghost use Rattle.cave_world.specs.State as defined_state;
+ghost use Rattle.cave_world.specs.State.{takes_no_command, turns_in_area};
+ghost use Rattle.cave_words.specs.declared.named.Named.TheVariants as name;
+ghost use Rattle.turn_scene.specs.Bounds.{GoesOnSaying, HasRoom, SaysUpTo, parts_of_question};
+ghost use Rattle.turn_scene.specs.Scene.{scene_of, cave_of};
+ghost use Rattle.turn_scene.specs.Props as defined_props;
+ghost use Rattle.turn_scene.specs.Rows.{Does, all_hold, deed, by_rows, by_table, note_row};
+ghost use Rattle.turn_scene.specs.Tests.{the, no, carried, near, prop, other_prop, last_object};
+ghost use Rattle.turn_scene.specs.Tests.{here, old, older};
+ghost use Rattle.turn_scene.specs.Effects.{with_charge};
+ghost use Rattle.cave_world.specs.declared.tables.Table.TheVariants as table;
+ghost use Rattle.turn_clocks.specs.Hints as defined;
+ghost use Rattle.turn_clocks.specs.Hints.{nothing_at, two_in_hands, offer, guard_rows};
+ghost use Rattle.turn_clocks.specs.Hints.{longer_charge, with_turns_in_area, offer_rows};
+ghost use Rattle.turn_clocks.specs.Hints.{after_consider, after_hints, price_rows, give_rows};
+
+use cave_data::Cave;
+use cave_words::Named;
+use cave_world::{
+    Charge, Count, HintNumber, LOW_CHARGE, MAX_TURNS_IN_AREA, NumberLine, Part, Question, RowNotes,
+    State, Table,
+};
+use data_rows::Hint;
+use turn_ends::ask;
+use turn_scene::props::{GRATE_LOCKED, UNSEEN};
+use turn_scene::{Rules, Scene, has_other_prop, has_prop, is_carried, is_near};
+
+/// The hints that are offered begin with this one.
+const FIRST_HINT: u8 = 4;
+
+/// How many hints are offered.
+const OFFERED_HINTS: u8 = 17;
+
+/// Asks how to come through the grate.
+const GRATE_HINT: u8 = 4;
+
+/// Asks how to catch the bird.
+const BIRD_HINT: u8 = 5;
+
+/// Asks how to pass the snake.
+const SNAKE_HINT: u8 = 6;
+
+/// Asks how to leave the maze.
+const MAZE_HINT: u8 = 7;
+
+/// Asks how to take the pyramid out.
+const PYRAMID_HINT: u8 = 8;
+
+/// Hints from 9 on have no guard.
+const FIRST_UNGUARDED_HINT: u8 = 9;
+
+/// How many turns more the lamp burns for each point that a hint costs.
+const TURNS_A_POINT: i32 = 30;
+
+/// The hints are considered, one after another.
+pub fn consider_all<N: RowNotes>(rules: &Rules<'_>, scene: &mut Scene<'_, N>)
+    requires { HasRoom (2 * parts_of_question) scene.old }
+    ensures scene { scene_of N.rows scene.new
+        ≡ after_hints (cave_of rules.now) (scene_of N.rows scene.old) }
+    ensures says { GoesOnSaying parts_of_question scene.old scene.new }
+{
+    // A hint moves nobody, so the conditions of the place are looked up once.
+    let conditions = rules.cave.cond(scene.state.trail.here.number());
+    let count = count_hints(rules.cave);
+    // At most places no hint is waited for, and then nothing changes.
+    if conditions < 1 << FIRST_HINT && counts_no_turn(count, scene.state) {
+        return;
+    }
+    for before in 0..count {
+        consider(
+            rules,
+            HintNumber::new(before + FIRST_HINT),
+            conditions,
+            scene,
+        );
+    }
+}
+
+/// How many of the hints that are offered come before the end of those that the cave has.
+fn count_hints(cave: &Cave) -> u8
+    ensures few { result ≤ defined.OFFERED_HINTS }
+    ensures all { IsAbove (result + defined.FIRST_HINT) cave.now.hints ⊎ (result
+        ≡ defined.OFFERED_HINTS) }
+{
+    let count = cave.hint_end().saturating_sub(usize::from(FIRST_HINT));
+    count.min(usize::from(OFFERED_HINTS)) as u8
+}
+
+/// How many turns the player has stayed in the area of the hint that is offered after so many.
+fn turns_after(before: usize, state: &State) -> Count<MAX_TURNS_IN_AREA>
+    requires { before < defined.OFFERED_HINTS }
+    ensures { result ≡ turns_in_area state.now (defined.FIRST_HINT + before) }
+{
+    state.hints.turns[before + usize::from(FIRST_HINT) - 1]
+}
+
+/// Whether of so many hints no turn counts.
+fn counts_no_turn(count: u8, state: &State) -> bool
+    requires { count ≤ defined.OFFERED_HINTS }
+    ensures { IsTrue result → (n : ℕ) → n < count
+        → turns_in_area state.now (defined.FIRST_HINT + n) ≡ 0 }
+{
+    for before in 0..usize::from(count) {
+        if turns_after(before, state).number() != 0 {
+            return false;
+        }
+    }
+    true
+}
+
+/// What a hint costs is said, and whether it is worth that is asked.
+#[tactic(auto, unfolding(crate::specs::Hints::price_rows))]
+pub fn price<N: RowNotes>(rules: &Rules<'_>, number: HintNumber, scene: &mut Scene<'_, N>)
+    requires { HasRoom (1 + parts_of_question) scene.old }
+    ensures rows { Does N.rows (by_rows price_rows ∷ []) (1 + parts_of_question) rules.now number
+        scene.old scene.new }
+{
+    if let Some(hint) = rules.cave.hint(u16::from(number.number())) {
+        let points = u32::from(hint.points);
+        scene.tell(Part::Number(NumberLine::HintCosts, points, 0));
+        ask(rules, &Question::Take(number), scene);
+    }
+}
+
+/// A hint is given. It lets a lamp that isn't low burn for longer.
+#[tactic(auto, unfolding(crate::specs::Hints::give_rows))]
+pub fn give_hint<N: RowNotes>(rules: &Rules<'_>, number: HintNumber, scene: &mut Scene<'_, N>)
+    requires { HasRoom 1 scene.old }
+    ensures rows { Does N.rows (by_table table.HintGiven give_rows ∷ []) 1 rules.now number
+        scene.old scene.new }
+{
+    if let Some(hint) = rules.cave.hint(u16::from(number.number())) {
+        if LOW_CHARGE < scene.state.lamp.charge.turns() {
+            scene.note(Table::HintGiven, 1);
+            scene.tell(Part::Message(hint.text));
+            scene.state.take_hint(number);
+            prolong(hint.points, scene.state);
+            return;
+        }
+        scene.note(Table::HintGiven, 2);
+        scene.tell(Part::Message(hint.text));
+        scene.state.take_hint(number);
+    }
+}
+
+/// How many turns the player has stayed in the area of a hint.
+fn turns_in_area(hint: HintNumber, state: &State) -> Count<MAX_TURNS_IN_AREA>
+    ensures { result ≡ turns_in_area state.now hint }
+{
+    state.hints.turns[usize::from(hint.number()) - 1]
+}
+
+fn set_turns_in_area(hint: HintNumber, turns: Count<MAX_TURNS_IN_AREA>, state: &mut State)
+    ensures state { state.new ≡ with_turns_in_area hint turns state.old }
+    ensures here { state.new.trail ≡ state.old.trail }
+{
+    state.hints.turns[usize::from(hint.number()) - 1] = turns;
+}
+
+/// Whether the conditions are those of a place in the area of a hint.
+#[tactic(auto, unfolding(cave_world::specs::Sight::has_condition))]
+fn is_in_area(hint: HintNumber, conditions: u32) -> bool
+    ensures { (cave : CaveView) (s : State) → conditions ≡ cond_of cave s.trail.here
+        → result ≡ has_condition cave s.trail.here hint }
+{
+    (conditions >> hint.number()) % 2 == 1
+}
+
+/// One turn more in the area of a hint.
+#[tactic(auto, unfolding(cave_world::specs::State::takes_no_command))]
+fn count_turn(hint: HintNumber, state: &mut State)
+    ensures state { state.new ≡ with_turns_in_area hint
+        (min (turns_in_area state.old hint + 1) defined_state.MAX_TURNS_IN_AREA) state.old }
+    ensures here { state.new.trail ≡ state.old.trail }
+    ensures over { takes_no_command state.new ≡ takes_no_command state.old }
+{
+    set_turns_in_area(hint, turns_in_area(hint, state).up(), state);
+}
+
+/// The turns in the area of a hint are counted from 0 again.
+#[tactic(auto, unfolding(cave_world::specs::State::takes_no_command))]
+fn restart(hint: HintNumber, state: &mut State)
+    ensures state { state.new ≡ with_turns_in_area hint 0 state.old }
+    ensures here { state.new.trail ≡ state.old.trail }
+    ensures over { takes_no_command state.new ≡ takes_no_command state.old }
+{
+    set_turns_in_area(hint, Count::new(0), state);
+}
+
+/// The grate is locked, and the keys aren't at hand.
+fn is_locked_out<N: RowNotes>(rules: &Rules<'_>, number: HintNumber, scene: &Scene<'_, N>) -> bool
+    ensures { result ≡ all_hold
+        (prop (the name.Grate) defined_props.GRATE_LOCKED ∷ no (near (the name.Keys)) ∷ [])
+        (deed (cave_of rules.now) number (scene_of N.rows scene.now)) }
+{
+    has_prop(scene.state, rules.thing(Named::Grate), GRATE_LOCKED)
+        && !is_near(rules, scene.state, rules.thing(Named::Keys))
+}
+
+/// The bird is at hand, which flees from the rod that the player carries, and it was the last
+/// object.
+fn is_after_bird<N: RowNotes>(rules: &Rules<'_>, number: HintNumber, scene: &Scene<'_, N>) -> bool
+    ensures { result ≡ all_hold
+        (near (the name.Bird) ∷ carried (the name.Rod) ∷ last_object name.Bird ∷ [])
+        (deed (cave_of rules.now) number (scene_of N.rows scene.now)) }
+{
+    is_near(rules, scene.state, rules.thing(Named::Bird))
+        && is_carried(rules, scene.state, rules.thing(Named::Rod))
+        && rules.is(scene.state.talk.last, Named::Bird)
+}
+
+fn is_held_by_snake<N: RowNotes>(
+    rules: &Rules<'_>,
+    number: HintNumber,
+    scene: &Scene<'_, N>,
+) -> bool
+    ensures { result ≡ all_hold (near (the name.Snake) ∷ no (near (the name.Bird)) ∷ [])
+        (deed (cave_of rules.now) number (scene_of N.rows scene.now)) }
+{
+    is_near(rules, scene.state, rules.thing(Named::Snake))
+        && !is_near(rules, scene.state, rules.thing(Named::Bird))
+}
+
+/// Nothing marks the last three places, and the player has what could mark them.
+fn is_lost_in_maze<N: RowNotes>(rules: &Rules<'_>, number: HintNumber, scene: &Scene<'_, N>) -> bool
+    ensures { result ≡ all_hold
+        (nothing_at here ∷ nothing_at old ∷ nothing_at older ∷ two_in_hands ∷ [])
+        (deed (cave_of rules.now) number (scene_of N.rows scene.now)) }
+{
+    let state = &*scene.state;
+    state.is_bare(state.trail.here)
+        && state.is_bare(state.trail.last)
+        && state.is_bare(state.trail.older)
+        && 1 < state.holding()
+}
+
+/// The emerald was found, and the pyramid wasn't.
+fn is_short_of_pyramid<N: RowNotes>(
+    rules: &Rules<'_>,
+    number: HintNumber,
+    scene: &Scene<'_, N>,
+) -> bool
+    ensures { result ≡ all_hold
+        (other_prop (the name.Emerald) defined_props.UNSEEN
+        ∷ prop (the name.Pyramid) defined_props.UNSEEN ∷ [])
+        (deed (cave_of rules.now) number (scene_of N.rows scene.now)) }
+{
+    has_other_prop(scene.state, rules.thing(Named::Emerald), UNSEEN)
+        && has_prop(scene.state, rules.thing(Named::Pyramid), UNSEEN)
+}
+
+/// A hint is offered, by a row of the guards, and its turns are counted from 0 again.
+#[tactic(auto, using(crate::proofs::Trails::trail_asked))]
+fn offer<N: RowNotes>(rules: &Rules<'_>, number: HintNumber, row: u8, scene: &mut Scene<'_, N>)
+    requires { HasRoom parts_of_question scene.old }
+    ensures rows { Does N.rows (note_row table.HintGuards row ∷ offer) parts_of_question
+        rules.now number scene.old scene.new }
+    ensures here { scene.new.state.now.trail ≡ scene.old.state.now.trail }
+    ensures over { IsTrue (takes_no_command scene.new.state.now) }
+{
+    scene.note(Table::HintGuards, row);
+    restart(number, scene.state);
+    ask(rules, &Question::Hint(number), scene);
+}
+
+/// A hint is offered where its guard says that it helps, and where it has none.
+#[tactic(auto, unfolding(crate::specs::Hints::guard_rows))]
+fn offer_by_guard<N: RowNotes>(rules: &Rules<'_>, number: HintNumber, scene: &mut Scene<'_, N>)
+    requires { HasRoom parts_of_question scene.old }
+    ensures rows { Does N.rows (by_table table.HintGuards guard_rows ∷ []) parts_of_question
+        rules.now number scene.old scene.new }
+    ensures here { scene.new.state.now.trail ≡ scene.old.state.now.trail }
+    ensures few_on { takes_no_command scene.new.state.now ≡ false → SaysUpTo 0 scene.old scene.new }
+{
+    match number.number() {
+        GRATE_HINT if is_locked_out(rules, number, scene) => offer(rules, number, 1, scene),
+        BIRD_HINT if is_after_bird(rules, number, scene) => offer(rules, number, 2, scene),
+        SNAKE_HINT if is_held_by_snake(rules, number, scene) => offer(rules, number, 3, scene),
+        MAZE_HINT if is_lost_in_maze(rules, number, scene) => offer(rules, number, 4, scene),
+        PYRAMID_HINT if is_short_of_pyramid(rules, number, scene) => {
+            offer(rules, number, 5, scene)
+        }
+        FIRST_UNGUARDED_HINT.. => offer(rules, number, 6, scene),
+        BIRD_HINT => scene.note(Table::HintGuards, 7),
+        _ => {
+            scene.note(Table::HintGuards, 8);
+            restart(number, scene.state);
+        }
+    }
+}
+
+/// A hint whose player has stayed for long enough is offered, or waits while a question is open.
+#[tactic(auto, unfolding(crate::specs::Hints::offer_rows))]
+fn consider_offer<N: RowNotes>(
+    rules: &Rules<'_>,
+    number: HintNumber,
+    hint: &Hint,
+    scene: &mut Scene<'_, N>,
+)
+    requires room { HasRoom parts_of_question scene.old }
+    requires hint { get (cave_of rules.now).hints number ≡ Some hint.now }
+    ensures rows { Does N.rows (by_table table.Offers offer_rows ∷ []) parts_of_question
+        rules.now number scene.old scene.new }
+    ensures here { scene.new.state.now.trail ≡ scene.old.state.now.trail }
+    ensures few_on { takes_no_command scene.new.state.now ≡ false → SaysUpTo 0 scene.old scene.new }
+    ensures few_over { takes_no_command scene.old.state.now
+        ≡ true → SaysUpTo 0 scene.old scene.new }
+    ensures stays { takes_no_command scene.new.state.now ≡ false
+        → takes_no_command scene.old.state.now ≡ false }
+{
+    if turns_in_area(number, scene.state).number() < hint.turns {
+        return;
+    }
+    if scene.state.takes_no_command() {
+        scene.note(Table::Offers, 1);
+        return;
+    }
+    scene.note(Table::Offers, 2);
+    offer_by_guard(rules, number, scene);
+}
+
+/// A hint that the cave has and that wasn't taken counts its turns, and is offered.
+#[tactic(auto, unfolding(crate::specs::Hints::after_consider, crate::specs::Hints::hint_rows))]
+fn consider<N: RowNotes>(
+    rules: &Rules<'_>,
+    number: HintNumber,
+    conditions: u32,
+    scene: &mut Scene<'_, N>,
+)
+    requires room { HasRoom parts_of_question scene.old }
+    requires here { conditions ≡ cond_of (cave_of rules.now) scene.old.state.now.trail.here }
+    ensures scene { scene_of N.rows scene.new
+        ≡ after_consider (cave_of rules.now) number (scene_of N.rows scene.old) }
+    ensures says { GoesOnSaying parts_of_question scene.old scene.new }
+    ensures here { scene.new.state.now.trail ≡ scene.old.state.now.trail }
+    ensures few_on { takes_no_command scene.new.state.now ≡ false → SaysUpTo 0 scene.old scene.new }
+    ensures few_over { takes_no_command scene.old.state.now
+        ≡ true → SaysUpTo 0 scene.old scene.new }
+    ensures stays { takes_no_command scene.new.state.now ≡ false
+        → takes_no_command scene.old.state.now ≡ false }
+{
+    let is_in_area = is_in_area(number, conditions);
+    if !is_in_area && turns_in_area(number, scene.state).number() == 0 {
+        return;
+    }
+    if let Some(hint) = rules.cave.hint(u16::from(number.number())) {
+        if scene.state.is_hint_taken(number) {
+            return;
+        }
+        if !is_in_area {
+            scene.note(Table::HintTurns, 1);
+            restart(number, scene.state);
+            return;
+        }
+        scene.note(Table::HintTurns, 2);
+        count_turn(number, scene.state);
+        consider_offer(rules, number, &hint, scene);
+    }
+}
+
+/// The lamp burns for longer, by the points of a hint.
+fn prolong(points: u16, state: &mut State)
+    ensures { state.new
+        ≡ with_charge (longer_charge points state.old.lamp.charge) state.old }
+{
+    let turns = state.lamp.charge.turns();
+    let more = TURNS_A_POINT * i32::from(points);
+    state.lamp.charge = Charge::capped(turns + more);
+}

@@ -1,0 +1,65 @@
+ghost use Rattle.std.specs.Prelude.{◌≡◌, ◌≤◌};
+ghost use Rattle.turn_scene.specs.Scene.{cave_of};
+ghost use Rattle.turn_ends.specs.Counting.{points_by};
+ghost use Rattle.turn_ends.specs.Treasures.{is_seen, is_safe, treasure_rows, treasures_row};
+
+use crate::worths::worth;
+use cave_world::State;
+use turn_scene::props::SEEN;
+use turn_scene::treasures::{FIRST_TREASURE, LAST_TREASURE};
+use turn_scene::{Rules, building_place, has_prop, is_known};
+use world_objects::Object;
+
+/// What a treasure counts that was seen.
+pub const POINTS_OF_SEEING: u32 = 2;
+
+/// Whether a treasure was seen.
+pub fn is_seen(state: &State, treasure: Object) -> bool
+    ensures { result ≡ is_seen treasure state.now }
+{
+    state.objects.prop(treasure).value() >= 0
+}
+
+/// Whether a treasure is in the building, as whole as it was found.
+pub fn is_safe(rules: &Rules<'_>, state: &State, treasure: Object) -> bool
+    ensures { result ≡ is_safe (cave_of rules.now) treasure state.now }
+{
+    let building = building_place(rules.cave);
+    state.objects.is_first_at(building, treasure) && has_prop(state, treasure, SEEN)
+}
+
+/// What a treasure counts.
+#[tactic(auto, unfolding(crate::specs::Treasures::treasure_rows))]
+fn points_of_treasure(rules: &Rules<'_>, state: &State, treasure: Object) -> u32
+    ensures value { result
+        ≡ points_by (treasure_rows (cave_of rules.now) treasure) state.now }
+    ensures most { result ≤ 16 }
+{
+    let seen = if is_seen(state, treasure) {
+        POINTS_OF_SEEING
+    } else {
+        0
+    };
+    let safe = if is_safe(rules, state, treasure) {
+        worth(rules, treasure) - POINTS_OF_SEEING
+    } else {
+        0
+    };
+    seen + safe
+}
+
+/// What the treasures count that the cave knows.
+#[tactic(auto, using(crate::proofs::Sums::points))]
+pub fn treasure_points(rules: &Rules<'_>, state: &State) -> u32
+    ensures value { result ≡ (treasures_row (cave_of rules.now)).points state.now }
+    ensures most { result ≤ 480 }
+{
+    let mut points = 0;
+    for number in FIRST_TREASURE..LAST_TREASURE + 1 {
+        let treasure = Object::new(number);
+        if is_known(rules.cave, treasure) {
+            points += points_of_treasure(rules, state, treasure);
+        }
+    }
+    points
+}

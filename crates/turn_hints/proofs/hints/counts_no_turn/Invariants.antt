@@ -1,8 +1,0 @@
--- No turn of the hints so far counts.
-use Rattle.std.proofs.Common.{◌≡◌, ◌<◌, ◌+◌, ℕ}
-use Rattle.turn_hints.proofs.hints.counts_no_turn.Given as goal
-use Rattle.turn_hints.specs.Hints.{FIRST_HINT}
-use Rattle.turn_ends.specs.cave_world.State.{turns_in_area}
-
-abbrev pub invariant-loop-before : goal.invariant-loop-before
-invariant-loop-before l = (n : ℕ) → n < l.before → turns_in_area l.state (FIRST_HINT + n) ≡ 0

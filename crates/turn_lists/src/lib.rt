@@ -1,4 +1,0 @@
-//! Laws of the lists of places, whatever is done to objects.
-#![tactic(auto)]
-
-pub mod laws;

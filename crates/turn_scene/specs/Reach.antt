@@ -1,0 +1,55 @@
+-- What the player can get at, and what rules ask of objects. Of an object that isn't there each
+-- test is false.
+use Rattle.std.specs.Prelude.{ℕ, ℤ, Bool, true, false, ◌==◌, ◌&&◌, ◌||◌, not, nat_le, int_le}
+use Rattle.std.specs.Prelude.{if◌then◌else◌, take}
+use Rattle.std.specs.Ordering.{int_eq}
+use Rattle.std.specs.List.{list_any}
+use Rattle.cave_data.specs.CaveView.{CaveView}
+use Rattle.cave_words.specs.declared.named.Named.TheVariants as name
+use Rattle.world_objects.specs.Objects.{is_in_hands, is_first_at, anchor_of, prop_of}
+use Rattle.world_objects.specs.declared.spot.Anchor.{Anchor}
+use Rattle.world_objects.specs.declared.spot.Anchor.TheVariants as anchor
+use Rattle.cave_world.specs.declared.dwarves.Dwarf.{Dwarf}
+use Rattle.cave_world.specs.declared.state.State.{State}
+use Rattle.turn_scene.specs.Scene.{is_called, thing}
+use Rattle.cave_world.specs.Limits.{AWAKE, PIRATE}
+use Rattle.turn_scene.specs.Liquids.{is_liquid, liquid_of}
+
+-- an object is carried: it is in the hands; but a liquid is if the bottle is there with it
+unfoldable pub is_carried : CaveView → State → ℕ → Bool
+is_carried cave s x =
+    if is_called cave x name.Water || is_called cave x name.Oil
+    then is_in_hands s.objects (thing cave name.Bottle) && is_liquid x (liquid_of cave s)
+    else is_in_hands s.objects x
+
+-- an object is carried, or its first half is where the player is
+unfoldable pub is_near : CaveView → State → ℕ → Bool
+is_near cave s x = is_carried cave s x || is_first_at s.objects s.trail.here x
+
+-- an object has a prop, another one, or one up to a number
+unfoldable pub has_prop : State → ℕ → ℤ → Bool
+has_prop s x v = not (x == 0) && int_eq (prop_of s.objects x) v
+
+unfoldable pub has_other_prop : State → ℕ → ℤ → Bool
+has_other_prop s x v = not (x == 0) && not (int_eq (prop_of s.objects x) v)
+
+unfoldable pub has_prop_up_to : State → ℕ → ℤ → Bool
+has_prop_up_to s x v = not (x == 0) && int_le (prop_of s.objects x) v
+
+abbrev pub is_dwarf_at : ℕ → Dwarf → Bool
+is_dwarf_at place dwarf = dwarf.place == place
+
+-- one of the dwarves before the pirate, once they are angry, is where the player is
+unfoldable pub is_dwarf_here : State → Bool
+is_dwarf_here s =
+    nat_le AWAKE s.dwarves.anger
+    && list_any (is_dwarf_at s.trail.here) (take PIRATE s.dwarves.each)
+
+abbrev pub is_anchored : Anchor → Bool
+is_anchored anchor.Loose = false
+is_anchored anchor.Fixed = true
+is_anchored (anchor.At place) = true
+
+-- an object can't be moved
+unfoldable pub is_fixed : State → ℕ → Bool
+is_fixed s x = is_anchored (anchor_of s.objects x)

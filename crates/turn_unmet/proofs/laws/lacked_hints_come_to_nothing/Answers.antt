@@ -1,5 +1,0 @@
-use Rattle.turn_unmet.proofs.Missing.{lacked_hints_come_to_nothing}
-use Rattle.turn_unmet.proofs.laws.lacked_hints_come_to_nothing.Goals as goal
-
-pub returns : goal.returns
-returns c = lacked_hints_come_to_nothing

@@ -1,4 +1,0 @@
-//! What no game comes to, though definitions have a line for it.
-#![tactic(auto)]
-
-pub mod laws;

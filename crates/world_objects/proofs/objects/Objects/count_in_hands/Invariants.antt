@@ -1,0 +1,7 @@
+use Rattle.std.proofs.Common.{◌≡◌, ◌≤◌, length}
+use Rattle.world_objects.specs.Objects.{in_hands_up_to}
+use Rattle.world_objects.proofs.objects.Objects.count_in_hands.Given as goal
+
+-- what was counted is all that is in the hands up to here
+abbrev pub invariant-loop-before : goal.invariant-loop-before
+invariant-loop-before l = (l.count ≡ length (in_hands_up_to l.self l.before)) × (l.count ≤ l.before)
