@@ -98,9 +98,10 @@ class Browser:
 
     # ---- what a test does
 
-    def open(self, path, line=None):
-        """Opens a page from disk, at a line."""
-        address = pathlib.Path(path).resolve().as_uri() + (f"#{line}" if line is not None else "")
+    def open(self, path, place=None):
+        """Opens a page from disk, at a place in the log."""
+        address = pathlib.Path(path).resolve().as_uri()
+        address += f"#{place}" if place is not None else ""
         self.tell("url", {"url": "about:blank"})
         self.tell("url", {"url": address})
 

@@ -64,7 +64,7 @@ def facts_of(walk, line):
     gained = steps["score"][at] - steps["score"][at - 1] if line > 1 else 0
     sign = f"{'+' if gained > 0 else chr(0x2212)}{abs(gained)}"
     drawn = f"{steps['draws'][at] or 'none'} drawn"
-    facts = {"Line": f"{line} of {len(walk.lines)}", "Turn": str(steps["turns"][at]),
+    facts = {"At": f"{at}, of {len(walk.lines)} lines", "Turn": str(steps["turns"][at]),
              "Score": f"{steps['score'][at]} of {score_of(walk).split()[-1]}"
                       + (f", {sign} at this line" if gained else ""),
              "Lamp": str(steps["lamp"][at]), "Carried": str(steps["carried"][at]),
@@ -118,12 +118,12 @@ def marks(pages, page):
         walk = pages.of_walk(name, SHOAL[0], log, [*SHOAL[1], "--seed", seed])
         page.open(walk.path)
         lines = range(1, len(walk.lines) + 1)
-        titles = [f"line {at}: {it}" for at in lines for it in happened_at(walk, at)
+        titles = [f"at {at - 1}: {it}" for at in lines for it in happened_at(walk, at)
                   if it in MARKED]
         yield f"{name}: marks of the chart", page.run(MARKS), titles
         for line in (it for it in lines if walk.steps["to"][it - 1] == 0):
-            page.open(walk.path, line)
-            yield f"{name}: the place of the death at {line} is in sight", page.run(DEATH), True
+            page.open(walk.path, line - 1)
+            yield f"{name}: the place of the death at {line - 1} is in sight", page.run(DEATH), True
         page.run(PRINT)
         badges = [[at, it] for at in lines for it in happened_at(walk, at)]
         yield f"{name}: what happened at lines", page.run(BADGES), badges
@@ -143,7 +143,7 @@ def keys(pages, page):
     for key, line in moves:
         page.press(key)
         yield from line_is(page, walk, line, key)
-    page.open(walk.path, 4)
+    page.open(walk.path, 3)
     for key, line in [("v", 16), ("v", 4), ("V", 16), ("V", 4)]:
         page.press(key)
         yield f"{key}, visits of place 3", chosen(page), line
@@ -171,14 +171,16 @@ def keys(pages, page):
 def addresses(pages, page):
     """Lines that are linked."""
     walk = pages.tour()
-    for line, wanted in [(12, 12), (0, 0), (999, len(walk.lines))]:
-        page.open(walk.path, line)
-        yield from line_is(page, walk, wanted, f"#{line}")
-    page.run("location.hash = '#5'")
+    for address, wanted in [(11, 12), (0, 1), ("opening", 0), (999, len(walk.lines))]:
+        page.open(walk.path, address)
+        yield from line_is(page, walk, wanted, f"#{address}")
+    page.run("location.hash = '#4'")
     page.wait("return document.getElementById('line-5').ariaSelected === 'true'")
-    yield from line_is(page, walk, 5, "a link to #5")
+    yield from line_is(page, walk, 5, "a link to #4")
     page.press("ArrowDown")
-    yield "the address goes with the line", page.wait(ADDRESS, "#6"), True
+    yield "the address goes with the line", page.wait(ADDRESS, "#5"), True
+    page.press("Home")
+    yield "the address of the opening", page.wait(ADDRESS, "#opening"), True
     page.open(walk.path, "x1")
     yield "an address that is none", chosen(page), 0
 
@@ -197,26 +199,26 @@ def small(pages, page):
         place = page.run(SEEN)["facts"]["Place"].split(" ")[0]
         yield f"{name}: the place", place, str(place_at(walk, 1) if lines else 1)
     asked = pages.log("asked.log", ["yes"])
-    page.open(pages.of_walk("asked", SHOAL[0], asked, SHOAL[1]).path, 1)
+    page.open(pages.of_walk("asked", SHOAL[0], asked, SHOAL[1]).path, 0)
     yield "the first line loses", page.run(SEEN)["facts"]["Score"], (
         f"27 of 326, {chr(0x2212)}5 at this line")
     page.open(pages.of_walk("alone", SHOAL[0], asked, SHOAL[1], "--against",
                             f"{pages.room}/no-line.log").path)
     text = page.run("return document.getElementById('parting').textContent")
-    yield "against a log without a line", text, ("Parts from no-line.log at line 1 by yes, not its"
+    yield "against a log without a line", text, ("Parts from no-line.log at 0 by yes, not its"
                                                  " end; ends with 27, 5 less than 32.")
 
 
 def clicks(pages, page):
     """Clicks on lines, on the chart, on places, on the small map, on a list of places."""
     walk = pages.tour()
-    page.open(walk.path, 10)
+    page.open(walk.path, 9)
     page.click("#line-12 .said")
     yield from line_is(page, walk, 12, "a click on line 12")
     for mark, event in enumerate(["treasure found", "treasure home"]):
         line = next(at for at in range(len(walk.lines)) if event in happened_at(walk, at))
         right, title = page.run(MARK, mark)
-        yield "a mark of the chart", title, f"line {line}: {event}"
+        yield "a mark of the chart", title, f"at {line - 1}: {event}"
         page.click("#chart", right, 10)
         yield from line_is(page, walk, line, f"a click on the chart at line {line}")
     half = page.run("return document.getElementById('chart').getBoundingClientRect().width") / 2
@@ -302,7 +304,7 @@ def against(pages, page):
     page.open(walk.path)
     yield from line_is_beside(page, 18, "the page opens where they part")
     text = page.run("return document.getElementById('parting').textContent")
-    yield "what parts them", text, ("Parts from tour.log at line 18 by drop vase, not drop pillow;"
+    yield "what parts them", text, ("Parts from tour.log at 17 by drop vase, not drop pillow;"
                                     " ends with 59, 14 less than 73.")
     page.press("End")
     score = page.run(SEEN)["facts"]["Score"]

@@ -83,7 +83,7 @@ def shapes(pages, page):
 def roles(pages, page):
     """What a screen reader is told: each thing that can be used has a name."""
     walk = pages.tour()
-    page.open(walk.path, 12)
+    page.open(walk.path, 11)
     nodes = [it for it in page.tool("Accessibility.getFullAXTree")["nodes"] if not it["ignored"]]
     told = [(it["role"]["value"], it.get("name", {}).get("value", "")) for it in nodes]
     yield "without a name", [role for role, name in told if role in NAMED and not name], []
@@ -95,12 +95,12 @@ def roles(pages, page):
                        ("searchbox", "Look for a text"), ("combobox", "Go to a place")]:
         yield f"a {role}", (role, name) in told, True
     slider = page.run("return document.getElementById('chart').getAttribute('aria-valuetext')")
-    yield "the chart in words", slider, ("line 12: ne, You're in the try-works., score 59,"
+    yield "the chart in words", slider, ("at 11: ne, You're in the try-works., score 59,"
                                          " lamp 324, treasure found")
     page.run("document.getElementById('chart').focus()")
     page.press("ArrowRight")
     said = page.run("return document.querySelector('[role=status]').textContent")
-    yield "what is said of a move", said.startswith("line 13: take vase, "), True
+    yield "what is said of a move", said.startswith("at 12: take vase, "), True
     sizes = page.run("return [...document.querySelectorAll('[role=option]')].map((it) =>"
                      " [it.getAttribute('aria-posinset'), it.getAttribute('aria-setsize')].join())")
     wanted = [f"{at},{len(walk.lines) + 1}" for at in range(1, len(walk.lines) + 2)]
@@ -118,7 +118,7 @@ def roles(pages, page):
 def prints(pages, page):
     """In print the whole map and all lines."""
     walk = pages.of_walk("printed", SHOAL[0], FULL, [*SHOAL[1], *FULL_SEED])
-    page.open(walk.path, 12)
+    page.open(walk.path, 11)
     page.shade(medium="print")
     yield "what is printed", page.run(PRINTED), [len(walk.lines) + 1, True, "none"]
     page.shade()
@@ -140,7 +140,7 @@ def harmless(pages, page):
     name = "a <i>'&\" {{SCRIPT}} log"
     options = ["--bind", f"{TOP}/caves/quotes.bind"]
     walk = pages.of_walk("hostile", path, pages.log(name, lines), options)
-    page.open(walk.path, 1)
+    page.open(walk.path, 0)
     yield "harm", page.run("return window.harm ?? 'none'"), "none"
     yield "elements that no page has", page.run(
         "return document.querySelectorAll('img, b:not(footer b), i, iframe').length"), 0

@@ -86,7 +86,7 @@ function marksOf(it) {
     for (const event of eventsAt(it, at).filter((name) => MARKED.includes(name))) {
       if (it !== walk() && isShared(at + scale.shift)) continue;
       const [x, y] = [xIn(it, at), yOf(it.score[at - 1], scale.score)];
-      const title = draw("title", {}, `line ${at}: ${event}`);
+      const title = draw("title", {}, `at ${inLog(at)}: ${event}`);
       marks.push(draw("path", { d: SHAPES[event], "data-event": event,
         class: `event-mark ${event.replace(" ", "-")} ${colour(it)}`,
         transform: `translate(${x.toFixed(1)} ${y.toFixed(1)})` }, title));
@@ -107,8 +107,8 @@ function axes() {
     parts.push(draw("text", { x: right + 6, y: yOf(value, scale.lamp) + 4, class: "lamp-axis" },
       String(value)));
   }
-  for (const value of ticks(1, scale.lines, Math.max(scale.width / 90, 2))) {
-    parts.push(draw("text", { x: xOf(value), y: foot + 15, "text-anchor": "middle" },
+  for (const value of ticks(0, scale.lines - 1, Math.max(scale.width / 90, 2))) {
+    parts.push(draw("text", { x: xOf(value + 1), y: foot + 15, "text-anchor": "middle" },
       String(value)));
   }
   return parts;
@@ -181,7 +181,7 @@ function showCursor() {
 function spoken() {
   if (!now.at) return "the opening";
   const happened = eventsAt(walk(), now.at);
-  return [`line ${now.at}: ${walk().lines[now.at - 1]}`, titleOf(placeAt(walk(), now.at)),
+  return [`at ${inLog(now.at)}: ${walk().lines[now.at - 1]}`, titleOf(placeAt(walk(), now.at)),
     `score ${figure(walk(), "score", now.at)}`, `lamp ${figure(walk(), "lamp", now.at)}`,
     ...happened].filter(Boolean).join(", ");
 }
@@ -219,7 +219,7 @@ function factsOf(at) {
   if (!at) return facts;
   const happened = eventsAt(walk(), at).join(", ");
   const [question, ended] = ["question", "ended"].map((name) => word(walk(), name, at));
-  facts.push(["Line", `${at} of ${last(walk())}`], ["Turn", String(figure(walk(), "turns", at))],
+  facts.push(["At", `${inLog(at)}, of ${last(walk())} lines`], ["Turn", String(figure(walk(), "turns", at))],
     ["Score", scoreFact(), "wide"],
     ["Lamp", String(figure(walk(), "lamp", at))],
     ["Carried", String(figure(walk(), "carried", at))],

@@ -35,7 +35,7 @@ function lineAt(at) {
   const line = at ? walk().lines[at - 1] : "";
   const isSilent = at > 0 && isComment(line);
   const turn = at && !isSilent ? `turn ${figure(walk(), "turns", at)}` : "";
-  const number = make("div", { class: "number" }, at ? String(at) : "opening");
+  const number = make("div", { class: "number" }, at ? String(inLog(at)) : "opening");
   if (turn) number.append(make("small", {}, turn));
   const body = make("div");
   if (at) {

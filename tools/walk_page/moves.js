@@ -16,13 +16,17 @@ function go(at, isSaid = true) {
   byId("visited").value = String(placeAt(walk(), now.at));
   if (isSaid && document.activeElement !== list) byId("said-now").textContent = spoken();
   clearTimeout(linking);
-  linking = setTimeout(() => history.replaceState(null, "", `#${now.at}`), 150);
+  linking = setTimeout(() => history.replaceState(null, "", addressOf(now.at)), 150);
 }
+
+const OPENING = "#opening";
+const addressOf = (at) => (at ? `#${inLog(at)}` : OPENING);
 
 function goByAddress() {
   const found = /^#(\d{1,9})$/.exec(location.hash);
-  if (found) go(Number(found[1]));
-  return Boolean(found);
+  if (found) go(Number(found[1]) + 1);
+  else if (location.hash === OPENING) go(0);
+  return Boolean(found) || location.hash === OPENING;
 }
 
 // The visits of a place, one after another, and then again from the first.
@@ -236,7 +240,7 @@ function partingFrom(name) {
   const [ours, theirs] = [walk(), other()].map((it) => figure(it, "score", last(it)));
   const more = ours === theirs ? ", as it does."
     : `, ${Math.abs(ours - theirs)} ${ours < theirs ? "less" : "more"} than ${theirs}.`;
-  return ["Parts from ", name, ` at line ${sharedOf(walk()) + 1} by `, line(walk()), ", not ",
+  return ["Parts from ", name, ` at ${sharedOf(walk())} by `, line(walk()), ", not ",
     line(other()), `; ends with ${ours}${more}`];
 }
 

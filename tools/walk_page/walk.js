@@ -1,4 +1,5 @@
-// What is in the page: walks, their lines and what each says. At 0 is the opening, at N line N.
+// What is in the page: walks, their lines and what each says. At 0 is the opening, at N what N
+// lines lead to. The last of these lines has the place N - 1 in the log, as scripts count.
 
 const data = JSON.parse(document.getElementById("data").textContent);
 const walks = data.walks;
@@ -24,6 +25,7 @@ const draw = (tag, attributes = {}, ...held) =>
 const walk = () => walks[now.walk];
 const other = () => walks[1 - now.walk];
 const last = (it) => it.lines.length;
+const inLog = (at) => at - 1; // the place in the log
 const colour = (it) => (it === walks[0] ? "mine" : "theirs");
 
 const figure = (it, column, at) => (at > 0 ? it[column][at - 1] : data.opening[column]);
