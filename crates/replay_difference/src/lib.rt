@@ -1,0 +1,12 @@
+//! The edits that make one log of another: few where that is possible, and proved to give it.
+#![tactic(auto)]
+
+mod anchors;
+mod ends;
+mod frontier;
+mod numbers;
+mod region;
+mod search;
+pub mod stretch;
+
+pub use stretch::Stretch;
