@@ -6,7 +6,9 @@ mod ends;
 mod frontier;
 mod numbers;
 mod region;
+mod same;
 mod search;
 pub mod stretch;
+mod walk;
 
 pub use stretch::Stretch;
