@@ -2,13 +2,14 @@
 #![tactic(auto)]
 
 mod anchors;
+pub mod difference;
 mod ends;
 mod frontier;
 mod numbers;
 mod region;
 mod same;
 mod search;
-pub mod stretch;
+mod stretch;
 mod walk;
 
-pub use stretch::Stretch;
+pub use difference::find_edits;
