@@ -6,10 +6,14 @@ pub mod difference;
 mod ends;
 mod frontier;
 mod numbers;
+pub mod open;
 mod region;
 mod same;
+pub mod script;
 mod search;
 mod stretch;
 mod walk;
 
 pub use difference::find_edits;
+pub use open::is_log;
+pub use script::{ScriptForm, push_difference};
