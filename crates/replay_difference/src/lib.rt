@@ -12,8 +12,6 @@ mod same;
 pub mod script;
 mod search;
 mod stretch;
+#[cfg(test)]
+mod tests;
 mod walk;
-
-pub use difference::find_edits;
-pub use open::is_log;
-pub use script::{ScriptForm, push_difference};

@@ -1,4 +1,4 @@
-ghost use Rattle.std.specs.Prelude.{◌≡◌, ◌↔◌, IsTrue};
+ghost use Rattle.std.specs.Prelude.{◌↔◌, IsTrue};
 ghost use Rattle.base_lines.specs.Line.{is_line};
 ghost use Rattle.replay_edits.specs.Edit.{log_of};
 ghost use Rattle.replay_difference.specs.Difference.{IsLog};
