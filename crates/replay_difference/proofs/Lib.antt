@@ -1,0 +1,4 @@
+pub mod OpenLemmas
+pub mod ScriptLemmas
+pub mod WalkLemmas
+pub mod WalkSteps

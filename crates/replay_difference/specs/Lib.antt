@@ -1,0 +1,3 @@
+pub mod Difference
+pub mod ScriptTo
+pub mod Walk
