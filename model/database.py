@@ -2,9 +2,9 @@
 
 from collections import namedtuple
 
-from lines import FIELD, LINE_LENGTH, Fault, fields_of, folded, lines_of, number_of
+from lines import (FIELD, LINE_LENGTH, MARKS, Fault, fields_of, folded, is_near, lines_of,
+                   number_of)
 
-MARKS = ("\xef\xbb\xbf", "\xff\xfe", "\xfe\xff")  # of UTF-8 and of both UTF-16
 PLACE, MESSAGE = (1, 300), (1, 499)
 LONGEST_LIST = 40
 
@@ -161,24 +161,20 @@ def keyed_by_object(rows):
         owner = owner if is_prop else number
         yield (owner, number // 100 if is_prop else None), line
 
-def is_near(word, known):
-    """Whether a word is another but for one letter, or for two neighbours that are swapped."""
-    def without_one(of):
-        return {of[:at] + of[at + 1:] for at in range(len(of))}
-    changed = len(word) == len(known) and sum(a != b for a, b in zip(word, known)) == 1
-    swapped = {word[:at] + word[at:at + 2][::-1] + word[at + 2:] for at in range(len(word) - 1)}
-    return changed or known in without_one(word) or word in without_one(known) or known in swapped
-
 def with_mark(judge, text):
     """What a judge says of a text, of which a byte order mark may spoil the first line."""
     try:
         return judge(text)
     except Fault as fault:
-        if fault.line != 1 or not text.startswith(MARKS):
-            raise
         cause = fault.message.split(": ")[0]
-        raise Fault(1, f"{cause}: the file begins with a byte order mark: save it without one") \
-            from None
+        if fault.line == 1 and text.startswith(MARKS):
+            more = "the file begins with a byte order mark: save it without one"
+        elif fault.line == 1 and cause == "this opens no section" and text.strip(" \t")[0] not in "0123456789-":
+            more = ("expected the number of a section, 1 to 12; if this is a log, CAVE comes before"
+                    " it")
+        else:
+            raise
+        raise Fault(1, f"{cause}: {more}") from None
 
 def bindings_of(text):
     """What a text binds, or its first fault."""

@@ -14,16 +14,17 @@ import cover
 import edits
 import scores
 from database import KEYS, PLACES, ROLES, Cave, bindings_of, sections_of, with_mark
-from lines import GREATEST_SEED, MOST_BYTES, Fault, log_of
+from lines import GREATEST_SEED, MOST_BYTES, Fault, log_of, near_name
 
-FILES = {"check": ["<CAVE>"], "play": ["<CAVE>", "<LOG>"], "edit": ["<CAVE>", "<LOG>", "<SCRIPT>"],
+FILES = {"check": ["<CAVE>"], "play": ["<CAVE>", "<LOG>"], "edit": ["<CAVE>", "<LOG>", "[SCRIPT]"],
          "cover": ["<CAVE>", "<LOG>..."]}
 PRINTS = {"check": ["maximum", "bindings", "names", "unused", "doubts"],
           "play": ["transcript", "steps", "score", "state"],
           "edit": ["transcript", "play", "log", "undo", "reports", "table", "steps", "score", "state"],
           "cover": ["counts", "texts", "rules"]}
 OPTIONS = {"--bind": "FILE", "--seed": "N", "--every": "K", "--print": "WHAT", "--strict": None,
-           "--guarded": None}
+           "--guarded": None, "--edit": "EDIT"}
+LETTERS = {"-b": "--bind", "-s": "--seed", "-p": "--print", "-e": "--edit"}
 KNOWN = {"check": ["--bind", "--print", "--strict"], "play": ["--bind", "--seed", "--print"],
          "edit": OPTIONS, "cover": ["--bind", "--seed", "--print"]}
 
@@ -40,10 +41,19 @@ def wrong(message, usage=None):
     shown = f"\n\nUsage: cave {usage}" if usage else ""
     return Stop(2, f"error: {message}{shown}\n\nFor more information, try '--help'.\n")
 
+def wanted(given, names):
+    """What is said of a name that is none of these."""
+    *some, last = names
+    near = near_name(given, names)
+    return f"wanted is {', '.join(some)} or {last}" + (
+        f"\n\n  tip: did you mean '{near}'?" if near else "")
+
 def words_of(words):
     """The command, its files and its options."""
     if not words or words[0] not in FILES:
-        raise wrong(f"unrecognized subcommand '{(words or [''])[0]}'", "<COMMAND>")
+        word = (words or [""])[0]
+        commands = [*FILES, "map"]
+        raise wrong(f"unrecognized subcommand '{word}': {wanted(word, commands)}", "<COMMAND>")
     command, files, options, rest, only_files = words[0], [], {}, list(words[1:]), False
     below_zero = seed_below_zero(command, rest)
     usage = f"{command} {' '.join(FILES[command])}"
@@ -51,6 +61,8 @@ def words_of(words):
     while rest:
         word = rest.pop(0)
         name, has_value, value = word.partition("=")
+        if letter := LETTERS.get(word[:2]):
+            name, has_value, value = letter, word[2:], word[2:].removeprefix("=")
         if only_files or not word.startswith("-") or word == "-":
             files.append(word)
             if len(files) > len(FILES[command]) and command != "cover":
@@ -63,7 +75,7 @@ def words_of(words):
                              usage if is_long else with_options)
         else:
             shown = f"{name} <{OPTIONS[name]}>" if OPTIONS[name] else name
-            if name in options:
+            if name in options and name != "--edit":
                 raise wrong(f"the argument '{shown}' cannot be used multiple times", with_options)
             if has_value and not OPTIONS[name]:
                 raise wrong(f"unexpected value '{value}' for '{name}' found; no more were expected",
@@ -74,19 +86,19 @@ def words_of(words):
                 if rest[0].startswith("-") and rest[0] != "-":
                     raise unexpected(rest[0][:2], below_zero, with_options)
                 value = rest.pop(0)
-            options[name] = value
-    if missing := FILES[command][len(files):]:
+            options[name] = [*options.get(name, []), value] if name == "--edit" else value
+    if missing := [it for it in FILES[command][len(files):] if it.startswith("<")]:
         listed = "".join(f"\n  {it}" for it in missing)
         used = [command, *(f"{it} <{OPTIONS[it]}>" if OPTIONS[it] else it for it in options)]
         raise wrong(f"the following required arguments were not provided:{listed}",
                     " ".join([*used, *FILES[command]]))
-    return command, files, judged_options(command, options)
+    return command, files, judged_options(command, files, options)
 
 def seed_below_zero(command, words):
     """The seed of a command, where it is a hyphen and digits; after `--` each word is a file."""
-    before = list(takewhile(lambda it: it not in ("--", "--seed"), words))
+    before = list(takewhile(lambda it: it not in ("--", "--seed", "-s"), words))
     option, seed = [*words[len(before):][:2], "", ""][:2]
-    is_one = "--seed" in KNOWN[command] and option == "--seed"
+    is_one = "--seed" in KNOWN[command] and option in ("--seed", "-s")
     return seed if is_one and fullmatch("-[0-9]+", seed) else None
 
 def unexpected(word, below_zero, usage):
@@ -95,18 +107,22 @@ def unexpected(word, below_zero, usage):
         return not_in("--seed", below_zero, 0, GREATEST_SEED)
     return wrong(f"unexpected argument '{word}' found", usage)
 
-def judged_options(command, options):
+def judged_options(command, files, options):
     """The options, and what they are where they aren't there."""
+    seed = number_in("--seed", options.get("--seed", "0"), 0, GREATEST_SEED)
     number_in("--every", options.get("--every", "50"), 1, 10_000)
     is_strict_check = command == "check" and "--strict" in options
     prints = options.get("--print", "doubts" if is_strict_check else PRINTS[command][0])
     if prints not in PRINTS[command]:
-        *some, last = PRINTS[command]
-        raise wrong(f"invalid value '{prints}' for '--print <WHAT>': wanted is"
-                    f" {', '.join(some)} or {last}")
-    return {"bind": options.get("--bind"), "print": prints, "strict": "--strict" in options,
+        raise wrong(f"invalid value '{prints}' for '--print <WHAT>':"
+                    f" {wanted(prints, PRINTS[command])}")
+    if command == "edit" and len(files) == 3 and "--edit" in options:
+        raise wrong("the argument '--edit <EDIT>' cannot be used with SCRIPT")
+    if command == "edit" and len(files) == 2 and "--edit" not in options:
+        raise wrong("SCRIPT or '--edit <EDIT>' is wanted")
+    return {"edit": options.get("--edit"), "bind": options.get("--bind"), "print": prints, "strict": "--strict" in options,
             "guarded": "--guarded" in options,
-            "seed": number_in("--seed", options.get("--seed", "0"), 0, GREATEST_SEED)}
+            "seed": seed}
 
 def number_in(option, text, least, most):
     """The number of an option, of 1 to 10 digits."""
@@ -269,9 +285,10 @@ def run_words(words):
         return run_cover(cave, names[1:], files[2:], options)
     log = judged_as(3, names[1], log_of, text_of(files[2]))
     if command == "edit":
-        script = judged_as(4, names[2], edits.script_of, text_of(files[3]),
-                           options["guarded"])
-        return run_edit(cave, names[2], log, script, options)
+        name, text = (names[2], text_of(files[3])) if options["edit"] is None else (
+            "--edit", "".join(it + "\n" for it in options["edit"]))
+        script = judged_as(4, name, edits.script_of, text, options["guarded"])
+        return run_edit(cave, name, log, script, options)
     if options["print"] == "steps":
         return edits.steps(cave, options["seed"], log)
     played = edits.play(cave, options["seed"], log)

@@ -6,7 +6,7 @@ use Rattle.base_lines.specs.Limits.{MAX_INPUT_BYTES}
 use Rattle.cave_play.specs.declared.input.InputFault.{InputFault}
 use Rattle.cave_play.specs.declared.input.InputFault.TheVariants.{Unreadable, TooLarge, Memory}
 use Rattle.cave_play.specs.declared.inputs.InputReader.{InputReader}
-use Rattle.cave_play.specs.declared.inputs.InputReader.TheVariants.{Absent, Given}
+use Rattle.cave_play.specs.declared.inputs.InputReader.TheVariants.{Absent, Given, Typed}
 use Rattle.cave_play.specs.declared.inputs.Inputs.{Inputs}
 
 -- the bytes are those that a reader is known to have left, where it is known
@@ -31,10 +31,11 @@ pub record Exceeds (old new : Option (List ℕ)) (before : List ℕ) (fault : In
   pub over : fault ≡ TooLarge → (given : List ℕ) × Consumes old new given
       × (MAX_INPUT_BYTES < length before + length given)
 
--- an absent input has nothing left
+-- an absent input has nothing left, and one that was typed its text
 abbrev pub input_left : {R : Type 0} → (R → Option (List ℕ)) → InputReader R → Option (List ℕ)
 input_left remaining Absent = Some []
 input_left remaining (Given reader) = remaining reader
+input_left remaining (Typed text) = Some text.now
 
 -- the bytes of each input
 pub record InputTexts : Type 0 where

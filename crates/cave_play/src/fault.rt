@@ -9,7 +9,7 @@ use check_doubts::{Doubt, Source};
 use check_tables::Clue;
 use data_rows::{CaveError, Expected, FaultSite};
 use play_edits::Refusal;
-use replay_scripts::ScriptFlaw;
+use replay_scripts::{EditFlaw, ScriptFlaw};
 use std::alloc::AllocError;
 use std::{fmt, io};
 use thiserror::Error;
@@ -56,6 +56,22 @@ pub enum LogFault {
     Full,
 }
 
+/// What is wrong with a line of a script. Under `--guarded` it may be a guard.
+#[derive(Clone, Copy, Debug)]
+struct ScriptWords {
+    flaw: ScriptFlaw,
+}
+
+impl fmt::Display for ScriptWords {
+    fn fmt<W: fmt::Write>(&self, f: &mut fmt::Formatter<W>) -> fmt::Result {
+        let flaw = self.flaw;
+        match flaw {
+            ScriptFlaw::NoEdit(EditFlaw::Guard) => write!(f, "{flaw}: --guarded lets it have them"),
+            _ => write!(f, "{flaw}"),
+        }
+    }
+}
+
 /// Why a script is refused.
 #[derive(Clone, Copy, Debug, PartialEq, Eq, Error)]
 pub enum ScriptFault {
@@ -63,7 +79,7 @@ pub enum ScriptFault {
     #[error("the script is larger than 1,048,576 bytes")]
     TooLarge,
     /// The line with this number, from 1, is malformed.
-    #[error("{1}")]
+    #[error("{}", ScriptWords {flaw: *.1})]
     Malformed(usize, ScriptFlaw),
     /// The item of the line with this number is refused, where the run is strict.
     #[error("{1}")]

@@ -5,21 +5,23 @@ ghost use Rattle.cave_play.specs.Input.{input_left};
 use std::io;
 use std::io::Read;
 
-/// The reader of an input that may be absent, as bindings may. An absent input reads as an empty
-/// text.
+/// The reader of an input that may be absent, as bindings may, or on the command line. An absent
+/// input reads as an empty text.
 #[derive(Debug, Drop)]
-pub enum InputReader<R> {
+pub enum InputReader<'a, R> {
     Absent,
     Given(R),
+    Typed(&'a [u8]),
 }
 
-impl<R: Read> Read for InputReader<R> {
+impl<R: Read> Read for InputReader<'_, R> {
     ghost remaining = { input_left R.remaining };
 
     fn read(&mut self, buf: &mut [u8]) -> io::Result<usize> {
         match self {
             InputReader::Absent => Ok(0),
             InputReader::Given(reader) => reader.read(buf),
+            InputReader::Typed(text) => text.read(buf),
         }
     }
 }

@@ -25,13 +25,13 @@ pub use doubted::run_doubts;
 pub use fault::{Complaint, Input, LogFault, PlayFault, ScriptFault, Unopened};
 pub use inputs::{CaveReaders, InputReader, Inputs};
 pub use play_command::{
-    CheckView, CommandFault, CoverView, EditView, Editing, Files, Line, PlayView, TextView,
-    command_line,
+    CheckView, CommandFault, CoverView, EditView, Editing, Files, Line, PlayView, ScriptSource,
+    TextView, command_line,
 };
 pub use play_edits::{KeptLine, Refusal};
 pub use play_machine::{CaveMachine, Piece};
 pub use play_state_text::{Counts, push_state};
 pub use replay_edits::{Edit, EditFault, LineText};
-pub use replay_scripts::ScriptFlaw;
+pub use replay_scripts::{EditFlaw, ScriptFlaw, ScriptWord};
 pub use run::{run_check, run_edit, run_play};
 pub use world_objects::Object;

@@ -1,23 +1,19 @@
 -- What is known of a fault of a cave beyond its cause.
-use Rattle.std.specs.Prelude.{ℕ, Bool, nat_eq, nat_lt, ◌&&◌, ◌||◌, ◌==◌, ◌-◌, if◌then◌else◌}
+use Rattle.std.specs.Prelude.{ℕ, Bool, false, not, nat_lt, ◌||◌, ◌==◌, ◌-◌, if◌then◌else◌}
 use Rattle.std.specs.Prelude.{List, [], ◌∷◌, Option, None, Some, option_map}
-use Rattle.std.specs.List.{starts_with}
+use Rattle.std.specs.Option.{option_or}
 use Rattle.std.specs.Str.Lines.{lines}
+use Rattle.base_lines.specs.Bytes.{is_digit}
+use Rattle.base_slips.specs.Mark.{has_byte_order_mark}
 use Rattle.data_rows.specs.Fields.{after_blanks, field}
 use Rattle.data_rows.specs.declared.error.Cause.{Cause}
-use Rattle.data_rows.specs.declared.error.Cause.TheVariants.{UnknownRole}
+use Rattle.data_rows.specs.declared.error.Cause.TheVariants.{BadSection, UnknownRole}
 use Rattle.data_rows.specs.declared.error.CaveError.{CaveError}
 use Rattle.data_rows.specs.declared.error.FaultSite.{FaultSite}
 use Rattle.data_rows.specs.declared.error.FaultSite.TheVariants.{Bindings}
 use Rattle.check_tables.specs.NearKey.{near_key}
 use Rattle.check_tables.specs.declared.clue.Clue.{Clue}
-use Rattle.check_tables.specs.declared.clue.Clue.TheVariants.{ByteOrderMark, NearKey}
-
--- a text begins with a byte order mark, of UTF-8 or of either UTF-16
-abbrev pub has_byte_order_mark : List ℕ → Bool
-has_byte_order_mark text =
-    starts_with nat_eq text (239 ∷ 187 ∷ 191 ∷ [])
-    || (starts_with nat_eq text (255 ∷ 254 ∷ []) || starts_with nat_eq text (254 ∷ 255 ∷ []))
+use Rattle.check_tables.specs.declared.clue.Clue.TheVariants.{ByteOrderMark, MaybeLog, NearKey}
 
 -- the line with this number, from 1
 abbrev pub line_at_number : ℕ → List (List ℕ) → List ℕ
@@ -38,10 +34,28 @@ abbrev pub if_near : Cause → List ℕ → Option Clue
 if_near UnknownRole key = option_map NearKey (near_key key)
 if_near _ key = None
 
--- a first line that is at fault has a byte order mark before it, or else a key that isn't known is
--- near to one that is
+-- text is there, and neither a digit nor a minus sign begins it
+abbrev pub begins_no_number : List ℕ → Bool
+begins_no_number [] = false
+begins_no_number (byte ∷ bytes) = not (is_digit byte || byte == 45)
+
+abbrev pub log_for : Cause → List ℕ → Option Clue
+log_for BadSection line = if begins_no_number (after_blanks line) then Some MaybeLog else None
+log_for _ line = None
+
+-- the first line of a database opens no section, and no number begins it
+abbrev pub if_log : CaveError → List ℕ → Option Clue
+if_log error database = log_for error.cause (line_at_number 1 (lines database))
+
+-- a first line that is at fault has a byte order mark before it, or else is as one of a log
+abbrev pub clue_at_first : CaveError → List ℕ → List ℕ → Option Clue
+clue_at_first error database bindings =
+    if has_byte_order_mark (faulty_text error.site database bindings) then Some ByteOrderMark
+    else if_log error database
+
+-- what is known of a first line that is at fault, or else of a key that isn't known: it is near to
+-- one that is
 abbrev pub clue_of : CaveError → List ℕ → List ℕ → Option Clue
 clue_of error database bindings =
-    if error.line == 1 && has_byte_order_mark (faulty_text error.site database bindings)
-    then Some ByteOrderMark
-    else if_near error.cause (key_in (line_at_number error.line (lines bindings)))
+    option_or (if error.line == 1 then clue_at_first error database bindings else None)
+    (if_near error.cause (key_in (line_at_number error.line (lines bindings))))

@@ -2,12 +2,13 @@
 
 ghost use Rattle.std.specs.Prelude.{◌≡◌, IfOk};
 ghost use Rattle.std.specs.Str.Lines.{lines};
-ghost use Rattle.check_tables.specs.Clues.{clue_of, faulty_text, has_byte_order_mark, if_near};
-ghost use Rattle.check_tables.specs.Clues.{key_in, line_at_number};
+ghost use Rattle.check_tables.specs.Clues.{clue_at_first, clue_of, faulty_text, if_log, if_near};
+ghost use Rattle.check_tables.specs.Clues.{begins_no_number, key_in, line_at_number};
 
 use crate::near_key::near_key;
 use base_lines::bytes::{skip_blanks, split_word};
 use base_lines::split_line;
+use base_slips::has_byte_order_mark;
 use data_rows::binding::Key;
 use data_rows::place_role::PLACE_NAMES;
 use data_rows::role::ROLE_NAMES;
@@ -20,6 +21,8 @@ use std::fmt;
 pub enum Clue {
     /// The file begins with a byte order mark.
     ByteOrderMark,
+    /// The file of the database begins with no number, as a log does.
+    MaybeLog,
     /// The key is near to this one, and to no other.
     NearKey(Key),
 }
@@ -44,20 +47,18 @@ impl fmt::Display for Clue {
                     "the file begins with a byte order mark: save it without one"
                 )
             }
+            Clue::MaybeLog => {
+                write!(
+                    f,
+                    "expected the number of a section, 1 to 12; if this is a log, CAVE comes \
+                     before it"
+                )
+            }
             Clue::NearKey(Key::RoleKey(role)) => write_key(f, "msg.", &ROLE_NAMES, role),
             Clue::NearKey(Key::PlaceKey(role)) => write_key(f, "place.", &PLACE_NAMES, role),
             Clue::NearKey(Key::LettersKey) => write!(f, "did you mean num.letters?"),
         }
     }
-}
-
-/// Whether a text begins with a byte order mark, of UTF-8 or of either UTF-16.
-fn has_byte_order_mark(text: &[u8]) -> bool
-    ensures { result ≡ has_byte_order_mark text.now }
-{
-    text.starts_with(b"\xef\xbb\xbf")
-        || text.starts_with(b"\xff\xfe")
-        || text.starts_with(b"\xfe\xff")
 }
 
 /// The line with a number, from 1, of a text; empty where it has none.
@@ -103,6 +104,36 @@ fn if_near(alloc: Global, cause: Cause, key: &[u8]) -> Result<Option<Clue>, Allo
     }
 }
 
+/// Whether text is there, and no number begins it.
+fn begins_no_number(text: &[u8]) -> bool
+    ensures { result ≡ begins_no_number text.now }
+{
+    match text {
+        [byte, ..] => !byte.is_ascii_digit() && *byte != b'-',
+        [] => false,
+    }
+}
+
+/// The clue to a first line of a database, where it opens no section and no number begins it.
+fn if_log(error: CaveError, database: &[u8]) -> Option<Clue>
+    ensures { result ≡ if_log error database.now }
+{
+    if error.cause == Cause::BadSection && begins_no_number(skip_blanks(line_at(1, database))) {
+        return Some(Clue::MaybeLog);
+    }
+    None
+}
+
+/// The clue to a fault in the first line of a database or of bindings.
+fn clue_at_first(error: CaveError, database: &[u8], bindings: &[u8]) -> Option<Clue>
+    ensures { result ≡ clue_at_first error database.now bindings.now }
+{
+    if has_byte_order_mark(faulty_text(error.site, database, bindings)) {
+        return Some(Clue::ByteOrderMark);
+    }
+    if_log(error, database)
+}
+
 /// What is known of a fault of a database and its bindings beyond its cause.
 pub fn clue_of(
     alloc: Global,
@@ -112,8 +143,12 @@ pub fn clue_of(
 ) -> Result<Option<Clue>, AllocError>
     ensures { IfOk result (λ clue. clue ≡ clue_of error database.now bindings.now) }
 {
-    if error.line == 1 && has_byte_order_mark(faulty_text(error.site, database, bindings)) {
-        return Ok(Some(Clue::ByteOrderMark));
+    let first = match error.line {
+        1 => clue_at_first(error, database, bindings),
+        _ => None,
+    };
+    match first {
+        Some(clue) => Ok(Some(clue)),
+        None => if_near(alloc, error.cause, key_in(line_at(error.line, bindings))),
     }
-    if_near(alloc, error.cause, key_in(line_at(error.line, bindings)))
 }

@@ -3,7 +3,6 @@
 
 pub mod clue;
 pub mod names;
-mod near;
 mod near_key;
 pub mod unused;
 

@@ -1,18 +1,19 @@
--- The word after the first `--seed`, by the first word of a list.
+-- The word after the first option of a seed, and others, by the first word of a list.
 use Rattle.std.proofs.Common.{◌≡◌, ◌∙◌, ℕ, arith, Bool, true, false, List, [], ◌∷◌, length, map}
 use Rattle.std.proofs.Common.{None, Some, refl, sym, subst, ap}
 use Rattle.std.specs.Prelude.{bytes_eq, codes, if◌then◌else◌}
-use Rattle.play_command.specs.BelowZero.{first_argument, if_below_zero, seed_below_zero}
-use Rattle.play_command.specs.BelowZero.{seed_of_command, takes_seed, word_of_seed}
+use Rattle.play_command.specs.BelowZero.{first_argument, if_below_zero, is_seed_option}
+use Rattle.play_command.specs.BelowZero.{seed_below_zero, seed_of_command, takes_seed, word_of_seed}
+use Rattle.play_command.specs.Stray.{if_stray, stray_command}
 
 by_first : (word : List ℕ) (words : List (List ℕ)) (files seed : Bool)
-    → bytes_eq word (codes "--") ≡ files → bytes_eq word (codes "--seed") ≡ seed
+    → bytes_eq word (codes "--") ≡ files → is_seed_option word ≡ seed
     → word_of_seed (word ∷ words)
     ≡ (if files then None else (if seed then first_argument words else word_of_seed words))
 unfolding word_of_seed
 by_first word words files seed files_is seed_is =
     ap (λ (it : Bool). if it then None
-    else (if bytes_eq word (codes "--seed") then first_argument words else word_of_seed words)) files_is
+    else (if is_seed_option word then first_argument words else word_of_seed words)) files_is
     ∙ ap (λ (it : Bool). if files then None
     else (if it then first_argument words else word_of_seed words)) seed_is
 
@@ -32,23 +33,23 @@ in_files {A = A} text words first rest word is text_is files =
 
 pub in_next : {A : Type 0} (text : A → List ℕ) (words : List A) (first : A) (rest : List A)
     (word : List ℕ) → words ≡ first ∷ rest → word ≡ text first
-    → bytes_eq word (codes "--") ≡ false → bytes_eq word (codes "--seed") ≡ true
+    → bytes_eq word (codes "--") ≡ false → is_seed_option word ≡ true
     → word_of_seed (map text words) ≡ first_argument (map text rest)
 in_next {A = A} text words first rest word is text_is files seed =
     ap (λ (it : List A). word_of_seed (map text it)) is
     ∙ by_first (text first) (map text rest) false true
     (subst (λ (it : List ℕ). bytes_eq it (codes "--") ≡ false) text_is files)
-    (subst (λ (it : List ℕ). bytes_eq it (codes "--seed") ≡ true) text_is seed)
+    (subst (λ (it : List ℕ). is_seed_option it ≡ true) text_is seed)
 
 pub in_rest : {A : Type 0} (text : A → List ℕ) (words : List A) (first : A) (rest : List A)
     (word : List ℕ) → words ≡ first ∷ rest → word ≡ text first
-    → bytes_eq word (codes "--") ≡ false → bytes_eq word (codes "--seed") ≡ false
+    → bytes_eq word (codes "--") ≡ false → is_seed_option word ≡ false
     → word_of_seed (map text words) ≡ word_of_seed (map text rest)
 in_rest {A = A} text words first rest word is text_is files seed =
     ap (λ (it : List A). word_of_seed (map text it)) is
     ∙ by_first (text first) (map text rest) false false
     (subst (λ (it : List ℕ). bytes_eq it (codes "--") ≡ false) text_is files)
-    (subst (λ (it : List ℕ). bytes_eq it (codes "--seed") ≡ false) text_is seed)
+    (subst (λ (it : List ℕ). is_seed_option it ≡ false) text_is seed)
 
 pub first_none : {A : Type 0} (text : A → List ℕ) (words : List A) → length words ≡ 0
     → first_argument (map text words) ≡ None
@@ -103,6 +104,21 @@ pub program_rest : {A : Type 0} (text : A → List ℕ) (words : List A) (first 
 unfolding seed_below_zero
 program_rest {A = A} text words first rest is =
     ap (λ (it : List A). seed_below_zero (map text it)) is
+
+pub stray_none : {A : Type 0} (text : A → List ℕ) (words : List A) → length words ≡ 0
+    → stray_command (map text words) ≡ None
+unfolding stray_command
+stray_none text [] none = refl
+stray_none text (word ∷ words) none = absurd (omega arith)
+
+pub stray_rest : {A : Type 0} (text : A → List ℕ) (words : List A) (first : A) (rest : List A)
+    → words ≡ first ∷ rest
+    → stray_command (map text words) ≡ if_stray (first_argument (map text rest))
+unfolding stray_command
+stray_rest {A = A} text words first rest is =
+    ap (λ (it : List A). stray_command (map text it)) is
+
+pub ruleset strays = (stray_none, stray_rest)
 
 pub ruleset first_words = (first_none, first_some)
 

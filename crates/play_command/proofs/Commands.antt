@@ -1,6 +1,6 @@
 -- What the parser answers to the words, and what that comes to.
-use Rattle.std.proofs.Common.{◌≡◌, true, List, [], Some, None, Result, Ok, Err, IfOk, IfErr}
-use Rattle.std.proofs.Common.{MatchResult, refl, sym, subst, ap, ◌∙◌, inl, inr}
+use Rattle.std.proofs.Common.{◌≡◌, ℕ, true, List, [], Some, None, Result, Ok, Err, IfOk}
+use Rattle.std.proofs.Common.{Bor, IfErr, MatchResult, refl, sym, subst, ap, ◌∙◌, inl, inr}
 use Rattle.clap.specs.Words.{App, HasKind, HasMatchesOf, FailsBy, IsAmong, Kinds, app_of, fault_of}
 use Rattle.clap.specs.Words.{is_simple, is_simple_and_free, kind_of}
 use Rattle.clap.specs.Walk.{Text}
@@ -8,16 +8,18 @@ use Rattle.clap.specs.declared.builder.command.Command.{Command}
 use Rattle.clap.specs.declared.error.Error.{Error}
 use Rattle.clap.specs.declared.error.kind.ErrorKind.{ErrorKind}
 use Rattle.clap.specs.declared.error.kind.ErrorKind.TheVariants.{OutOfMemory, UnknownArgument}
+use Rattle.clap.specs.declared.error.kind.ErrorKind.TheVariants.{InvalidSubcommand}
 use Rattle.clap.specs.declared.parser.matches.ArgMatches.{ArgMatches}
 use Rattle.clap.proofs.OnLiterals.{clap_on_literals}
 use Rattle.play_command.specs.App.{cave_app}
-use Rattle.play_command.specs.Line.{HasNoSeedBelowZero, IsAsked, IsRun, IsRunMet, IsRefusal}
+use Rattle.play_command.specs.Line.{HasNoSeedBelowZero, HasNoStrayCommand, IsAsked, IsRun, IsRunMet, IsRefusal}
 use Rattle.play_command.specs.Line.{IsRefused, IsRequest, IsUnmade, IsWrong, MetCommand, IsParse}
 use Rattle.play_command.specs.declared.fault.CommandFault.{CommandFault}
 use Rattle.play_command.specs.declared.fault.CommandFault.TheVariants.{Usage, Incomplete, BadSeed}
 use Rattle.play_command.specs.declared.fault.CommandFault.TheVariants.{BadEvery, BadView, Memory}
 use Rattle.play_command.specs.declared.fault.CommandFault.TheVariants.{BadPlayView, BadCheckView}
-use Rattle.play_command.specs.declared.fault.CommandFault.TheVariants.{BadCoverView}
+use Rattle.play_command.specs.declared.fault.CommandFault.TheVariants.{BadCoverView, NoCommand}
+use Rattle.play_command.specs.declared.fault.CommandFault.TheVariants.{NoScript, TwoScripts}
 use Rattle.play_command.specs.declared.line.Line.{Line}
 use Rattle.play_command.specs.declared.line.Line.TheVariants as run
 
@@ -88,6 +90,11 @@ no_usage None error is = is
 no_usage (Some found) error (inl bad) = bad
 no_usage (Some found) error (inr bad) = bad
 
+no_stray : (met : MetCommand) (text : Bor (List ℕ)) → IsWrong met (NoCommand text) → ⊥
+no_stray None text is = is
+no_stray (Some found) text (inl bad) = bad
+no_stray (Some found) text (inr bad) = bad
+
 pub found_refused : (words : List Text) (kinds : Kinds) (met : MetCommand)
     (answer : Result Line CommandFault)
     → kinds ≡ [] → Reads met answer → IfErr answer (IsRefused words kinds met)
@@ -100,6 +107,9 @@ found_refused words kinds met (Err (BadView name)) none is = (none, is)
 found_refused words kinds met (Err (BadPlayView name)) none is = (none, is)
 found_refused words kinds met (Err (BadCheckView name)) none is = (none, is)
 found_refused words kinds met (Err (BadCoverView name)) none is = (none, is)
+found_refused words kinds met (Err NoScript) none is = (none, is)
+found_refused words kinds met (Err TwoScripts) none is = (none, is)
+found_refused words kinds met (Err (NoCommand text)) none is = absurd (no_stray met text is)
 found_refused words kinds met (Err Memory) none is = tt
 
 -- ---- what an error comes to
@@ -121,13 +131,16 @@ text_asked kinds error asked has (same, request) =
 no_memory_unknown : (kind : ErrorKind) → kind ≡ UnknownArgument → kind ≡ OutOfMemory → ⊥
 no_memory_unknown kind unknown memory = cc
 
+no_memory_invalid : (kind : ErrorKind) → kind ≡ InvalidSubcommand → kind ≡ OutOfMemory → ⊥
+no_memory_invalid kind invalid memory = cc
+
 pub error_refused : (words : List Text) (kinds : Kinds) (met : MetCommand) (error : Error)
     (fault : CommandFault)
     → HasKind kinds error → IsRefusal words error fault → IsRefused words kinds met fault
-error_refused words kinds met error (Usage given) has (same, asks, memory, none) =
+error_refused words kinds met error (Usage given) has (same, asks, memory, none, known) =
     subst (λ (e : Error). (¬ IsRequest (kind_of e)) × IsAmong (kind_of e) kinds
-    × HasNoSeedBelowZero words (kind_of e)) (sym same)
-    (asks, among kinds error has memory, none)
+    × HasNoSeedBelowZero words (kind_of e) × HasNoStrayCommand words (kind_of e)) (sym same)
+    (asks, among kinds error has memory, none, known)
 error_refused words kinds met error Incomplete has is = absurd is
 error_refused words kinds met error (BadSeed text) has (unknown, seed) =
     inr (
@@ -140,4 +153,11 @@ error_refused words kinds met error (BadView name) has is = absurd is
 error_refused words kinds met error (BadPlayView name) has is = absurd is
 error_refused words kinds met error (BadCheckView name) has is = absurd is
 error_refused words kinds met error (BadCoverView name) has is = absurd is
+error_refused words kinds met error NoScript has is = absurd is
+error_refused words kinds met error TwoScripts has is = absurd is
+error_refused words kinds met error (NoCommand text) has (invalid, stray) = (
+  subst (λ (kind : ErrorKind). IsAmong kind kinds) invalid
+      (among kinds error has (no_memory_invalid (kind_of error) invalid)),
+  stray,
+)
 error_refused words kinds met error Memory has is = tt

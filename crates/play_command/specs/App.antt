@@ -25,20 +25,28 @@ abbrev pub some_logs_argument : Rule
 some_logs_argument = record (new_rule (codes "log")) { value_names = 1; action = Some Append }
 
 abbrev pub script_argument : Rule
-script_argument = record (new_rule (codes "script")) { required = true; value_names = 1 }
+script_argument = record (new_rule (codes "script")) { value_names = 1 }
 
--- the options
+-- a line of a script, which may be given several times
+abbrev pub lines_argument : Rule
+lines_argument = record (new_rule (codes "edit"))
+    { short = Some 101; long = Some (codes "edit"); value_names = 1; action = Some Append }
+
+-- the options, some of which have a letter too: b, s, p and o
 abbrev pub bind_argument : Rule
-bind_argument = record (new_rule (codes "bind")) { long = Some (codes "bind"); value_names = 1 }
+bind_argument = record (new_rule (codes "bind"))
+    { short = Some 98; long = Some (codes "bind"); value_names = 1 }
 
 abbrev pub seed_argument : Rule
-seed_argument = record (new_rule (codes "seed")) { long = Some (codes "seed"); value_names = 1 }
+seed_argument = record (new_rule (codes "seed"))
+    { short = Some 115; long = Some (codes "seed"); value_names = 1 }
 
 abbrev pub every_argument : Rule
 every_argument = record (new_rule (codes "every")) { long = Some (codes "every"); value_names = 1 }
 
 abbrev pub print_argument : Rule
-print_argument = record (new_rule (codes "print")) { long = Some (codes "print"); value_names = 1 }
+print_argument = record (new_rule (codes "print"))
+    { short = Some 112; long = Some (codes "print"); value_names = 1 }
 
 abbrev pub strict_argument : Rule
 strict_argument =
@@ -50,7 +58,7 @@ guarded_argument =
 
 abbrev pub output_argument : Rule
 output_argument = record (new_rule (codes "output"))
-    { long = Some (codes "output"); value_names = 1 }
+    { short = Some 111; long = Some (codes "output"); value_names = 1 }
 
 -- a command whose output may go into a file
 abbrev pub with_output : App → App
@@ -82,6 +90,10 @@ with_options app = with_rule (with_rule app bind_argument) seed_argument
 abbrev pub with_cover_options : App → App
 with_cover_options app = with_rule (with_options app) print_argument
 
+-- a command with what a script is read from
+abbrev pub with_script : App → App
+with_script app = with_rule (with_rule app script_argument) lines_argument
+
 abbrev pub with_edit_options : App → App
 with_edit_options app =
     with_rule (with_rule (with_rule (with_rule app every_argument) print_argument) strict_argument)
@@ -93,8 +105,7 @@ play_app = with_output (with_rule (with_options (with_game (new_app (codes "play
 
 abbrev pub edit_app : App
 edit_app = with_output
-    (with_edit_options (with_options (with_rule (with_game (new_app (codes "edit")))
-    script_argument)))
+    (with_edit_options (with_options (with_script (with_game (new_app (codes "edit"))))))
 
 abbrev pub cover_app : App
 cover_app = with_output (with_cover_options (with_logs (new_app (codes "cover"))))

@@ -19,12 +19,16 @@ abbrev pub first_argument : List (List ℕ) → Option (List ℕ)
 first_argument [] = None
 first_argument (word ∷ words) = Some word
 
--- the word after the first `--seed`; after `--` each word is a file
+-- the option of a seed
+abbrev pub is_seed_option : List ℕ → Bool
+is_seed_option word = bytes_eq word (codes "--seed") || bytes_eq word (codes "-s")
+
+-- the word after the first option of a seed; after `--` each word is a file
 unfoldable pub word_of_seed : List (List ℕ) → Option (List ℕ)
 word_of_seed [] = None
 word_of_seed (word ∷ words) =
     if bytes_eq word (codes "--") then None
-    else (if bytes_eq word (codes "--seed") then first_argument words else word_of_seed words)
+    else (if is_seed_option word then first_argument words else word_of_seed words)
 
 abbrev pub if_below_zero : Option (List ℕ) → Option (List ℕ)
 if_below_zero None = None

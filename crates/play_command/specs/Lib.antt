@@ -1,4 +1,5 @@
 pub mod App
 pub mod BelowZero
 pub mod Line
+pub mod Stray
 pub mod Views

@@ -1,7 +1,8 @@
 -- Which run the words ask for, and why they are refused.
 use Rattle.std.specs.Prelude.{◌≡◌, ◌≢◌, ◌⊎◌, ◌&&◌, ◌||◌, ℕ, Bool, true, false, bytes_eq, is_some}
 use Rattle.std.specs.Prelude.{List, [], Option, Some, None, option_map, unwrap_or, map, codes}
-use Rattle.std.specs.Prelude.{Result, MatchResult, nat_lt, nat_le, length, if◌then◌else◌}
+use Rattle.std.specs.Prelude.{Result, MatchResult, nat_lt, nat_le, length, string_bytes}
+use Rattle.std.specs.Prelude.{if◌then◌else◌}
 use Rattle.std.specs.Option.{option_map_or}
 use Rattle.std.specs.List.{list_all}
 use Rattle.clap.specs.Words.{IsAmong, Kinds, Row, all_of, first_of, found_of, kind_of, rows_of}
@@ -10,6 +11,7 @@ use Rattle.clap.specs.declared.error.Error.{Error}
 use Rattle.clap.specs.declared.error.kind.ErrorKind.{ErrorKind}
 use Rattle.clap.specs.declared.error.kind.ErrorKind.TheVariants.{DisplayHelp, DisplayVersion}
 use Rattle.clap.specs.declared.error.kind.ErrorKind.TheVariants.{OutOfMemory, UnknownArgument}
+use Rattle.clap.specs.declared.error.kind.ErrorKind.TheVariants.{InvalidSubcommand}
 use Rattle.clap.specs.declared.parser.matches.ArgMatches.{ArgMatches}
 use Rattle.play_command.specs.BelowZero.{seed_below_zero}
 use Rattle.play_command.specs.declared.fault.CommandFault.{CommandFault}
@@ -18,8 +20,11 @@ use Rattle.play_command.specs.declared.line.Files.{Files}
 use Rattle.play_command.specs.declared.line.Line.{Line}
 use Rattle.play_command.specs.declared.line.Line.TheVariants.{Check, Doubts, Play, Edit, Cover, Map}
 use Rattle.play_command.specs.declared.line.Line.TheVariants.{Text}
+use Rattle.play_command.specs.declared.line.ScriptSource.{ScriptSource}
+use Rattle.play_command.specs.declared.line.ScriptSource.TheVariants.{File, Typed}
 use Rattle.play_command.specs.App.{cave_app}
 use Rattle.play_command.specs.Views.{edit_view_named, check_view_named, cover_view_named}
+use Rattle.play_command.specs.Stray.{stray_command}
 use Rattle.play_command.specs.Views.{play_view_named}
 use Rattle.play_command.specs.declared.views.CheckView.{CheckView}
 use Rattle.play_command.specs.declared.views.CheckView.TheVariants.{Maximum}
@@ -31,6 +36,7 @@ use Rattle.play_command.specs.declared.editing.EditView.{EditView}
 use Rattle.play_command.specs.declared.editing.EditView.TheVariants.{Transcript}
 use Rattle.play_command.specs.declared.views.PlayView.{PlayView}
 use Rattle.play_command.specs.declared.views.PlayView.TheVariants as play
+use Rattle.replay_scripts.specs.ScriptText.{text_of_lines}
 use Rattle.base_lines.specs.Limits.{MAX_SEED, MAX_EVERY, MAX_DIGITS}
 use Rattle.base_lines.specs.Bytes.{is_digit, number_of}
 
@@ -135,6 +141,15 @@ pub record IsEditing (rows : List Row) (editing : Editing) : Type 0 where
   pub strict : editing.strict ≡ is_strict rows
   pub guarded : editing.guarded ≡ is_guarded rows
 
+-- the script is the file that was found for it, or else has the lines that were
+abbrev pub IsScriptSource : List Row → ScriptSource → Type 0
+IsScriptSource rows (File file) =
+    (first_of (codes "script") rows ≡ Some file.now) × (all_of (codes "edit") rows ≡ None)
+IsScriptSource rows (Typed text) =
+    (first_of (codes "script") rows ≡ None)
+    × ((lines : List (List ℕ)) × (all_of (codes "edit") rows ≡ Some lines)
+    × (string_bytes text ≡ text_of_lines lines))
+
 -- what a check prints was found to be the list of doubts; a strict check prints it unless another
 -- is asked for
 abbrev pub are_doubts_asked : List Row → Bool
@@ -153,7 +168,7 @@ IsRunOf name rows (Play files log seed view) =
     × IsSeed rows seed × IsPlayView rows view
 IsRunOf name rows (Edit files log script editing) =
     (name ≡ codes "edit") × IsFiles rows files × (first_of (codes "log") rows ≡ Some log.now)
-    × (first_of (codes "script") rows ≡ Some script.now) × IsEditing rows editing
+    × IsScriptSource rows script × IsEditing rows editing
 IsRunOf name rows (Cover files logs seed view) =
     (name ≡ codes "cover") × IsFiles rows files
     × (all_of (codes "log") rows ≡ Some (map (λ log. log.now) logs.items)) × IsSeed rows seed
@@ -188,8 +203,7 @@ has_files name rows =
     && (bytes_eq name (codes "check") || bytes_eq name (codes "map")
     || (bytes_eq name (codes "cover") && is_some (all_of (codes "log") rows))
     || (is_some (first_of (codes "log") rows)
-    && (bytes_eq name (codes "play")
-    || (bytes_eq name (codes "edit") && is_some (first_of (codes "script") rows)))))
+    && (bytes_eq name (codes "play") || bytes_eq name (codes "edit"))))
 
 abbrev pub is_complete : MetCommand → Bool
 is_complete None = false
@@ -231,6 +245,15 @@ IsBadPlayView rows (fault_is.BadPlayView name) = (first_of (codes "print") rows 
     × (play_view_named name.now ≡ None)
 IsBadPlayView rows _ = ⊥
 
+-- neither the file of a script was found nor lines of one, or both were
+abbrev pub IsBadScript : List Row → CommandFault → Type 0
+IsBadScript rows fault_is.NoScript =
+    (first_of (codes "script") rows ≡ None) × (all_of (codes "edit") rows ≡ None)
+IsBadScript rows fault_is.TwoScripts =
+    (is_some (first_of (codes "script") rows) ≡ true)
+    × (is_some (all_of (codes "edit") rows) ≡ true)
+IsBadScript rows _ = ⊥
+
 -- what is wrong with the options of a command: each prints what it alone may print
 abbrev pub IsBadOption : List ℕ → List Row → CommandFault → Type 0
 IsBadOption name rows (fault_is.BadView given) =
@@ -241,6 +264,10 @@ IsBadOption name rows (fault_is.BadPlayView given) =
     (name ≡ codes "play") × IsBadPlayView rows (fault_is.BadPlayView given)
 IsBadOption name rows (fault_is.BadCoverView given) =
     (name ≡ codes "cover") × IsBadCoverView rows (fault_is.BadCoverView given)
+IsBadOption name rows fault_is.NoScript =
+    (name ≡ codes "edit") × IsBadScript rows fault_is.NoScript
+IsBadOption name rows fault_is.TwoScripts =
+    (name ≡ codes "edit") × IsBadScript rows fault_is.TwoScripts
 IsBadOption name rows fault = IsBadSeed rows fault ⊎ IsBadEvery rows fault
 
 -- what is wrong with what was found
@@ -258,13 +285,21 @@ IsUnmade met fault = IsWrong met fault
 abbrev pub HasNoSeedBelowZero : List (List ℕ) → ErrorKind → Type 0
 HasNoSeedBelowZero words kind = kind ≡ UnknownArgument → seed_below_zero words ≡ None
 
+-- where the parser finds no command, no word is in its place, or an option, or one that asks for
+-- help
+abbrev pub HasNoStrayCommand : List (List ℕ) → ErrorKind → Type 0
+HasNoStrayCommand words kind = kind ≡ InvalidSubcommand → stray_command words ≡ None
+
 -- the parser's error, as a fault: a seed below zero is an argument that it doesn't know
 abbrev pub IsRefusal : List (List ℕ) → Error → CommandFault → Type 0
 IsRefusal words error fault_is.Memory = kind_of error ≡ OutOfMemory
 IsRefusal words error (fault_is.Usage given) = (given ≡ error) × (¬ IsRequest (kind_of error))
     × (kind_of error ≢ OutOfMemory) × HasNoSeedBelowZero words (kind_of error)
+    × HasNoStrayCommand words (kind_of error)
 IsRefusal words error (fault_is.BadSeed text) =
     (kind_of error ≡ UnknownArgument) × (seed_below_zero words ≡ Some text.now)
+IsRefusal words error (fault_is.NoCommand text) =
+    (kind_of error ≡ InvalidSubcommand) × (stray_command words ≡ Some text.now)
 IsRefusal words error _ = ⊥
 
 -- the words give a seed below zero, which is an argument that the parser doesn't know
@@ -277,6 +312,9 @@ abbrev pub IsRefused : List (List ℕ) → Kinds → MetCommand → CommandFault
 IsRefused words kinds met fault_is.Memory = Unit {0}
 IsRefused words kinds met (fault_is.Usage error) = (¬ IsRequest (kind_of error))
     × IsAmong (kind_of error) kinds × HasNoSeedBelowZero words (kind_of error)
+    × HasNoStrayCommand words (kind_of error)
 IsRefused words kinds met (fault_is.BadSeed text) =
     ((kinds ≡ []) × IsWrong met (fault_is.BadSeed text)) ⊎ IsSeedBelowZero words kinds text.now
+IsRefused words kinds met (fault_is.NoCommand text) =
+    IsAmong InvalidSubcommand kinds × (stray_command words ≡ Some text.now)
 IsRefused words kinds met fault = (kinds ≡ []) × IsWrong met fault

@@ -7,12 +7,12 @@ ghost use Rattle.play_command.specs.App.{IsLocal, cave_app, check_and_play_comma
 ghost use Rattle.play_command.specs.App.{check_play_and_edit_command, cover_app, edit_app, map_app};
 ghost use Rattle.play_command.specs.App.{plain_command, play_app, with_check_options};
 ghost use Rattle.play_command.specs.App.{with_cover_options, with_edit_options, with_game};
-ghost use Rattle.play_command.specs.App.{with_logs, with_options, with_output};
+ghost use Rattle.play_command.specs.App.{with_logs, with_options, with_output, with_script};
 
 use crate::arguments::{
     bind_argument, cave_argument, check_print_argument, check_strict_argument,
-    cover_print_argument, edit_print_argument, every_argument, guarded_argument, log_argument,
-    logs_argument, output_argument, play_print_argument, script_argument, seed_argument,
+    cover_print_argument, edit_print_argument, every_argument, guarded_argument, lines_argument,
+    log_argument, logs_argument, output_argument, play_print_argument, script_argument, seed_argument,
     some_logs_argument, strict_argument,
 };
 use clap::Command;
@@ -57,6 +57,8 @@ A script has lines as these, whose places count the lines of the log from 0:
   replace 3 out
   seed 7
   end
+
+With `-e 'replace 3 out'` a script of a few lines needs no file.
 
 An edit that is refused is reported by a number, or ends the run under --strict:
 
@@ -128,6 +130,16 @@ fn with_cover_options<'a>(alloc: Global, command: Command<'a>) -> Result<Command
     with_options(alloc, command)?.arg(cover_print_argument(alloc))
 }
 
+/// Adds what the script of an edit is read from: a file, or lines on the command line.
+fn with_script<'a>(alloc: Global, command: Command<'a>) -> Result<Command<'a>, AllocError>
+    requires { (out-Command command).has_globals ≡ false }
+    ensures { IfOk result (IsLocal (with_script (app_of command.entry))) }
+{
+    command
+        .arg(script_argument(alloc))?
+        .arg(lines_argument(alloc))
+}
+
 /// Adds the options of an edit alone: the distance of checkpoints, what is printed, whether a
 /// refused edit ends the run, and whether the script may have guards.
 fn with_edit_options<'a>(alloc: Global, command: Command<'a>) -> Result<Command<'a>, AllocError>
@@ -163,7 +175,7 @@ fn edit_command<'a>(alloc: Global) -> Result<Command<'a>, AllocError>
              what each line did, the score or the state",
         )
         .after_help(EDIT_EXAMPLE);
-    let command = with_game(alloc, command)?.arg(script_argument(alloc))?;
+    let command = with_script(alloc, with_game(alloc, command)?)?;
     let command = with_edit_options(alloc, with_options(alloc, command)?)?;
     with_output(alloc, command)
 }

@@ -3,7 +3,8 @@
 ghost use Rattle.std.specs.Prelude.{◌≡◌, false};
 ghost use Rattle.clap.specs.Words.{rule_of};
 ghost use Rattle.play_command.specs.App.{bind_argument, cave_argument, every_argument};
-ghost use Rattle.play_command.specs.App.{log_argument, logs_argument, output_argument};
+ghost use Rattle.play_command.specs.App.{lines_argument, log_argument, logs_argument};
+ghost use Rattle.play_command.specs.App.{output_argument};
 ghost use Rattle.play_command.specs.App.{print_argument, script_argument, seed_argument};
 ghost use Rattle.play_command.specs.App.{guarded_argument, some_logs_argument, strict_argument};
 
@@ -55,12 +56,24 @@ pub(crate) fn script_argument<'a>(alloc: Global) -> Arg<'a>
     ensures rule { rule_of result ≡ script_argument }
     ensures local { result.global ≡ false }
 {
-    Arg::new(alloc, "script")
-        .required(true)
-        .value_name("SCRIPT")
+    Arg::new(alloc, "script").value_name("SCRIPT").help(
+        "The edits of the log: lines `insert N TEXT`, `delete N`, `replace N TEXT`, \
+         `seed N`, and groups from `begin` to `end`",
+    )
+}
+
+pub(crate) fn lines_argument<'a>(alloc: Global) -> Arg<'a>
+    ensures rule { rule_of result ≡ lines_argument }
+    ensures local { result.global ≡ false }
+{
+    Arg::new(alloc, "edit")
+        .short('e')
+        .long("edit")
+        .action(ArgAction::Append)
+        .value_name("EDIT")
         .help(
-            "The edits of the log: lines `insert N TEXT`, `delete N`, `replace N TEXT`, \
-             `seed N`, and groups from `begin` to `end`",
+            "A line of the script, as 'replace 17 drop vase'; given several times, the lines \
+             stand in the place of SCRIPT in that order",
         )
 }
 
@@ -68,18 +81,22 @@ pub(crate) fn bind_argument<'a>(alloc: Global) -> Arg<'a>
     ensures rule { rule_of result ≡ bind_argument }
     ensures local { result.global ≡ false }
 {
-    Arg::new(alloc, "bind").long("bind").value_name("FILE").help(
-        "The bindings of messages and places to what the rules call them",
-    )
+    Arg::new(alloc, "bind")
+        .short('b')
+        .long("bind")
+        .value_name("FILE")
+        .help("The bindings of messages and places to what the rules call them")
 }
 
 pub(crate) fn seed_argument<'a>(alloc: Global) -> Arg<'a>
     ensures rule { rule_of result ≡ seed_argument }
     ensures local { result.global ≡ false }
 {
-    Arg::new(alloc, "seed").long("seed").value_name("N").help(
-        "Where the random numbers begin, from 0 to 2147483647 [default: 0]",
-    )
+    Arg::new(alloc, "seed")
+        .short('s')
+        .long("seed")
+        .value_name("N")
+        .help("Where the random numbers begin, from 0 to 2147483647 [default: 0]")
 }
 
 pub(crate) fn every_argument<'a>(alloc: Global) -> Arg<'a>
@@ -97,6 +114,7 @@ pub(crate) fn output_argument<'a>(alloc: Global) -> Arg<'a>
     ensures local { result.global ≡ false }
 {
     Arg::new(alloc, "output")
+        .short('o')
         .long("output")
         .value_name("FILE")
         .help(
@@ -110,6 +128,7 @@ pub(crate) fn edit_print_argument<'a>(alloc: Global) -> Arg<'a>
     ensures local { result.global ≡ false }
 {
     Arg::new(alloc, "print")
+        .short('p')
         .long("print")
         .value_name("WHAT")
         .help(
@@ -126,6 +145,7 @@ pub(crate) fn play_print_argument<'a>(alloc: Global) -> Arg<'a>
     ensures local { result.global ≡ false }
 {
     Arg::new(alloc, "print")
+        .short('p')
         .long("print")
         .value_name("WHAT")
         .help(
@@ -140,6 +160,7 @@ pub(crate) fn check_print_argument<'a>(alloc: Global) -> Arg<'a>
     ensures local { result.global ≡ false }
 {
     Arg::new(alloc, "print")
+        .short('p')
         .long("print")
         .value_name("WHAT")
         .help(
@@ -155,6 +176,7 @@ pub(crate) fn cover_print_argument<'a>(alloc: Global) -> Arg<'a>
     ensures local { result.global ≡ false }
 {
     Arg::new(alloc, "print")
+        .short('p')
         .long("print")
         .value_name("WHAT")
         .help(

@@ -2,8 +2,8 @@
 
 ghost use Rattle.std.specs.Prelude.{◌≡◌, map, option_map};
 ghost use Rattle.play_command.specs.BelowZero.{first_argument, if_below_zero, is_below_zero};
-ghost use Rattle.play_command.specs.BelowZero.{seed_below_zero, seed_of_command, takes_seed};
-ghost use Rattle.play_command.specs.BelowZero.{word_of_seed};
+ghost use Rattle.play_command.specs.BelowZero.{is_seed_option, seed_below_zero, seed_of_command};
+ghost use Rattle.play_command.specs.BelowZero.{takes_seed, word_of_seed};
 
 use crate::number::is_all_digits;
 use std::convert::AsStr;
@@ -17,6 +17,13 @@ fn is_below_zero(text: &[u8]) -> bool
     }
 }
 
+/// Whether a word is the option of a seed.
+fn is_seed_option(word: &str) -> bool
+    ensures { result ≡ is_seed_option word.now }
+{
+    word == "--seed" || word == "-s"
+}
+
 fn takes_seed(command: &str) -> bool
     ensures { result ≡ takes_seed command.now }
 {
@@ -24,7 +31,7 @@ fn takes_seed(command: &str) -> bool
 }
 
 #[tactic(auto, using(crate::proofs::BelowZeroLemmas::first_words))]
-fn first_argument<'a, S: AsStr>(words: &'a [S]) -> Option<&'a str>
+pub(crate) fn first_argument<'a, S: AsStr>(words: &'a [S]) -> Option<&'a str>
     ensures { option_map (λ text. text.now) result ≡ first_argument (map S.text words.now) }
 {
     match words.split_first() {
@@ -33,7 +40,7 @@ fn first_argument<'a, S: AsStr>(words: &'a [S]) -> Option<&'a str>
     }
 }
 
-/// The word after the first `--seed`.
+/// The word after the first option of a seed.
 #[tactic(auto, using(crate::proofs::BelowZeroLemmas::words_of_seed))]
 fn word_of_seed<'a, S: AsStr>(words: &'a [S]) -> Option<&'a str>
     ensures { option_map (λ text. text.now) result ≡ word_of_seed (map S.text words.now) }
@@ -44,7 +51,7 @@ fn word_of_seed<'a, S: AsStr>(words: &'a [S]) -> Option<&'a str>
         if word == "--" {
             return None;
         }
-        if word == "--seed" {
+        if is_seed_option(word) {
             return first_argument(after);
         }
         rest = after;

@@ -24,6 +24,19 @@ pub enum EditView {
     FinalState,
 }
 
+/// The names of what an edit may print.
+pub(crate) const EDIT_VIEWS: [&str; 9] = [
+    "transcript",
+    "play",
+    "log",
+    "undo",
+    "reports",
+    "table",
+    "steps",
+    "score",
+    "state",
+];
+
 impl EditView {
     /// The view of a name, if it is the name of one.
     pub fn named(name: &str) -> Option<EditView>

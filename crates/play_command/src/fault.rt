@@ -2,9 +2,15 @@ ghost use Rattle.std.specs.Prelude.{◌≡◌};
 ghost use Rattle.play_command.specs.Line.{status_of_command};
 ghost use Rattle.play_command.specs.declared.fault.CommandFault.TheVariants.{Memory};
 
+use crate::editing::EDIT_VIEWS;
+use crate::views::{CHECK_VIEWS, COVER_VIEWS, PLAY_VIEWS};
+use crate::wanted::Wanted;
 use clap::Error as ParseError;
 use std::alloc::{AllocError, AllocFailed};
 use thiserror::Error;
+
+/// The commands.
+const COMMANDS: [&str; 5] = ["check", "play", "edit", "cover", "map"];
 
 /// Why a command line asks for no run. Its text is whole lines, for standard error.
 #[derive(Debug, Drop, Error)]
@@ -23,21 +29,31 @@ pub enum CommandFault<'a> {
         from 1 to 10000\n\n\
         For more information, try '--help'.\n")]
     BadEvery(&'a str),
-    #[error("error: invalid value '{0}' for '--print <WHAT>': wanted is transcript, \
-        play, log, undo, reports, table, steps, score or state\n\n\
-        For more information, try '--help'.\n")]
+    #[error("error: invalid value '{}' for '--print <WHAT>': {}\n\n\
+        For more information, try '--help'.\n", .0, Wanted {given: *.0, names: &EDIT_VIEWS})]
     BadView(&'a str),
-    #[error("error: invalid value '{0}' for '--print <WHAT>': wanted is transcript, \
-        steps, score or state\n\n\
-        For more information, try '--help'.\n")]
+    #[error("error: invalid value '{}' for '--print <WHAT>': {}\n\n\
+        For more information, try '--help'.\n", .0, Wanted {given: *.0, names: &PLAY_VIEWS})]
     BadPlayView(&'a str),
-    #[error("error: invalid value '{0}' for '--print <WHAT>': wanted is maximum, \
-        bindings, names, unused or doubts\n\n\
-        For more information, try '--help'.\n")]
+    #[error("error: invalid value '{}' for '--print <WHAT>': {}\n\n\
+        For more information, try '--help'.\n", .0, Wanted {given: *.0, names: &CHECK_VIEWS})]
     BadCheckView(&'a str),
-    #[error("error: invalid value '{0}' for '--print <WHAT>': wanted is counts, texts or rules\n\n\
-        For more information, try '--help'.\n")]
+    #[error("error: invalid value '{}' for '--print <WHAT>': {}\n\n\
+        For more information, try '--help'.\n", .0, Wanted {given: *.0, names: &COVER_VIEWS})]
     BadCoverView(&'a str),
+    /// The word is no command.
+    #[error("error: unrecognized subcommand '{}': {}\n\n\
+        Usage: cave <COMMAND>\n\n\
+        For more information, try '--help'.\n", .0, Wanted {given: *.0, names: &COMMANDS})]
+    NoCommand(&'a str),
+    /// An edit has no script.
+    #[error("error: SCRIPT or '--edit <EDIT>' is wanted\n\n\
+        For more information, try '--help'.\n")]
+    NoScript,
+    /// An edit has a file of a script, and lines of one.
+    #[error("error: the argument '--edit <EDIT>' cannot be used with SCRIPT\n\n\
+        For more information, try '--help'.\n")]
+    TwoScripts,
     #[error("cave: there isn't enough memory\n")]
     Memory,
 }

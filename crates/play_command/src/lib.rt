@@ -9,10 +9,12 @@ pub mod fault;
 pub mod line;
 mod number;
 mod read;
+mod stray;
+mod wanted;
 pub mod views;
 
 pub use editing::{EditView, Editing};
 pub use fault::CommandFault;
-pub use line::{Files, Line};
+pub use line::{Files, Line, ScriptSource};
 pub use read::command_line;
 pub use views::{CheckView, CoverView, PlayView, TextView};

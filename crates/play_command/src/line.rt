@@ -12,6 +12,15 @@ pub struct Files<'a> {
     pub output: Option<&'a str>,
 }
 
+/// Where the script of an edit is.
+#[derive(Debug, Drop)]
+pub enum ScriptSource<'a> {
+    /// In the file of this name.
+    File(&'a str),
+    /// On the command line: this is its text.
+    Typed(String),
+}
+
 /// What the words ask for.
 #[derive(Debug, Drop)]
 pub enum Line<'a> {
@@ -34,7 +43,7 @@ pub enum Line<'a> {
     Edit {
         files: Files<'a>,
         log: &'a str,
-        script: &'a str,
+        script: ScriptSource<'a>,
         editing: Editing,
     },
     Cover {

@@ -1,10 +1,12 @@
 //! Which run the words ask for.
 
-ghost use Rattle.std.specs.Prelude.{◌≡◌, IfOk, IfErr, MatchOption, MatchResult, None, Some, codes};
-ghost use Rattle.std.specs.Prelude.{false, map, option_map};
+ghost use Rattle.std.specs.Prelude.{◌≡◌, ◌⊎◌, IfOk, IfErr, MatchOption, MatchResult, None, Some, codes};
+ghost use Rattle.std.specs.Prelude.{false, map, option_map, string_bytes};
 ghost use Rattle.clap.specs.Words.{all_of, fault_of, first_of, kind_of, subcommand_of};
 ghost use Rattle.clap.specs.Words.{subcommand_rows_of};
+ghost use Rattle.clap.specs.declared.error.kind.ErrorKind.TheVariants.{InvalidSubcommand};
 ghost use Rattle.clap.specs.declared.error.kind.ErrorKind.TheVariants.{UnknownArgument};
+ghost use Rattle.replay_scripts.specs.ScriptText.{text_of_lines};
 ghost use Rattle.play_command.specs.App.{cave_app};
 ghost use Rattle.play_command.specs.Line.{IsParse, IsAsked, IsBadCheckView, IsBadCoverView};
 ghost use Rattle.play_command.specs.Line.{IsBadEvery, IsBadOption, IsBadSeed, IsBadView};
@@ -12,18 +14,20 @@ ghost use Rattle.play_command.specs.Line.{IsCheckView, IsCoverView, IsEditing, I
 ghost use Rattle.play_command.specs.Line.{IsFiles, IsRun, IsRunMet, IsRunOf, IsRefusal, IsRefused};
 ghost use Rattle.play_command.specs.Line.{IsRequest, IsSeed, IsUnmade, IsView, is_strict, rows_in};
 ghost use Rattle.play_command.specs.Line.{IsBadPlayView, IsPlayView, are_doubts_asked, is_guarded};
+ghost use Rattle.play_command.specs.Line.{IsBadScript, IsScriptSource};
 
 use crate::app::cave_app;
 use crate::below_zero::seed_below_zero;
 use crate::editing::{EditView, Editing};
 use crate::fault::CommandFault;
-use crate::line::{Files, Line};
+use crate::line::{Files, Line, ScriptSource};
 use crate::number::number_in;
+use crate::stray::stray_command;
 use crate::views::{CheckView, CoverView, PlayView, TextView};
 use base_lines::limits::{MAX_EVERY, MAX_SEED, USUAL_EVERY};
 use clap::error::ErrorKind;
 use clap::{ArgMatches, Error};
-use std::alloc::Global;
+use std::alloc::{AllocError, Global};
 use std::convert::AsStr;
 
 /// The seed where none is given.
@@ -68,6 +72,7 @@ fn answer_to<'a, S: AsStr>(error: Error, words: &'a [S]) -> Result<Line<'a>, Com
         ErrorKind::DisplayHelp | ErrorKind::DisplayVersion => Ok(Line::Text(error)),
         ErrorKind::OutOfMemory => Err(CommandFault::Memory),
         ErrorKind::UnknownArgument => Err(unknown_argument(error, words)),
+        ErrorKind::InvalidSubcommand => Err(unknown_command(error, words)),
         _ => Err(CommandFault::Usage(error)),
     }
 }
@@ -79,6 +84,17 @@ fn unknown_argument<'a, S: AsStr>(error: Error, words: &'a [S]) -> CommandFault<
 {
     match seed_below_zero(words) {
         Some(text) => CommandFault::BadSeed(text),
+        None => CommandFault::Usage(error),
+    }
+}
+
+/// The fault of words in which the parser found no command.
+fn unknown_command<'a, S: AsStr>(error: Error, words: &'a [S]) -> CommandFault<'a>
+    requires { kind_of error ≡ InvalidSubcommand }
+    ensures { IsRefusal (map S.text words.now) error result }
+{
+    match stray_command(words) {
+        Some(text) => CommandFault::NoCommand(text),
         None => CommandFault::Usage(error),
     }
 }
@@ -119,18 +135,10 @@ fn run_of<'a>(
     if name == "play" {
         return play_of(files, log, found);
     }
-    let Some(script) = value_in(found, "script") else {
-        return Err(CommandFault::Incomplete);
-    };
     if name != "edit" {
         return Err(CommandFault::Incomplete);
     }
-    Ok(Line::Edit {
-        files,
-        log,
-        script,
-        editing: editing_in(found)?,
-    })
+    edit_of(alloc, files, log, found)
 }
 
 /// The run of `check`, of the cave that has these files.
@@ -176,6 +184,57 @@ fn play_of<'a>(
         seed,
         view,
     })
+}
+
+/// The run of `edit`, of a log in the cave that has these files.
+fn edit_of<'a>(
+    alloc: Global,
+    files: Files<'a>,
+    log: &'a str,
+    found: &ArgMatches<'a>,
+) -> Result<Line<'a>, CommandFault<'a>>
+    requires files { IsFiles (rows_in found.now) files }
+    requires log { first_of (codes "log") (rows_in found.now) ≡ Some log.now }
+    ensures { MatchResult result (IsRunOf (codes "edit") (rows_in found.now))
+        (IsUnmade (Some (codes "edit", rows_in found.now))) }
+{
+    let editing = editing_in(found)?;
+    let script = script_in(alloc, found)?;
+    Ok(Line::Edit {
+        files,
+        log,
+        script,
+        editing,
+    })
+}
+
+/// Where the script of an edit is.
+fn script_in<'a>(
+    alloc: Global,
+    found: &ArgMatches<'a>,
+) -> Result<ScriptSource<'a>, CommandFault<'a>>
+    ensures { MatchResult result (IsScriptSource (rows_in found.now))
+        (λ fault. (fault ≡ CommandFault.Memory) ⊎ IsBadScript (rows_in found.now) fault) }
+{
+    match (value_in(found, "script"), values_in(found, "edit")) {
+        (Some(file), None) => Ok(ScriptSource::File(file)),
+        (None, Some(lines)) => Ok(ScriptSource::Typed(text_of_lines(alloc, lines)?)),
+        (None, None) => Err(CommandFault::NoScript),
+        (Some(_), Some(_)) => Err(CommandFault::TwoScripts),
+    }
+}
+
+/// The text that has these lines.
+fn text_of_lines(alloc: Global, lines: &[&str]) -> Result<String, AllocError>
+    ensures { IfOk result (λ text.
+        string_bytes text ≡ text_of_lines (map (λ line. line.now) lines.now)) }
+{
+    let mut text = String::new(alloc);
+    for line in lines {
+        text.push_str(line)?;
+        text.push_str("\n")?;
+    }
+    Ok(text)
 }
 
 /// The run of `cover`, whose cave has these files.

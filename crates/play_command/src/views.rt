@@ -16,6 +16,9 @@ pub enum CheckView {
     Unused,
 }
 
+/// The names of what a check may print, the doubts among them.
+pub(crate) const CHECK_VIEWS: [&str; 5] = ["maximum", "bindings", "names", "unused", "doubts"];
+
 impl CheckView {
     /// The view of a name, if it is the name of one.
     pub fn named(name: &str) -> Option<CheckView>
@@ -43,6 +46,9 @@ pub enum PlayView {
     /// The state that the log leads to.
     FinalState,
 }
+
+/// The names of what a play may print.
+pub(crate) const PLAY_VIEWS: [&str; 4] = ["transcript", "steps", "score", "state"];
 
 impl PlayView {
     /// The view of a name, if it is the name of one.
@@ -76,6 +82,9 @@ pub enum TextView {
     /// Each text that is never said, with its first line.
     Texts,
 }
+
+/// The names of what the coverage of logs may print.
+pub(crate) const COVER_VIEWS: [&str; 3] = ["counts", "texts", "rules"];
 
 impl CoverView {
     /// The view of a name, if it is the name of one.

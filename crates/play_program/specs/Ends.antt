@@ -12,7 +12,7 @@ use Rattle.play_program.specs.Calls.{Call, and_then}
 use Rattle.play_program.specs.Calls.Call.{Puts, Tells}
 use Rattle.play_program.specs.Failures.{IsMessageOfFailure, failure_status}
 use Rattle.play_program.specs.Names.{FileNames, files_in}
-use Rattle.play_program.specs.Opening.{Stops, bytes_named, opening}
+use Rattle.play_program.specs.Opening.{Stops, bytes_named, opening, script_bytes}
 use Rattle.play_program.specs.Runs.{RunsLine}
 use Rattle.play_program.specs.declared.failure.Failure.{Failure}
 use Rattle.play_program.specs.declared.failure.Failure.TheVariants.{Unopened, Run, Unwritten}
@@ -24,7 +24,7 @@ pub record AreTextsIn (bytes_of : List ℕ → Option (List ℕ)) (names : FileN
   pub database : Says (bytes_of names.cave) texts.database
   pub bindings : Says (bytes_named bytes_of names.bindings) texts.bindings
   pub log : Says (bytes_named bytes_of names.log) texts.log
-  pub script : Says (bytes_named bytes_of names.script) texts.script
+  pub script : Says (script_bytes bytes_of names.script names.typed) texts.script
   pub each_log : AllZip Says (map bytes_of names.logs) logs
 
 -- how a run ended whose files were opened

@@ -1,10 +1,13 @@
 -- The files that a line of the command line names.
-use Rattle.std.specs.Prelude.{ℕ, List, [], ◌∷◌, ◌++◌, map, Option, None, Some, option_map}
+use Rattle.std.specs.Prelude.{ℕ, List, [], ◌∷◌, ◌++◌, map, Option, None, Some, option_map, codes}
+use Rattle.std.specs.Prelude.{string_bytes}
 use Rattle.std.specs.List.{slice_get}
 use Rattle.play_command.specs.declared.line.Files.{Files}
 use Rattle.play_command.specs.declared.line.Line.{Line}
 use Rattle.play_command.specs.declared.line.Line.TheVariants.{Check, Doubts, Play, Edit, Cover, Map}
 use Rattle.play_command.specs.declared.line.Line.TheVariants.{Text}
+use Rattle.play_command.specs.declared.line.ScriptSource.{ScriptSource}
+use Rattle.play_command.specs.declared.line.ScriptSource.TheVariants.{File, Typed}
 use Rattle.cave_play.specs.declared.fault.Input.{Input}
 use Rattle.cave_play.specs.declared.fault.Input.TheVariants as input
 use Rattle.play_program.specs.declared.names.Names.{Names}
@@ -17,31 +20,46 @@ pub record FileNames : Type 0 where
   pub log : Option (List ℕ)
   pub logs : List (List ℕ)
   pub script : Option (List ℕ)
+  pub typed : Option (List ℕ)
 
-abbrev pub names_by : Files → Option (List ℕ) → List (List ℕ) → Option (List ℕ) → FileNames
-names_by files log logs script = record {
+-- the file of a script, where it has one
+abbrev pub script_file : ScriptSource → Option (List ℕ)
+script_file (File file) = Some file.now
+script_file (Typed text) = None
+
+-- the text of a script, where it is on the command line
+abbrev pub script_typed : ScriptSource → Option (List ℕ)
+script_typed (File file) = None
+script_typed (Typed text) = Some (string_bytes text)
+
+abbrev pub names_by : Files → Option (List ℕ) → List (List ℕ) → Option (List ℕ) → Option (List ℕ)
+    → FileNames
+names_by files log logs script typed = record {
   cave = files.cave.now;
   bindings = option_map (λ s. s.now) files.bind;
   output = option_map (λ s. s.now) files.output;
   log = log;
   logs = logs;
   script = script;
+  typed = typed;
 }
 
 abbrev pub names_in : Names → FileNames
 names_in names = names_by names.files (option_map (λ s. s.now) names.log)
     (map (λ s. s.now) names.logs.now) (option_map (λ s. s.now) names.script)
+    (option_map (λ text. text.now) names.typed)
 
 -- the files that a line names, where it asks for a run
 abbrev pub names_of : Line → Option FileNames
-names_of (Check files view) = Some (names_by files None [] None)
-names_of (Doubts files strict) = Some (names_by files None [] None)
-names_of (Play files log seed view) = Some (names_by files (Some log.now) [] None)
+names_of (Check files view) = Some (names_by files None [] None None)
+names_of (Doubts files strict) = Some (names_by files None [] None None)
+names_of (Play files log seed view) = Some (names_by files (Some log.now) [] None None)
 names_of (Edit files log script editing) =
-    Some (names_by files (Some log.now) [] (Some script.now))
+    Some (names_by files (Some log.now) [] (script_file script) (script_typed script))
 names_of (Cover files logs seed view) =
-    Some (names_by files None (map (λ s. s.now) logs.items) None)
-names_of (Map files logs seed) = Some (names_by files None (map (λ s. s.now) logs.items) None)
+    Some (names_by files None (map (λ s. s.now) logs.items) None None)
+names_of (Map files logs seed) =
+    Some (names_by files None (map (λ s. s.now) logs.items) None None)
 names_of (Text error) = None
 
 -- a file that is read: of which input it is, and its name
@@ -64,10 +82,16 @@ files_in names =
     cave_files names.cave names.bindings ++ (named input.Log names.log
     ++ (named_logs names.logs ++ named input.Script names.script))
 
+-- what a script is called: its file, or the option that has its lines
+abbrev pub script_name : Option (List ℕ) → Option (List ℕ) → Option (List ℕ)
+script_name (Some file) typed = Some file
+script_name None (Some text) = Some (codes "--edit")
+script_name None None = None
+
 -- the file of an input, where one is named; of several logs it is the one at a place
 abbrev pub file_at : FileNames → Input → Option ℕ → Option (List ℕ)
 file_at names input.Cave place = Some names.cave
 file_at names input.Bindings place = names.bindings
 file_at names input.Log (Some place) = slice_get names.logs place
 file_at names input.Log None = names.log
-file_at names input.Script place = names.script
+file_at names input.Script place = script_name names.script names.typed

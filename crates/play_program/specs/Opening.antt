@@ -43,6 +43,12 @@ abbrev pub bytes_named : (List ℕ → Option (List ℕ)) → Option (List ℕ) 
 bytes_named bytes_of None = Some []
 bytes_named bytes_of (Some name) = bytes_of name
 
+-- the bytes of a script: those of its file, where one is named, or else its text
+abbrev pub script_bytes : (List ℕ → Option (List ℕ)) → Option (List ℕ) → Option (List ℕ)
+    → Option (List ℕ)
+script_bytes bytes_of None (Some text) = Some text
+script_bytes bytes_of file typed = bytes_named bytes_of file
+
 -- the readers have what the files of these names hold
 pub record AreReadersOf {F : Type 0} (left : F → Option (List ℕ))
     (bytes_of : List ℕ → Option (List ℕ)) (names : FileNames) (readers : Readers F) : Type 0 where
@@ -51,4 +57,5 @@ pub record AreReadersOf {F : Type 0} (left : F → Option (List ℕ))
       ≡ bytes_named bytes_of names.bindings
   pub log : input_left left readers.inputs.log ≡ bytes_named bytes_of names.log
   pub logs : map left readers.logs.items ≡ map bytes_of names.logs
-  pub script : input_left left readers.inputs.script ≡ bytes_named bytes_of names.script
+  pub script : input_left left readers.inputs.script
+      ≡ script_bytes bytes_of names.script names.typed

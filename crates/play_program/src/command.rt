@@ -39,7 +39,7 @@ fn doubt_files<'a>(files: &Files<'a>) -> DoubtFiles<'a>
 pub fn run_command<F: Read, W: Write>(
     alloc: Global,
     asked: &Line<'_>,
-    readers: &mut Readers<F>,
+    readers: &mut Readers<'_, F>,
     output: &mut W,
 ) -> Result<(), LogsFault>
     ensures runs { (texts : InputTexts) × (logs : List (List ℕ))

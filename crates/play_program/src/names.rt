@@ -1,10 +1,11 @@
 //! The names of the files of a run.
 
 ghost use Rattle.std.specs.Prelude.{◌≡◌, option_map};
-ghost use Rattle.play_program.specs.Names.{names_in, names_of, file_at};
+ghost use Rattle.play_program.specs.Names.{names_in, names_of, file_at, script_file, script_name};
+ghost use Rattle.play_program.specs.Names.{script_typed};
 
 use cave_play::Input;
-use play_command::{Files, Line};
+use play_command::{Files, Line, ScriptSource};
 
 /// The files that a run reads, in the order in which they are opened, and the one that it writes.
 #[derive(Clone, Copy)]
@@ -15,6 +16,41 @@ pub struct Names<'a> {
     /// The logs of a run over several.
     pub logs: &'a [&'a str],
     pub script: Option<&'a str>,
+    /// The script, where its lines are on the command line.
+    pub typed: Option<&'a [u8]>,
+}
+
+/// The file of a script, where it has one.
+fn script_file<'a>(script: &ScriptSource<'a>) -> Option<&'a str>
+    ensures { option_map (λ file. file.now) result ≡ script_file script.now }
+{
+    match script {
+        ScriptSource::File(file) => Some(*file),
+        ScriptSource::Typed(_) => None,
+    }
+}
+
+/// The text of a script, where it is on the command line.
+fn script_typed<'a>(script: &'a ScriptSource<'_>) -> Option<&'a [u8]>
+    ensures { option_map (λ text. text.now) result ≡ script_typed script.now }
+{
+    match script {
+        ScriptSource::File(_) => None,
+        ScriptSource::Typed(text) => Some(text.as_bytes()),
+    }
+}
+
+/// What a script is called: its file, or the option that has its lines.
+fn script_name<'a>(file: Option<&'a str>, typed: Option<&[u8]>) -> Option<&'a str>
+    ensures { option_map (λ name. name.now) result
+        ≡ script_name (option_map (λ file. file.now) file.entry)
+        (option_map (λ text. text.now) typed.entry) }
+{
+    match (file, typed) {
+        (Some(file), _) => Some(file),
+        (None, Some(_)) => Some("--edit"),
+        (None, None) => None,
+    }
 }
 
 impl<'a> Names<'a> {
@@ -22,25 +58,26 @@ impl<'a> Names<'a> {
     pub fn in_run(asked: &'a Line<'a>) -> Option<Names<'a>>
         ensures { option_map names_in result ≡ names_of asked.now }
     {
-        let (files, log, logs, script): (_, _, &'a [&'a str], _) = match asked {
-            Line::Check { files, .. } | Line::Doubts { files, .. } => (*files, None, &[], None),
-            Line::Play { files, log, .. } => (*files, Some(*log), &[], None),
-            Line::Edit {
-                files,
-                log,
-                script,
-                ..
-            } => (*files, Some(*log), &[], Some(*script)),
+        let (files, log, logs): (_, _, &'a [&'a str]) = match asked {
+            Line::Check { files, .. } | Line::Doubts { files, .. } => (*files, None, &[]),
+            Line::Play { files, log, .. } | Line::Edit { files, log, .. } => {
+                (*files, Some(*log), &[])
+            }
             Line::Cover { files, logs, .. } | Line::Map { files, logs, .. } => {
-                (*files, None, logs.as_slice(), None)
+                (*files, None, logs.as_slice())
             }
             Line::Text(_) => return None,
+        };
+        let (script, typed) = match asked {
+            Line::Edit { script, .. } => (script_file(script), script_typed(script)),
+            _ => (None, None),
         };
         Some(Names {
             files,
             log,
             logs,
             script,
+            typed,
         })
     }
 
@@ -53,7 +90,7 @@ impl<'a> Names<'a> {
             (Input::Bindings, _) => self.files.bind,
             (Input::Log, Some(place)) => self.logs.get(place).copied(),
             (Input::Log, None) => self.log,
-            (Input::Script, _) => self.script,
+            (Input::Script, _) => script_name(self.script, self.typed),
         }
     }
 }

@@ -3,7 +3,7 @@
 ghost use Rattle.std.specs.Prelude.{◌≡◌, [], ◌∷◌, IfOk, map, option_map};
 ghost use Rattle.cave_play.specs.Input.{input_left};
 ghost use Rattle.play_program.specs.Names.{cave_files, files_in, named, named_logs, names_in};
-ghost use Rattle.play_program.specs.Opening.{AreReadersOf, Opened, bytes_named};
+ghost use Rattle.play_program.specs.Opening.{AreReadersOf, Opened, bytes_named, script_bytes};
 
 use crate::failure::Failure;
 use crate::names::Names;
@@ -15,8 +15,8 @@ use std::io::{ErrorKind, Read};
 
 /// The readers of a run's files.
 #[derive(Drop)]
-pub struct Readers<F> {
-    pub inputs: Inputs<F, InputReader<F>, InputReader<F>, InputReader<F>>,
+pub struct Readers<'a, F> {
+    pub inputs: Inputs<F, InputReader<'a, F>, InputReader<'a, F>, InputReader<'a, F>>,
     /// Those of several logs.
     pub logs: Vec<F>,
 }
@@ -41,7 +41,7 @@ fn open_named<'a, S: System>(
     system: &mut S,
     input: Input,
     file: Option<&'a str>,
-) -> Result<InputReader<S::File>, Failure<'a>>
+) -> Result<InputReader<'a, S::File>, Failure<'a>>
     ensures reads { IfOk result (λ reader. input_left S.File.remaining reader
         ≡ bytes_named (S.bytes_of system.old) (option_map (λ s. s.now) file.entry)) }
     ensures kept { S.bytes_of system.new ≡ S.bytes_of system.old }
@@ -61,7 +61,7 @@ fn open_named<'a, S: System>(
 fn open_cave<'a, S: System>(
     system: &mut S,
     files: Files<'a>,
-) -> Result<CaveReaders<S::File, InputReader<S::File>>, Failure<'a>>
+) -> Result<CaveReaders<S::File, InputReader<'a, S::File>>, Failure<'a>>
     ensures database { IfOk result (λ readers.
         S.File.remaining readers.database ≡ S.bytes_of system.old files.entry.cave.now) }
     ensures bindings { IfOk result (λ readers. input_left S.File.remaining readers.bindings
@@ -98,12 +98,30 @@ fn open_logs<'a, S: System>(
     Ok(logs)
 }
 
+/// Opens the file of a script, unless its text is on the command line.
+fn open_script<'a, S: System>(
+    system: &mut S,
+    file: Option<&'a str>,
+    typed: Option<&'a [u8]>,
+) -> Result<InputReader<'a, S::File>, Failure<'a>>
+    ensures reads { IfOk result (λ reader. input_left S.File.remaining reader
+        ≡ script_bytes (S.bytes_of system.old) (option_map (λ s. s.now) file.entry)
+        (option_map (λ text. text.now) typed.entry)) }
+    ensures opened { Opened (named Input.Script (option_map (λ s. s.now) file.entry))
+        (S.calls system.old) (S.calls system.new) result }
+{
+    match (file, typed) {
+        (None, Some(text)) => Ok(InputReader::Typed(text)),
+        _ => open_named(system, Input::Script, file),
+    }
+}
+
 /// Opens the files of a run, one after another, and none after one that can't be opened.
 pub fn open_files<'a, S: System>(
     alloc: Global,
     system: &mut S,
     names: Names<'a>,
-) -> Result<Readers<S::File>, Failure<'a>>
+) -> Result<Readers<'a, S::File>, Failure<'a>>
     ensures reads { IfOk result (AreReadersOf S.File.remaining (S.bytes_of system.old)
         (names_in names.entry)) }
     ensures opened { Opened (files_in (names_in names.entry)) (S.calls system.old)
@@ -112,7 +130,7 @@ pub fn open_files<'a, S: System>(
     let cave = open_cave(system, names.files)?;
     let log = open_named(system, Input::Log, names.log)?;
     let logs = open_logs(alloc, system, names.logs)?;
-    let script = open_named(system, Input::Script, names.script)?;
+    let script = open_script(system, names.script, names.typed)?;
     Ok(Readers {
         inputs: Inputs { cave, log, script },
         logs,

@@ -155,7 +155,7 @@ module _ (number : ℕ) (line : List ℕ) (rest : List (List ℕ)) (out : List A
         same = sym (followed before (single number change) more.items) ∙ more.same;
         is_script = spells is more.is_script;
       }
-  spelled_outside before nonsense is h = cc
+  spelled_outside before (nonsense flaw) is h = cc
 
   spelled_inside : (before : List Applied) (group : Applied) (kind : LineKind) → IsKind line kind
       → onward (reading_in_group number kind before group []) (read_from (number + 1) rest)
@@ -214,7 +214,7 @@ module _ (number : ℕ) (line : List ℕ) (rest : List (List ℕ)) (out : List A
         same = ap (λ g. before ++ g ∷ more.items)
             (sym (extended_joined group number change more.changes more.numbers)) ∙ more.same;
       }
-  spelled_inside before group nonsense is h = cc
+  spelled_inside before group (nonsense flaw) is h = cc
 
 read_spelled : (whole : List (List ℕ)) (number : ℕ) (before : List Applied) (group : Option Applied)
     (out : List Applied) → read_from number whole before group [] ≡ Ok out

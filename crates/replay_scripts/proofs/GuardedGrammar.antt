@@ -7,8 +7,8 @@ use Rattle.replay_scripts.specs.declared.fault.ScriptFlaw.TheVariants as flaw_is
 use Rattle.replay_scripts.specs.declared.fault.ScriptRefusal.{ScriptRefusal}
 use Rattle.replay_scripts.specs.declared.fault.ScriptRefusal.TheVariants.{Malformed, Memory}
 use Rattle.replay_scripts.specs.declared.script.Script.{Script}
-use Rattle.replay_scripts.specs.Guards.{answer_naming_guards, guarded_script_of, IsRefusedByGuards}
-use Rattle.replay_scripts.specs.Guards.{IsScriptBy, naming_guards, read_guarded_from, unguarded}
+use Rattle.replay_scripts.specs.Guards.{guarded_script_of, IsRefusedByGuards}
+use Rattle.replay_scripts.specs.Guards.{IsScriptBy, read_guarded_from, unguarded}
 use Rattle.replay_scripts.specs.Guards.{script_by, unguarded_items, unguarded_line, with_expected}
 use Rattle.replay_scripts.specs.Line.{LineKind, nothing, begin, end, edit, nonsense, expected_in}
 use Rattle.replay_scripts.specs.Line.{kind_of_script_line}
@@ -62,13 +62,13 @@ module _ (number : ℕ) (rest : List (List ℕ)) (next : (items : List Applied) 
   by_kind begin items None guards = next items (Some (group_at_line number)) guards
   by_kind end items None guards = refl
   by_kind (edit change) items None guards = closed items (single number change) guards
-  by_kind nonsense items None guards = refl
+  by_kind (nonsense flaw) items None guards = refl
   by_kind nothing items (Some group) guards = next items (Some group) guards
   by_kind begin items (Some group) guards = refl
   by_kind end items (Some group) guards = closed items group guards
   by_kind (edit change) items (Some group) guards =
       next items (Some (group_with_change group number change)) guards
-  by_kind nonsense items (Some group) guards = refl
+  by_kind (nonsense flaw) items (Some group) guards = refl
 
 comes_of : (whole : List (List ℕ)) (number : ℕ) (items : List Applied) (group : Option Applied)
     (guards : List Expectation)
@@ -90,7 +90,7 @@ IsAnswer text answer =
 module _ (whole : List (List ℕ)) where
   spelled : (out : List Applied) (read : Result (List Applied) ScriptRefusal)
       → ComesOf read (read_from 1 (unguarded whole) [] None [])
-      → answer_naming_guards read ≡ Ok out
+      → read ≡ Ok out
       → IsScript 1 (unguarded whole) (unguarded_items out)
   spelled out (Ok items) comes is =
       let same : items ≡ out = cc in
@@ -99,23 +99,21 @@ module _ (whole : List (List ℕ)) where
 
   refused : (found : ScriptRefusal) (read : Result (List Applied) ScriptRefusal)
       → ComesOf read (read_from 1 (unguarded whole) [] None [])
-      → answer_naming_guards read ≡ Err found
+      → read ≡ Err found
       → IsRefusedByGuards whole found
   refused found (Ok items) comes is = cc
   refused found (Err refusal) comes is =
-      let named : naming_guards refusal ≡ found = cc in
-      rw named at (by_refusal refusal comes)
+      let same : refusal ≡ found = cc in
+      rw same at (by_refusal refusal comes)
     where
       by_refusal : (other : ScriptRefusal)
           → ComesOf (Err other) (read_from 1 (unguarded whole) [] None [])
-          → IsRefusedByGuards whole (naming_guards other)
+          → IsRefusedByGuards whole other
       by_refusal Memory given = tt
       by_refusal (Malformed at flaw_is.NoneGuarded) (items, given) =
           (items, IsScript-read_from (unguarded whole) items given)
-      by_refusal (Malformed at flaw_is.NoEdit) given =
-          IsMalformedAt-read_from (unguarded whole) at flaw_is.NoEdit given
-      by_refusal (Malformed at flaw_is.NoEditOrGuard) given =
-          absurd (IsMalformedAt-read_from (unguarded whole) at flaw_is.NoEditOrGuard given)
+      by_refusal (Malformed at (flaw_is.NoEdit flaw)) given =
+          IsMalformedAt-read_from (unguarded whole) at (flaw_is.NoEdit flaw) given
       by_refusal (Malformed at flaw_is.BeginInGroup) given =
           IsMalformedAt-read_from (unguarded whole) at flaw_is.BeginInGroup given
       by_refusal (Malformed at flaw_is.EndOutsideGroup) given =

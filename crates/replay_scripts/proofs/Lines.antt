@@ -6,6 +6,7 @@ use Rattle.std.specs.List.{list_all}
 use Rattle.std.proofs.lemmas.Bool.{false≢true}
 use Rattle.base_lines.specs.Bytes.{is_blank}
 use Rattle.replay_edits.specs.Edit.{Change, inserts, deletes, replaces, reseeds}
+use Rattle.replay_scripts.specs.EditFlaw.{edit_flaw_of}
 use Rattle.replay_scripts.specs.Line.{LineKind, nothing, begin, end, edit, nonsense, IsKind}
 use Rattle.replay_scripts.specs.Line.{IsNumbered, IsText, IsWord, Spells, change_without_text}
 use Rattle.replay_scripts.specs.Line.{edit_of, edit_or_nonsense, is_word_line, kind_of_script_line}
@@ -180,7 +181,8 @@ kind_holds : (line : List ℕ) (skipped begins ends : Bool) (found : Option Chan
     → is_skipped line ≡ skipped → is_word_line (codes "begin") line ≡ begins
     → is_word_line (codes "end") line ≡ ends → edit_of line ≡ found
     → IsKind line
-    (cond skipped nothing (cond begins begin (cond ends end (edit_or_nonsense found))))
+    (cond skipped nothing
+    (cond begins begin (cond ends end (edit_or_nonsense found (edit_flaw_of line)))))
 kind_holds line true begins ends found s b e f = s
 kind_holds line false true ends found s b e f = IsWord-from_is_word (codes "begin") line b
 kind_holds line false false true found s b e f = IsWord-from_is_word (codes "end") line e
@@ -190,6 +192,7 @@ kind_holds line false false false None s b e f = (
   λ is. false≢true (sym b ∙ is_word_line-from_word (codes "begin") line is),
   λ is. false≢true (sym e ∙ is_word_line-from_word (codes "end") line is),
   λ change is. let spelled = edit_of-from_line line change is in cc,
+  refl,
 )
 
 -- the line is what it is reported to be
@@ -260,11 +263,11 @@ kind_of_script_line-only line (edit change) is =
     let e = other.no_end in
     let f = edit_of-from_line line change is in
     rw (s, b, e, f) refl
-kind_of_script_line-only line nonsense is =
+kind_of_script_line-only line (nonsense flaw) is =
     let s = not_true (is_skipped line) is.0 in
     let b = not_true (is_word_line (codes "begin") line)
     (λ word. is.1 (IsWord-from_is_word (codes "begin") line word)) in
     let e = not_true (is_word_line (codes "end") line)
     (λ word. is.2 (IsWord-from_is_word (codes "end") line word)) in
     let f = no_edit line (edit_of line) refl is.3 in
-    rw (s, b, e, f) refl
+    rw (s, b, e, f, is.4) refl

@@ -7,7 +7,7 @@ use Rattle.replay_edits.specs.Edit.{Change}
 use Rattle.replay_scripts.specs.declared.fault.ScriptFlaw.{ScriptFlaw}
 use Rattle.replay_scripts.specs.declared.fault.ScriptFlaw.TheVariants.{NoEdit, BeginInGroup}
 use Rattle.replay_scripts.specs.declared.fault.ScriptFlaw.TheVariants.{EndOutsideGroup, NoEnd}
-use Rattle.replay_scripts.specs.declared.fault.ScriptFlaw.TheVariants.{NoEditOrGuard, NoneGuarded}
+use Rattle.replay_scripts.specs.declared.fault.ScriptFlaw.TheVariants.{NoneGuarded}
 use Rattle.replay_scripts.specs.declared.fault.ScriptRefusal.{ScriptRefusal}
 use Rattle.replay_scripts.specs.declared.fault.ScriptRefusal.TheVariants.{Malformed, Memory}
 use Rattle.replay_scripts.specs.declared.script.Script.{Script}
@@ -62,9 +62,9 @@ module _ (number : ℕ) (piece : List (List ℕ)) (grow : (whole : List (List �
   behind : (whole : List (List ℕ)) (at : ℕ) (flaw : ScriptFlaw)
       → IsMalformedAt (number + length piece) whole at flaw
       → IsMalformedAt number (piece ++ whole) at flaw
-  behind whole at NoEdit (before, line, stands, kind, inl is) =
+  behind whole at (NoEdit _) (before, line, stands, kind, inl is) =
       (piece ++ before, line, at_behind whole at before line stands, kind, inl (grow before is))
-  behind whole at NoEdit (before, line, stands, kind, inr (since, is)) = (
+  behind whole at (NoEdit _) (before, line, stands, kind, inr (since, is)) = (
     piece ++ before,
     line,
     at_behind whole at before line stands,
@@ -81,7 +81,6 @@ module _ (number : ℕ) (piece : List (List ℕ)) (grow : (whole : List (List �
   behind whole at EndOutsideGroup (before, line, stands, kind, is) =
       (piece ++ before, line, at_behind whole at before line stands, kind, grow before is)
   behind whole at NoEnd is = open_after whole at is
-  behind whole at NoEditOrGuard is = is
   behind whole at NoneGuarded is = is
 
 -- after one line that is skipped or spells a change
@@ -127,13 +126,12 @@ no_inner number = record { changes = []; numbers = []; is_body = body_done }
 
 -- the group that began on the line of number `since` has the flaw
 abbrev FailsIn : ℕ → ℕ → List (List ℕ) → ℕ → ScriptFlaw → Type 0
-FailsIn since number whole at NoEdit = (inner : List (List ℕ)) × (line : List ℕ)
-    × IsLineAt number whole at inner line × IsKind line nonsense × IsInner number inner
+FailsIn since number whole at (NoEdit flaw) = (inner : List (List ℕ)) × (line : List ℕ)
+    × IsLineAt number whole at inner line × IsKind line (nonsense flaw) × IsInner number inner
 FailsIn since number whole at BeginInGroup = (inner : List (List ℕ)) × (line : List ℕ)
     × IsLineAt number whole at inner line × IsWord (codes "begin") line × IsInner number inner
 FailsIn since number whole at EndOutsideGroup = ⊥
 FailsIn since number whole at NoEnd = IsInner number whole × (at ≡ since)
-FailsIn since number whole at NoEditOrGuard = ⊥
 FailsIn since number whole at NoneGuarded = ⊥
 
 -- the group is closed, and the flaw comes later
@@ -161,13 +159,12 @@ module _ (since number : ℕ) (line : List ℕ) (grow : (inner : List (List ℕ)
 
   fails_in_next : (whole : List (List ℕ)) (at : ℕ) (flaw : ScriptFlaw)
       → FailsIn since (number + 1) whole at flaw → FailsIn since number (line ∷ whole) at flaw
-  fails_in_next whole at NoEdit (inner, bad, stands, kind, is) =
+  fails_in_next whole at (NoEdit _) (inner, bad, stands, kind, is) =
       (line ∷ inner, bad, at_next whole at inner bad stands, kind, grow inner is)
   fails_in_next whole at BeginInGroup (inner, bad, stands, kind, is) =
       (line ∷ inner, bad, at_next whole at inner bad stands, kind, grow inner is)
   fails_in_next whole at EndOutsideGroup is = is
   fails_in_next whole at NoEnd (is, same) = (grow whole is, same)
-  fails_in_next whole at NoEditOrGuard is = is
   fails_in_next whole at NoneGuarded is = is
 
   fails_next : (whole : List (List ℕ)) (at : ℕ) (flaw : ScriptFlaw)
@@ -215,13 +212,12 @@ module _ (number : ℕ) (first : List ℕ) (begins : IsWord (codes "begin") firs
 
   malformed_in : (whole : List (List ℕ)) (at : ℕ) (flaw : ScriptFlaw)
       → FailsIn number (number + 1) whole at flaw → IsMalformedAt number (first ∷ whole) at flaw
-  malformed_in whole at NoEdit (inner, bad, stands, kind, is) =
+  malformed_in whole at (NoEdit _) (inner, bad, stands, kind, is) =
       (first ∷ inner, bad, at_first whole at inner bad stands, kind, inr (number, opened inner is))
   malformed_in whole at BeginInGroup (inner, bad, stands, kind, is) =
       (first ∷ inner, bad, at_first whole at inner bad stands, kind, (number, opened inner is))
   malformed_in whole at EndOutsideGroup is = absurd is
   malformed_in whole at NoEnd (is, same) = rw same (opened whole is)
-  malformed_in whole at NoEditOrGuard is = absurd is
   malformed_in whole at NoneGuarded is = absurd is
 
   group_grows : (inner : List (List ℕ)) (last : List ℕ) → IsInner (number + 1) inner
@@ -299,8 +295,8 @@ module _ (number : ℕ) (line : List ℕ) (rest : List (List ℕ)) (at : ℕ) (f
   failed_outside before (edit change) is h =
       after_line number line (edit_grows number line change is) rest at flaw
       (next (before ++ single number change ∷ []) None h)
-  failed_outside before nonsense is h =
-      let same = same_fault number at flaw NoEdit h in
+  failed_outside before (nonsense wrong) is h =
+      let same = same_fault number at flaw (NoEdit wrong) h in
       subst (IsMalformedAt number (line ∷ rest) at) same.1
       ([], line, stands_first number line rest at same.0, is, inl (whole_none number))
 
@@ -330,8 +326,8 @@ module _ (number : ℕ) (line : List ℕ) (rest : List (List ℕ)) (at : ℕ) (f
   failed_inside before group (edit change) is h =
       fails_next group.line number line (λ inner. inner_spells number line inner change is) rest at
       flaw (next before (Some (group_with_change group number change)) h)
-  failed_inside before group nonsense is h =
-      let same = same_fault number at flaw NoEdit h in
+  failed_inside before group (nonsense wrong) is h =
+      let same = same_fault number at flaw (NoEdit wrong) h in
       inl (subst (FailsIn group.line number (line ∷ rest) at) same.1
       ([], line, stands_first number line rest at same.0, is, no_inner number))
 

@@ -10,7 +10,7 @@ use Rattle.std.proofs.lemmas.List.Elements.{All-append, All-cons, All-head, All-
 use Rattle.base_lines.specs.LogLine.{is_skipped}
 use Rattle.base_lines.specs.Line.{is_line_byte}
 use Rattle.replay_edits.specs.Edit.{Change, inserts, deletes, replaces, reseeds}
-use Rattle.replay_scripts.specs.Guards.{answer_naming_guards, changes_so_far, read_guarded_from}
+use Rattle.replay_scripts.specs.Guards.{changes_so_far, read_guarded_from}
 use Rattle.replay_scripts.specs.Guards.{script_by}
 use Rattle.replay_scripts.specs.Line.{IsWord, Spells, begin, edit, end, expected_in}
 use Rattle.replay_scripts.specs.Line.{kind_of_script_line, nothing, number_after_word}
@@ -322,9 +322,8 @@ script_read false groups can =
     ap (λ found. read_from 1 found [] None []) (same_lines false groups can)
     ∙ groups_read false 1 groups [] can
 script_read true groups can =
-    ap answer_naming_guards
-    (ap (λ found. read_guarded_from 1 found [] None []) (same_lines true groups can)
-    ∙ groups_read true 1 groups [] can)
+    ap (λ found. read_guarded_from 1 found [] None []) (same_lines true groups can)
+    ∙ groups_read true 1 groups [] can
 
 pub reads_back : (guarded : Bool) (groups : List (List Back)) → ReadsBack guarded groups
 reads_back guarded groups can =

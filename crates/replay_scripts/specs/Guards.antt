@@ -1,7 +1,7 @@
 -- Scripts in which lines may be guards, `expect N TEXT`. To the grammar of scripts such a line is
 -- blank: it guards the item whose last line comes next.
 use Rattle.std.specs.Prelude.{ℕ, ◌+◌, Bool, true, false, List, [], ◌∷◌, ◌++◌, length, map, Option}
-use Rattle.std.specs.Prelude.{◌≡◌, ◌↔◌, Some, None, Result, Ok, Err, ⊤}
+use Rattle.std.specs.Prelude.{◌≡◌, ◌↔◌, Some, None, Result, Ok, ⊤}
 use Rattle.std.specs.Str.Lines.{lines}
 use Rattle.replay_scripts.specs.Line.{expected_in, IsExpected, kind_of_script_line}
 use Rattle.replay_scripts.specs.Malformed.{IsMalformedAt}
@@ -68,26 +68,14 @@ read_guarded_from number (line ∷ rest) items open_group guards =
     (with_expected number (expected_in line) open_group guards))
     (read_guarded_from (number + 1) rest)
 
--- a line that is no edit could have been a guard too
-abbrev pub naming_guards : ScriptRefusal → ScriptRefusal
-naming_guards (Malformed number flaw_is.NoEdit) = Malformed number flaw_is.NoEditOrGuard
-naming_guards refusal = refusal
-
-abbrev pub answer_naming_guards : Result (List Applied) ScriptRefusal
-    → Result (List Applied) ScriptRefusal
-answer_naming_guards (Ok items) = Ok items
-answer_naming_guards (Err refusal) = Err (naming_guards refusal)
-
 -- the items of a script, with their guards
 abbrev pub guarded_script_of : List ℕ → Result (List Applied) ScriptRefusal
-guarded_script_of text = answer_naming_guards (read_guarded_from 1 (lines text) [] None [])
+guarded_script_of text = read_guarded_from 1 (lines text) [] None []
 
 -- the script is refused for a line at which its lines, the guards taken as blank, are malformed
 -- first, or for a guard with no item after it, unless memory ran out
 abbrev pub IsRefusedByGuards : List (List ℕ) → ScriptRefusal → Type 0
 IsRefusedByGuards whole Memory = ⊤
-IsRefusedByGuards whole (Malformed at flaw_is.NoEditOrGuard) =
-    IsMalformedAt 1 (unguarded whole) at flaw_is.NoEdit
 IsRefusedByGuards whole (Malformed at flaw_is.NoneGuarded) =
     (items : List Applied) × IsScript 1 (unguarded whole) items
 IsRefusedByGuards whole (Malformed at flaw) = IsMalformedAt 1 (unguarded whole) at flaw

@@ -1,3 +1,4 @@
+pub mod EditFlaw
 pub mod Line
 pub mod Script
 pub mod Guards

@@ -7,6 +7,8 @@ use Rattle.base_lines.specs.Bytes.{is_blank, is_digit, prefix_while, after_prefi
 use Rattle.base_lines.specs.LogLine.{is_skipped}
 use Rattle.replay_edits.specs.Edit.{Change, inserts, deletes, replaces, reseeds, change_of}
 use Rattle.base_lines.specs.Limits.{MAX_DIGITS, max_script_number}
+use Rattle.replay_scripts.specs.EditFlaw.{edit_flaw_of}
+use Rattle.replay_scripts.specs.declared.edit_flaw.EditFlaw.{EditFlaw}
 use Rattle.replay_scripts.specs.declared.line.ScriptLine.{ScriptLine}
 use Rattle.replay_scripts.specs.declared.line.ScriptLine.TheVariants as line_is
 
@@ -57,15 +59,16 @@ pub data LineKind : Type 0 where
   begin : LineKind
   end : LineKind
   edit : Change → LineKind
-  nonsense : LineKind
+  nonsense : EditFlaw → LineKind
 
 abbrev pub IsKind : List ℕ → LineKind → Type 0
 IsKind line nothing = IsTrue (is_skipped line)
 IsKind line begin = IsWord (codes "begin") line
 IsKind line end = IsWord (codes "end") line
 IsKind line (edit change) = Spells line change
-IsKind line nonsense = (¬ IsTrue (is_skipped line)) × (¬ IsWord (codes "begin") line)
+IsKind line (nonsense flaw) = (¬ IsTrue (is_skipped line)) × (¬ IsWord (codes "begin") line)
     × (¬ IsWord (codes "end") line) × ((change : Change) → ¬ Spells line change)
+    × (flaw ≡ edit_flaw_of line)
 
 -- ---- what a line is, by cases
 
@@ -121,15 +124,16 @@ edit_of line =
 unfoldable pub expected_in : List ℕ → Option (ℕ × List ℕ)
 expected_in line = expected_after (number_after_word (codes "expect") line)
 
-abbrev pub edit_or_nonsense : Option Change → LineKind
-edit_or_nonsense (Some change) = edit change
-edit_or_nonsense None = nonsense
+abbrev pub edit_or_nonsense : Option Change → EditFlaw → LineKind
+edit_or_nonsense (Some change) flaw = edit change
+edit_or_nonsense None flaw = nonsense flaw
 
 unfoldable pub kind_of_script_line : List ℕ → LineKind
 kind_of_script_line line =
     if is_skipped line then nothing
     else (if is_word_line (codes "begin") line then begin
-    else (if is_word_line (codes "end") line then end else edit_or_nonsense (edit_of line)))
+    else (if is_word_line (codes "end") line then end
+    else edit_or_nonsense (edit_of line) (edit_flaw_of line)))
 
 -- what is said of a line, as its kind
 abbrev pub kind_said : ScriptLine → LineKind
@@ -137,4 +141,4 @@ kind_said line_is.Nothing = nothing
 kind_said line_is.Begin = begin
 kind_said line_is.End = end
 kind_said (line_is.Edit change) = edit (change_of change)
-kind_said line_is.Nonsense = nonsense
+kind_said (line_is.Nonsense flaw) = nonsense flaw

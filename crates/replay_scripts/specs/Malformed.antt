@@ -36,9 +36,9 @@ pub record IsLineAt (number : ℕ) (whole : List (List ℕ)) (at : ℕ) (before 
 
 -- the line of number `at` is the first malformed one, and has this flaw
 abbrev pub IsMalformedAt : ℕ → List (List ℕ) → ℕ → ScriptFlaw → Type 0
-IsMalformedAt number whole at flaw_is.NoEdit =
+IsMalformedAt number whole at (flaw_is.NoEdit flaw) =
     (before : List (List ℕ)) × (line : List ℕ) × IsLineAt number whole at before line
-    × IsKind line nonsense
+    × IsKind line (nonsense flaw)
     × (AreWholeItems number before ⊎ ((begun : ℕ) × IsOpen number before begun))
 IsMalformedAt number whole at flaw_is.BeginInGroup =
     (before : List (List ℕ)) × (line : List ℕ) × IsLineAt number whole at before line
@@ -48,7 +48,6 @@ IsMalformedAt number whole at flaw_is.EndOutsideGroup =
     (before : List (List ℕ)) × (line : List ℕ) × IsLineAt number whole at before line
     × IsWord (codes "end") line × AreWholeItems number before
 IsMalformedAt number whole at flaw_is.NoEnd = IsOpen number whole at
-IsMalformedAt number whole at flaw_is.NoEditOrGuard = ⊥
 IsMalformedAt number whole at flaw_is.NoneGuarded = ⊥
 
 -- the fault is that of the first malformed line, unless memory ran out

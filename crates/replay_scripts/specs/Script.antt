@@ -113,7 +113,8 @@ reading_outside_group number begin items guards =
 reading_outside_group number end items guards = Err (Malformed number flaw_is.EndOutsideGroup)
 reading_outside_group number (edit change) items guards =
     Ok (reading_with_item items (single number change) guards)
-reading_outside_group number nonsense items guards = Err (Malformed number flaw_is.NoEdit)
+reading_outside_group number (nonsense flaw) items guards =
+    Err (Malformed number (flaw_is.NoEdit flaw))
 
 abbrev pub reading_in_group : ℕ → LineKind → List Applied → Applied → List Expectation
     → Result ScriptReading ScriptRefusal
@@ -122,7 +123,8 @@ reading_in_group number begin items group guards = Err (Malformed number flaw_is
 reading_in_group number end items group guards = Ok (reading_with_item items group guards)
 reading_in_group number (edit change) items group guards =
     Ok (reading_with items (Some (group_with_change group number change)) guards)
-reading_in_group number nonsense items group guards = Err (Malformed number flaw_is.NoEdit)
+reading_in_group number (nonsense flaw) items group guards =
+    Err (Malformed number (flaw_is.NoEdit flaw))
 
 -- what a line of this kind and this number makes of what was read
 abbrev pub reading_after_line : ℕ → LineKind → List Applied → Option Applied → List Expectation

@@ -1,27 +1,17 @@
 ghost use Rattle.std.specs.Prelude.{◌≡◌};
 ghost use Rattle.replay_scripts.specs.declared.fault.ScriptRefusal.TheVariants.{Memory};
 
+use crate::edit_flaw::EditFlaw;
 use std::alloc::{AllocError, AllocFailed};
 use std::fmt;
 use thiserror::Error;
 
-/// What is said of a line that is no edit, where there is little room.
-const NO_EDIT: &str =
-    "expected `insert N TEXT`, `delete N`, `replace N TEXT`, `seed N`, `begin` or `end`";
-
-/// The same, where lines may be guards.
-const NO_EDIT_OR_GUARD: &str =
-    "expected `insert N TEXT`, `delete N`, `replace N TEXT`, `seed N`, `begin`, `end` or \
-    `expect N TEXT`";
-
 /// What is wrong with a line of a script.
 #[derive(Clone, Copy, Debug, PartialEq, Eq, Error)]
 pub enum ScriptFlaw {
-    #[error("{}, with one blank between the words and N of 1 to 10 digits", NO_EDIT)]
-    NoEdit,
-    /// The same, where lines may be guards.
-    #[error("{}, with one blank between the words and N of 1 to 10 digits", NO_EDIT_OR_GUARD)]
-    NoEditOrGuard,
+    /// It is nothing that a script has, for this reason.
+    #[error("{0}")]
+    NoEdit(EditFlaw),
     #[error("`begin` inside a group: a group can't hold another")]
     BeginInGroup,
     #[error("`end` without a `begin` before it")]
@@ -44,13 +34,10 @@ pub enum ScriptRefusal {
 impl fmt::Display for ScriptRefusal {
     fn fmt<W: fmt::Write>(&self, f: &mut fmt::Formatter<W>) -> fmt::Result {
         match *self {
-            ScriptRefusal::Malformed(line, ScriptFlaw::NoEdit) => {
-                write!(f, "line {line} of the script: {}", NO_EDIT)
-            }
-            ScriptRefusal::Malformed(line, ScriptFlaw::NoEditOrGuard) => {
+            ScriptRefusal::Malformed(line, ScriptFlaw::NoEdit(EditFlaw::NoWord)) => {
                 write!(
                     f,
-                    "line {line} of the script: expected an edit, `begin`, `end` or `expect N TEXT`"
+                    "line {line} of the script: expected an edit, a guard, `begin` or `end`"
                 )
             }
             ScriptRefusal::Malformed(line, flaw) => {

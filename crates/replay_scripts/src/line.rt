@@ -8,6 +8,7 @@ ghost use Rattle.replay_scripts.specs.Line.{is_word_line, number_after_word, tex
 ghost use Rattle.replay_scripts.specs.Line.{expected_in};
 ghost use Rattle.replay_scripts.specs.Line.{kind_of_script_line, kind_said};
 
+use crate::edit_flaw::{EditFlaw, edit_flaw_of};
 use base_lines::bytes::{is_all_blank, is_blank, split_digits};
 use base_lines::is_skipped;
 use base_lines::limits::{is_long_number, with_digit};
@@ -21,7 +22,8 @@ pub(crate) enum ScriptLine {
     Begin,
     End,
     Edit(Edit),
-    Nonsense,
+    /// Nothing that a script has, for this reason.
+    Nonsense(EditFlaw),
 }
 
 #[tactic(auto, unfolding(crate::specs::Line::kind_of_script_line))]
@@ -39,7 +41,7 @@ pub(crate) fn read_line(alloc: Global, line: &[u8]) -> Result<ScriptLine, AllocE
     }
     match edit_of(alloc, line)? {
         Some(edit) => Ok(ScriptLine::Edit(edit)),
-        None => Ok(ScriptLine::Nonsense),
+        None => Ok(ScriptLine::Nonsense(edit_flaw_of(line))),
     }
 }
 

@@ -3,7 +3,7 @@ ghost use Rattle.std.specs.Prelude.{Err, OnOk};
 ghost use Rattle.std.specs.Str.Lines.{lines};
 ghost use Rattle.replay_edits.specs.Edit.{change_of};
 ghost use Rattle.replay_scripts.specs.Guards.{guarded_script_of, IsRefusedByGuards, IsScriptBy};
-ghost use Rattle.replay_scripts.specs.Guards.{naming_guards, reading_with_guard, unguarded_line};
+ghost use Rattle.replay_scripts.specs.Guards.{reading_with_guard, unguarded_line};
 ghost use Rattle.replay_scripts.specs.Script.{Applied, group_at_line, group_with_change};
 ghost use Rattle.replay_scripts.specs.Script.{line_of_refusal, IsScript, items_at_end, script_of};
 ghost use Rattle.replay_scripts.specs.Script.{reading_with, reading_with_item};
@@ -134,24 +134,10 @@ fn read_guarded_lines(alloc: Global, text: &[u8]) -> Result<Script, ScriptRefusa
     while let Some((line, more)) = split_line(rest) {
         number += 1;
         let unguarded = reader.set_guard(alloc, number, line)?;
-        if let Err(fault) = reader.read(alloc, number, unguarded) {
-            return Err(naming_guards(fault));
-        }
+        reader.read(alloc, number, unguarded)?;
         rest = more;
     }
     reader.finish()
-}
-
-/// The refusal of a script whose lines may be guards.
-fn naming_guards(fault: ScriptRefusal) -> ScriptRefusal
-    ensures { result ≡ naming_guards fault }
-{
-    match fault {
-        ScriptRefusal::Malformed(number, ScriptFlaw::NoEdit) => {
-            ScriptRefusal::Malformed(number, ScriptFlaw::NoEditOrGuard)
-        }
-        other => other,
-    }
 }
 
 /// What was read so far.
@@ -228,7 +214,9 @@ impl ScriptReader {
             ScriptLine::Begin => self.begin(alloc, number),
             ScriptLine::End => self.end(alloc, number),
             ScriptLine::Edit(edit) => self.edit(alloc, number, edit),
-            ScriptLine::Nonsense => Err(ScriptRefusal::Malformed(number, ScriptFlaw::NoEdit)),
+            ScriptLine::Nonsense(flaw) => {
+                Err(ScriptRefusal::Malformed(number, ScriptFlaw::NoEdit(flaw)))
+            }
         }
     }
 

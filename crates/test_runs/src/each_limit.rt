@@ -8,7 +8,7 @@ use base_lines::limits::MAX_INPUT_BYTES;
 use cave_play::{Input, LogFault, PlayFault, ScriptFault};
 use data_rows::{Cause, CaveError, FaultSite};
 use play_logs::fault::LogsFault;
-use replay_scripts::ScriptFlaw;
+use replay_scripts::{EditFlaw, ScriptFlaw};
 use std::alloc::{AllocError, Global};
 use std::process::Abort;
 use std::test::Fail;
@@ -78,7 +78,8 @@ fn edit_byte_by_byte(rt: &impl Abort, alloc: Global, start: &[u8]) -> Result<Run
 #[test]
 fn an_input_of_the_greatest_size_is_judged_by_its_bytes_alone(rt: HostRuntime) -> Result<(), Fail> {
     assert!(rt; edit_byte_by_byte(&rt, rt.alloc(), b"")?.wrote(LONG_TEXT.as_bytes()));
-    let malformed = PlayFault::Script(ScriptFault::Malformed(1, ScriptFlaw::NoEdit));
+    let flaw = ScriptFlaw::NoEdit(EditFlaw::NoWord);
+    let malformed = PlayFault::Script(ScriptFault::Malformed(1, flaw));
     assert!(rt; edit_byte_by_byte(&rt, rt.alloc(), b"begone\n")?.failed(malformed));
     Ok(())
 }

@@ -6,7 +6,7 @@ use crate::streams::Source;
 use base_lines::LineFlaw;
 use cave_play::{LogFault, PlayFault, ScriptFault};
 use data_rows::{Cause, CaveError, FaultSite};
-use replay_scripts::ScriptFlaw;
+use replay_scripts::{EditFlaw, ScriptFlaw};
 use std::alloc::Global;
 use std::process::Abort;
 use std::test::Fail;
@@ -73,7 +73,10 @@ const BAD_FIRST_LINE: PlayFault = PlayFault::Log(LogFault::BadLine(1, LineFlaw::
 const BAD_SECOND_LINE: PlayFault = PlayFault::Log(LogFault::BadLine(2, LineFlaw::Byte(127, 1)));
 
 /// Why a script is refused whose second line is no line of a script.
-const NO_EDIT: PlayFault = PlayFault::Script(ScriptFault::Malformed(2, ScriptFlaw::NoEdit));
+const NO_EDIT: PlayFault = PlayFault::Script(ScriptFault::Malformed(
+    2,
+    ScriptFlaw::NoEdit(EditFlaw::NoWord),
+));
 
 /// Runs with the number of an input and what it has, why it is refused, the status of that, and
 /// how many inputs are read.

@@ -21,7 +21,7 @@ fn shown(alloc: Global, words: &[&str]) -> Result<String, AllocError> {
 }
 
 /// Words, and what the answer to them says.
-const ANSWERS: [(&[&str], &str); 35] = [
+const ANSWERS: [(&[&str], &str); 39] = [
     (
         &["cave", "check", "a"],
         "Check { files: Files { cave: \"a\", bind: None, output: None }, view: Maximum }",
@@ -66,7 +66,7 @@ const ANSWERS: [(&[&str], &str); 35] = [
     (
         &["cave", "edit", "a", "b", "c"],
         "Edit { files: Files { cave: \"a\", bind: None, output: None }, \
-        log: \"b\", script: \"c\", \
+        log: \"b\", script: File(\"c\"), \
         editing: Editing { seed: 0, every: 50, view: Transcript, strict: false, guarded: false } }",
     ),
     (
@@ -80,7 +80,7 @@ const ANSWERS: [(&[&str], &str); 35] = [
             "c",
         ],
         "Edit { files: Files { cave: \"a\", bind: None, output: None }, \
-        log: \"b\", script: \"c\", \
+        log: \"b\", script: File(\"c\"), \
         editing: Editing { seed: 3, every: 10000, view: Transcript, strict: false, guarded: false } }",
     ),
     (
@@ -96,25 +96,25 @@ const ANSWERS: [(&[&str], &str); 35] = [
             "--output=d",
         ],
         "Edit { files: Files { cave: \"a\", bind: None, output: Some(\"d\") }, \
-        log: \"b\", script: \"c\", \
+        log: \"b\", script: File(\"c\"), \
         editing: Editing { seed: 0, every: 50, view: Log, strict: true, guarded: false } }",
     ),
     (
         &["cave", "edit", "a", "b", "c", "--print=reports"],
         "Edit { files: Files { cave: \"a\", bind: None, output: None }, \
-        log: \"b\", script: \"c\", \
+        log: \"b\", script: File(\"c\"), \
         editing: Editing { seed: 0, every: 50, view: Reports, strict: false, guarded: false } }",
     ),
     (
         &["cave", "edit", "a", "b", "c", "--print=steps"],
         "Edit { files: Files { cave: \"a\", bind: None, output: None }, \
-        log: \"b\", script: \"c\", \
+        log: \"b\", script: File(\"c\"), \
         editing: Editing { seed: 0, every: 50, view: Steps, strict: false, guarded: false } }",
     ),
     (
         &["cave", "edit", "--guarded", "a", "b", "c"],
         "Edit { files: Files { cave: \"a\", bind: None, output: None }, \
-        log: \"b\", script: \"c\", \
+        log: \"b\", script: File(\"c\"), \
         editing: Editing { seed: 0, every: 50, view: Transcript, strict: false, guarded: true } }",
     ),
     (&["cave", "help", "edit"], "text DisplayHelp"),
@@ -144,7 +144,19 @@ const ANSWERS: [(&[&str], &str); 35] = [
     (&["cave", "play", "a"], "2 MissingRequiredArgument"),
     (&["cave", "cover", "a"], "2 MissingRequiredArgument"),
     (&["cave", "play", "a", "b", "--seed"], "2 InvalidValue"),
-    (&["cave", "sing"], "2 InvalidSubcommand"),
+    (&["cave", "sing"], "2 NoCommand(\"sing\")"),
+    (&["cave", "help", "sing"], "2 InvalidSubcommand"),
+    (&["cave", "edit", "a", "b"], "2 NoScript"),
+    (&["cave", "edit", "a", "b", "c", "-e", "d"], "2 TwoScripts"),
+    (
+        &[
+            "cave", "edit", "-e", "delete 1", "a", "b", "--edit", "seed 2", "-s", "3", "-o", "d",
+            "-b", "e", "-p", "log",
+        ],
+        "Edit { files: Files { cave: \"a\", bind: Some(\"e\"), output: Some(\"d\") }, \
+        log: \"b\", script: Typed(\"delete 1\\nseed 2\\n\"), \
+        editing: Editing { seed: 3, every: 50, view: Log, strict: false, guarded: false } }",
+    ),
     (&["cave", "check", "a", "--seed", "7"], "2 UnknownArgument"),
     (
         &["cave", "check", "a", "--bind=b", "--bind=b"],
@@ -198,7 +210,7 @@ fn printed(alloc: Global, words: &[&str]) -> Result<String, AllocError> {
 }
 
 /// Words, and a part of the text that is printed for them.
-const TEXTS: [(&[&str], &str); 22] = [
+const TEXTS: [(&[&str], &str); 25] = [
     (
         &["cave", "check", "-h"],
         "Usage: cave check [OPTIONS] <CAVE>",
@@ -206,7 +218,7 @@ const TEXTS: [(&[&str], &str); 22] = [
     (&["cave", "play", "-h"], "Example: cave play "),
     (
         &["cave", "edit", "--help"],
-        "Usage: cave edit [OPTIONS] <CAVE> <LOG> <SCRIPT>",
+        "Usage: cave edit [OPTIONS] <CAVE> <LOG> [SCRIPT]",
     ),
     (
         &["cave", "cover", "--help"],
@@ -223,7 +235,16 @@ const TEXTS: [(&[&str], &str); 22] = [
     (&["cave", "-h"], "  7  memory ran out\n"),
     (&["cave", "-V"], "cave 1.0"),
     (&["cave"], "Usage: cave <COMMAND>"),
-    (&["cave", "sing"], "error: unrecognized subcommand 'sing'"),
+    (
+        &["cave", "sing"],
+        "error: unrecognized subcommand 'sing': wanted is check, play, edit, cover or map\n\n\
+        Usage: cave <COMMAND>\n\n",
+    ),
+    (&["cave", "chek"], "or map\n\n  tip: did you mean 'check'?\n\n"),
+    (
+        &["cave", "play", "a", "b", "-s", "-1"],
+        "error: invalid value '-1' for '--seed <N>': wanted are 1 to 10 digits",
+    ),
     (
         &["cave", "check"],
         "error: the following required arguments were not provided:\n  <CAVE>",
@@ -273,7 +294,11 @@ const TEXTS: [(&[&str], &str); 22] = [
     (
         &["cave", "edit", "a", "b", "c", "--print", "text"],
         "error: invalid value 'text' for '--print <WHAT>': wanted is transcript, play, log, \
-        undo, reports, table, steps, score or state",
+        undo, reports, table, steps, score or state\n\nFor more",
+    ),
+    (
+        &["cave", "edit", "a", "b", "c", "-p", "stpes"],
+        "steps, score or state\n\n  tip: did you mean 'steps'?\n\nFor more",
     ),
 ];
 

@@ -109,11 +109,11 @@ const GUARDED: [(&[u8], &str); 6] = [
     ),
     (
         b"expect x\ndelete 0",
-        "line 1 of the script: expected an edit, `begin`, `end` or `expect N TEXT`",
+        "line 1 of the script: the byte in column 8 is 120, and N is 1 to 10 digits",
     ),
     (
         b" expect 0 x\ndelete 0",
-        "line 1 of the script: expected an edit, `begin`, `end` or `expect N TEXT`",
+        "line 1 of the script: the line begins with a blank: its word comes first",
     ),
 ];
 
@@ -125,17 +125,77 @@ fn a_script_has_guards(rt: HostRuntime) -> Result<(), Fail> {
     Ok(())
 }
 
+/// Lines that are no edits, and what is reported of them.
+const FLAWS: [(&[u8], &str); 16] = [
+    (
+        b"\xef\xbb\xbfdelete 0",
+        "the line begins with a byte order mark: save the script without one",
+    ),
+    (
+        b"\tdelete 0",
+        "the line begins with a blank: its word comes first",
+    ),
+    (
+        b"replce 0 x",
+        "no edit begins so: did you mean `replace N TEXT`?",
+    ),
+    (
+        b"Insert 0 x",
+        "no edit begins so: did you mean `insert N TEXT`?",
+    ),
+    (b"END", "no edit begins so: did you mean `end`?"),
+    (b"send 3", "expected an edit, a guard, `begin` or `end`"),
+    (b"delete ", "a number is missing: expected `delete N`"),
+    (
+        b"insert  0 x",
+        "one blank follows the word, and not two: expected `insert N TEXT`",
+    ),
+    (
+        b"seed -1",
+        "N has a sign, and it is 1 to 10 digits alone",
+    ),
+    (
+        b"seed +1",
+        "N has a sign, and it is 1 to 10 digits alone",
+    ),
+    (b"delete 1-3", "N is one number, and no range"),
+    (
+        b"delete 1,3",
+        "the byte in column 9 is 44, and N is 1 to 10 digits",
+    ),
+    (
+        b"insert lamp",
+        "the byte in column 8 is 108, and N is 1 to 10 digits",
+    ),
+    (
+        b"delete 1 x",
+        "text follows `delete N`, which has none",
+    ),
+    (b"begin 1", "text follows `begin`, which has none"),
+    (
+        b"expect 0 x",
+        "`expect N TEXT` is a guard, and this script may have none",
+    ),
+];
+
+#[test]
+fn a_line_that_is_no_edit_is_told_by_its_flaw(rt: HostRuntime) -> Result<(), Fail> {
+    for &(text, flaw) in &FLAWS {
+        let want = format!(in rt.alloc(); "line 1 of the script: {flaw}")?;
+        assert_eq!(rt; shown(rt.alloc(), text)?.as_str(), want.as_str());
+    }
+    Ok(())
+}
+
 /// Malformed scripts, and what is reported of them.
 const FAULTS: [(&[u8], &str); 5] = [
     (
         b"delete 0\ninsert 9 a\n# x\nbegone\nend\n",
-        "line 4 of the script: expected `insert N TEXT`, `delete N`, `replace N TEXT`, `seed N`, \
-        `begin` or `end`",
+        "line 4 of the script: expected an edit, a guard, `begin` or `end`",
     ),
     (
         b"delete 00000000000",
-        "line 1 of the script: expected `insert N TEXT`, `delete N`, `replace N TEXT`, `seed N`, \
-        `begin` or `end`",
+        "line 1 of the script: N has 11 digits, and it has at most 10",
     ),
     (
         b"begin\nbegin\nend\nend\n",

@@ -2,7 +2,7 @@ use Rattle.std.proofs.Common.{◌++◌, ap, map, option_map, ◌∙◌}
 use Rattle.std.proofs.lemmas.Result.{err_from_is_err_and}
 use Rattle.cave_play.specs.declared.fault.Input.TheVariants as input
 use Rattle.play_program.specs.Names.{cave_files, named, named_logs}
-use Rattle.play_program.specs.Opening.{bytes_named}
+use Rattle.play_program.specs.Opening.{bytes_named, script_bytes}
 use Rattle.play_program.proofs.OpeningLemmas.{Stops-before, Stops-later, opened-more}
 use Rattle.play_program.proofs.readers.open_files.Goals as goal
 
@@ -94,7 +94,8 @@ returns g c =
         logs = c.in_ok-logs.ensures.reads
             ∙ ap (λ bytes. map bytes (map (λ s. s.now) names.logs.now)) two;
         script = c.in_ok-script.ensures.reads
-            ∙ ap (λ bytes. bytes_named bytes (option_map (λ s. s.now) names.script)) three;
+            ∙ ap (λ bytes. script_bytes bytes (option_map (λ s. s.now) names.script)
+            (option_map (λ text. text.now) names.typed)) three;
       };
       opened =
           opened-more cave (log ++ (logs ++ script)) _ _ _ c.in_ok-cave.ensures.opened

@@ -1,6 +1,6 @@
 use Rattle.std.proofs.Common.{◌≡◌, ◌+◌, ◌≤◌, length}
 use Rattle.std.specs.Str.Lines.{lines}
-use Rattle.replay_scripts.specs.Guards.{answer_naming_guards, guarded_script_of, read_guarded_from}
+use Rattle.replay_scripts.specs.Guards.{guarded_script_of, read_guarded_from}
 use Rattle.replay_scripts.specs.Views.{expectations_of, items_of, open_of}
 use Rattle.replay_scripts.proofs.script.read_guarded_lines.Given as goal
 
@@ -9,8 +9,8 @@ use Rattle.replay_scripts.proofs.script.read_guarded_lines.Given as goal
 abbrev pub invariant-loop-line : goal.invariant-loop-line
 invariant-loop-line l =
     (guarded_script_of l.text
-    ≡ answer_naming_guards (read_guarded_from (l.number + 1) (lines l.rest)
-    (items_of l.reader.items) (open_of l.reader.group) (expectations_of l.reader.guards)))
+    ≡ read_guarded_from (l.number + 1) (lines l.rest) (items_of l.reader.items)
+    (open_of l.reader.group) (expectations_of l.reader.guards))
     × (l.number + length l.rest ≤ length l.text)
 
 abbrev pub decreases-loop-line : goal.decreases-loop-line

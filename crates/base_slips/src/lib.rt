@@ -1,0 +1,10 @@
+//! What goes wrong as people type: words that are one slip from another, and byte order marks.
+#![tactic(auto)]
+
+pub mod mark;
+pub mod near;
+pub mod nearest;
+
+pub use mark::has_byte_order_mark;
+pub use near::is_near;
+pub use nearest::near_name;

@@ -1,0 +1,8 @@
+use Rattle.std.proofs.Common.{◌≡◌, map, string_bytes, take}
+use Rattle.replay_scripts.specs.ScriptText.{text_of_lines}
+use Rattle.play_command.proofs.read.text_of_lines.Given as goal
+
+abbrev pub invariant-loop-line : goal.invariant-loop-line
+invariant-loop-line l =
+    string_bytes l.text
+    ≡ text_of_lines (map (λ line. line.now) (take l.line-index l.lines))

@@ -1,0 +1,97 @@
+-- What is wrong with a line of a script that is no edit: the first of these that holds.
+use Rattle.std.specs.Prelude.{ℕ, ◌+◌, Bool, false, ◌&&◌, ◌||◌, ◌==◌, nat_lt, bytes_eq, List, []}
+use Rattle.std.specs.Prelude.{◌∷◌, length, drop, Option, None, Some, codes, if◌then◌else◌}
+use Rattle.std.specs.Option.{option_and_then}
+use Rattle.base_lines.specs.Bytes.{after_prefix, is_all_blank, is_blank, is_digit, is_nonblank}
+use Rattle.base_lines.specs.Bytes.{prefix_while}
+use Rattle.base_slips.specs.Mark.{has_byte_order_mark}
+use Rattle.base_slips.specs.Nearest.{near_name}
+use Rattle.replay_scripts.specs.declared.edit_flaw.EditFlaw.{EditFlaw}
+use Rattle.replay_scripts.specs.declared.edit_flaw.EditFlaw.TheVariants.{ByteOrderMark, Indented}
+use Rattle.replay_scripts.specs.declared.edit_flaw.EditFlaw.TheVariants.{NearWord, NoWord, NoNumber}
+use Rattle.replay_scripts.specs.declared.edit_flaw.EditFlaw.TheVariants.{TwoBlanks, Signed, Range}
+use Rattle.replay_scripts.specs.declared.edit_flaw.EditFlaw.TheVariants.{LongNumber, NoDigit, Guard}
+use Rattle.replay_scripts.specs.declared.edit_flaw.EditFlaw.TheVariants.{MoreText}
+use Rattle.replay_scripts.specs.declared.edit_flaw.ScriptWord.{ScriptWord}
+use Rattle.replay_scripts.specs.declared.edit_flaw.ScriptWord.TheVariants as word
+
+abbrev pub script_word_text : ScriptWord → List ℕ
+script_word_text word.Insert = codes "insert"
+script_word_text word.Delete = codes "delete"
+script_word_text word.Replace = codes "replace"
+script_word_text word.Seed = codes "seed"
+script_word_text word.Begin = codes "begin"
+script_word_text word.End = codes "end"
+script_word_text word.Expect = codes "expect"
+
+abbrev pub script_word_named : List ℕ → Option ScriptWord
+script_word_named text =
+    if bytes_eq text (codes "insert") then Some word.Insert
+    else (if bytes_eq text (codes "delete") then Some word.Delete
+    else (if bytes_eq text (codes "replace") then Some word.Replace
+    else (if bytes_eq text (codes "seed") then Some word.Seed
+    else (if bytes_eq text (codes "begin") then Some word.Begin
+    else (if bytes_eq text (codes "end") then Some word.End
+    else (if bytes_eq text (codes "expect") then Some word.Expect else None))))))
+
+-- the only word of scripts that a text is near to, if one alone is
+abbrev pub near_script_word : List ℕ → Option ScriptWord
+near_script_word text = option_and_then script_word_named
+    (near_name text (codes "insert" ∷ codes "delete" ∷ codes "replace" ∷ codes "seed"
+    ∷ codes "begin" ∷ codes "end" ∷ codes "expect" ∷ []))
+
+abbrev pub begins_blank : List ℕ → Bool
+begins_blank [] = false
+begins_blank (byte ∷ bytes) = is_blank byte
+
+-- a plus or a minus
+abbrev pub is_sign : ℕ → Bool
+is_sign byte = byte == 43 || byte == 45
+
+-- the word and the number are right: the line is a guard where none may be, or has a text that its
+-- word doesn't have
+abbrev pub flaw_after_number : ScriptWord → EditFlaw
+flaw_after_number word.Expect = Guard
+flaw_after_number named = MoreText named
+
+-- what follows the leading digits of the number
+abbrev pub flaw_after_digits : ScriptWord → List ℕ → List ℕ → EditFlaw
+flaw_after_digits named digits [] = flaw_after_number named
+flaw_after_digits named digits (byte ∷ bytes) =
+    if is_blank byte then flaw_after_number named
+    else (if length digits == 0 && is_sign byte then Signed
+    else (if byte == 45 then Range
+    else NoDigit byte (length (script_word_text named) + length digits + 2)))
+
+-- what follows the word and one blank
+abbrev pub number_flaw : ScriptWord → List ℕ → EditFlaw
+number_flaw named text =
+    let digits = prefix_while is_digit text in
+    if nat_lt 10 (length digits) then LongNumber (length digits)
+    else flaw_after_digits named digits (after_prefix is_digit text)
+
+-- what follows a word that has a number
+abbrev pub flaw_before_number : ScriptWord → List ℕ → EditFlaw
+flaw_before_number named rest =
+    if is_all_blank rest then NoNumber named
+    else (if begins_blank (drop 1 rest) then TwoBlanks named else number_flaw named (drop 1 rest))
+
+abbrev pub flaw_after_word : ScriptWord → List ℕ → EditFlaw
+flaw_after_word word.Begin rest = MoreText word.Begin
+flaw_after_word word.End rest = MoreText word.End
+flaw_after_word named rest = flaw_before_number named rest
+
+abbrev pub flaw_by_word : Option ScriptWord → Option ScriptWord → List ℕ → EditFlaw
+flaw_by_word (Some named) near rest = flaw_after_word named rest
+flaw_by_word None (Some near) rest = NearWord near
+flaw_by_word None None rest = NoWord
+
+-- the first word of the line, and what follows it
+abbrev pub flaw_of_word : List ℕ → List ℕ → EditFlaw
+flaw_of_word text rest = flaw_by_word (script_word_named text) (near_script_word text) rest
+
+unfoldable pub edit_flaw_of : List ℕ → EditFlaw
+edit_flaw_of line =
+    if has_byte_order_mark line then ByteOrderMark
+    else (if begins_blank line then Indented
+    else flaw_of_word (prefix_while is_nonblank line) (after_prefix is_nonblank line))

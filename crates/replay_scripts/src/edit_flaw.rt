@@ -1,0 +1,277 @@
+//! What is wrong with a line of a script that is no edit.
+
+ghost use Rattle.std.specs.Prelude.{◌≡◌, ◌≤◌, drop, length};
+ghost use Rattle.replay_scripts.specs.EditFlaw.{begins_blank, edit_flaw_of, flaw_after_digits};
+ghost use Rattle.replay_scripts.specs.EditFlaw.{flaw_after_number, flaw_after_word};
+ghost use Rattle.replay_scripts.specs.EditFlaw.{flaw_before_number, flaw_of_word, is_sign};
+ghost use Rattle.replay_scripts.specs.EditFlaw.{number_flaw, near_script_word};
+ghost use Rattle.replay_scripts.specs.EditFlaw.{script_word_named, script_word_text};
+
+use base_lines::bytes::{is_all_blank, is_blank, split_digits, split_word};
+use base_lines::limits::is_long_number;
+use base_slips::{has_byte_order_mark, near_name};
+use std::fmt;
+
+/// A word with which a line of a script begins.
+#[derive(Clone, Copy, Debug, PartialEq, Eq)]
+pub enum ScriptWord {
+    Insert,
+    Delete,
+    Replace,
+    Seed,
+    Begin,
+    End,
+    Expect,
+}
+
+/// The words of scripts.
+const SCRIPT_WORDS: [&str; 7] = [
+    "insert", "delete", "replace", "seed", "begin", "end", "expect",
+];
+
+impl ScriptWord {
+    /// The word of this text, if it is one.
+    fn named(text: &[u8]) -> Option<ScriptWord>
+        ensures { result ≡ script_word_named text.now }
+    {
+        if text == b"insert".as_slice() {
+            Some(ScriptWord::Insert)
+        } else if text == b"delete".as_slice() {
+            Some(ScriptWord::Delete)
+        } else if text == b"replace".as_slice() {
+            Some(ScriptWord::Replace)
+        } else if text == b"seed".as_slice() {
+            Some(ScriptWord::Seed)
+        } else if text == b"begin".as_slice() {
+            Some(ScriptWord::Begin)
+        } else if text == b"end".as_slice() {
+            Some(ScriptWord::End)
+        } else if text == b"expect".as_slice() {
+            Some(ScriptWord::Expect)
+        } else {
+            None
+        }
+    }
+
+    /// The only word that this text is near to, if one alone is.
+    fn near(text: &[u8]) -> Option<ScriptWord>
+        ensures { result ≡ near_script_word text.now }
+    {
+        match near_name(text, &SCRIPT_WORDS) {
+            Some(name) => ScriptWord::named(name.as_bytes()),
+            None => None,
+        }
+    }
+
+    fn text(self) -> &'static str
+        ensures text { result.now ≡ script_word_text self }
+        ensures short { length result.now ≤ 7 }
+    {
+        match self {
+            ScriptWord::Insert => "insert",
+            ScriptWord::Delete => "delete",
+            ScriptWord::Replace => "replace",
+            ScriptWord::Seed => "seed",
+            ScriptWord::Begin => "begin",
+            ScriptWord::End => "end",
+            ScriptWord::Expect => "expect",
+        }
+    }
+
+    /// What a line with the word has after it.
+    fn rest(self) -> &'static str {
+        match self {
+            ScriptWord::Insert | ScriptWord::Replace | ScriptWord::Expect => " N TEXT",
+            ScriptWord::Delete | ScriptWord::Seed => " N",
+            ScriptWord::Begin | ScriptWord::End => "",
+        }
+    }
+}
+
+/// A line with the word, as pages spell it.
+impl fmt::Display for ScriptWord {
+    fn fmt<W: fmt::Write>(&self, f: &mut fmt::Formatter<W>) -> fmt::Result {
+        let (word, rest) = (self.text(), self.rest());
+        write!(f, "`{word}{rest}`")
+    }
+}
+
+/// Why a line of a script is no edit.
+#[derive(Clone, Copy, Debug, PartialEq, Eq)]
+pub enum EditFlaw {
+    /// It begins with a byte order mark.
+    ByteOrderMark,
+    /// It begins with a blank.
+    Indented,
+    /// It begins with none of the words, and one alone is near.
+    NearWord(ScriptWord),
+    /// It begins with none of the words.
+    NoWord,
+    /// It ends where the number should be.
+    NoNumber(ScriptWord),
+    /// Another blank follows the one after the word.
+    TwoBlanks(ScriptWord),
+    /// The number has a sign.
+    Signed,
+    /// The number has so many digits.
+    LongNumber(usize),
+    /// The number is the first of a range.
+    Range,
+    /// The number has this byte, which is no digit, in this column, from 1.
+    NoDigit(u8, usize),
+    /// Something follows that isn't blank.
+    MoreText(ScriptWord),
+    /// It is a guard, and no line may be one.
+    Guard,
+}
+
+impl fmt::Display for EditFlaw {
+    fn fmt<W: fmt::Write>(&self, f: &mut fmt::Formatter<W>) -> fmt::Result {
+        match *self {
+            EditFlaw::ByteOrderMark => {
+                write!(
+                    f,
+                    "the line begins with a byte order mark: save the script without one"
+                )
+            }
+            EditFlaw::Indented => write!(f, "the line begins with a blank: its word comes first"),
+            EditFlaw::NearWord(word) => write!(f, "no edit begins so: did you mean {word}?"),
+            EditFlaw::NoWord => write!(
+                f,
+                "no edit begins so: expected `insert N TEXT`, `delete N`, `replace N TEXT`, \
+                 `seed N`, `begin`, `end` or, as a guard, `expect N TEXT`"
+            ),
+            EditFlaw::NoNumber(word) => write!(f, "a number is missing: expected {word}"),
+            EditFlaw::TwoBlanks(word) => {
+                write!(
+                    f,
+                    "one blank follows the word, and not two: expected {word}"
+                )
+            }
+            EditFlaw::Signed => write!(f, "N has a sign, and it is 1 to 10 digits alone"),
+            EditFlaw::LongNumber(digits) => {
+                write!(f, "N has {digits} digits, and it has at most 10")
+            }
+            EditFlaw::Range => write!(f, "N is one number, and no range"),
+            EditFlaw::NoDigit(byte, column) => write!(
+                f,
+                "the byte in column {column} is {byte}, and N is 1 to 10 digits"
+            ),
+            EditFlaw::MoreText(word) => write!(f, "text follows {word}, which has none"),
+            EditFlaw::Guard => write!(
+                f,
+                "`expect N TEXT` is a guard, and this script may have none"
+            ),
+        }
+    }
+}
+
+fn begins_blank(text: &[u8]) -> bool
+    ensures { result ≡ begins_blank text.now }
+{
+    match text {
+        [byte, ..] => is_blank(*byte),
+        [] => false,
+    }
+}
+
+fn is_sign(byte: u8) -> bool
+    ensures { result ≡ is_sign byte }
+{
+    byte == b'+' || byte == b'-'
+}
+
+/// What is wrong with a line whose word and number are right.
+fn flaw_after_number(word: ScriptWord) -> EditFlaw
+    ensures { result ≡ flaw_after_number word }
+{
+    match word {
+        ScriptWord::Expect => EditFlaw::Guard,
+        _ => EditFlaw::MoreText(word),
+    }
+}
+
+/// What is wrong with a line of this word, from what follows the leading digits of its number.
+fn flaw_after_digits(word: ScriptWord, digits: &[u8], rest: &[u8]) -> EditFlaw
+    requires { length digits.now ≤ 10 }
+    ensures { result ≡ flaw_after_digits word digits.now rest.now }
+{
+    match rest {
+        [byte, ..] if is_blank(*byte) => flaw_after_number(word),
+        [byte, ..] if digits.is_empty() && is_sign(*byte) => EditFlaw::Signed,
+        [b'-', ..] => EditFlaw::Range,
+        [byte, ..] => EditFlaw::NoDigit(*byte, word.text().len() + digits.len() + 2),
+        [] => flaw_after_number(word),
+    }
+}
+
+/// What is wrong with a line of this word, from what follows the one blank after it.
+fn number_flaw(word: ScriptWord, text: &[u8]) -> EditFlaw
+    ensures { result ≡ number_flaw word text.now }
+{
+    let (digits, rest) = split_digits(text);
+    if is_long_number(digits.len()) {
+        return EditFlaw::LongNumber(digits.len());
+    }
+    flaw_after_digits(word, digits, rest)
+}
+
+/// What follows the first byte.
+fn after_first(text: &[u8]) -> &[u8]
+    ensures { result.now ≡ drop 1 text.now }
+{
+    match text {
+        [_, rest @ ..] => rest,
+        [] => &[],
+    }
+}
+
+/// What is wrong with a line of this word, which has a number, from what follows the word.
+fn flaw_before_number(word: ScriptWord, rest: &[u8]) -> EditFlaw
+    ensures { result ≡ flaw_before_number word rest.now }
+{
+    if is_all_blank(rest) {
+        return EditFlaw::NoNumber(word);
+    }
+    let text = after_first(rest);
+    if begins_blank(text) {
+        return EditFlaw::TwoBlanks(word);
+    }
+    number_flaw(word, text)
+}
+
+/// What is wrong with a line of this word, from what follows the word.
+fn flaw_after_word(word: ScriptWord, rest: &[u8]) -> EditFlaw
+    ensures { result ≡ flaw_after_word word rest.now }
+{
+    match word {
+        ScriptWord::Begin | ScriptWord::End => EditFlaw::MoreText(word),
+        _ => flaw_before_number(word, rest),
+    }
+}
+
+/// What is wrong with a line that begins with this word, which no blank precedes.
+fn flaw_of_word(word: &[u8], rest: &[u8]) -> EditFlaw
+    ensures { result ≡ flaw_of_word word.now rest.now }
+{
+    match (ScriptWord::named(word), ScriptWord::near(word)) {
+        (Some(named), _) => flaw_after_word(named, rest),
+        (None, Some(near)) => EditFlaw::NearWord(near),
+        (None, None) => EditFlaw::NoWord,
+    }
+}
+
+/// What is wrong with a line that is no edit.
+#[tactic(auto, unfolding(crate::specs::EditFlaw::edit_flaw_of))]
+pub(crate) fn edit_flaw_of(line: &[u8]) -> EditFlaw
+    ensures { result ≡ edit_flaw_of line.now }
+{
+    if has_byte_order_mark(line) {
+        return EditFlaw::ByteOrderMark;
+    }
+    if begins_blank(line) {
+        return EditFlaw::Indented;
+    }
+    let (word, rest) = split_word(line);
+    flaw_of_word(word, rest)
+}
