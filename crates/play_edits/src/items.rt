@@ -16,7 +16,7 @@ use crate::outcome::{ItemOutcome, ItemReplay, Standing};
 use crate::refusal::{Refusal, RefusedItem};
 use crate::undo;
 use base_lines::Meter;
-use cave_replay::{GroupReport, Session};
+use cave_replay::{Done, Session};
 use play_command::{EditView, Editing};
 use play_machine::CaveMachine;
 use replay_edits::{Edit, EditFault};
@@ -47,7 +47,7 @@ fn standing_of(session: &Session<CaveMachine<'_>>) -> Standing
 
 /// What a report says of a replay, with the lines of the log that the session then holds, and where
 /// the game is after them.
-fn replay_of(session: &Session<CaveMachine<'_>>, report: &GroupReport) -> ItemReplay
+fn replay_of(session: &Session<CaveMachine<'_>>, report: &Done) -> ItemReplay
     ensures from { result.from ≡ report.now.from }
     ensures met { result.met ≡ report.now.met }
     ensures played { result.played ≡ report.now.played }
