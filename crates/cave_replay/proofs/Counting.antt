@@ -1,8 +1,10 @@
 -- How many lines ticked up to each line and with it.
-use Rattle.std.proofs.Common.{◌≡◌, ℕ, ◌+◌, ◌<◌, zero, suc, Bool, List, [], ◌∷◌, length, take}
-use Rattle.std.proofs.Common.{count_by, arith, refl, ap, ◌∙◌}
+use Rattle.std.proofs.Common.{◌≡◌, ℕ, ◌+◌, ◌-◌, ◌<◌, ◌≤◌, zero, suc, Bool, List, [], ◌∷◌, ◌++◌, length}
+use Rattle.std.proofs.Common.{take, drop, count_by, arith, refl, ap, sym, ◌∙◌}
+use Rattle.std.specs.List.{splice}
 use Rattle.std.specs.Prelude.{slice_index, if◌then◌else◌}
-use Rattle.std.proofs.lemmas.List.Sums.{sum_by-cons}
+use Rattle.std.proofs.lemmas.List.{drop-drop, take-append-drop}
+use Rattle.std.proofs.lemmas.List.Sums.{sum_by-append, sum_by-cons}
 use Rattle.cave_replay.specs.Play.{counts_after}
 
 abbrev pub total : List Bool → ℕ
@@ -10,6 +12,31 @@ total ticked = count_by (λ ticks. ticks) ticked
 
 pub total-cons : (t : Bool) (ts : List Bool) → total (t ∷ ts) ≡ (if t then 1 else 0) + total ts
 total-cons t ts = sum_by-cons (λ x. if x then 1 else 0) t ts
+
+-- those before a place, and those from there on
+pub total-parts : (ts : List Bool) (i : ℕ) → total (take i ts) + total (drop i ts) ≡ total ts
+total-parts ts i =
+    sym (sum_by-append (λ x. if x then 1 else 0) (take i ts) (drop i ts))
+    ∙ ap total (take-append-drop i ts)
+
+-- those of a stretch too
+pub total-stretch : (ts : List Bool) (i j : ℕ) → i ≤ j
+    → total (take i ts) + total (take (j - i) (drop i ts)) + total (drop j ts) ≡ total ts
+total-stretch ts i j ordered =
+    let there : i + (j - i) ≡ j = omega arith in
+    let rest = ap total (drop-drop (j - i) i ts) ∙ ap (λ k. total (drop k ts)) there in
+    omega (arith, total-parts ts i, total-parts (drop i ts) (j - i), rest)
+
+-- and of others in its place
+pub total-splice : (ts new : List Bool) (i j : ℕ)
+    → total (splice ts i j new) ≡ total (take i ts) + total new + total (drop j ts)
+total-splice ts new i j =
+    let f : Bool → ℕ = λ x. if x then 1 else 0 in
+    omega (
+      arith,
+      sum_by-append f (take i ts) (new ++ drop j ts),
+      sum_by-append f new (drop j ts),
+    )
 
 pub length-counts_after : (count : ℕ) (ts : List Bool) → length (counts_after count ts) ≡ length ts
 length-counts_after count [] = refl

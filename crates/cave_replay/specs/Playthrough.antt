@@ -36,7 +36,7 @@ abbrev pub KeepsPlay : {Machine State Kept Piece Meter Scratch Meaning Text : Ty
     → Playthrough Machine State Kept Piece Meter Scratch → Type 0
 KeepsPlay meaning is_state text rules kept =
     IsPlaythrough meaning is_state rules (kept_game kept) (text kept.opening)
-    (map text kept.pieces.items) kept.ticked.items kept.state kept.checkpoints
+    (map text kept.pieces.items) kept.ticked.each.items kept.state kept.checkpoints
 
 -- A copy keeps what is kept, by what the pieces say.
 pub record IsCopyOf {Machine State Kept Piece Meter Scratch T : Type 0} (text : Piece → T)
@@ -45,7 +45,7 @@ pub record IsCopyOf {Machine State Kept Piece Meter Scratch T : Type 0} (text : 
   pub log : log_of copy.log.items ≡ log_of kept.log.items
   pub opening : text copy.opening ≡ text kept.opening
   pub pieces : map text copy.pieces.items ≡ map text kept.pieces.items
-  pub ticked : copy.ticked.items ≡ kept.ticked.items
+  pub ticked : copy.ticked.each.items ≡ kept.ticked.each.items
   pub every : copy.checkpoints.every ≡ kept.checkpoints.every
   pub lines : copy.checkpoints.lines ≡ kept.checkpoints.lines
   pub places : copy.checkpoints.places ≡ kept.checkpoints.places
@@ -59,7 +59,7 @@ pub record KeepsAll {Machine State Kept Piece Meter Scratch : Type 0}
   pub log : new.log.items ≡ old.log.items
   pub opening : new.opening ≡ old.opening
   pub pieces : new.pieces.items ≡ old.pieces.items
-  pub ticked : new.ticked.items ≡ old.ticked.items
+  pub ticked : new.ticked.each.items ≡ old.ticked.each.items
   pub every : new.checkpoints.every ≡ old.checkpoints.every
   pub lines : new.checkpoints.lines ≡ old.checkpoints.lines
   pub places : new.checkpoints.places ≡ old.checkpoints.places

@@ -27,7 +27,7 @@ session_view machine kept = record {
   every = kept.checkpoints.every;
   opening = kept.opening;
   pieces = kept.pieces.items;
-  ticks = kept.ticked.items;
+  ticks = kept.ticked.each.items;
   state = kept.state;
   checkpoints = kept.checkpoints.places;
 }

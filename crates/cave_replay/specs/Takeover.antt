@@ -50,7 +50,7 @@ FitsMarks checkpoints marks at count =
 pub record IsWhole {Machine State Kept Piece Meter Scratch : Type 0}
     (kept : Playthrough Machine State Kept Piece Meter Scratch) : Type 0 where
   pub pieces : vec_len kept.pieces ≡ vec_len kept.log
-  pub ticked : vec_len kept.ticked ≡ vec_len kept.log
+  pub ticked : vec_len kept.ticked.each ≡ vec_len kept.log
   pub lines : kept.checkpoints.lines ≡ vec_len kept.log
 
 -- There is room for the lines of the edits of a rerun, and for what it played, where the lines and
@@ -63,8 +63,8 @@ pub record HasRoomFor {Machine State Kept Piece Meter Scratch : Type 0}
       ≤ vec_capacity kept.log + (rerun.ready.rest - rerun.ready.head)
   pub pieces : vec_len kept.pieces + vec_len rerun.played.pieces
       ≤ vec_capacity kept.pieces + lines_gone kept.checkpoints rerun.at rerun.played.met
-  pub ticked : vec_len kept.ticked + vec_len rerun.played.ticked
-      ≤ vec_capacity kept.ticked + lines_gone kept.checkpoints rerun.at rerun.played.met
+  pub ticked : vec_len kept.ticked.each + vec_len rerun.played.ticked
+      ≤ vec_capacity kept.ticked.each + lines_gone kept.checkpoints rerun.at rerun.played.met
   pub marks : FitsMarks kept.checkpoints rerun.played.marks rerun.at
       (checkpoints_passed kept.checkpoints rerun.played.met)
 
@@ -94,8 +94,8 @@ pub record IsTakenOver {Machine State Kept Piece Meter Scratch : Type 0}
   pub pieces : new.pieces.items
       ≡ splice old.pieces.items (slice_index old.checkpoints.places rerun.at)
       (end_of_stretch old.checkpoints rerun.played.met) rerun.played.pieces.items
-  pub ticked : new.ticked.items
-      ≡ splice old.ticked.items (slice_index old.checkpoints.places rerun.at)
+  pub ticked : new.ticked.each.items
+      ≡ splice old.ticked.each.items (slice_index old.checkpoints.places rerun.at)
       (end_of_stretch old.checkpoints rerun.played.met) rerun.played.ticked.items
   pub every : new.checkpoints.every ≡ old.checkpoints.every
   pub lines : new.checkpoints.lines ≡ rerun.played.marks.end

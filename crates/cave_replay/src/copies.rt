@@ -18,7 +18,7 @@ pub(crate) fn copy_kept<M: Machine>(
     let log = copy_lines(alloc, &kept.log)?;
     let opening = machine.copy_piece(alloc, &kept.opening)?;
     let pieces = copy_pieces(alloc, machine, &kept.pieces)?;
-    let ticked = Vec::from_slice(alloc, &kept.ticked)?;
+    let ticked = kept.ticked.copy(alloc)?;
     let checkpoints = kept.checkpoints.copy(alloc)?;
     Ok(Playthrough {
         seed: kept.seed,

@@ -15,6 +15,7 @@ mod segment;
 pub mod session;
 mod takeover;
 mod tick_counts;
+mod ticked_lines;
 mod workspace;
 
 pub use base_lines::bytes::number_of;
@@ -24,6 +25,6 @@ pub use machine::{Machine, Started, Stepped};
 pub use played_lines::{PlayedLine, PlayedLines};
 pub use replay_checkpoints::{KeptState, Whole};
 pub use replay_edits::{Edit, EditFault, GroupFault, LineText};
-pub use report::{GroupReport, Report};
+pub use report::{Done, Report};
 pub use session::Session;
 pub use tick_counts::TickCounts;

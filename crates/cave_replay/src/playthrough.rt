@@ -6,6 +6,7 @@ ghost use Rattle.cave_replay.specs.Report.{RisesByAtMost};
 
 use crate::machine::Machine;
 use crate::segment::{Segment, play_line};
+use crate::ticked_lines::TickedLines;
 use crate::workspace::Workspace;
 use replay_checkpoints::{Checkpoints, Marks};
 use replay_edits::LineText;
@@ -18,7 +19,7 @@ pub(crate) struct Playthrough<M: Machine> {
     pub(crate) log: Vec<LineText>,
     pub(crate) opening: M::Piece,
     pub(crate) pieces: Vec<M::Piece>,
-    pub(crate) ticked: Vec<bool>,
+    pub(crate) ticked: TickedLines,
     pub(crate) checkpoints: Checkpoints<M::Kept>,
     pub(crate) state: M::State,
 }
@@ -69,7 +70,7 @@ pub(crate) fn play_game<M: Machine>(
         log,
         opening,
         pieces,
-        ticked,
+        ticked: TickedLines::of(ticked),
         checkpoints: Checkpoints::of(marks),
         state,
     })

@@ -2,6 +2,7 @@ ghost use Rattle.std.specs.Prelude.{◌≡◌, ◌≢◌, ◌+◌, ◌<◌, ◌�
 ghost use Rattle.std.specs.Prelude.{OnErr, MatchOption, Option};
 ghost use Rattle.std.specs.Option.{option_map};
 ghost use Rattle.replay_checkpoints.specs.Marks.{IsBegunAt};
+ghost use Rattle.replay_checkpoints.specs.Spacing.{IsSpaced};
 ghost use Rattle.replay_edits.specs.Edit.{changes_of, apply_all};
 ghost use Rattle.cave_replay.specs.ReadyEdits.{AreEditsOf, IsRerunOf};
 ghost use Rattle.replay_edits.specs.Faults.{group_fault, steps_left, IsAnswerTo, TakesBack};
@@ -12,7 +13,7 @@ ghost use Rattle.cave_replay.specs.Report.{IsReport, AreGroupSteps};
 use crate::machine::Machine;
 use crate::playthrough::Playthrough;
 use crate::ready_edits::{ReadyEdits, prepare};
-use crate::report::GroupReport;
+use crate::report::Done;
 use crate::segment::{OldPlay, Segment, play_changed};
 use crate::takeover::{make_room, take_over};
 use crate::workspace::Workspace;
@@ -28,12 +29,15 @@ pub(crate) fn edit_kept<M: Machine>(
     kept: &mut Playthrough<M>,
     edits: &[Edit],
     meter: &mut M::Meter,
-) -> Result<GroupReport, GroupFault>
+) -> Result<Done, GroupFault>
     requires kept { KeepsPlay M.meaning M.is_state M.text (M.rules machine.now) kept.old }
     ensures kept { KeepsPlay M.meaning M.is_state M.text (M.rules machine.now) kept.new }
     ensures game { OnOk result (kept_game kept.new
         ≡ apply_all (changes_of edits.now) (kept_game kept.old)) }
     ensures every { kept.new.checkpoints.every ≡ kept.old.checkpoints.every }
+    ensures lines { IfOk result (λ done. done.lines ≡ kept.new.checkpoints.lines) }
+    ensures spaced { let checkpoints = kept.new.checkpoints in
+        OnOk result (IsSpaced checkpoints.every checkpoints.places checkpoints.lines) }
     ensures inverse { IfOk result (λ report. TakesBack (changes_of report.inverse.items)
         (changes_of edits.now) (kept_game kept.old) (kept_game kept.new)) }
     ensures refused { OnErr result (KeepsAll kept.old kept.new) }
@@ -57,10 +61,12 @@ pub(crate) fn edit_kept<M: Machine>(
     let met = met_place(rerun.played.met, end);
     let inverse = take_over(kept, rerun, state);
     let played = end - from;
-    Ok(GroupReport {
+    let lines = kept.checkpoints.lines();
+    Ok(Done {
         from,
         met,
         played,
+        lines,
         inverse,
     })
 }

@@ -13,15 +13,17 @@ pub struct Report {
     pub inverse: Edit,
 }
 
-/// What came of a group of edits.
+/// What was done for a group of edits.
 #[derive(Debug, Drop)]
-pub struct GroupReport {
+pub struct Done {
     /// The place that the replay began at.
     pub from: u32,
     /// The place at which the replay met the old play, if it did.
     pub met: Option<u32>,
     /// How many lines were played.
     pub played: u32,
+    /// How many lines the edited log has.
+    pub lines: u32,
     /// The edits that take the whole group back.
     pub inverse: Vec<Edit>,
 }

@@ -22,8 +22,8 @@ use crate::machine::Machine;
 use crate::played_lines::PlayedLines;
 use crate::playthrough::{Playthrough, play_game};
 use crate::replay::edit_kept;
-use crate::report::{GroupReport, Report};
-use crate::tick_counts::{TickCounts, count_ticks};
+use crate::report::{Done, Report};
+use crate::tick_counts::TickCounts;
 use crate::workspace::Workspace;
 use base_lines::Steps;
 use replay_edits::{Edit, EditFault, GroupFault, LineText};
@@ -96,11 +96,14 @@ impl<M: Machine> Session<M> {
         &mut self,
         edits: &[Edit],
         meter: &mut M::Meter,
-    ) -> Result<GroupReport, GroupFault>
+    ) -> Result<Done, GroupFault>
         ensures game { OnOk result (self.new.game
             ≡ apply_all (changes_of edits.now) self.old.game) }
         ensures kept { OnOk result (KeepsSettings self.old self.new) }
         ensures plays { OnOk result (HoldsPlay M.rules M.text M.meaning self.new) }
+        ensures lines { IfOk result (λ done. done.lines ≡ length self.new.game.log) }
+        ensures spaced { OnOk result (IsSpaced self.new.every self.new.checkpoints
+            (length self.new.game.log)) }
 
         ensures inverse { IfOk result (λ report. changes_of report.inverse.items
             ≡ inverses_of (changes_of edits.now) self.old.game) }
@@ -289,16 +292,16 @@ impl<M: Machine> Session<M> {
         requires { place < length self.now.game.log }
         ensures { slice_get self.now.ticks place ≡ Some result }
     {
-        self.kept.ticked[place as usize]
+        self.kept.ticked.each[place as usize]
     }
 
-    /// How many of the lines before a place ticked. It counts them; `tick_counts` goes over all
-    /// lines in one pass.
+    /// How many of the lines before a place ticked. Those from the place on are counted, so at the
+    /// end none are; `tick_counts` goes over all lines in one pass.
     pub fn ticks(&self, place: u32) -> u32
         requires { place ≤ length self.now.game.log }
         ensures { result ≡ count_by (λ ticks. ticks) (take place self.now.ticks) }
     {
-        count_ticks(&self.kept.ticked, place as usize)
+        self.kept.ticked.before(place as usize) as u32
     }
 
     /// How many of the lines ticked up to each line and with it, from the first line to the last.
@@ -308,7 +311,7 @@ impl<M: Machine> Session<M> {
             → slice_index result place
             ≡ count_by (λ ticks. ticks) (take (place + 1) self.now.ticks) }
     {
-        TickCounts::of(&self.kept.ticked)
+        TickCounts::of(&self.kept.ticked.each)
     }
 
     /// The lines of the held log as they were played, from the first to the last.
@@ -317,6 +320,6 @@ impl<M: Machine> Session<M> {
         ensures rows { (place : ℕ) → place < length self.now.game.log
             → IfSome (slice_get result place) (IsRowOf self.now place) }
     {
-        PlayedLines::of(&self.kept.log, &self.kept.pieces, &self.kept.ticked)
+        PlayedLines::of(&self.kept.log, &self.kept.pieces, &self.kept.ticked.each)
     }
 }

@@ -73,7 +73,7 @@ pub(crate) fn take_over<M: Machine>(
     let to = end_of_stretch(&kept.checkpoints, met);
     let inverse = rerun.ready.make(&mut kept.log, &mut kept.seed);
     splice(&mut kept.pieces, from, to, &mut pieces);
-    splice(&mut kept.ticked, from, to, &mut ticked);
+    kept.ticked.replace(from, to, &mut ticked);
     replace_piece(&mut kept.opening, rerun.opening);
     let last = &mut kept.state;
     take_marks(&mut kept.checkpoints, last, marks, state, rerun.at, met);

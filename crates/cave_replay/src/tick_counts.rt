@@ -4,18 +4,6 @@ ghost use Rattle.std.specs.Iterator.{YieldsFirst, item_count};
 
 use std::marker::Model;
 
-pub(crate) fn count_ticks(ticked: &[bool], count: usize) -> u32
-    requires within { count ≤ length ticked.now }
-    requires few { length ticked.now < 2 ^ 32 }
-    ensures { result ≡ count_by (λ ticks. ticks) (take count ticked.now) }
-{
-    let mut ticks = 0;
-    for ticked in &ticked[..count] {
-        ticks += u32::from(*ticked);
-    }
-    ticks
-}
-
 /// How many lines ticked up to each line and with it, one line after another. It counts as it goes.
 #[derive(Drop)]
 pub struct TickCounts<'a> {

@@ -1,13 +1,13 @@
 -- What is kept of items takes them back.
 use Rattle.std.proofs.Common.{◌≡◌, ℕ, ◌+◌, ◌<◌, ◌≤◌, Bool, List, [], ◌∷◌}
-use Rattle.std.proofs.Common.{◌++◌, length, map, drop, get_or, reverse, None}
+use Rattle.std.proofs.Common.{◌++◌, length, map, drop, get_or, reverse, Ok, Err}
 use Rattle.std.proofs.Common.{sym, ap, ◌∙◌, refl, append_assoc, append-nil}
 use Rattle.std.proofs.lemmas.List.{drop_all}
 use Rattle.std.proofs.lemmas.List.{map-append, reverse-append}
 use Rattle.cave_data.specs.CaveView.{CaveView}
 use Rattle.play_command.specs.declared.editing.EditView.{EditView}
 use Rattle.play_command.specs.declared.editing.EditView.TheVariants as asked
-use Rattle.replay_edits.specs.Edit.{Change, Game, inverses_of}
+use Rattle.replay_edits.specs.Edit.{Game, inverses_of}
 use Rattle.std.specs.Global.{Vec}
 use Rattle.replay_scripts.specs.Script.{Applied}
 use Rattle.replay_scripts.specs.Views.{applied_item}
@@ -15,32 +15,25 @@ use Rattle.replay_scripts.specs.declared.script.Item.{Item}
 use Rattle.replay_scripts.specs.ScriptText.{Back, backs_in, groups_in}
 use Rattle.replay_scripts.specs.declared.script_text.BackEdit.{BackEdit}
 use Rattle.play_edits.specs.Edits.{kept_for}
-use Rattle.play_edits.specs.Outcome.{IsItemOutcome, refusal_in}
+use Rattle.play_edits.specs.Outcome.{IsItemOutcome, ItemOutcome}
 use Rattle.play_edits.specs.Items.{game_after_item}
-use Rattle.play_edits.specs.Undo.{back_if, back_of, backs_by, backs_of}
-use Rattle.play_edits.specs.declared.outcome.ItemOutcome.{ItemOutcome}
-use Rattle.play_edits.specs.declared.outcome.ItemOutcome.TheVariants.{Refused, Replayed}
+use Rattle.play_edits.specs.Undo.{back_by, back_if, back_of, backs_by, backs_of}
 use Rattle.play_edits.proofs.EditLemmas.{applied_item-drop}
 
 -- what came of an item says what takes it back
 pub back_of-outcome : (guarded : Bool) (cave : CaveView) (every : ℕ) (item : Applied)
-    (game next : Game) (checkpoints : List ℕ) (outcome : ItemOutcome) (inverses : List Change)
-    → IsItemOutcome cave every item game checkpoints outcome
-    → (refusal_in outcome ≡ None → inverses ≡ inverses_of item.changes game)
-    → next ≡ game_after_item item game
-    → back_if (refusal_in outcome) (backs_by guarded inverses next.log)
-    ≡ back_of guarded item game
+    (game next : Game) (checkpoints : List ℕ) (outcome : ItemOutcome)
+    → IsItemOutcome cave every item game checkpoints outcome → next ≡ game_after_item item game
+    → back_by guarded outcome next.log ≡ back_of guarded item game
 unfolding back_of
-back_of-outcome guarded cave every item game next checkpoints (Refused fault) inverses is back
-    after =
-    ap (λ refusal. back_if refusal (backs_by guarded (inverses_of item.changes game)
-    (game_after_item item game).log)) (sym is)
-back_of-outcome guarded cave every item game next checkpoints (Replayed replay) inverses is back
-    after =
-    ap (λ some. backs_by guarded some next.log ∷ []) (back refl)
+back_of-outcome guarded cave every item game next checkpoints (Ok done) is after =
+    ap (λ some. backs_by guarded some next.log ∷ []) is.inverse
     ∙ ap (λ (g : Game). backs_by guarded (inverses_of item.changes game) g.log ∷ []) after
     ∙ ap (λ refusal. back_if refusal (backs_by guarded (inverses_of item.changes game)
     (game_after_item item game).log)) (sym is.accepted)
+back_of-outcome guarded cave every item game next checkpoints (Err refusal) is after =
+    ap (λ refusal. back_if refusal (backs_by guarded (inverses_of item.changes game)
+    (game_after_item item game).log)) (sym is)
 
 kept-append : (view : EditView) (first second : List (List Back))
     → kept_for view (first ++ second) ≡ kept_for view first ++ kept_for view second

@@ -10,8 +10,6 @@ use Rattle.replay_edits.specs.Edit.{Change, apply_all, Game}
 use Rattle.replay_edits.specs.Faults.{group_fault}
 use Rattle.replay_edits.specs.declared.fault.EditFault.TheVariants as cause
 use Rattle.replay_edits.specs.declared.fault.GroupFault.{GroupFault}
-use Rattle.cave_replay.specs.Report.{IsReport}
-use Rattle.cave_replay.specs.Play.{MachineRules}
 use Rattle.replay_scripts.specs.Script.{Applied}
 use Rattle.replay_scripts.specs.Views.{applied_item}
 use Rattle.replay_scripts.specs.declared.script.Item.{Item}
@@ -23,15 +21,13 @@ use Rattle.play_command.specs.declared.editing.EditView.{EditView}
 use Rattle.cave_replay.specs.Session.{SessionView}
 use Rattle.cave_world.specs.declared.state.State.{State}
 use Rattle.play_edits.specs.Edits.{Applies, IsApplied, text_of_item}
-use Rattle.play_edits.specs.Outcome.{AreLeft, AreOutcomes, IsItemOutcome, lines_in, played_in}
-use Rattle.play_edits.specs.Outcome.{refusal_in}
+use Rattle.play_edits.specs.Outcome.{AreLeft, AreOutcomes, IsItemOutcome, ItemOutcome}
+use Rattle.play_edits.specs.Outcome.{lines_in, played_in, refusal_in}
 use Rattle.play_edits.specs.Items.{game_after_item, game_after_items, game_left}
 use Rattle.play_edits.specs.Refusal.{group_refusal, item_refusal}
 use Rattle.play_edits.specs.Accounts.{text_of_items}
 use Rattle.play_machine.specs.declared.machine.CaveMachine.{CaveMachine}
-use Rattle.play_edits.specs.declared.outcome.ItemOutcome.{ItemOutcome}
-use Rattle.play_edits.specs.declared.outcome.ItemOutcome.TheVariants.{Refused, Replayed}
-use Rattle.play_edits.specs.declared.refusal.RefusedItem.{RefusedItem}
+use Rattle.play_edits.specs.declared.refusal.Refusal.{Refusal}
 
 -- the items from a place on: the one there, and those after it
 pub applied_item-drop : (items : List Item) (place : ℕ) (item : Item) → place < length items
@@ -227,25 +223,15 @@ pub game_after_item-accepted : (item : Applied) (game : Game)
 unfolding game_after_item
 game_after_item-accepted item game none = ap (λ refusal. game_left item refusal game) none
 
-pub game_after_item-refused : (item : Applied) (game : Game) (refused : RefusedItem)
+pub game_after_item-refused : (item : Applied) (game : Game) (refused : Refusal)
     → item_refusal item game.log ≡ Some refused → game_after_item item game ≡ game
 unfolding game_after_item
 game_after_item-refused item game refused some = ap (λ refusal. game_left item refusal game) some
-
--- what a report says of a replay, in other words
-pub IsReport-same : {S T : Type 0} (rules : MachineRules S T) (changes same : List Change)
-    (old : Game) (every : ℕ) (checkpoints : List ℕ) {from told_from : ℕ} {met told_met : Option ℕ}
-    {played told_played : ℕ}
-    → changes ≡ same → from ≡ told_from → met ≡ told_met → played ≡ told_played
-    → IsReport rules changes old every checkpoints told_from told_met told_played
-    → IsReport rules same old every checkpoints from met played
-IsReport-same rules changes same old every checkpoints is from_is met_is played_is report =
-    rw (from_is, met_is, played_is, ← is) report
 
 -- what came of an item says whether it was refused
 pub item_refusal-outcome : (cave : CaveView) (every : ℕ) (item : Applied) (game : Game)
     (checkpoints : List ℕ) (outcome : ItemOutcome)
     → IsItemOutcome cave every item game checkpoints outcome
     → item_refusal item game.log ≡ refusal_in outcome
-item_refusal-outcome cave every item game checkpoints (Refused refused) is = is
-item_refusal-outcome cave every item game checkpoints (Replayed replay) is = is.accepted
+item_refusal-outcome cave every item game checkpoints (Ok done) is = is.accepted
+item_refusal-outcome cave every item game checkpoints (Err refusal) is = is

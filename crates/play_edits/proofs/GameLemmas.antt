@@ -5,10 +5,10 @@ use Rattle.replay_edits.proofs.Inverses.{IsFree-from_none, IsGame-apply_all, gro
 use Rattle.replay_scripts.specs.Script.{Applied}
 use Rattle.play_edits.specs.Items.{game_after_item, game_after_items, game_left}
 use Rattle.play_edits.specs.Refusal.{group_refusal, item_refusal}
-use Rattle.play_edits.specs.declared.refusal.RefusedItem.{RefusedItem}
+use Rattle.play_edits.specs.declared.refusal.Refusal.{Refusal}
 use Rattle.play_edits.proofs.GuardLemmas.{unrefused_item}
 
-IsGame-by : (item : Applied) (game : Game) (refusal : Option RefusedItem)
+IsGame-by : (item : Applied) (game : Game) (refusal : Option Refusal)
     → item_refusal item game.log ≡ refusal → IsGame game
     → IsGame (game_left item refusal game)
 unfolding group_refusal

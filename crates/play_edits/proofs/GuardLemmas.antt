@@ -25,11 +25,11 @@ use Rattle.play_edits.specs.Items.{game_after_item, game_left}
 use Rattle.play_edits.specs.Refusal.{IsFreeCount, edit_refusal, first_unmet, group_refusal}
 use Rattle.play_edits.specs.Refusal.{item_refusal, kept_line, other_line, unmet, unmet_after}
 use Rattle.play_edits.specs.declared.refusal.Refusal.TheVariants.{OtherLine}
-use Rattle.play_edits.specs.declared.refusal.RefusedItem.{RefusedItem}
+use Rattle.play_edits.specs.declared.refusal.Refusal.{Refusal}
 
 -- ---- by guards, and then by changes
 
-neither : (first : Option RefusedItem) (later : Option GroupFault) (tell : GroupFault → RefusedItem)
+neither : (first : Option Refusal) (later : Option GroupFault) (tell : GroupFault → Refusal)
     → option_or first (option_map tell later) ≡ None → (first ≡ None) × (later ≡ None)
 neither None None tell is = (refl, refl)
 neither None (Some found) tell is = cc
@@ -49,7 +49,7 @@ unfolding item_refusal
 item_refusal-met item log found met is = rw (met, is) refl
 
 -- an item with a guard that isn't met
-pub item_refusal-unmet : (item : Applied) (log : List (List ℕ)) (refused : RefusedItem)
+pub item_refusal-unmet : (item : Applied) (log : List (List ℕ)) (refused : Refusal)
     → first_unmet item.changes item.guards log ≡ Some refused
     → item_refusal item log ≡ Some refused
 unfolding item_refusal
@@ -62,10 +62,8 @@ module _ (guard : Expectation) where
   same_line line is = by_test (bytes_eq line guard.text) refl is
     where
       by_test : (test : Bool) → bytes_eq line guard.text ≡ test
-          → cond {A = Option RefusedItem} test None (Some (record {
-            line = guard.line;
-            cause = OtherLine (kept_line line);
-          })) ≡ None → line ≡ guard.text
+          → cond {A = Option Refusal} test None (Some (OtherLine guard.line (kept_line line)))
+          ≡ None → line ≡ guard.text
       by_test true e h = (bytes_eq-Decides line guard.text).0 e
       by_test false e h = cc
 
@@ -109,7 +107,7 @@ module _ (changes : List Change) (log : List (List ℕ)) where
 
   met_first : (guard : Expectation) (guards : List Expectation)
       → (first_unmet changes guards log ≡ None → AllByRecursion (IsMet changes log) guards)
-      → (found : Option RefusedItem) → unmet changes guard log ≡ found
+      → (found : Option Refusal) → unmet changes guard log ≡ found
       → option_or found (first_unmet changes guards log) ≡ None
       → AllByRecursion (IsMet changes log) (guard ∷ guards)
   met_first guard guards later None e h = (IsMet-unmet guard e, later h)
@@ -296,7 +294,7 @@ first_unmet-more changes log guards i guard inside is met =
     (first_unmet changes (map expectation_in (drop (i + 1) guards)) log)) met)
 
 pub first_unmet-here : (changes : List Change) (log : List (List ℕ)) (guards : List Guard)
-    (i : ℕ) (guard : Guard) (refused : RefusedItem) → i < length guards
+    (i : ℕ) (guard : Guard) (refused : Refusal) → i < length guards
     → guard ≡ get_or guards i guard → unmet changes (expectation_in guard) log ≡ Some refused
     → first_unmet changes (map expectation_in (drop i guards)) log ≡ Some refused
 first_unmet-here changes log guards i guard refused inside is found =
@@ -326,7 +324,7 @@ without_guards item game met =
     by_refusal None = rw met refl
     by_refusal (Some fault) = rw met refl
 
-unmet_stays : (item : Applied) (game : Game) (found : Option RefusedItem)
+unmet_stays : (item : Applied) (game : Game) (found : Option Refusal)
     → first_unmet item.changes item.guards game.log ≡ found
     → ¬ AllByRecursion (IsMet item.changes game.log) item.guards
     → game_after_item item game ≡ game

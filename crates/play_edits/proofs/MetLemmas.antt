@@ -3,7 +3,8 @@ use Rattle.std.proofs.Common.{◌≡◌, ℕ, ◌+◌, ◌<◌, Bool, true, fals
 use Rattle.std.proofs.Common.{take}
 use Rattle.std.proofs.Common.{◌++◌, length, map, drop, get_or, Option, None, Some}
 use Rattle.std.proofs.Common.{sym, ap, ◌∙◌, refl, arith, append_assoc, append-nil}
-use Rattle.std.specs.Prelude.{slice_get}
+use Rattle.std.specs.Prelude.{slice_get, option_map, Result, Ok, Err, IfOk}
+use Rattle.std.specs.List.{zip}
 use Rattle.std.specs.Option.{option_or}
 use Rattle.std.proofs.lemmas.List.{get_or-map, length-append, length-map}
 use Rattle.std.proofs.lemmas.List.{take_more}
@@ -14,12 +15,15 @@ use Rattle.replay_edits.specs.declared.edit.Edit.{Edit}
 use Rattle.replay_edits.specs.Faults.{log_after_all}
 use Rattle.replay_edits.proofs.Groups.{changes_of-drop}
 use Rattle.replay_scripts.specs.Script.{Expectation}
-use Rattle.replay_scripts.specs.ScriptText.{Back}
+use Rattle.replay_scripts.specs.ScriptText.{Back, backs_in}
+use Rattle.replay_scripts.specs.declared.script_text.BackEdit.{BackEdit}
+use Rattle.std.specs.Global.{Vec}
+use Rattle.replay_edits.specs.LineText.{LineText}
 use Rattle.replay_scripts.specs.ScriptText.{guards_at, guards_from, line_after}
 use Rattle.replay_scripts.specs.ScriptText.{number_in, spelled_item}
 use Rattle.play_edits.specs.Refusal.{first_unmet}
-use Rattle.play_edits.specs.Undo.{backs_by, expected_at}
-use Rattle.play_edits.specs.Undo.{with_guards, without_guard}
+use Rattle.play_edits.specs.Undo.{backs_by, expected_at, expected_lines, expecting}
+use Rattle.play_edits.specs.Undo.{lines_in, with_guards, without_guard}
 use Rattle.play_edits.proofs.GuardLemmas.{unmet-IsMet}
 
 expected_there : (change : Change) (log : List (List ℕ)) (line : List ℕ)
@@ -71,34 +75,59 @@ met_from number before (change ∷ changes) log =
     (λ line is. ap (λ some. slice_get (log_after_all some log) place) first
     ∙ expected_there change now line is) more
 
--- one edit more that has a guard
-pub guarded-more : (edits : List Edit) (log : List (List ℕ)) (i : ℕ) (edit : Edit)
-    (old new whole : List Back) → i < length edits → edit ≡ get_or edits i edit
-    → new ≡ old ++ (record {
-      change = change_of edit;
-      expected = expected_at (change_of edit) (log_after_all (take i (changes_of edits)) log);
-    }) ∷ []
-    → old ++ with_guards (changes_of (drop i edits)) (log_after_all (take i (changes_of edits)) log)
-    ≡ whole
-    → new ++ with_guards (changes_of (drop (i + 1) edits))
+-- the line that is expected of one edit more
+pub expected-more : (edits : List Edit) (log : List (List ℕ)) (i : ℕ) (edit : Edit)
+    (old new whole : List (Option (List ℕ))) → i < length edits → edit ≡ get_or edits i edit
+    → new ≡ old ++ expected_at (change_of edit) (log_after_all (take i (changes_of edits)) log) ∷ []
+    → old ++ expected_lines (changes_of (drop i edits))
+    (log_after_all (take i (changes_of edits)) log) ≡ whole
+    → new ++ expected_lines (changes_of (drop (i + 1) edits))
     (log_after_all (take (i + 1) (changes_of edits)) log) ≡ whole
-guarded-more edits log i edit old new whole inside read grown so_far =
+expected-more edits log i edit old new whole inside read grown so_far =
     let changes = changes_of edits in
     let change = change_of edit in
     let now = log_after_all (take i changes) log in
     let rest = changes_of (drop (i + 1) edits) in
-    let back : Back = record { change = change; expected = expected_at change now } in
+    let line = expected_at change now in
     let m = length-map edits change_of in
     let here = get_or-map change_of edits i edit change inside ∙ ap change_of (sym read) in
     let next : log_after_all (take (i + 1) changes) log ≡ log_after change now =
     ap (λ some. log_after_all some log) (take_more changes i change (omega arith)
     ∙ ap (λ c. take i changes ++ c ∷ []) here)
     ∙ log_after_all-more (take i changes) change log in
-    ap (λ b. b ++ with_guards rest (log_after_all (take (i + 1) changes) log)) grown
-    ∙ append_assoc old (back ∷ []) (with_guards rest (log_after_all (take (i + 1) changes) log))
-    ∙ ap (λ l. old ++ back ∷ with_guards rest l) next
-    ∙ ap (λ some. old ++ with_guards some now) (sym (changes_of-drop edits i edit inside read))
+    ap (λ b. b ++ expected_lines rest (log_after_all (take (i + 1) changes) log)) grown
+    ∙ append_assoc old (line ∷ []) (expected_lines rest (log_after_all (take (i + 1) changes) log))
+    ∙ ap (λ l. old ++ line ∷ expected_lines rest l) next
+    ∙ ap (λ some. old ++ expected_lines some now) (sym (changes_of-drop edits i edit inside read))
     ∙ so_far
+
+-- edits, each with the line that is expected at its place
+pub expecting-zip : (edits : List Edit) (lines : List (Option LineText))
+    → backs_in (map (λ p. record { edit = p.0; expected = p.1 }) (zip edits lines))
+    ≡ expecting (changes_of edits) (lines_in lines)
+expecting-zip [] lines = refl
+expecting-zip (edit ∷ edits) [] = refl
+expecting-zip (edit ∷ edits) (line ∷ lines) = ap
+    (λ backs. record {
+      change = change_of edit;
+      expected = option_map (λ line. line.items) line;
+    } ∷ backs) (expecting-zip edits lines)
+
+-- edits without a guard
+pub without_guards-map : (edits : List Edit)
+    → backs_in (map (λ edit. record { edit = edit; expected = None }) edits)
+    ≡ map without_guard (changes_of edits)
+without_guards-map [] = refl
+without_guards-map (edit ∷ edits) =
+    ap (λ backs. record { change = change_of edit; expected = None } ∷ backs)
+    (without_guards-map edits)
+
+-- what is made of edits, where memory is there for it
+pub backs_made : {E : Type 0} (r : Result (Vec BackEdit) E) (made : List BackEdit)
+    (said : List Back) → IfOk r (λ backs. backs.items ≡ made) → backs_in made ≡ said
+    → IfOk r (λ backs. backs_in backs.items ≡ said)
+backs_made (Ok backs) made said is same = ap backs_in is ∙ same
+backs_made (Err refused) made said is same = tt
 
 unguarded_from : (number after : ℕ) (changes : List Change)
     → guards_from number after (map without_guard changes) ≡ []

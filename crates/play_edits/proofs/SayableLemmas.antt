@@ -23,7 +23,7 @@ use Rattle.replay_scripts.specs.ScriptText.{Back, CanExpect, IsSpellable}
 use Rattle.replay_scripts.proofs.Sayable.{one_line, spellable}
 use Rattle.play_edits.specs.Items.{game_after_item, game_left}
 use Rattle.play_edits.specs.Refusal.{group_refusal, item_refusal}
-use Rattle.play_edits.specs.declared.refusal.RefusedItem.{RefusedItem}
+use Rattle.play_edits.specs.declared.refusal.Refusal.{Refusal}
 use Rattle.play_edits.specs.Undo.{back_if, back_of, backs_by, backs_of, expected_at}
 use Rattle.play_edits.specs.Undo.{with_guards, without_guard}
 use Rattle.play_edits.proofs.GuardLemmas.{unrefused_item}
@@ -128,7 +128,7 @@ module _ (item : Applied) (game : Game) (good : IsGame game)
       (none_from_IsFree inverses after.log 0 free_back) few_again
 
 spellable-item : (guarded : Bool) (item : Applied) (game : Game) → IsGame game
-    → (refusal : Option RefusedItem) → item_refusal item game.log ≡ refusal
+    → (refusal : Option Refusal) → item_refusal item game.log ≡ refusal
     → All (All (IsSpellable guarded)) (reverse (back_of guarded item game))
 unfolding back_of game_after_item
 spellable-item guarded item game good None accepted =

@@ -1,22 +1,19 @@
 -- What is written of the items of a script.
-use Rattle.std.specs.Prelude.{◌≡◌, ℕ, List, [], ◌∷◌, ◌++◌, length, codes, Option, None, Some}
+use Rattle.std.specs.Prelude.{ℕ, List, [], ◌∷◌, ◌++◌, codes, Option, None, Some, Ok, Err}
 use Rattle.std.specs.Fmt.{decimal}
 use Rattle.std.specs.List.{sum_by}
 use Rattle.cave_data.specs.CaveView.{CaveView}
+use Rattle.cave_replay.specs.declared.report.Done.{Done}
 use Rattle.cave_world.specs.declared.ending.Ending.{Ending}
 use Rattle.cave_world.specs.declared.ending.Ending.TheVariants as ending_is
-use Rattle.replay_checkpoints.specs.Spacing.{IsSpaced}
 use Rattle.replay_edits.specs.Edit.{Game}
 use Rattle.replay_edits.specs.declared.fault.EditFault.{EditFault}
 use Rattle.replay_edits.specs.declared.fault.EditFault.TheVariants as cause
 use Rattle.replay_scripts.specs.Script.{Applied}
 use Rattle.play_edits.specs.Items.{game_after_item}
-use Rattle.play_edits.specs.Outcome.{AreOutcomes, lines_in, played_in}
-use Rattle.play_edits.specs.Refusal.{refusal_number, shown_kept_line}
-use Rattle.play_edits.specs.declared.outcome.ItemOutcome.{ItemOutcome}
-use Rattle.play_edits.specs.declared.outcome.ItemOutcome.TheVariants.{Refused, Replayed}
+use Rattle.play_edits.specs.Outcome.{ItemOutcome, lines_in, played_in, standing_of}
+use Rattle.play_edits.specs.Refusal.{refusal_line, refusal_number, shown_kept_line}
 use Rattle.play_edits.specs.declared.outcome.Standing.{Standing}
-use Rattle.play_edits.specs.declared.refusal.RefusedItem.{RefusedItem}
 use Rattle.play_edits.specs.declared.refusal.Refusal.{Refusal}
 use Rattle.play_edits.specs.declared.refusal.Refusal.TheVariants.{Edit, NoLine, OtherLine}
 
@@ -31,15 +28,15 @@ edit_fault_words cause.EmptyGroup = codes "an empty group"
 
 -- what is said beside the number of a refusal
 abbrev pub refusal_words : Refusal → List ℕ
-refusal_words (Edit fault) = edit_fault_words fault
-refusal_words NoLine = codes "no line"
-refusal_words (OtherLine line) = codes "another line: "
+refusal_words (Edit at fault) = edit_fault_words fault
+refusal_words (NoLine at) = codes "no line"
+refusal_words (OtherLine at line) = codes "another line: "
 
 -- the line that the log has in place of the one that a guard expects
 abbrev pub line_said : Refusal → List ℕ
-line_said (Edit fault) = []
-line_said NoLine = []
-line_said (OtherLine line) = shown_kept_line line
+line_said (Edit at fault) = []
+line_said (NoLine at) = []
+line_said (OtherLine at line) = shown_kept_line line
 
 -- the place at which a replay met the old play, if it did
 abbrev pub met_text : Option ℕ → List ℕ
@@ -67,22 +64,29 @@ standing_text standing =
     ++ ending_text standing.ending)))))))
 
 -- why an item was refused, as it is written
-abbrev pub refusal_text : RefusedItem → List ℕ
-refusal_text refused =
-    codes "line " ++ (decimal refused.line ++ (codes ": refused "
-    ++ (decimal (refusal_number refused.cause)
-    ++ (codes ", " ++ (refusal_words refused.cause
-    ++ (line_said refused.cause ++ codes "\n"))))))
+abbrev pub refusal_text : Refusal → List ℕ
+refusal_text refusal =
+    codes "line " ++ (decimal (refusal_line refusal) ++ (codes ": refused "
+    ++ (decimal (refusal_number refusal)
+    ++ (codes ", " ++ (refusal_words refusal ++ (line_said refusal ++ codes "\n"))))))
 
--- what is written of an item: where its replay began and met the old play, how many of the lines it
--- played, and where the game is then; or why it was refused
-abbrev pub account : Applied → ItemOutcome → List ℕ
-account item (Refused refused) = refusal_text refused
-account item (Replayed replay) =
-    codes "line " ++ (decimal item.line ++ (codes ": ok, from " ++ (decimal replay.from
-    ++ (codes ", met " ++ (met_text replay.met ++ (codes ", played " ++ (decimal replay.played
-    ++ (codes " of " ++ (decimal replay.lines ++ (standing_text replay.standing
-    ++ codes "\n"))))))))))
+-- where the replay of an item began and met the old play, and how many of the lines it played
+abbrev pub replay_text : Applied → Done → List ℕ
+replay_text item done =
+    codes "line " ++ (decimal item.line ++ (codes ": ok, from " ++ (decimal done.from
+    ++ (codes ", met " ++ (met_text done.met ++ (codes ", played " ++ (decimal done.played
+    ++ (codes " of " ++ decimal done.lines))))))))
+
+-- what is written of an item: what it replayed, and where the game is then; or why it was refused
+abbrev pub account_by : Applied → ItemOutcome → Standing → List ℕ
+account_by item (Ok done) standing =
+    replay_text item done ++ (standing_text standing ++ codes "\n")
+account_by item (Err refusal) standing = refusal_text refusal
+
+-- that of an item that was applied to a game
+abbrev pub account : CaveView → Applied → Game → ItemOutcome → List ℕ
+account cave item game outcome =
+    account_by item outcome (standing_of cave (game_after_item item game))
 
 -- what is written of items that are applied to a game, one after another
 abbrev pub text_of_items : (Applied → Game → ItemOutcome → List ℕ) → List Applied → Game
@@ -99,15 +103,7 @@ totals_line played lines =
     codes "played " ++ (decimal played ++ (codes " lines; from the start it would have been "
     ++ (decimal lines ++ codes "\n")))
 
-abbrev pub accounts : List Applied → Game → List ItemOutcome → List ℕ
-accounts items game outcomes =
-    text_of_items (λ item _. account item) items game outcomes
+abbrev pub accounts : CaveView → List Applied → Game → List ItemOutcome → List ℕ
+accounts cave items game outcomes =
+    text_of_items (account cave) items game outcomes
     ++ totals_line (sum_by played_in outcomes) (sum_by lines_in outcomes)
-
--- the text says what came of the items in the game, whose play was opened with checkpoints at this
--- distance
-abbrev pub IsAccount : CaveView → ℕ → Game → List Applied → List ℕ → Type 0
-IsAccount cave every game items text =
-    (checkpoints : List ℕ) × IsSpaced every checkpoints (length game.log)
-    × ((outcomes : List ItemOutcome) × AreOutcomes cave every items game checkpoints outcomes
-    × (text ≡ accounts items game outcomes))

@@ -8,7 +8,7 @@ use Rattle.play_command.specs.declared.editing.EditView.{EditView}
 use Rattle.play_command.specs.declared.editing.EditView.TheVariants as asked
 use Rattle.cave_replay.specs.Session.{SessionView}
 use Rattle.cave_replay.specs.LogText.{log_text}
-use Rattle.replay_edits.specs.Edit.{Change, Game, inverses_of}
+use Rattle.replay_edits.specs.Edit.{Game}
 use Rattle.play_tables.specs.ItemRow.{item_head_row}
 use Rattle.replay_scripts.specs.Script.{Applied}
 use Rattle.replay_scripts.specs.ScriptText.{Back, script_text}
@@ -17,14 +17,13 @@ use Rattle.play_edits.specs.Accounts.{account, text_of_items, totals_line}
 use Rattle.play_machine.specs.FinalState.{final_state_text}
 use Rattle.play_machine.specs.HeldGame.{HoldsGame}
 use Rattle.play_edits.specs.Items.{game_after_item, item_report_by}
-use Rattle.play_edits.specs.Outcome.{IsItemOutcome, AreLeft, AreOutcomes, lines_in, played_in}
-use Rattle.play_edits.specs.Outcome.{refusal_in}
+use Rattle.play_edits.specs.Outcome.{ItemOutcome, IsItemOutcome, AreLeft, AreOutcomes}
+use Rattle.play_edits.specs.Outcome.{lines_in, played_in, refusal_in}
 use Rattle.play_machine.specs.Score.{score_text}
 use Rattle.play_machine.specs.Steps.{steps_text}
-use Rattle.play_edits.specs.Table.{last_state, row_by}
+use Rattle.play_edits.specs.Table.{table_row}
 use Rattle.play_machine.specs.Transcript.{play_text}
 use Rattle.play_machine.specs.declared.machine.CaveMachine.{CaveMachine}
-use Rattle.play_edits.specs.declared.outcome.ItemOutcome.{ItemOutcome}
 
 -- an item was applied to what a session held, and this came of it
 pub record Applies (item : Applied) (old new : SessionView CaveMachine Piece State)
@@ -47,24 +46,17 @@ text_at_start asked.Steps = []
 text_at_start asked.Score = []
 text_at_start asked.FinalState = []
 
--- what is written of an item, by what came of it, with the changes that take it back and the last
--- states of the log before it and after it
-abbrev pub text_by : EditView → Applied → ItemOutcome → List Change → State → State → List ℕ
-text_by asked.Transcript item outcome inverses s t = item_report_by item (refusal_in outcome)
-text_by asked.Play item outcome inverses s t = []
-text_by asked.Log item outcome inverses s t = []
-text_by asked.Undo item outcome inverses s t = []
-text_by asked.Reports item outcome inverses s t = account item outcome
-text_by asked.Table item outcome inverses s t = row_by item outcome inverses s t
-text_by asked.Steps item outcome inverses s t = []
-text_by asked.Score item outcome inverses s t = []
-text_by asked.FinalState item outcome inverses s t = []
-
--- what is written of an item that is applied to a game
+-- what is written of an item that is applied to a game, by what is asked for
 abbrev pub text_of_item : EditView → CaveView → Applied → Game → ItemOutcome → List ℕ
-text_of_item view cave item game outcome =
-    text_by view item outcome (inverses_of item.changes game) (last_state cave game)
-    (last_state cave (game_after_item item game))
+text_of_item asked.Transcript cave item game outcome = item_report_by item (refusal_in outcome)
+text_of_item asked.Play cave item game outcome = []
+text_of_item asked.Log cave item game outcome = []
+text_of_item asked.Undo cave item game outcome = []
+text_of_item asked.Reports cave item game outcome = account cave item game outcome
+text_of_item asked.Table cave item game outcome = table_row cave item game outcome
+text_of_item asked.Steps cave item game outcome = []
+text_of_item asked.Score cave item game outcome = []
+text_of_item asked.FinalState cave item game outcome = []
 
 -- what is kept of changes that take items back, by what is asked for
 abbrev pub kept_for : EditView → List (List Back) → List (List Back)

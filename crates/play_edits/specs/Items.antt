@@ -3,19 +3,19 @@ use Rattle.std.specs.Prelude.{ℕ, List, [], ◌∷◌, ◌++◌, codes, Option,
 use Rattle.std.specs.Fmt.{decimal}
 use Rattle.replay_edits.specs.Edit.{apply_all, Game}
 use Rattle.replay_scripts.specs.Script.{Applied}
-use Rattle.play_edits.specs.Refusal.{item_refusal, refusal_number}
-use Rattle.play_edits.specs.declared.refusal.RefusedItem.{RefusedItem}
+use Rattle.play_edits.specs.Refusal.{item_refusal, refusal_line, refusal_number}
+use Rattle.play_edits.specs.declared.refusal.Refusal.{Refusal}
 
-abbrev pub item_report_by : Applied → Option RefusedItem → List ℕ
+abbrev pub item_report_by : Applied → Option Refusal → List ℕ
 item_report_by item None = codes "line " ++ (decimal item.line ++ codes ": ok\n")
-item_report_by item (Some refused) =
+item_report_by item (Some refusal) =
     codes "line "
-    ++ (decimal refused.line
-    ++ (codes ": refused " ++ (decimal (refusal_number refused.cause) ++ codes "\n")))
+    ++ (decimal (refusal_line refusal)
+    ++ (codes ": refused " ++ (decimal (refusal_number refusal) ++ codes "\n")))
 
-abbrev pub game_left : Applied → Option RefusedItem → Game → Game
+abbrev pub game_left : Applied → Option Refusal → Game → Game
 game_left item None game = apply_all item.changes game
-game_left item (Some refused) game = game
+game_left item (Some refusal) game = game
 
 -- what is reported of an item, and the game after it
 unfoldable pub item_report : Applied → Game → List ℕ

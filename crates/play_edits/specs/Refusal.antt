@@ -12,7 +12,6 @@ use Rattle.replay_scripts.specs.Script.{Applied, Expectation, line_of_refusal}
 use Rattle.play_edits.specs.declared.refusal.KeptLine.{KeptLine}
 use Rattle.play_edits.specs.declared.refusal.Refusal.{Refusal}
 use Rattle.play_edits.specs.declared.refusal.Refusal.TheVariants.{Edit, NoLine, OtherLine}
-use Rattle.play_edits.specs.declared.refusal.RefusedItem.{RefusedItem}
 
 -- ---- a line that is kept
 
@@ -44,9 +43,15 @@ edit_number cause.EmptyGroup = 7
 
 -- the number by which a report names a refusal
 abbrev pub refusal_number : Refusal → ℕ
-refusal_number (Edit fault) = edit_number fault
-refusal_number NoLine = 8
-refusal_number (OtherLine line) = 8
+refusal_number (Edit at fault) = edit_number fault
+refusal_number (NoLine at) = 8
+refusal_number (OtherLine at line) = 8
+
+-- the line of the script by which it is reported
+abbrev pub refusal_line : Refusal → ℕ
+refusal_line (Edit at fault) = at
+refusal_line (NoLine at) = at
+refusal_line (OtherLine at line) = at
 
 -- ---- what is refused
 
@@ -56,24 +61,22 @@ unfoldable pub group_refusal : List Change → List (List ℕ) → Option GroupF
 group_refusal changes log = group_fault changes log (2 ^ 64 - 1)
 
 -- an item is refused for a fault of one of its changes
-abbrev pub edit_refusal : Applied → GroupFault → RefusedItem
-edit_refusal item fault =
-    record { line = line_of_refusal item fault.at; cause = Edit fault.cause }
+abbrev pub edit_refusal : Applied → GroupFault → Refusal
+edit_refusal item fault = Edit (line_of_refusal item fault.at) fault.cause
 
 -- what a guard is refused for where the log has this line at its place, or none
-abbrev pub other_line : Expectation → Option (List ℕ) → Option RefusedItem
-other_line guard None = Some (record { line = guard.line; cause = NoLine })
+abbrev pub other_line : Expectation → Option (List ℕ) → Option Refusal
+other_line guard None = Some (NoLine guard.line)
 other_line guard (Some line) =
-    if bytes_eq line guard.text then None
-    else Some (record { line = guard.line; cause = OtherLine (kept_line line) })
+    if bytes_eq line guard.text then None else Some (OtherLine guard.line (kept_line line))
 
 -- a guard is of the log as the changes before it leave it, if none of them is refused
-abbrev pub unmet_after : List Change → Expectation → List (List ℕ) → Option RefusedItem
+abbrev pub unmet_after : List Change → Expectation → List (List ℕ) → Option Refusal
 unmet_after before guard log =
     if is_none (fault_of_all before log 0)
     then other_line guard (slice_get (log_after_all before log) guard.place) else None
 
-unfoldable pub unmet : List Change → Expectation → List (List ℕ) → Option RefusedItem
+unfoldable pub unmet : List Change → Expectation → List (List ℕ) → Option Refusal
 unmet changes guard log = unmet_after (take guard.after changes) guard log
 
 -- so many of the changes are made in a log before one is refused
@@ -83,13 +86,13 @@ pub record IsFreeCount (changes : List Change) (log : List (List ℕ)) (count : 
       → is_none (fault_of_all (take k changes) log 0) ≡ nat_le k count
 
 -- the first guard among the changes that the log doesn't meet
-abbrev pub first_unmet : List Change → List Expectation → List (List ℕ) → Option RefusedItem
+abbrev pub first_unmet : List Change → List Expectation → List (List ℕ) → Option Refusal
 first_unmet changes [] log = None
 first_unmet changes (guard ∷ guards) log =
     option_or (unmet changes guard log) (first_unmet changes guards log)
 
 -- why an item is refused, if it is: for a guard that the log doesn't meet, or for its changes
-unfoldable pub item_refusal : Applied → List (List ℕ) → Option RefusedItem
+unfoldable pub item_refusal : Applied → List (List ℕ) → Option Refusal
 item_refusal item log =
     option_or (first_unmet item.changes item.guards log)
     (option_map (edit_refusal item) (group_refusal item.changes log))

@@ -1,13 +1,15 @@
 -- The script that takes the accepted items of a script back.
 use Rattle.std.specs.Prelude.{ℕ, Bool, true, false, List, [], ◌∷◌, ◌++◌, map, reverse, Option}
-use Rattle.std.specs.Prelude.{None, Some, slice_get}
-use Rattle.replay_edits.specs.Edit.{Change, Game, inverses_of, log_after, inserts, deletes}
-use Rattle.replay_edits.specs.Edit.{replaces, reseeds}
+use Rattle.std.specs.Prelude.{None, Some, slice_get, option_map, Ok, Err}
+use Rattle.replay_edits.specs.Edit.{Change, Game, changes_of, inverses_of, log_after}
+use Rattle.replay_edits.specs.Edit.{inserts, deletes, replaces, reseeds}
+use Rattle.replay_edits.specs.LineText.{LineText}
 use Rattle.replay_scripts.specs.Script.{Applied}
 use Rattle.replay_scripts.specs.ScriptText.{Back, script_text}
 use Rattle.play_edits.specs.Items.{game_after_item}
+use Rattle.play_edits.specs.Outcome.{ItemOutcome}
 use Rattle.play_edits.specs.Refusal.{item_refusal}
-use Rattle.play_edits.specs.declared.refusal.RefusedItem.{RefusedItem}
+use Rattle.play_edits.specs.declared.refusal.Refusal.{Refusal}
 
 -- the line of a log at the place of a change, if there is one; a new seed has no place
 abbrev pub expected_at : Change → List (List ℕ) → Option (List ℕ)
@@ -16,12 +18,25 @@ expected_at (deletes place) log = slice_get log place
 expected_at (replaces place line) log = slice_get log place
 expected_at (reseeds seed) log = None
 
+-- the line at the place of each change, as those before it leave the log
+abbrev pub expected_lines : List Change → List (List ℕ) → List (Option (List ℕ))
+expected_lines [] log = []
+expected_lines (change ∷ changes) log =
+    expected_at change log ∷ expected_lines changes (log_after change log)
+
+abbrev pub lines_in : List (Option LineText) → List (Option (List ℕ))
+lines_in lines = map (option_map (λ line. line.items)) lines
+
+-- changes, each with the line that is expected at its place, if one is
+abbrev pub expecting : List Change → List (Option (List ℕ)) → List Back
+expecting [] lines = []
+expecting (change ∷ changes) [] = []
+expecting (change ∷ changes) (expected ∷ lines) =
+    record { change = change; expected = expected } ∷ expecting changes lines
+
 -- changes of a log, each with a guard of the line at its place
 abbrev pub with_guards : List Change → List (List ℕ) → List Back
-with_guards [] log = []
-with_guards (change ∷ changes) log =
-    record { change = change; expected = expected_at change log }
-    ∷ with_guards changes (log_after change log)
+with_guards changes log = expecting changes (expected_lines changes log)
 
 abbrev pub without_guard : Change → Back
 without_guard change = record { change = change; expected = None }
@@ -30,10 +45,15 @@ abbrev pub backs_by : Bool → List Change → List (List ℕ) → List Back
 backs_by false changes log = map without_guard changes
 backs_by true changes log = with_guards changes log
 
+-- what takes an item back, by what came of it, where its edits are guarded by this log
+abbrev pub back_by : Bool → ItemOutcome → List (List ℕ) → List (List Back)
+back_by guarded (Ok done) log = backs_by guarded (changes_of done.inverse.items) log ∷ []
+back_by guarded (Err refusal) log = []
+
 -- the changes that take an item back, unless it was refused
-abbrev pub back_if : Option RefusedItem → List Back → List (List Back)
+abbrev pub back_if : Option Refusal → List Back → List (List Back)
 back_if None backs = backs ∷ []
-back_if (Some refused) backs = []
+back_if (Some refusal) backs = []
 
 -- they are guarded where lines of scripts may be guards
 unfoldable pub back_of : Bool → Applied → Game → List (List Back)

@@ -8,7 +8,7 @@ ghost use Rattle.replay_edits.specs.Faults.{fault_of_all};
 ghost use Rattle.replay_scripts.specs.Views.{expectation_in, expectations_of};
 ghost use Rattle.play_edits.specs.Refusal.{IsFreeCount, first_unmet, other_line};
 
-use crate::refusal::{KeptLine, Refusal, RefusedItem};
+use crate::refusal::{KeptLine, Refusal};
 use cave_replay::Session;
 use play_machine::CaveMachine;
 use replay_edits::plan::plan_edits;
@@ -21,7 +21,7 @@ pub(crate) fn unmet_guard(
     alloc: Global,
     session: &Session<CaveMachine<'_>>,
     item: &Item,
-) -> Result<Option<RefusedItem>, AllocError>
+) -> Result<Option<Refusal>, AllocError>
     ensures { let changes = changes_of item.now.edits.items in
         IfOk result (λ refused. refused
         ≡ first_unmet changes (expectations_of item.now.guards) session.now.game.log) }
@@ -38,7 +38,7 @@ fn first_unmet(
     log: &[LineText],
     edits: &[Edit],
     guards: &[Guard],
-) -> Result<Option<RefusedItem>, AllocError>
+) -> Result<Option<Refusal>, AllocError>
     ensures { IfOk result (λ refused. refused
         ≡ first_unmet (changes_of edits.now) (map expectation_in guards.now) (log_of log.now)) }
 {
@@ -90,17 +90,13 @@ fn move_to<'a>(
 }
 
 /// The refusal for a guard where the log has this line at its place, or none.
-fn other_line(guard: &Guard, line: Option<&[u8]>) -> Option<RefusedItem>
+fn other_line(guard: &Guard, line: Option<&[u8]>) -> Option<Refusal>
     ensures { let there = option_map (λ line. line.now) line.entry in
         result ≡ other_line (expectation_in guard.now) there }
 {
-    let cause = match line {
-        None => Refusal::NoLine,
-        Some(line) if line == guard.text.as_slice() => return None,
-        Some(line) => Refusal::OtherLine(KeptLine::of(line)),
-    };
-    Some(RefusedItem {
-        line: guard.line,
-        cause,
-    })
+    match line {
+        None => Some(Refusal::NoLine(guard.line)),
+        Some(line) if line == guard.text.as_slice() => None,
+        Some(line) => Some(Refusal::OtherLine(guard.line, KeptLine::of(line))),
+    }
 }

@@ -8,11 +8,10 @@ pub mod laws;
 pub mod outcome;
 pub mod refusal;
 pub mod reports;
-pub mod table;
+mod table;
 mod undo;
 
-pub use items::{edit, keep_back};
-pub use outcome::{ItemOutcome, Totals};
-pub use refusal::{KeptLine, Refusal, RefusedItem};
-pub use reports::{push_end, push_outcome, push_start};
-pub use table::Done;
+pub use items::{apply_item, keep_back};
+pub use outcome::Totals;
+pub use refusal::{KeptLine, Refusal};
+pub use reports::{push_end, push_start};

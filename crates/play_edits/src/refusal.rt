@@ -1,7 +1,8 @@
 //! Why an item of a script is refused, and what is said of it.
 
 ghost use Rattle.std.specs.Prelude.{◌≡◌};
-ghost use Rattle.play_edits.specs.Refusal.{edit_number, kept_line, refusal_number, shown_kept_line};
+ghost use Rattle.play_edits.specs.Refusal.{edit_number, kept_line, refusal_line, refusal_number};
+ghost use Rattle.play_edits.specs.Refusal.{shown_kept_line};
 ghost use Rattle.play_edits.specs.Accounts.{edit_fault_words, refusal_words, line_said};
 
 use replay_edits::EditFault;
@@ -41,32 +42,35 @@ impl KeptLine {
     }
 }
 
-/// Why an item of a script is refused, as reports say it.
+/// Why an item of a script is refused, as reports say it, with the line of the script by which they
+/// name it.
 #[derive(Clone, Copy, Debug, PartialEq, Eq)]
 pub enum Refusal {
     /// An edit is refused.
-    Edit(EditFault),
+    Edit(usize, EditFault),
     /// A guard expects a line at a place where the log has none.
-    NoLine,
+    NoLine(usize),
     /// A guard expects another line than the one that the log has.
-    OtherLine(KeptLine),
-}
-
-/// A refusal, with the line of the script by which it is reported.
-#[derive(Clone, Copy, Debug, PartialEq, Eq)]
-pub struct RefusedItem {
-    pub line: usize,
-    pub cause: Refusal,
+    OtherLine(usize, KeptLine),
 }
 
 impl Refusal {
+    /// The line of the script by which it is reported.
+    pub fn line(self) -> usize
+        ensures { result ≡ refusal_line self }
+    {
+        match self {
+            Refusal::Edit(line, _) | Refusal::NoLine(line) | Refusal::OtherLine(line, _) => line,
+        }
+    }
+
     /// The number by which a report names it.
     pub(crate) fn number(self) -> u8
         ensures { result ≡ refusal_number self }
     {
         match self {
-            Refusal::Edit(fault) => edit_number(fault),
-            Refusal::NoLine | Refusal::OtherLine(_) => 8,
+            Refusal::Edit(_, fault) => edit_number(fault),
+            Refusal::NoLine(_) | Refusal::OtherLine(_, _) => 8,
         }
     }
 
@@ -75,19 +79,19 @@ impl Refusal {
         ensures { result.now ≡ refusal_words self }
     {
         match self {
-            Refusal::Edit(fault) => edit_words(fault),
-            Refusal::NoLine => "no line",
-            Refusal::OtherLine(_) => "another line: ",
+            Refusal::Edit(_, fault) => edit_words(fault),
+            Refusal::NoLine(_) => "no line",
+            Refusal::OtherLine(_, _) => "another line: ",
         }
     }
 
     /// The line of the log that is said after the words.
-    pub(crate) fn line(&self) -> &[u8]
+    pub(crate) fn line_said(&self) -> &[u8]
         ensures { result.now ≡ line_said self.now }
     {
         match self {
-            Refusal::OtherLine(line) => line.as_slice(),
-            Refusal::Edit(_) | Refusal::NoLine => &[],
+            Refusal::OtherLine(_, line) => line.as_slice(),
+            Refusal::Edit(_, _) | Refusal::NoLine(_) => &[],
         }
     }
 }
@@ -95,7 +99,7 @@ impl Refusal {
 impl fmt::Display for Refusal {
     fn fmt<W: fmt::Write>(&self, f: &mut fmt::Formatter<W>) -> fmt::Result {
         let (number, words) = (self.number(), self.words());
-        let line = str::from_utf8(self.line()).unwrap_or("");
+        let line = str::from_utf8(self.line_said()).unwrap_or("");
         write!(f, "refused {number}, {words}{line}")
     }
 }

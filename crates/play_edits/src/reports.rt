@@ -1,19 +1,17 @@
 //! What is written of the items of a script.
 
 ghost use Rattle.std.specs.Prelude.{◌≡◌, ◌++◌, IfOk, OnOk, string_bytes};
-ghost use Rattle.replay_edits.specs.Edit.{changes_of};
 ghost use Rattle.replay_scripts.specs.Views.{applied_item};
 ghost use Rattle.replay_scripts.specs.ScriptText.{groups_in};
-ghost use Rattle.play_edits.specs.Accounts.{account, ending_text, ending_words, met_text};
-ghost use Rattle.play_edits.specs.Accounts.{refusal_text, standing_text, totals_line};
-ghost use Rattle.play_edits.specs.Edits.{LogReadsBack, text_at_end, text_at_start, text_by};
+ghost use Rattle.play_edits.specs.Accounts.{account_by, ending_text, ending_words, met_text};
+ghost use Rattle.play_edits.specs.Accounts.{refusal_text, replay_text, standing_text, totals_line};
+ghost use Rattle.play_edits.specs.Edits.{LogReadsBack, text_at_end, text_at_start};
 ghost use Rattle.play_edits.specs.Items.{item_report_by};
-ghost use Rattle.play_edits.specs.declared.outcome.ItemOutcome.TheVariants.{Replayed};
+ghost use Rattle.play_edits.specs.Outcome.{refusal_in, standing_of};
 
-use crate::outcome::{ItemOutcome, ItemReplay, Standing, Totals};
-use crate::refusal::RefusedItem;
-use crate::table::{Done, push_row};
-use cave_replay::Session;
+use crate::outcome::{Standing, Totals, standing_of};
+use crate::refusal::Refusal;
+use cave_replay::{Done, Session};
 use cave_world::Ending;
 use play_command::EditView;
 use play_machine::{CaveMachine, push_final_state, push_play, push_score, push_steps};
@@ -29,27 +27,6 @@ pub fn push_start(view: EditView, text: &mut Vec<u8>) -> Result<(), AllocError>
         EditView::Table => push_item_head_row(text),
         EditView::Transcript | EditView::Play | EditView::Log | EditView::Undo => Ok(()),
         EditView::Reports | EditView::Steps | EditView::Score | EditView::FinalState => Ok(()),
-    }
-}
-
-/// Writes of an item what is asked for.
-pub fn push_outcome(
-    alloc: Global,
-    text: &mut Vec<u8>,
-    item: &Item,
-    view: EditView,
-    done: &Done<'_>,
-) -> Result<(), AllocError>
-    ensures { OnOk result (text.new.items ≡ text.old.items ++ text_by view (applied_item item.now)
-        done.now.outcome (changes_of done.now.inverse.now) done.now.before.now
-        done.now.after.now) }
-{
-    match view {
-        EditView::Transcript => push_report(alloc, text, item, done.outcome.refusal()),
-        EditView::Reports => push_account(alloc, text, item, done.outcome),
-        EditView::Table => push_row(alloc, text, item, done),
-        EditView::Play | EditView::Log | EditView::Undo => Ok(()),
-        EditView::Steps | EditView::Score | EditView::FinalState => Ok(()),
     }
 }
 
@@ -92,22 +69,22 @@ fn push_totals(alloc: Global, text: &mut Vec<u8>, totals: Totals) -> Result<(), 
 }
 
 /// Reports on an item: that it was accepted, or why it was refused.
-fn push_report(
+pub(crate) fn push_report(
     alloc: Global,
     text: &mut Vec<u8>,
     item: &Item,
-    refusal: Option<RefusedItem>,
+    outcome: &Result<Done, Refusal>,
 ) -> Result<(), AllocError>
-    ensures { OnOk result
-        (text.new.items ≡ text.old.items ++ item_report_by (applied_item item.now) refusal) }
+    ensures { OnOk result (text.new.items ≡ text.old.items
+        ++ item_report_by (applied_item item.now) (refusal_in outcome.now)) }
 {
-    let report = match refusal {
-        None => {
+    let report = match outcome {
+        Ok(_) => {
             let line = item.line;
             format!(in alloc; "line {line}: ok\n")?
         }
-        Some(refused) => {
-            let (line, number) = (refused.line, refused.cause.number());
+        Err(refusal) => {
+            let (line, number) = (refusal.line(), refusal.number());
             format!(in alloc; "line {line}: refused {number}\n")?
         }
     };
@@ -161,51 +138,55 @@ fn standing_text(alloc: Global, standing: Standing) -> Result<String, AllocError
     format!(in alloc; ", score {score} of {most}, turns {turns}, at {place}{ended}")
 }
 
-fn account_text(alloc: Global, item: &Item, replay: ItemReplay) -> Result<String, AllocError>
-    ensures { IfOk result (λ told.
-        string_bytes told ≡ account (applied_item item.now) (Replayed replay)) }
-{
-    let line = item.line;
-    let ItemReplay {
-        from,
-        met,
-        played,
-        lines,
-        standing,
-    } = replay;
-    let met = met_text(alloc, met)?;
-    let told = standing_text(alloc, standing)?;
-    format!(in alloc; "line {line}: ok, from {from}, met {met}, played {played} of {lines}{told}\n")
-}
-
-/// Writes what an item replayed, or why it was refused.
-fn push_account(
+/// Writes what an item replayed and where the game then is, or why it was refused.
+pub(crate) fn push_account(
     alloc: Global,
     text: &mut Vec<u8>,
+    session: &Session<CaveMachine<'_>>,
     item: &Item,
-    outcome: ItemOutcome,
+    outcome: &Result<Done, Refusal>,
 ) -> Result<(), AllocError>
-    ensures { OnOk result (text.new.items ≡ text.old.items
-        ++ account (applied_item item.now) outcome) }
+    ensures { let standing = standing_of session.now.machine.rules.cave.now session.now.game in
+        OnOk result (text.new.items ≡ text.old.items
+        ++ account_by (applied_item item.now) outcome.now standing) }
 {
     match outcome {
-        ItemOutcome::Refused(refused) => push_refusal(alloc, text, refused),
-        ItemOutcome::Replayed(replay) => {
-            let told = account_text(alloc, item, replay)?;
-            text.extend_from_slice(told.as_bytes())
+        Ok(done) => {
+            push_replay(alloc, text, item, done)?;
+            let told = standing_text(alloc, standing_of(session))?;
+            text.extend_from_slice(told.as_bytes())?;
+            text.extend_from_slice(b"\n")
         }
+        Err(refusal) => push_refusal(alloc, text, refusal),
     }
 }
 
-/// Writes why an item was refused.
-fn push_refusal(alloc: Global, text: &mut Vec<u8>, refused: RefusedItem) -> Result<(), AllocError>
-    ensures { OnOk result (text.new.items ≡ text.old.items ++ refusal_text refused) }
+/// Writes what an item replayed.
+fn push_replay(
+    alloc: Global,
+    text: &mut Vec<u8>,
+    item: &Item,
+    done: &Done,
+) -> Result<(), AllocError>
+    ensures { OnOk result (text.new.items ≡ text.old.items
+        ++ replay_text (applied_item item.now) done.now) }
 {
-    let (line, cause) = (refused.line, refused.cause);
-    let (number, words) = (cause.number(), cause.words());
+    let (line, from, played, lines) = (item.line, done.from, done.played, done.lines);
+    let met = met_text(alloc, done.met)?;
+    let told = format!(in alloc;
+        "line {line}: ok, from {from}, met {met}, played {played} of {lines}"
+    )?;
+    text.extend_from_slice(told.as_bytes())
+}
+
+/// Writes why an item was refused.
+fn push_refusal(alloc: Global, text: &mut Vec<u8>, refusal: &Refusal) -> Result<(), AllocError>
+    ensures { OnOk result (text.new.items ≡ text.old.items ++ refusal_text refusal.now) }
+{
+    let (line, number, words) = (refusal.line(), refusal.number(), refusal.words());
     let told = format!(in alloc; "line {line}: refused {number}, {words}")?;
     text.extend_from_slice(told.as_bytes())?;
-    text.extend_from_slice(cause.line())?;
+    text.extend_from_slice(refusal.line_said())?;
     text.push(b'\n')?;
     Ok(())
 }

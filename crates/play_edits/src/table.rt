@@ -1,62 +1,51 @@
 //! The row of an item of a script.
 
 ghost use Rattle.std.specs.Prelude.{◌≡◌, ◌++◌, OnOk};
-ghost use Rattle.replay_edits.specs.Edit.{changes_of};
 ghost use Rattle.replay_scripts.specs.Views.{applied_item};
-ghost use Rattle.play_edits.specs.Table.{row_by};
+ghost use Rattle.play_edits.specs.Outcome.{standing_of};
+ghost use Rattle.play_edits.specs.Table.{last_state, row_by};
 
-use crate::outcome::{ItemOutcome, ItemReplay};
+use crate::refusal::Refusal;
+use crate::outcome::{Standing, standing_of};
+use cave_replay::{Done, Session};
 use cave_world::State;
-use play_tables::{AcceptedRow, push_accepted_row, push_refused_row};
-use replay_edits::Edit;
+use play_machine::CaveMachine;
+use play_tables::{push_item_columns, push_refused_row, push_replay_columns, push_state_columns};
 use replay_scripts::Item;
 use std::alloc::{AllocError, Global};
 
-/// What an item did: what came of it, the edits that take it back, and the last states of the log
-/// before it and after it.
-#[derive(Clone, Copy)]
-pub struct Done<'a> {
-    pub outcome: ItemOutcome,
-    pub inverse: &'a [Edit],
-    pub before: &'a State,
-    pub after: &'a State,
+/// The state after the last line of the held game.
+pub(crate) fn last_state<'a>(session: &'a Session<CaveMachine<'_>>) -> &'a State
+    ensures { result.now ≡ last_state session.now.machine.rules.cave.now session.now.game }
+{
+    session.state()
 }
 
-/// Appends the row of an item.
+/// Appends the row of an item that was applied, with the state before it.
+#[tactic(auto, unfolding(play_tables::specs::ItemRow::accepted_row))]
 pub(crate) fn push_row(
     alloc: Global,
     text: &mut Vec<u8>,
+    session: &Session<CaveMachine<'_>>,
     item: &Item,
-    done: &Done<'_>,
+    outcome: &Result<Done, Refusal>,
+    before: &State,
 ) -> Result<(), AllocError>
-    ensures { OnOk result (text.new.items ≡ text.old.items ++ row_by (applied_item item.now)
-        done.now.outcome (changes_of done.now.inverse.now) done.now.before.now
-        done.now.after.now) }
+    ensures { let cave = session.now.machine.rules.cave.now in
+        let last = last_state cave session.now.game in
+        OnOk result (text.new.items ≡ text.old.items
+        ++ row_by (applied_item item.now) outcome.now before.now
+        (standing_of cave session.now.game) last) }
 {
-    let ItemReplay {
-        from,
-        met,
-        played,
-        standing,
-        ..
-    } = match done.outcome {
-        ItemOutcome::Replayed(replay) => replay,
-        ItemOutcome::Refused(refused) => {
-            let (line, number) = (refused.line, refused.cause.number());
-            return push_refused_row(alloc, text, line, &item.edits, number);
+    match outcome {
+        Ok(done) => {
+            let Standing { score, turns, .. } = standing_of(session);
+            push_item_columns(alloc, text, item.line, &item.edits, &done.inverse)?;
+            push_replay_columns(alloc, text, done.from, done.met, done.played)?;
+            push_state_columns(alloc, text, score, turns, before, last_state(session))
         }
-    };
-    let row = AcceptedRow {
-        line: item.line,
-        edits: &item.edits,
-        inverse: done.inverse,
-        from,
-        met,
-        played,
-        score: standing.score,
-        turns: standing.turns,
-        before: done.before,
-        after: done.after,
-    };
-    push_accepted_row(alloc, text, &row)
+        Err(refusal) => {
+            push_refused_row(alloc, text, refusal.line(), &item.edits, refusal.number())
+        }
+    }
 }

@@ -5,7 +5,8 @@ ghost use Rattle.replay_edits.specs.Draft.{IsDraft, edits_in, log_before, made_i
 ghost use Rattle.replay_edits.specs.Edit.{change_of, changes_of, log_of};
 ghost use Rattle.replay_edits.specs.Faults.{fault_of_all, log_after_all};
 ghost use Rattle.replay_scripts.specs.ScriptText.{backs_in};
-ghost use Rattle.play_edits.specs.Undo.{backs_by, expected_at, with_guards, without_guard};
+ghost use Rattle.play_edits.specs.Undo.{backs_by, expected_at, expected_lines, expecting};
+ghost use Rattle.play_edits.specs.Undo.{lines_in, without_guard};
 
 use replay_edits::{Draft, Edit, LineText};
 use replay_scripts::BackEdit;
@@ -14,55 +15,68 @@ use std::alloc::{AllocError, Global};
 /// The edits of a log, each with a guard of the line at its place where that is asked for.
 pub(crate) fn backs_of(
     alloc: Global,
-    edits: &[Edit],
+    edits: Vec<Edit>,
     log: &[LineText],
     guarded: bool,
 ) -> Result<Vec<BackEdit>, AllocError>
-    requires { fault_of_all (changes_of edits.now) (log_of log.now) 0 ≡ None }
+    requires { fault_of_all (changes_of edits.items) (log_of log.now) 0 ≡ None }
     ensures { IfOk result (λ backs. backs_in backs.items
-        ≡ backs_by guarded (changes_of edits.now) (log_of log.now)) }
+        ≡ backs_by guarded (changes_of edits.items) (log_of log.now)) }
 {
     if guarded {
-        guarded_backs(alloc, edits, log)
+        let lines = expected_lines(alloc, &edits, log)?;
+        expecting(alloc, edits, lines)
     } else {
-        bare_backs(alloc, edits)
+        without_guards(alloc, edits)
     }
 }
 
-fn bare_backs(alloc: Global, edits: &[Edit]) -> Result<Vec<BackEdit>, AllocError>
+fn without_guards(alloc: Global, edits: Vec<Edit>) -> Result<Vec<BackEdit>, AllocError>
     ensures { IfOk result (λ backs. backs_in backs.items
-        ≡ map without_guard (changes_of edits.now)) }
+        ≡ map without_guard (changes_of edits.items)) }
 {
-    let mut backs = Vec::with_capacity(alloc, edits.len())?;
-    for edit in edits {
-        let edit = copy_edit(alloc, edit)?;
-        backs.push(BackEdit {
+    edits
+        .into_iter()
+        .map(|edit| BackEdit {
             edit,
             expected: None,
-        })?;
-    }
-    Ok(backs)
+        })
+        .collect(alloc)
 }
 
-/// The guard of each is of the log as the edits before it leave it.
-fn guarded_backs(
+/// Edits, each with the line that is expected at its place, if one is.
+fn expecting(
+    alloc: Global,
+    edits: Vec<Edit>,
+    lines: Vec<Option<LineText>>,
+) -> Result<Vec<BackEdit>, AllocError>
+    ensures { IfOk result (λ backs. backs_in backs.items
+        ≡ expecting (changes_of edits.items) (lines_in lines.items)) }
+{
+    edits
+        .into_iter()
+        .zip(lines)
+        .map(|(edit, expected)| BackEdit { edit, expected })
+        .collect(alloc)
+}
+
+/// The line at the place of each edit, if there is one, as the edits before it leave the log.
+fn expected_lines(
     alloc: Global,
     edits: &[Edit],
     log: &[LineText],
-) -> Result<Vec<BackEdit>, AllocError>
+) -> Result<Vec<Option<LineText>>, AllocError>
     requires { fault_of_all (changes_of edits.now) (log_of log.now) 0 ≡ None }
-    ensures { IfOk result (λ backs. backs_in backs.items
-        ≡ with_guards (changes_of edits.now) (log_of log.now)) }
+    ensures { IfOk result (λ lines. lines_in lines.items
+        ≡ expected_lines (changes_of edits.now) (log_of log.now)) }
 {
-    let mut backs = Vec::with_capacity(alloc, edits.len())?;
+    let mut lines = Vec::with_capacity(alloc, edits.len())?;
     let mut draft = Draft::new(alloc, edits, log)?;
     for edit in edits {
-        let expected = expected_line(alloc, edit, &draft)?;
-        let edit = copy_edit(alloc, edit)?;
-        backs.push(BackEdit { edit, expected })?;
+        lines.push(expected_line(alloc, edit, &draft)?)?;
         draft.make_next(alloc)?;
     }
-    Ok(backs)
+    Ok(lines)
 }
 
 /// The line at the place of an edit, if there is one.
@@ -85,22 +99,5 @@ fn expected_line(
     match draft.line(place as usize) {
         Some(line) => Ok(Some(LineText::from_slice(alloc, line)?)),
         None => Ok(None),
-    }
-}
-
-fn copy_edit(alloc: Global, edit: &Edit) -> Result<Edit, AllocError>
-    ensures { IfOk result (λ copy. change_of copy ≡ change_of edit.now) }
-{
-    match edit {
-        Edit::Insert(place, line) => {
-            let line = LineText::from_slice(alloc, line)?;
-            Ok(Edit::Insert(*place, line))
-        }
-        Edit::Delete(place) => Ok(Edit::Delete(*place)),
-        Edit::Replace(place, line) => {
-            let line = LineText::from_slice(alloc, line)?;
-            Ok(Edit::Replace(*place, line))
-        }
-        Edit::Reseed(seed) => Ok(Edit::Reseed(*seed)),
     }
 }

@@ -2,7 +2,7 @@
 
 ghost use Rattle.std.specs.Prelude.{◌≡◌, ◌++◌, IfOk, OnOk, string_bytes, []};
 ghost use Rattle.replay_edits.specs.Edit.{change_of, changes_of, own_line};
-ghost use Rattle.play_tables.specs.ItemRow.{accepted_row, edit_words, item_head_row, item_columns};
+ghost use Rattle.play_tables.specs.ItemRow.{edit_words, item_head_row, item_columns};
 ghost use Rattle.play_tables.specs.ItemRow.{item_text, item_words, met_column, refused_row};
 ghost use Rattle.play_tables.specs.ItemRow.{replay_columns, state_columns, text_of_change};
 
@@ -11,28 +11,6 @@ use crate::differences::push_differences;
 use cave_world::State;
 use replay_edits::Edit;
 use std::alloc::{AllocError, Global};
-
-/// What came of an item that was accepted.
-#[derive(Clone, Copy)]
-pub struct AcceptedRow<'a> {
-    /// The line by which the item is reported.
-    pub line: usize,
-    pub edits: &'a [Edit],
-    /// The edits that take the item back.
-    pub inverse: &'a [Edit],
-    /// The place that the replay began at.
-    pub from: u32,
-    /// The place at which the replay met the old play, if it did.
-    pub met: Option<u32>,
-    /// How many lines were played.
-    pub played: u32,
-    /// The score of the log, with its turns, after the edit.
-    pub score: u32,
-    pub turns: u32,
-    /// The last states of the log before the edit and after it.
-    pub before: &'a State,
-    pub after: &'a State,
-}
 
 /// Appends the names of the columns.
 #[tactic(auto, unfolding(crate::specs::ItemRow::item_head_row))]
@@ -99,8 +77,9 @@ fn item_text<'a>(edits: &'a [Edit], inverse: &'a [Edit]) -> &'a [u8]
     }
 }
 
+/// Appends what an item is: its line, its edits, and the text that they put in or took out.
 #[tactic(auto, unfolding(crate::specs::ItemRow::item_columns))]
-fn push_item_columns(
+pub fn push_item_columns(
     alloc: Global,
     text: &mut Vec<u8>,
     line: usize,
@@ -126,8 +105,9 @@ fn met_column(alloc: Global, met: Option<u32>) -> Result<String, AllocError>
     }
 }
 
+/// Appends where the replay of an item began and met the old play, and how many lines it played.
 #[tactic(auto, unfolding(crate::specs::ItemRow::replay_columns))]
-fn push_replay_columns(
+pub fn push_replay_columns(
     alloc: Global,
     text: &mut Vec<u8>,
     from: u32,
@@ -141,8 +121,10 @@ fn push_replay_columns(
     text.extend_from_slice(columns.as_bytes())
 }
 
+/// Appends the score and the turns of the edited log, and what its last state differs in from the
+/// one before.
 #[tactic(auto, unfolding(crate::specs::ItemRow::state_columns))]
-fn push_state_columns(
+pub fn push_state_columns(
     alloc: Global,
     text: &mut Vec<u8>,
     score: u32,
@@ -160,23 +142,6 @@ fn push_state_columns(
     text.extend_from_slice(b"\t")?;
     push_differences(alloc, text, before, after)?;
     text.extend_from_slice(b"\n")
-}
-
-/// Appends the row of an item that was accepted.
-#[tactic(auto, unfolding(crate::specs::ItemRow::accepted_row))]
-pub fn push_accepted_row(
-    alloc: Global,
-    text: &mut Vec<u8>,
-    row: &AcceptedRow<'_>,
-) -> Result<(), AllocError>
-    ensures { OnOk result (text.new.items ≡ text.old.items
-        ++ accepted_row row.now.line (changes_of row.now.edits.now)
-        (changes_of row.now.inverse.now) row.now.from row.now.met row.now.played row.now.score
-        row.now.turns row.now.before.now row.now.after.now) }
-{
-    push_item_columns(alloc, text, row.line, row.edits, row.inverse)?;
-    push_replay_columns(alloc, text, row.from, row.met, row.played)?;
-    push_state_columns(alloc, text, row.score, row.turns, row.before, row.after)
 }
 
 /// Appends the row of an item that was refused, for the reason of a number.

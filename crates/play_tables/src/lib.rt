@@ -14,6 +14,9 @@ pub mod score_rows;
 pub mod score_table;
 pub mod step;
 
-pub use item_row::{AcceptedRow, push_accepted_row, push_item_head_row, push_refused_row};
+pub use item_row::{
+    push_item_columns, push_item_head_row, push_refused_row, push_replay_columns,
+    push_state_columns,
+};
 pub use score_table::push_score_table;
 pub use step::{StepRow, push_step_head_row, push_step_row};

@@ -75,7 +75,7 @@ returns-clause-kept g c =
     let stretch = stretch_same roomy.checkpoints C same.lines same.places played.met in
     let from = ap (λ x. slice_index x at) same.places in
     rw (done.game ∙ ap (λ l. new_game c.in_ok-rerun.rerun.ready (log_of l)) same.log)
-    (kept_after replay (text after.opening) (map text after.pieces.items) after.ticked.items
+    (kept_after replay (text after.opening) (map text after.pieces.items) after.ticked.each.items
     after.state after.checkpoints
     (opened_text text c.in_ok-rerun.rerun.opening after.opening roomy.opening kept.opening
     same.opening

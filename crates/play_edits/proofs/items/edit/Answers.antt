@@ -9,7 +9,7 @@ returns-in-Some c =
     let item = applied_item c.args.item.now in
     let game = c.args.session.now.game in
     let refused =
-    item_refusal-unmet item game.log c.in-Some.refused (sym c.in_ok-refused.ensures ∙ c.in-Some.is) in
+    item_refusal-unmet item game.log c.in-Some.refusal (sym c.in_ok-refusal.ensures ∙ c.in-Some.is) in
     record {
       applies = record {
         came = refused;
@@ -20,6 +20,5 @@ returns-in-Some c =
         every = refl;
         left = refl;
       };
-      inverse = λ accepted. cc;
-      back_free = λ accepted. cc;
+      back_free = tt;
     }

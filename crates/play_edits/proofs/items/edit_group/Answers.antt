@@ -3,15 +3,14 @@ use Rattle.replay_checkpoints.specs.Spacing.{IsSpaced}
 use Rattle.replay_edits.specs.Edit.{changes_of, apply_all, inverses_of, Game}
 use Rattle.replay_edits.specs.declared.fault.EditFault.TheVariants as cause
 use Rattle.replay_scripts.specs.Views.{applied_item}
-use Rattle.cave_data.specs.CaveView.{CaveView}
-use Rattle.play_edits.specs.Outcome.{standing_of}
+use Rattle.cave_replay.specs.Report.{IsReport}
+use Rattle.play_machine.specs.Machine.{cave_rules}
 use Rattle.play_edits.specs.Refusal.{group_refusal}
 use Rattle.play_edits.specs.declared.refusal.Refusal.TheVariants.{Edit}
-use Rattle.play_edits.specs.declared.refusal.RefusedItem.{RefusedItem}
+use Rattle.play_edits.specs.declared.refusal.Refusal.{Refusal}
 use Rattle.play_edits.proofs.GuardLemmas.{item_refusal-met}
 use Rattle.play_edits.proofs.EditLemmas.{group_refusal-fresh, accepted_without, refused_by}
 use Rattle.play_edits.proofs.EditLemmas.{game_after_item-accepted, game_after_item-refused}
-use Rattle.play_edits.proofs.EditLemmas.{IsReport-same}
 use Rattle.play_edits.proofs.items.edit_group.Goals as goal
 
 pub returns-in-Ok : goal.returns-in-Ok
@@ -27,17 +26,16 @@ returns-in-Ok c =
     let made = c.in-Ok.ensures.game ∙ ap (λ said. apply_all said old.game) same
     ∙ sym (game_after_item-accepted (applied_item c.args.item.now) old.game accepted) in
     let cave_is = ap (λ m. m.rules.cave.now) c.in-Ok.ensures.kept.machine in
+    let done = c.in-Ok.done in
     record {
       applies = record {
         came = record {
           accepted = accepted;
           report =
-              IsReport-same _ _ _ _ _ _ same c.replay_of.ensures.from c.replay_of.ensures.met
-              c.replay_of.ensures.played c.in-Ok.ensures.report;
-          lines = c.replay_of.ensures.lines ∙ ap (λ (g : Game). length g.log) made;
-          standing = c.replay_of.ensures.standing
-              ∙ ap (λ (k : CaveView). standing_of k c.edit_group.new.self.game) cave_is
-              ∙ ap (standing_of old.machine.rules.cave.now) made;
+              subst (λ said. IsReport (cave_rules old.machine.rules.cave.now) said old.game
+              old.every old.checkpoints done.from done.met done.played) same c.in-Ok.ensures.report;
+          lines = c.in-Ok.ensures.lines ∙ ap (λ (g : Game). length g.log) made;
+          inverse = c.in-Ok.ensures.inverse ∙ ap (λ said. inverses_of said old.game) same;
         };
         holds = record {
           cave_is = cave_is;
@@ -47,10 +45,9 @@ returns-in-Ok c =
         left = subst
             (λ e. IsSpaced e c.edit_group.new.self.checkpoints
             (length c.edit_group.new.self.game.log)) c.in-Ok.ensures.kept.every
-            c.replay_of.ensures.spaced;
+            c.in-Ok.ensures.spaced;
       };
-      inverse = λ _. c.in-Ok.ensures.inverse ∙ ap (λ said. inverses_of said old.game) same;
-      back_free = λ _. c.in-Ok.ensures.back_accepted;
+      back_free = c.in-Ok.ensures.back_accepted;
     }
 
 pub returns : goal.returns
@@ -66,8 +63,7 @@ returns c =
     sym fresh ∙ refused_by _ c.in-Err.fault _ c.in-Err.is other c.edit_group.ensures.faults in
     let stays = c.in-Err.ensures.refused in
     let line = c.line_of.ensures in
-    let refusal : ℕ → RefusedItem =
-    λ number. record { line = number; cause = Edit c.in-Err.fault.cause } in
+    let refusal : ℕ → Refusal = λ number. Edit number c.in-Err.fault.cause in
     let refused =
     item_refusal-met (applied_item c.args.item.now) game.log (Some c.in-Err.fault) c.requires some
     ∙ ap (λ number. Some (refusal number)) (sym line) in
@@ -82,6 +78,5 @@ returns c =
         every = ap (λ s. s.every) stays;
         left = ap (λ s. s.checkpoints) stays;
       };
-      inverse = λ accepted. cc;
-      back_free = λ accepted. cc;
+      back_free = tt;
     }

@@ -14,7 +14,7 @@ returns g c =
     let k = c.self.inside.kept in
     let ticks = length-ticks c.self.invariant.plays in
     let within = rw (← c.self.view_is) at c.requires in
-    let below : c.args.place < length k.ticked.items = omega arith in
+    let below : c.args.place < length k.ticked.each.items = omega arith in
     rw (← c.self.view_is)
-    (slice_get_read k.ticked.items (length k.ticked.items) c.args.place c.index.result.now refl
+    (slice_get_read k.ticked.each.items (length k.ticked.each.items) c.args.place c.index.result.now refl
     below c.index.ensures)

@@ -2,7 +2,7 @@ use Rattle.std.proofs.Common.{refl, ap, ◌∙◌}
 use Rattle.turn_ends.specs.Score.{score_of, max_score_of}
 use Rattle.play_machine.specs.Transcript.{ticks}
 use Rattle.play_edits.proofs.StandingLemmas.{standing-played, standing-same}
-use Rattle.play_edits.proofs.items.standing_of.Goals as goal
+use Rattle.play_edits.proofs.outcome.standing_of.Goals as goal
 
 pub returns-clause-value : goal.returns-clause-value
 returns-clause-value c =
