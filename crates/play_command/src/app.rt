@@ -12,8 +12,8 @@ ghost use Rattle.play_command.specs.App.{with_logs, with_options, with_output, w
 use crate::arguments::{
     bind_argument, cave_argument, check_print_argument, check_strict_argument,
     cover_print_argument, edit_print_argument, every_argument, guarded_argument, lines_argument,
-    log_argument, logs_argument, output_argument, play_print_argument, script_argument, seed_argument,
-    some_logs_argument, strict_argument,
+    log_argument, logs_argument, output_argument, play_print_argument, script_argument,
+    seed_argument, some_logs_argument, strict_argument,
 };
 use clap::Command;
 use std::alloc::{AllocError, Global};

@@ -10,8 +10,8 @@ pub mod line;
 mod number;
 mod read;
 mod stray;
-mod wanted;
 pub mod views;
+mod wanted;
 
 pub use editing::{EditView, Editing};
 pub use fault::CommandFault;

@@ -240,7 +240,10 @@ const TEXTS: [(&[&str], &str); 25] = [
         "error: unrecognized subcommand 'sing': wanted is check, play, edit, cover or map\n\n\
         Usage: cave <COMMAND>\n\n",
     ),
-    (&["cave", "chek"], "or map\n\n  tip: did you mean 'check'?\n\n"),
+    (
+        &["cave", "chek"],
+        "or map\n\n  tip: did you mean 'check'?\n\n",
+    ),
     (
         &["cave", "play", "a", "b", "-s", "-1"],
         "error: invalid value '-1' for '--seed <N>': wanted are 1 to 10 digits",

@@ -150,14 +150,8 @@ const FLAWS: [(&[u8], &str); 16] = [
         b"insert  0 x",
         "one blank follows the word, and not two: expected `insert N TEXT`",
     ),
-    (
-        b"seed -1",
-        "N has a sign, and it is 1 to 10 digits alone",
-    ),
-    (
-        b"seed +1",
-        "N has a sign, and it is 1 to 10 digits alone",
-    ),
+    (b"seed -1", "N has a sign, and it is 1 to 10 digits alone"),
+    (b"seed +1", "N has a sign, and it is 1 to 10 digits alone"),
     (b"delete 1-3", "N is one number, and no range"),
     (
         b"delete 1,3",
@@ -167,10 +161,7 @@ const FLAWS: [(&[u8], &str); 16] = [
         b"insert lamp",
         "the byte in column 8 is 108, and N is 1 to 10 digits",
     ),
-    (
-        b"delete 1 x",
-        "text follows `delete N`, which has none",
-    ),
+    (b"delete 1 x", "text follows `delete N`, which has none"),
     (b"begin 1", "text follows `begin`, which has none"),
     (
         b"expect 0 x",
