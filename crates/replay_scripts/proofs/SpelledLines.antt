@@ -1,5 +1,5 @@
 -- The line of a change is read as that change, and may be in a script.
-use Rattle.std.proofs.Common.{◌≡◌, ℕ, ◌+◌, ◌≤◌, List, [], ◌∷◌, ◌++◌, codes, IsTrue}
+use Rattle.std.proofs.Common.{◌≡◌, ℕ, ◌≤◌, List, [], ◌∷◌, ◌++◌, codes, IsTrue}
 use Rattle.std.proofs.Common.{sym, ap, ◌∙◌, refl, arith, append-nil, true}
 use Rattle.std.specs.Prelude.{◌&&◌}
 use Rattle.std.specs.Fmt.{decimal}
