@@ -15,6 +15,7 @@ use Rattle.cave_play.specs.Laws.{OneCheckedOutput, OnePlayedOutput, OneEditedOut
 use Rattle.cave_play.specs.Laws.{KnowsNoCheckpoints}
 use Rattle.cave_play.specs.Output.{check_text, play_view_text}
 use Rattle.cave_play.specs.Views.{IsViewOf}
+use Rattle.play_edits.specs.Outcome.{ItemOutcome}
 
 pub one_checked_output : OneCheckedOutput
 one_checked_output database bindings view =
@@ -42,11 +43,11 @@ same_items false script items others spelled respelled =
     cc
 same_items true script items others (first, spelled) (second, respelled) = cc
 
--- so for the same items in the same cave it is the same text, whatever the distance of checkpoints
+-- so for the same items in the same cave it is the same text, whatever came of them
 one_view : (view : EditView) (cave : CaveView) (game : Game) (guarded : Bool) (items : List Applied)
-    (near far : ℕ) (one other : List ℕ) → KnowsNoCheckpoints view
-    → IsViewOf view cave near game guarded items one
-    → IsViewOf view cave far game guarded items other → one ≡ other
+    (near far : List ItemOutcome) (one other : List ℕ) → KnowsNoCheckpoints view
+    → IsViewOf view cave game guarded items near one
+    → IsViewOf view cave game guarded items far other → one ≡ other
 one_view Transcript cave game guarded items near far one other free is same = is ∙ sym same
 one_view Play cave game guarded items near far one other free is same = is ∙ sym same
 one_view Log cave game guarded items near far one other free is same = is.written ∙ sym same.written
@@ -58,13 +59,16 @@ one_view Score cave game guarded items near far one other free is same = is ∙ 
 one_view FinalState cave game guarded items near far one other free is same = is ∙ sym same
 
 pub one_edited_output : OneEditedOutput
-one_edited_output database bindings log script seed near far view guarded strict lenient free =
+one_edited_output database bindings log script seed near far view guarded strict lenient played
+    replayed free =
     λ one other first second.
-    let (cave, reads, (items, spelled, is)) = first in
-    let (kept, rereads, (others, respelled, same)) = second in
+    let (cave, reads, is) = first in
+    let (kept, rereads, same) = second in
     let game = game_of seed (lines log) in
     let caves = same_cave database bindings kept cave rereads reads in
-    let here = subst (λ k. IsViewOf view k near game guarded items one) caves is in
-    let spells = same_items guarded script items others spelled respelled in
-    let there = subst (λ l. IsViewOf view kept near game guarded l one) spells here in
-    one_view view kept game guarded others near far one other free there same
+    let here =
+    subst (λ k. IsViewOf view k game guarded is.items is.outcomes one) caves is.written in
+    let spells = same_items guarded script is.items same.items is.spelled same.spelled in
+    let there = subst (λ l. IsViewOf view kept game guarded l is.outcomes one) spells here in
+    one_view view kept game guarded same.items is.outcomes same.outcomes one other free there
+    same.written

@@ -154,8 +154,17 @@ EndsBy-unwritten fault.Seed stages IsOutput old new never there kept = (there, k
 EndsBy-unwritten fault.Every stages IsOutput old new never there kept = (there, kept)
 EndsBy-unwritten (fault.Log refused) stages IsOutput old new never there kept = (there, kept)
 EndsBy-unwritten (fault.Script refused) stages IsOutput old new never there kept = (there, kept)
+EndsBy-unwritten (fault.Refused refusal) stages IsOutput old new never there kept = (there, kept)
 EndsBy-unwritten (fault.Read from) stages IsOutput old new never there kept = (there, kept)
 EndsBy-unwritten fault.Memory stages IsOutput old new never there kept = (there, kept)
+
+-- what the writing of an output that is right leaves where it fails
+pub EndsBy-written : (stages : List Stage) (IsOutput : List ℕ → Type 0) (old new : Option (List ℕ))
+    (output : List ℕ) (found : PlayFault) → first_decided stages ≡ None → IsOutput output
+    → (found ≡ fault.Write) × ((n : ℕ) × Appends old new (take n output))
+    → EndsBy found stages IsOutput old new
+EndsBy-written stages IsOutput old new output found none is written =
+    rw written.0 (none, (output, is, written.1))
 
 -- a run that wrote, or failed while it wrote
 pub Runs-written : (stages : List Stage) (IsOutput : List ℕ → Type 0) (old new : Option (List ℕ))
@@ -167,4 +176,4 @@ pub Runs-written : (stages : List Stage) (IsOutput : List ℕ → Type 0) (old n
 Runs-written stages IsOutput old new output (Ok done) none is written =
     (none, (output, is, written))
 Runs-written stages IsOutput old new output (Err found) none is written =
-    rw written.0 (none, (output, is, written.1))
+    EndsBy-written stages IsOutput old new output found none is written

@@ -96,6 +96,7 @@ outside_unread input fault.Seed outside = absurd outside
 outside_unread input fault.Every outside = absurd outside
 outside_unread input (fault.Log refused) outside = absurd outside
 outside_unread input (fault.Script refused) outside = absurd outside
+outside_unread input (fault.Refused refusal) outside = absurd outside
 outside_unread input fault.Write outside = absurd outside
 
 -- what is right of an input that was read is right of the reading too
@@ -120,6 +121,7 @@ outside_of reads fault.Seed outside = absurd outside
 outside_of reads fault.Every outside = absurd outside
 outside_of reads (fault.Log refused) outside = absurd outside
 outside_of reads (fault.Script refused) outside = absurd outside
+outside_of reads (fault.Refused refusal) outside = absurd outside
 outside_of reads fault.Write outside = absurd outside
 
 decided_after : (stage : Stage) (stages : List Stage) (found : PlayFault)

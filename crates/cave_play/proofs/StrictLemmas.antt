@@ -12,15 +12,14 @@ use Rattle.replay_scripts.specs.Script.{Applied}
 use Rattle.replay_scripts.specs.Views.{applied_item}
 use Rattle.replay_scripts.specs.declared.script.Item.{Item}
 use Rattle.replay_scripts.specs.declared.fault.ScriptRefusal.{ScriptRefusal}
-use Rattle.play_edits.specs.Outcome.{IsItemOutcome, refusal_in}
+use Rattle.play_edits.specs.Outcome.{IsItemOutcome, ItemOutcome, refusal_in}
 use Rattle.play_edits.specs.Items.{game_after_item}
 use Rattle.play_edits.specs.Refusal.{item_refusal}
 use Rattle.cave_play.specs.Run.{IsFoundIn}
 use Rattle.cave_play.specs.Stages.{first_decided, judging_stage, strict_stage}
 use Rattle.cave_play.specs.Strict.{fault_of_items, first_strict_fault, strict_fault}
 use Rattle.cave_play.specs.Strict.{strict_fault_by}
-use Rattle.play_edits.specs.declared.outcome.ItemOutcome.{ItemOutcome}
-use Rattle.play_edits.specs.declared.refusal.RefusedItem.{RefusedItem}
+use Rattle.play_edits.specs.declared.refusal.Refusal.{Refusal}
 use Rattle.cave_play.specs.declared.fault.PlayFault.{PlayFault}
 use Rattle.cave_play.specs.declared.fault.PlayFault.TheVariants as fault
 use Rattle.play_edits.proofs.EditLemmas.{applied_item-drop, item_refusal-outcome}
@@ -115,7 +114,7 @@ module _ (strict : Bool) (game : Game) (guarded : Bool) (script : List ℕ) (ite
         (first_decided-one (judging_stage (first_strict_fault strict items game)) none)
 
 -- where the run is strict, the stage of its items decides no failing writer
-unwritten_refusal : (strict : Bool) (refusal : Option RefusedItem)
+unwritten_refusal : (strict : Bool) (refusal : Option Refusal)
     → strict_fault_by strict refusal ≡ Some fault.Write → ⊥
 unwritten_refusal strict None found = cc
 unwritten_refusal true (Some refused) found = cc

@@ -13,7 +13,7 @@ use Rattle.replay_scripts.specs.ScriptText.{spelled_item, spelled_items}
 use Rattle.replay_scripts.proofs.Spelled.{reads_back}
 use Rattle.play_edits.specs.Items.{game_after_item, game_after_items, game_left}
 use Rattle.play_edits.specs.Refusal.{first_unmet, group_refusal, item_refusal}
-use Rattle.play_edits.specs.declared.refusal.RefusedItem.{RefusedItem}
+use Rattle.play_edits.specs.declared.refusal.Refusal.{Refusal}
 use Rattle.cave_play.specs.Strict.{first_strict_fault, strict_fault, strict_fault_by}
 use Rattle.cave_play.specs.Views.{IsUndo}
 use Rattle.play_edits.specs.Undo.{back_if, back_of, backs_by, backs_of, undo_text}
@@ -85,7 +85,7 @@ undoes-one guarded number changes from to accepted gives =
     )
 
 undoes-item : (guarded : Bool) (item : Applied) (game : Game) → IsGame game
-    → (refusal : Option RefusedItem) → item_refusal item game.log ≡ refusal → (number : ℕ)
+    → (refusal : Option Refusal) → item_refusal item game.log ≡ refusal → (number : ℕ)
     → Undoes number (reverse (back_of guarded item game)) (game_after_item item game) game
 unfolding back_of game_after_item
 undoes-item guarded item game good None accepted number =

@@ -1,5 +1,5 @@
 -- What is written of items, by what is asked for.
-use Rattle.std.proofs.Common.{◌≡◌, ℕ, Bool, List, [], ◌∷◌, ◌++◌, length, reverse, sym, ap, ◌∙◌, refl}
+use Rattle.std.proofs.Common.{◌≡◌, ℕ, Bool, List, [], ◌∷◌, ◌++◌, reverse, sym, ap, ◌∙◌, refl}
 use Rattle.std.proofs.Common.{append-nil}
 use Rattle.std.specs.List.{sum_by}
 use Rattle.std.specs.Str.Lines.{lines}
@@ -8,7 +8,6 @@ use Rattle.play_command.specs.declared.editing.EditView.{EditView}
 use Rattle.play_command.specs.declared.editing.EditView.TheVariants.{Transcript, Play, Log, Reports}
 use Rattle.play_command.specs.declared.editing.EditView.TheVariants.{Steps, Score, FinalState}
 use Rattle.play_command.specs.declared.editing.EditView.TheVariants.{Table, Undo}
-use Rattle.replay_checkpoints.specs.Spacing.{IsSpaced}
 use Rattle.cave_replay.specs.LogText.{log_text}
 use Rattle.replay_edits.specs.Edit.{Game, IsGame}
 use Rattle.replay_scripts.specs.Script.{Applied}
@@ -21,12 +20,11 @@ use Rattle.play_machine.specs.FinalState.{final_state_text}
 use Rattle.play_edits.specs.Items.{game_after_item, game_after_items, item_report, item_report_by}
 use Rattle.play_edits.specs.Items.{reports}
 use Rattle.play_machine.specs.Transcript.{play_text}
-use Rattle.play_edits.specs.Outcome.{AreOutcomes, lines_in, played_in, refusal_in}
+use Rattle.play_edits.specs.Outcome.{AreOutcomes, ItemOutcome, lines_in, played_in, refusal_in}
 use Rattle.play_machine.specs.Score.{score_text}
 use Rattle.play_machine.specs.Steps.{steps_text}
 use Rattle.cave_play.specs.Views.{IsViewOf}
 use Rattle.play_edits.specs.Accounts.{text_of_items, totals_line}
-use Rattle.play_edits.specs.declared.outcome.ItemOutcome.{ItemOutcome}
 
 -- what is written of items for a transcript are their reports
 told-reports : (cave : CaveView) (every : ℕ) (items : List Applied) (game : Game)
@@ -61,56 +59,48 @@ pub told-whole : (view : EditView) (cave : CaveView) (every : ℕ) (items : List
     (game : Game) (guarded : Bool)
     (opened : List ℕ) (outcomes : List ItemOutcome) (played lines : ℕ)
     (backs : List (List Back)) (text whole : List ℕ)
-    → IsSpaced every opened (length game.log) → AreOutcomes cave every items game opened outcomes
+    → AreOutcomes cave every items game opened outcomes
     → text ≡ text_at_start view ++ text_of_items (text_of_item view cave) items game outcomes
     → played ≡ sum_by played_in outcomes → lines ≡ sum_by lines_in outcomes
     → whole ≡ text ++ text_at_end view cave (game_after_items items game) played lines backs
     → LogReadsBack view (game_after_items items game).log
     → backs ≡ reverse (kept_for view (backs_of guarded items game)) → IsGame game
-    → IsViewOf view cave every game guarded items whole
-told-whole Transcript cave every items game guarded opened outcomes played counted backs text whole spaced came
+    → IsViewOf view cave game guarded items outcomes whole
+told-whole Transcript cave every items game guarded opened outcomes played counted backs text whole came
     told plays counts ends back kept good =
     ends ∙ ap (λ t. t ++ play_text cave (game_after_items items game))
     (told ∙ told-reports cave every items game opened outcomes came)
-told-whole Play cave every items game guarded opened outcomes played counted backs text whole spaced came told
+told-whole Play cave every items game guarded opened outcomes played counted backs text whole came told
     plays counts ends back kept good =
     ends ∙ ap (λ t. t ++ play_text cave (game_after_items items game))
     (told ∙ told-nothing (text_of_item Play cave) (λ _ _ _. refl) items game outcomes)
-told-whole Steps cave every items game guarded opened outcomes played counted backs text whole spaced came
+told-whole Steps cave every items game guarded opened outcomes played counted backs text whole came
     told plays counts ends back kept good =
     ends ∙ ap (λ t. t ++ steps_text cave (game_after_items items game))
     (told ∙ told-nothing (text_of_item Steps cave) (λ _ _ _. refl) items game outcomes)
-told-whole Score cave every items game guarded opened outcomes played counted backs text whole spaced came
+told-whole Score cave every items game guarded opened outcomes played counted backs text whole came
     told plays counts ends back kept good =
     ends ∙ ap (λ t. t ++ score_text cave (game_after_items items game))
     (told ∙ told-nothing (text_of_item Score cave) (λ _ _ _. refl) items game outcomes)
-told-whole FinalState cave every items game guarded opened outcomes played counted backs text whole spaced came
+told-whole FinalState cave every items game guarded opened outcomes played counted backs text whole came
     told plays counts ends back kept good =
     ends ∙ ap (λ t. t ++ final_state_text cave (game_after_items items game))
     (told ∙ told-nothing (text_of_item FinalState cave) (λ _ _ _. refl) items game outcomes)
-told-whole Log cave every items game guarded opened outcomes played counted backs text whole spaced came told
+told-whole Log cave every items game guarded opened outcomes played counted backs text whole came told
     plays counts ends back kept good =
     let log = (game_after_items items game).log in
     let nothing = told-nothing (text_of_item Log cave) (λ _ _ _. refl) items game outcomes in
     let written = ends ∙ ap (λ t. t ++ log_text log) (told ∙ nothing) in
     record { written = written; reads_back = ap lines written ∙ back }
-told-whole Reports cave every items game guarded opened outcomes played counted backs text whole spaced came told
-    plays counts ends back kept good = (
-      opened,
-      spaced,
-      (
-        outcomes,
-        came,
-        ends ∙ ap (λ t. t ++ totals_line played counted) told
-            ∙ ap (λ t. text_of_items (text_of_item Reports cave) items game outcomes ++ t)
-            (ap (λ p. totals_line p counted) plays
-            ∙ ap (totals_line (sum_by played_in outcomes)) counts),
-      ),
-    )
-told-whole Table cave every items game guarded opened outcomes played counted backs text whole spaced came
+told-whole Reports cave every items game guarded opened outcomes played counted backs text whole came
     told plays counts ends back kept good =
-    (opened, spaced, (outcomes, came, ends ∙ append-nil text ∙ told))
-told-whole Undo cave every items game guarded opened outcomes played counted backs text whole spaced came
+    ends ∙ ap (λ t. t ++ totals_line played counted) told
+    ∙ ap (λ t. text_of_items (text_of_item Reports cave) items game outcomes ++ t)
+    (ap (λ p. totals_line p counted) plays
+    ∙ ap (totals_line (sum_by played_in outcomes)) counts)
+told-whole Table cave every items game guarded opened outcomes played counted backs text whole came
+    told plays counts ends back kept good = ends ∙ append-nil text ∙ told
+told-whole Undo cave every items game guarded opened outcomes played counted backs text whole came
     told plays counts ends back kept good =
     let nothing = told-nothing (text_of_item Undo cave) (λ _ _ _. refl) items game outcomes in
     undo-whole guarded items game whole good

@@ -4,6 +4,7 @@ use Rattle.data_rows.specs.declared.error.FaultSite.{FaultSite}
 use Rattle.data_rows.specs.declared.error.FaultSite.TheVariants as site
 use Rattle.check_doubts.specs.declared.flaw.Source.{Source}
 use Rattle.check_doubts.specs.declared.flaw.Source.TheVariants.{Database, Bindings}
+use Rattle.play_edits.specs.Refusal.{refusal_line}
 use Rattle.cave_play.specs.declared.fault.Input.{Input}
 use Rattle.cave_play.specs.declared.fault.Input.TheVariants as input
 use Rattle.cave_play.specs.declared.fault.LogFault.{LogFault}
@@ -21,6 +22,7 @@ status_of fault.Seed = 2
 status_of fault.Every = 2
 status_of (fault.Log refused) = 3
 status_of (fault.Script refused) = 4
+status_of (fault.Refused refusal) = 4
 status_of (fault.Read from) = 5
 status_of fault.Write = 6
 status_of fault.Memory = 7
@@ -41,6 +43,7 @@ input_of (fault.Cave error clue) = Some (input_at error.site)
 input_of (fault.Doubt found) = Some (input_from found.source)
 input_of (fault.Log refused) = Some input.Log
 input_of (fault.Script refused) = Some input.Script
+input_of (fault.Refused refusal) = Some input.Script
 input_of (fault.Read from) = Some from
 input_of _ = None
 
@@ -50,7 +53,6 @@ log_line_of _ = None
 
 abbrev pub script_line_of : ScriptFault → Option ℕ
 script_line_of (script.Malformed line flaw) = Some line
-script_line_of (script.Refused line refusal) = Some line
 script_line_of _ = None
 
 abbrev pub faulty_line : PlayFault → Option ℕ
@@ -58,4 +60,5 @@ faulty_line (fault.Cave error clue) = if nat_lt 0 error.line then Some error.lin
 faulty_line (fault.Doubt found) = Some found.line
 faulty_line (fault.Log refused) = log_line_of refused
 faulty_line (fault.Script refused) = script_line_of refused
+faulty_line (fault.Refused refusal) = Some (refusal_line refusal)
 faulty_line _ = None

@@ -51,13 +51,13 @@ KnowsNoCheckpoints asked.FinalState = ⊤
 abbrev pub OneEditedOutput : Type 0
 OneEditedOutput =
     (database bindings log script : List ℕ) (seed near far : ℕ) (view : EditView)
-    (guarded first second : Bool)
+    (guarded first second : Bool) (played replayed : ℕ)
     → KnowsNoCheckpoints view
     → (one other : List ℕ)
     → IsEdited database bindings log script
-    (record { seed = seed; every = near; view = view; strict = first; guarded = guarded }) one
+    (record { seed = seed; every = near; view = view; strict = first; guarded = guarded }) played one
     → IsEdited database bindings log script
-    (record { seed = seed; every = far; view = view; strict = second; guarded = guarded }) other
+    (record { seed = seed; every = far; view = view; strict = second; guarded = guarded }) replayed other
     → one ≡ other
 
 -- a fault that no bytes decide

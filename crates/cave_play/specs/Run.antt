@@ -44,6 +44,16 @@ EndsBy found stages IsOutput old new = IsFoundIn stages found × Keeps old new
 abbrev pub AtMostOne : (List ℕ → Type 0) → Type 0
 AtMostOne IsOutput = (one other : List ℕ) → IsOutput one → IsOutput other → one ≡ other
 
+-- what a run leaves that returns something: an output that is right with it, where its stages decide
+-- no fault, or what its fault leaves
+abbrev pub RunsWith : {A : Type 0} → List Stage → (A → List ℕ → Type 0)
+    → Option (List ℕ) → Option (List ℕ) → Result A PlayFault → Type 0
+RunsWith stages IsOutput old new (Ok made) =
+    (first_decided stages ≡ None)
+    × ((output : List ℕ) × IsOutput made output × Appends old new output)
+RunsWith {A} stages IsOutput old new (Err found) =
+    EndsBy found stages (λ output. (made : A) × IsOutput made output) old new
+
 -- what a run leaves: a right output, where its stages decide no fault, or what its fault leaves
 abbrev pub Runs : List Stage → (List ℕ → Type 0)
     → Option (List ℕ) → Option (List ℕ) → Result (Unit {0}) PlayFault → Type 0

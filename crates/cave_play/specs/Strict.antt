@@ -7,18 +7,14 @@ use Rattle.replay_scripts.specs.Script.{Applied}
 use Rattle.replay_scripts.specs.declared.fault.ScriptRefusal.{ScriptRefusal}
 use Rattle.play_edits.specs.Items.{game_after_item}
 use Rattle.play_edits.specs.Refusal.{item_refusal}
-use Rattle.cave_play.specs.declared.fault.ScriptFault.TheVariants as script
-use Rattle.play_edits.specs.declared.refusal.RefusedItem.{RefusedItem}
+use Rattle.play_edits.specs.declared.refusal.Refusal.{Refusal}
 use Rattle.cave_play.specs.declared.fault.PlayFault.{PlayFault}
 use Rattle.cave_play.specs.declared.fault.PlayFault.TheVariants as fault
 
-abbrev pub refusal_fault : RefusedItem → PlayFault
-refusal_fault refused = fault.Script (script.Refused refused.line refused.cause)
-
 -- where the run is strict, the fault of an item that is refused
-abbrev pub strict_fault_by : Bool → Option RefusedItem → Option PlayFault
+abbrev pub strict_fault_by : Bool → Option Refusal → Option PlayFault
 strict_fault_by strict None = None
-strict_fault_by strict (Some refused) = if strict then Some (refusal_fault refused) else None
+strict_fault_by strict (Some refusal) = if strict then Some (fault.Refused refusal) else None
 
 unfoldable pub strict_fault : Bool → Applied → Game → Option PlayFault
 strict_fault strict item game = strict_fault_by strict (item_refusal item game.log)

@@ -1,5 +1,6 @@
 -- What an edit of a log writes, by what is asked for.
-use Rattle.std.specs.Prelude.{◌≡◌, ℕ, Bool, true, List, ◌++◌, None}
+use Rattle.std.specs.Prelude.{◌≡◌, ℕ, Bool, true, List, ◌++◌, length, None}
+use Rattle.std.specs.List.{sum_by}
 use Rattle.std.specs.Str.Lines.{lines}
 use Rattle.cave_data.specs.CaveView.{CaveView}
 use Rattle.cave_data.specs.Reads.{Reads}
@@ -7,16 +8,18 @@ use Rattle.play_command.specs.declared.editing.Editing.{Editing}
 use Rattle.play_command.specs.declared.editing.EditView.{EditView}
 use Rattle.play_command.specs.declared.editing.EditView.TheVariants as asked
 use Rattle.cave_replay.specs.LogText.{log_text}
+use Rattle.replay_checkpoints.specs.Spacing.{IsSpaced}
 use Rattle.replay_edits.specs.Edit.{Game, game_of}
 use Rattle.replay_scripts.specs.Script.{Applied}
 use Rattle.replay_scripts.specs.Guards.{IsScriptBy}
-use Rattle.play_edits.specs.Accounts.{IsAccount}
+use Rattle.play_edits.specs.Accounts.{accounts}
 use Rattle.play_machine.specs.FinalState.{final_state_text}
 use Rattle.play_edits.specs.Items.{game_after_items, reports}
 use Rattle.play_machine.specs.Score.{score_text}
 use Rattle.play_machine.specs.Steps.{steps_text}
 use Rattle.cave_play.specs.Strict.{first_strict_fault}
-use Rattle.play_edits.specs.Table.{IsTable}
+use Rattle.play_edits.specs.Outcome.{AreOutcomes, ItemOutcome, played_in}
+use Rattle.play_edits.specs.Table.{table_text}
 use Rattle.play_machine.specs.Transcript.{play_text}
 use Rattle.play_edits.specs.Undo.{undo_text}
 
@@ -42,34 +45,45 @@ pub record IsUndo (guarded : Bool) (items : List Applied) (game : Game) (text : 
 
 -- ---- what is written
 
--- the text is what was asked for of the items that edit the game in the cave
-abbrev pub IsViewOf : EditView → CaveView → ℕ → Game → Bool → List Applied → List ℕ → Type 0
-IsViewOf asked.Transcript cave every game guarded items text =
+-- the text is what was asked for of the items that edit the game in the cave, by what came of them
+abbrev pub IsViewOf : EditView → CaveView → Game → Bool → List Applied → List ItemOutcome → List ℕ
+    → Type 0
+IsViewOf asked.Transcript cave game guarded items outcomes text =
     text ≡ reports items game ++ play_text cave (game_after_items items game)
-IsViewOf asked.Play cave every game guarded items text =
+IsViewOf asked.Play cave game guarded items outcomes text =
     text ≡ play_text cave (game_after_items items game)
-IsViewOf asked.Log cave every game guarded items text = IsLogOf (game_after_items items game) text
-IsViewOf asked.Undo cave every game guarded items text = IsUndo guarded items game text
-IsViewOf asked.Reports cave every game guarded items text = IsAccount cave every game items text
-IsViewOf asked.Table cave every game guarded items text = IsTable cave every game items text
-IsViewOf asked.Steps cave every game guarded items text =
+IsViewOf asked.Log cave game guarded items outcomes text =
+    IsLogOf (game_after_items items game) text
+IsViewOf asked.Undo cave game guarded items outcomes text = IsUndo guarded items game text
+IsViewOf asked.Reports cave game guarded items outcomes text =
+    text ≡ accounts cave items game outcomes
+IsViewOf asked.Table cave game guarded items outcomes text =
+    text ≡ table_text cave items game outcomes
+IsViewOf asked.Steps cave game guarded items outcomes text =
     text ≡ steps_text cave (game_after_items items game)
-IsViewOf asked.Score cave every game guarded items text =
+IsViewOf asked.Score cave game guarded items outcomes text =
     text ≡ score_text cave (game_after_items items game)
-IsViewOf asked.FinalState cave every game guarded items text =
+IsViewOf asked.FinalState cave game guarded items outcomes text =
     text ≡ final_state_text cave (game_after_items items game)
 
--- the text is what the view of an edit prints, of the items that the script spells, some of whose
--- lines may be guards
-abbrev pub IsEditOf : EditView → CaveView → ℕ → Game → Bool → List ℕ → List ℕ → Type 0
-IsEditOf view cave every game guarded script text =
-    (items : List Applied) × IsScriptBy guarded script items
-    × IsViewOf view cave every game guarded items text
+-- The script, some of whose lines may be guards, edits the game, whose play was opened with
+-- checkpoints at this distance. So many lines were played for its items: the sum of what was played
+-- for each, which is within the bound of its replay. The text is what the view prints of them.
+pub record IsEditOf (view : EditView) (cave : CaveView) (every : ℕ) (game : Game) (guarded : Bool)
+    (script : List ℕ) (played : ℕ) (text : List ℕ) : Type 0 where
+  pub items : List Applied
+  pub spelled : IsScriptBy guarded script items
+  pub checkpoints : List ℕ
+  pub spaced : IsSpaced every checkpoints (length game.log)
+  pub outcomes : List ItemOutcome
+  pub came : AreOutcomes cave every items game checkpoints outcomes
+  pub played_is : played ≡ sum_by played_in outcomes
+  pub written : IsViewOf view cave game guarded items outcomes text
 
--- the output is what was asked for of the script that edits the log in the cave of the database
--- and its bindings
-abbrev pub IsEdited : List ℕ → List ℕ → List ℕ → List ℕ → Editing → List ℕ → Type 0
-IsEdited database bindings log script editing output =
+-- so many lines were played, and the output is what was asked for, of the script that edits the log
+-- in the cave of the database and its bindings
+abbrev pub IsEdited : List ℕ → List ℕ → List ℕ → List ℕ → Editing → ℕ → List ℕ → Type 0
+IsEdited database bindings log script editing played output =
     (cave : CaveView) × Reads database bindings cave
     × IsEditOf editing.view cave editing.every (game_of editing.seed (lines log))
-    editing.guarded script output
+    editing.guarded script played output

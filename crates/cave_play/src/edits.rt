@@ -3,7 +3,8 @@
 ghost use Rattle.std.specs.Prelude.{◌≡◌, ℕ, ◌++◌, ◌<◌, ◌^◌, List, [], ◌∷◌, length, IfErr, IfOk};
 ghost use Rattle.std.specs.Prelude.{MatchResult, None, OnOk, Some, ◌⊎◌};
 ghost use Rattle.replay_checkpoints.specs.Spacing.{IsSpaced};
-ghost use Rattle.replay_edits.specs.Edit.{IsGame};
+ghost use Rattle.replay_edits.specs.Edit.{IsGame, changes_of};
+ghost use Rattle.replay_edits.specs.Faults.{fault_of_all};
 ghost use Rattle.replay_scripts.specs.Views.{applied_item, items_of};
 ghost use Rattle.replay_scripts.specs.ScriptText.{groups_in};
 ghost use Rattle.play_edits.specs.Edits.{Applies, IsApplied, kept_for, text_of_item};
@@ -14,36 +15,41 @@ ghost use Rattle.play_edits.specs.Outcome.{refusal_in};
 ghost use Rattle.cave_play.specs.Run.{Judges};
 ghost use Rattle.cave_play.specs.Stages.{script_stage, strict_stage};
 ghost use Rattle.cave_play.specs.Strict.{first_strict_fault, strict_fault, strict_fault_by};
-ghost use Rattle.play_edits.specs.Undo.{back_of, backs_of};
+ghost use Rattle.play_edits.specs.Undo.{backs_of};
 ghost use Rattle.cave_play.specs.Views.{IsEditOf};
 
-use crate::fault::{PlayFault, ScriptFault};
+use crate::fault::PlayFault;
 use crate::judge::read_script;
-use cave_replay::Session;
+use cave_replay::{Done, Session};
 use play_command::Editing;
-use play_edits::{
-    Done, ItemOutcome, RefusedItem, Totals, edit, keep_back, push_end, push_outcome, push_start,
-};
+use play_edits::{Refusal, Totals, apply_item, keep_back, push_end, push_start};
 use play_machine::CaveMachine;
 use replay_scripts::{BackEdit, Item, Script};
 use std::alloc::Global;
 use std::io::Read;
 
-/// What is asked for of a script that is applied to a session of the machine.
+/// What edits of a log made: what is asked for, and how many lines were played for them.
+#[derive(Drop)]
+pub(crate) struct Edited {
+    pub(crate) text: Vec<u8>,
+    pub(crate) played: u64,
+}
+
+/// What a script makes that is applied to a session of the machine.
 pub(crate) fn edit_session<S: Read>(
     alloc: Global,
     session: &mut Session<CaveMachine<'_>>,
     script: &mut S,
     editing: Editing,
-) -> Result<Vec<u8>, PlayFault>
+) -> Result<Edited, PlayFault>
     requires spaced { IsSpaced session.old.every session.old.checkpoints
         (length session.old.game.log) }
     requires game { IsGame session.old.game }
     ensures judged { (edits : List ℕ) × Says (S.remaining script.old) edits
         × Judges (script_stage editing.guarded edits
         ∷ strict_stage editing.strict session.old.game editing.guarded edits ∷ [])
-        (λ text. IsEditOf editing.view session.old.machine.rules.cave.now session.old.every
-        session.old.game editing.guarded edits text.items) result }
+        (λ edited. IsEditOf editing.view session.old.machine.rules.cave.now session.old.every
+        session.old.game editing.guarded edits edited.played edited.text.items) result }
 {
     let script = read_script(alloc, script, editing.guarded)?;
     let mut text = Vec::new(alloc);
@@ -52,7 +58,10 @@ pub(crate) fn edit_session<S: Read>(
     let totals = apply(alloc, session, &script, editing, &mut text, &mut backs)?;
     backs.reverse();
     push_end(alloc, session, editing.view, totals, &backs, &mut text)?;
-    Ok(text)
+    Ok(Edited {
+        text,
+        played: totals.played,
+    })
 }
 
 /// Applies the items of a script to the held game, writes of each what is asked for, and keeps
@@ -84,60 +93,45 @@ fn apply(
         lines: 0,
     };
     for item in &script.items {
-        let outcome = apply_item(alloc, session, item, editing, text, backs)?;
-        totals = totals.with(outcome);
+        let outcome = apply_judged(alloc, session, item, editing, text)?;
+        totals = totals.with(&outcome);
+        keep_back(alloc, session, editing, outcome, backs)?;
     }
     Ok(totals)
 }
 
-/// Whether a run goes on after an item: it does, unless the item was refused and the run is strict.
-fn check_strict(strict: bool, outcome: ItemOutcome) -> Result<(), PlayFault>
-    ensures { MatchResult result (λ _. strict_fault_by strict (refusal_in outcome) ≡ None)
-        (λ found. strict_fault_by strict (refusal_in outcome) ≡ Some found) }
-{
-    match outcome {
-        ItemOutcome::Refused(refused) if strict => {
-            let RefusedItem { line, cause } = refused;
-            Err(PlayFault::Script(ScriptFault::Refused(line, cause)))
-        }
-        _ => Ok(()),
-    }
-}
-
-/// Applies an item to the held game, and writes of it what is asked for.
-fn apply_item(
+/// Applies an item to the held game, and writes of it what is asked for. A strict run ends where it
+/// is refused.
+fn apply_judged(
     alloc: Global,
     session: &mut Session<CaveMachine<'_>>,
     item: &Item,
     editing: Editing,
     text: &mut Vec<u8>,
-    backs: &mut Vec<Vec<BackEdit>>,
-) -> Result<ItemOutcome, PlayFault>
+) -> Result<Result<Done, Refusal>, PlayFault>
     ensures applies { IfOk result (Applies (applied_item item.now) session.old session.new) }
+    ensures back_free { IfOk result (λ outcome. IfOk outcome (λ done.
+        fault_of_all (changes_of done.inverse.items) session.new.game.log 0 ≡ None)) }
     ensures told { IfOk result (λ outcome. text.new.items ≡ text.old.items
         ++ text_of_item editing.view session.old.machine.rules.cave.now (applied_item item.now)
         session.old.game outcome) }
-    ensures kept { OnOk result (groups_in backs.new.items ≡ groups_in backs.old.items
-        ++ kept_for editing.view
-        (back_of editing.guarded (applied_item item.now) session.old.game)) }
     ensures accepted { OnOk result
         (strict_fault editing.strict (applied_item item.now) session.old.game ≡ None) }
     ensures refused { IfErr result (λ found. (found ≡ PlayFault.Memory)
         ⊎ (strict_fault editing.strict (applied_item item.now) session.old.game ≡ Some found)) }
 {
-    let held = session.state();
-    let before = *held;
-    let edited = edit(alloc, session, item)?;
-    let outcome = edited.outcome;
-    check_strict(editing.strict, outcome)?;
-    let after = session.state();
-    let done = Done {
-        outcome,
-        inverse: &edited.inverse,
-        before: &before,
-        after,
-    };
-    push_outcome(alloc, text, item, editing.view, &done)?;
-    keep_back(alloc, session, editing, &edited, backs)?;
+    let outcome = apply_item(alloc, session, item, editing.view, text)?;
+    check_strict(editing.strict, &outcome)?;
     Ok(outcome)
+}
+
+/// Whether a run goes on after an item: it does, unless the item was refused and the run is strict.
+fn check_strict(strict: bool, outcome: &Result<Done, Refusal>) -> Result<(), PlayFault>
+    ensures { MatchResult result (λ _. strict_fault_by strict (refusal_in outcome.now) ≡ None)
+        (λ found. strict_fault_by strict (refusal_in outcome.now) ≡ Some found) }
+{
+    match outcome {
+        Err(refusal) if strict => Err(PlayFault::Refused(*refusal)),
+        _ => Ok(()),
+    }
 }

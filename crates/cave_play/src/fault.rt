@@ -81,9 +81,6 @@ pub enum ScriptFault {
     /// The line with this number, from 1, is malformed.
     #[error("{}", ScriptWords {flaw: *.1})]
     Malformed(usize, ScriptFlaw),
-    /// The item of the line with this number is refused, where the run is strict.
-    #[error("{1}")]
-    Refused(usize, Refusal),
 }
 
 /// What is wrong with a cave: the cause, and what is known beyond it or else was expected.
@@ -127,6 +124,9 @@ pub enum PlayFault {
     /// The script is refused.
     #[error("{0}")]
     Script(ScriptFault),
+    /// An item of the script is refused, and the run is strict.
+    #[error("{0}")]
+    Refused(Refusal),
     /// The reader of an input answered an error.
     #[error("the file can't be read")]
     Read(Input),
@@ -165,7 +165,7 @@ impl PlayFault {
             PlayFault::Cave(_, _) | PlayFault::Doubt(_) => 1,
             PlayFault::Seed | PlayFault::Every => 2,
             PlayFault::Log(_) => 3,
-            PlayFault::Script(_) => 4,
+            PlayFault::Script(_) | PlayFault::Refused(_) => 4,
             PlayFault::Read(_) => 5,
             PlayFault::Write => 6,
             PlayFault::Memory => 7,
@@ -181,7 +181,7 @@ impl PlayFault {
             PlayFault::Cave(_, _) => Some(Input::Cave),
             PlayFault::Doubt(found) => Some(input_from(found.source)),
             PlayFault::Log(_) => Some(Input::Log),
-            PlayFault::Script(_) => Some(Input::Script),
+            PlayFault::Script(_) | PlayFault::Refused(_) => Some(Input::Script),
             PlayFault::Read(input) => Some(input),
             PlayFault::Seed | PlayFault::Every | PlayFault::Write | PlayFault::Memory => None,
         }
@@ -195,9 +195,8 @@ impl PlayFault {
             PlayFault::Cave(error, _) if error.line > 0 => Some(error.line),
             PlayFault::Doubt(found) => Some(found.line),
             PlayFault::Log(LogFault::BadLine(line, _)) => Some(line),
-            PlayFault::Script(ScriptFault::Malformed(line, _) | ScriptFault::Refused(line, _)) => {
-                Some(line)
-            }
+            PlayFault::Script(ScriptFault::Malformed(line, _)) => Some(line),
+            PlayFault::Refused(refusal) => Some(refusal.line()),
             _ => None,
         }
     }

@@ -7,12 +7,12 @@ ghost use Rattle.replay_edits.specs.Edit.{game_of};
 ghost use Rattle.cave_play.specs.Input.{Says, InputTexts, AreTextsOf};
 ghost use Rattle.cave_play.specs.Judge.{large_seed, every_fault};
 ghost use Rattle.cave_play.specs.Output.{IsChecked, IsPlayed, play_view_text};
-ghost use Rattle.cave_play.specs.Run.{Judges, Runs};
+ghost use Rattle.cave_play.specs.Run.{Judges, Runs, RunsWith};
 ghost use Rattle.cave_play.specs.Stages.{cave_stages, log_stage, script_stage, strict_stage};
 ghost use Rattle.cave_play.specs.Stages.{play_stages, edit_stages};
 ghost use Rattle.cave_play.specs.Views.{IsEditOf, IsEdited};
 
-use crate::edits::edit_session;
+use crate::edits::{Edited, edit_session};
 use crate::fault::PlayFault;
 use crate::inputs::Inputs;
 use crate::judge::{check_every, check_seed, play_log, read_cave};
@@ -76,16 +76,18 @@ pub fn run_play<C: Read, B: Read, L: Read, S: Read, W: Write>(
 
 /// Edits a log by a script, and writes what is asked for, once it is whole: a report on each item
 /// of the script and then the transcript of the edited log, that log, what each item replayed, the
-/// table of the edited log's lines, that of its score, or the state that it leads to.
+/// table of the edited log's lines, that of its score, or the state that it leads to. Returns how
+/// many lines were played for the items: the sum of what was played for each, which is within the
+/// bound of its replay.
 pub fn run_edit<C: Read, B: Read, L: Read, S: Read, W: Write>(
     alloc: Global,
     inputs: &mut Inputs<C, B, L, S>,
     editing: Editing,
     output: &mut W,
-) -> Result<(), PlayFault>
+) -> Result<u64, PlayFault>
     ensures runs { (texts : InputTexts)
         × AreTextsOf C.remaining B.remaining L.remaining S.remaining inputs.old texts
-        × Runs (edit_stages texts.database texts.bindings texts.log texts.script editing)
+        × RunsWith (edit_stages texts.database texts.bindings texts.log texts.script editing)
         (IsEdited texts.database texts.bindings texts.log texts.script editing)
         (W.contents output.old) (W.contents output.new) result }
 {
@@ -94,8 +96,9 @@ pub fn run_edit<C: Read, B: Read, L: Read, S: Read, W: Write>(
     let cave = read_cave(alloc, &mut inputs.cave)?;
     let made = edit_in_cave(alloc, &cave, &mut inputs.log, &mut inputs.script, editing);
     drop(cave);
-    let text = made?;
-    write_output(output, &text)
+    let Edited { text, played } = made?;
+    write_output(output, &text)?;
+    Ok(played)
 }
 
 /// What is asked for of a play in a cave.
@@ -128,7 +131,7 @@ fn edit_in_cave<L: Read, S: Read>(
     log: &mut L,
     script: &mut S,
     editing: Editing,
-) -> Result<Vec<u8>, PlayFault>
+) -> Result<Edited, PlayFault>
     requires seed_fits { large_seed editing.seed ≡ None }
     requires every_fits { every_fault editing.every ≡ None }
     ensures judged { (moves : List ℕ) × (edits : List ℕ)
@@ -136,13 +139,14 @@ fn edit_in_cave<L: Read, S: Read>(
         × Judges (log_stage moves ∷ script_stage editing.guarded edits
         ∷ strict_stage editing.strict (game_of editing.seed (lines moves)) editing.guarded edits
         ∷ [])
-        (λ text. IsEditOf editing.view cave.now editing.every
-        (game_of editing.seed (lines moves)) editing.guarded edits text.items) result }
+        (λ edited. IsEditOf editing.view cave.now editing.every
+        (game_of editing.seed (lines moves)) editing.guarded edits edited.played
+        edited.text.items) result }
 {
     let lexicon = Lexicon::build(alloc, cave)?;
     let machine = CaveMachine::new(cave, &lexicon);
     let mut session = play_log(alloc, machine, log, editing.seed, editing.every)?;
-    let text = edit_session(alloc, &mut session, script, editing);
+    let made = edit_session(alloc, &mut session, script, editing);
     drop(session);
-    text
+    made
 }

@@ -18,8 +18,8 @@ use Rattle.play_logs.specs.Faults.{RunsLogs, at_none, first_stages}
 use Rattle.play_logs.specs.declared.fault.LogsFault.{LogsFault}
 
 -- how a run ended that plays one log at most
-abbrev pub ended_alone : Result (Unit {0}) PlayFault → Result (Unit {0}) LogsFault
-ended_alone (Ok done) = Ok done
+abbrev pub ended_alone : {A : Type 0} → Result A PlayFault → Result (Unit {0}) LogsFault
+ended_alone (Ok made) = Ok tt
 ended_alone (Err found) = Err (at_none found)
 
 -- what a run leaves that plays one log at most
@@ -46,8 +46,9 @@ RunsLine (Play files log seed view) texts logs old new ended =
     RunsAlone (play_stages texts.database texts.bindings texts.log seed)
     (IsPlayed texts.database texts.bindings texts.log seed view) old new ended
 RunsLine (Edit files log script editing) texts logs old new ended =
-    RunsAlone (edit_stages texts.database texts.bindings texts.log texts.script editing)
-    (IsEdited texts.database texts.bindings texts.log texts.script editing) old new ended
+    (counted : Result ℕ PlayFault) × (ended ≡ ended_alone counted)
+    × one.RunsWith (edit_stages texts.database texts.bindings texts.log texts.script editing)
+    (IsEdited texts.database texts.bindings texts.log texts.script editing) old new counted
 RunsLine (Cover files log seed view) texts logs old new ended =
     RunsLogs (first_stages texts.database texts.bindings seed) logs
     (IsCovered texts.database texts.bindings logs seed view) old new ended

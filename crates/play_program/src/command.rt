@@ -16,11 +16,11 @@ use std::alloc::Global;
 use std::io::{Read, Write};
 
 /// How a run ended that plays one log at most.
-fn alone(ended: Result<(), PlayFault>) -> Result<(), LogsFault>
+fn alone<T: Drop>(ended: Result<T, PlayFault>) -> Result<(), LogsFault>
     ensures { result ≡ ended_alone ended }
 {
     match ended {
-        Ok(()) => Ok(()),
+        Ok(_) => Ok(()),
         Err(fault) => Err(LogsFault::from(fault)),
     }
 }

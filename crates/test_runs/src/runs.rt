@@ -241,7 +241,8 @@ fn edit_into<C: Read, B: Read, L: Read, S: Read, W: Write>(
     editing: Editing,
     sink: &mut W,
 ) -> Result<(), PlayFault> {
-    run_edit(alloc, inputs, editing, sink)
+    run_edit(alloc, inputs, editing, sink)?;
+    Ok(())
 }
 
 fn cover_into<C: Read, B: Read, L: Read, W: Write>(

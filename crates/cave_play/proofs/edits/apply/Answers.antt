@@ -1,4 +1,4 @@
-use Rattle.std.proofs.Common.{◌≡◌, ◌++◌, List, None, Some, ◌∙◌, refl, map, subst, arith}
+use Rattle.std.proofs.Common.{◌≡◌, ◌++◌, List, None, Some, ◌∙◌, ap, refl, map, subst, arith}
 use Rattle.std.specs.Prelude.{◌⊎◌}
 use Rattle.std.proofs.lemmas.Result.{err_from_is_err_and}
 use Rattle.cave_play.specs.Strict.{first_strict_fault}
@@ -12,7 +12,7 @@ use Rattle.play_edits.proofs.EditLemmas.{Completes-none, Completes-more, IsAppli
 use Rattle.play_edits.proofs.EditLemmas.{game_after_items-more}
 use Rattle.cave_play.proofs.StrictLemmas.{first_strict_fault-more, first_strict_fault-here}
 use Rattle.cave_play.proofs.StrictLemmas.{first_strict_fault-end}
-use Rattle.play_edits.proofs.BackLemmas.{kept-more, kept-whole}
+use Rattle.play_edits.proofs.BackLemmas.{back_of-outcome, kept-more, kept-whole}
 use Rattle.cave_play.proofs.edits.apply.Goals as goal
 
 pub loop-item-init : goal.loop-item-init
@@ -38,6 +38,14 @@ loop-item-preserved c =
     let place = c.loop-item.item-index in
     let applies = c.in_ok-outcome.ensures.applies in
     let before = c.loop-item.invariant in
+    let view = c.args.editing.view in
+    let guarded = c.args.editing.guarded in
+    let old = c.loop-item.session in
+    let kept = c.in_ok-keep_back.ensures
+    ∙ ap (λ some. groups_in c.loop-item.backs.items ++ kept_for view some)
+    (back_of-outcome guarded old.machine.rules.cave.now old.every
+    (applied_item c.item-item.result) old.game _ old.checkpoints _ applies.came
+    applies.holds.game_is) in
     record {
       completes =
           Completes-more _ _ _ items place c.item-item.result
@@ -45,8 +53,7 @@ loop-item-preserved c =
           applies c.in_ok-outcome.ensures.told c.with-totals.ensures.played
           c.with-totals.ensures.lines before.completes;
       kept = kept-more c.args.editing.view c.args.editing.guarded items place c.item-item.result _ _ _ _ _
-          c.loop-item-test.true c.item-item.is applies.holds.game_is c.in_ok-outcome.ensures.kept
-          before.kept;
+          c.loop-item-test.true c.item-item.is applies.holds.game_is kept before.kept;
       strict = first_strict_fault-more c.args.editing.strict items place c.item-item.result
           _ _ c.loop-item-test.true c.item-item.is _ applies.holds.game_is
           c.in_ok-outcome.ensures.accepted before.strict;

@@ -15,6 +15,7 @@ use Rattle.cave_play.proofs.StageLemmas.{first_decided-later}
 use Rattle.cave_play.proofs.StrictLemmas.{IsFoundIn-strict, first_decided-strict}
 use Rattle.play_edits.proofs.BackLemmas.{groups_turned}
 use Rattle.cave_play.proofs.ViewLemmas.{told-whole}
+use Rattle.cave_play.specs.Views.{IsEditOf}
 use Rattle.cave_play.proofs.edits.edit_session.Goals as goal
 
 pub returns-in_err-script : goal.returns-in_err-script
@@ -125,11 +126,22 @@ returns g c =
     let whole =
     told-whole view cave old.every items old.game guarded old.checkpoints applied.outcomes totals.played
     totals.lines backs c.apply.new.text.items c.push_end.new.text.items
-    c.requires.spaced applied.came told applied.played_is applied.lines_are ends back turned
+    applied.came told applied.played_is applied.lines_are ends back turned
     c.requires.game in
     let none =
     first_decided-later (script_stage guarded edits ∷ [])
     (strict_stage strict old.game guarded edits ∷ []) made.0
     ∙ first_decided-strict strict old.game guarded edits items made.1.2
     c.in_ok-totals.ensures.accepted in
-    record { judged = (edits, said, (none, (items, made.1.0, whole))) }
+    let edited : IsEditOf view cave old.every old.game guarded edits totals.played
+    c.push_end.new.text.items = record {
+      items = items;
+      spelled = made.1.0;
+      checkpoints = old.checkpoints;
+      spaced = c.requires.spaced;
+      outcomes = applied.outcomes;
+      came = applied.came;
+      played_is = applied.played_is;
+      written = whole;
+    } in
+    record { judged = (edits, said, (none, edited)) }

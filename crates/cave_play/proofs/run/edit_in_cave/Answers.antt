@@ -1,11 +1,11 @@
 use Rattle.std.proofs.Common.{ℕ, List, [], ◌∷◌, subst, sym}
-use Rattle.std.specs.Global.{Vec}
 use Rattle.std.specs.Str.Lines.{lines}
 use Rattle.std.proofs.lemmas.Result.{err_from_is_err_and}
 use Rattle.cave_data.specs.CaveView.{CaveView}
 use Rattle.play_command.specs.declared.editing.Editing.{Editing}
 use Rattle.replay_edits.specs.Edit.{Game, IsGame, game_of}
 use Rattle.cave_play.specs.Views.{IsEditOf}
+use Rattle.cave_play.specs.declared.edits.Edited.{Edited}
 use Rattle.cave_play.specs.Run.{Judges}
 use Rattle.cave_play.specs.Stages.{Stage}
 use Rattle.cave_play.specs.Stages.{log_stage, script_stage, strict_stage}
@@ -20,8 +20,13 @@ abbrev strict_of : Editing → List ℕ → List ℕ → Stage
 strict_of editing moves edits =
     strict_stage editing.strict (game_of editing.seed (lines moves)) editing.guarded edits
 
-pub edit_session-text-requires-clause-game : goal.edit_session-text-requires-clause-game
-edit_session-text-requires-clause-game g c =
+-- what edits made is right for a cave, a distance of checkpoints and a game
+abbrev right_in : Editing → List ℕ → CaveView → ℕ → Game → Edited → Type 0
+right_in editing edits cave every game edited =
+    IsEditOf editing.view cave every game editing.guarded edits edited.played edited.text.items
+
+pub edit_session-made-requires-clause-game : goal.edit_session-made-requires-clause-game
+edit_session-made-requires-clause-game g c =
     let (moves, said, made) = c.in_ok-session.ensures.judged in
     let free = first_decided-alone (log_stage moves) made.0 in
     subst IsGame (sym made.1.game_is)
@@ -69,38 +74,32 @@ pub returns : goal.returns
 returns g c =
     let guarded = c.args.editing.guarded in
     let (moves, said, made) = c.in_ok-session.ensures.judged in
-    let (edits, others, edited) = c.edit_session-text.ensures.judged in
+    let (edits, others, judges) = c.edit_session-made.ensures.judged in
     let editing = c.args.editing in
     let cave = c.new-machine.result.rules.cave.now in
-    let right =
-    λ (cave : CaveView) (text : Vec ℕ). IsEditOf editing.view cave editing.every
-    (game_of editing.seed (lines moves)) guarded edits text.items in
+    let game = game_of editing.seed (lines moves) in
+    let right = λ (cave : CaveView). right_in editing edits cave editing.every game in
     let held = c.in_ok-session.session in
     let held_cave = held.machine.rules.cave.now in
+    let held_right = right_in editing edits held_cave held.every held.game in
     let gives =
-    λ (text : Vec ℕ)
-    (is : IsEditOf editing.view held_cave held.every held.game guarded edits text.items).
-    subst (λ game. IsEditOf editing.view cave editing.every game guarded edits text.items)
-    made.1.game_is
-    (subst (λ every. IsEditOf editing.view cave every held.game guarded edits text.items)
+    λ (edited : Edited) (is : held_right edited).
+    subst (λ now. right_in editing edits cave editing.every now edited) made.1.game_is
+    (subst (λ every. right_in editing edits cave every held.game edited)
     c.in_ok-session.ensures.every
-    (subst (λ (k : CaveView).
-    IsEditOf editing.view k held.every held.game guarded edits text.items)
+    (subst (λ (k : CaveView). right_in editing edits k held.every held.game edited)
     made.1.cave_is is)) in
     let strict = strict_of editing moves edits in
-    let held_right =
-    λ (text : Vec ℕ).
-    IsEditOf editing.view held_cave held.every held.game guarded edits text.items in
     let staged =
     subst (λ (game : Game). Judges (script_stage guarded edits
     ∷ strict_stage editing.strict game guarded edits ∷ []) held_right
-    c.edit_session-text.result)
-    made.1.game_is edited in
+    c.edit_session-made.result)
+    made.1.game_is judges in
     let judged =
     Judges-later (log_stage moves ∷ []) (script_stage guarded edits ∷ strict ∷ []) held_right
     (right cave) _ made.0 gives staged in
     let here =
     λ (cave : CaveView). Judges (log_stage moves ∷ script_stage guarded edits ∷ strict ∷ [])
     (right cave)
-    c.edit_session-text.result in
+    c.edit_session-made.result in
     record { judged = (moves, edits, said, others, subst here c.new-machine.ensures judged) }
