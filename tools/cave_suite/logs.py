@@ -12,6 +12,7 @@ from typing import Iterator, Protocol
 KINDS = (".log", ".out", ".script")
 KEYS = [*"cave run status stdin stdout copies mode link disk folder xfail".split(), "no run"]
 SAID = re.compile(r"# ?([\w ]+?) ?: ?(.*)")
+EMPTY = ("run", "copies")  # keys that may have nothing after them
 ALIKE = 0.75  # a word that is this much like a key was meant to be one
 OWN = "@/"  # before the name of a file in the folder of a run
 Head = dict[str, list[str]]
@@ -122,8 +123,8 @@ class Log:
             return "there is no log of this name"
         if line := self.misspelt():
             return f"a key is there twice, or has a letter wrong: `{line}`"
-        if self.xfail == "":
-            return "`# xfail:` doesn't say why"
+        if empty := next((it for it in self.head if not self.head[it] and it not in EMPTY), None):
+            return f"`# {empty}:` has nothing after it"
         runs = self.head.keys() & {"cave", "run"}
         if "no run" in self.head:
             if runs or self.has(".out"):

@@ -217,6 +217,9 @@ def chosen(asks: argparse.ArgumentParser, said: argparse.Namespace, suites: Suit
             asks.error(f"{word} may be any of {names}: give its folder too")
         meant.update(dict.fromkeys(found))
     logs = [*meant] if said.words else default.logs()
+    if len({it.suite for it in logs}) > 1:
+        for log in logs:
+            log.name = os.path.relpath(log.stem, suites.here)
     if not logs:
         asks.error(f"the suite is empty: {os.path.relpath(default.root, suites.here)} has no log")
     number, count = said.shard

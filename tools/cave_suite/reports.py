@@ -8,8 +8,8 @@ import re
 import sys
 import time
 from dataclasses import dataclass
+from html import escape
 from typing import Sequence
-from xml.sax.saxutils import escape, quoteattr
 
 from .hunks import Hunk
 from .logs import Log
@@ -125,22 +125,26 @@ class Tap:
         return [f"# {sums}"]
 
 
+def attributes(**values: object) -> str:
+    return "".join(f' {name}="{escape(str(it))}"' for name, it in values.items())
+
+
 def junit(results: Sequence[Result], sums: Sums, is_all: bool) -> str:
     """The file that CIs read."""
-    lines = ['<?xml version="1.0" encoding="UTF-8"?>']
-    counts = f'tests="{len(results)}" failures="{sums.failed}" errors="0" skipped="{sums.known}"'
-    seconds = sum(it.seconds for it in results)
-    lines += ["<testsuites>", f'<testsuite name="cave-suite" {counts} time="{seconds:.3f}">']
+    counts = attributes(
+        name="cave-suite", tests=len(results), failures=sums.failed, errors=0, skipped=sums.known,
+        time=f"{sum(it.seconds for it in results):.3f}")
+    lines = ['<?xml version="1.0" encoding="UTF-8"?>', "<testsuites>", f"<testsuite{counts}>"]
     for it in results:
         folder, name = os.path.split(it.log.name)
-        names = f"classname={quoteattr(folder or '.')} name={quoteattr(name)}"
-        lines.append(f'<testcase {names} file={quoteattr(f"{it.log.path}.log")}'
-                     f' time="{it.seconds:.3f}">')
+        case = attributes(classname=folder or ".", name=name, file=f"{it.log.path}.log",
+                          time=f"{it.seconds:.3f}")
+        lines.append(f"<testcase{case}>")
         if it.known is not None:
-            lines.append(f"<skipped message={quoteattr(f'known to fail: {it.known}')}/>")
+            lines.append(f"<skipped{attributes(message=f'known to fail: {it.known}')}/>")
         elif it.hunks:
-            shown = it.shown(it.hunks, is_all)
-            text = escape("\n".join(shown))
-            lines.append(f"<failure message={quoteattr(shown[0])}>{text}</failure>")
+            first, *rest = it.shown(it.hunks, is_all)
+            text = escape("\n".join([first, *rest]), quote=False)
+            lines.append(f"<failure{attributes(message=first)}>{text}</failure>")
         lines.append("</testcase>")
     return "\n".join([*lines, "</testsuite>", "</testsuites>", ""])
