@@ -8,7 +8,7 @@ from difflib import SequenceMatcher
 from itertools import takewhile
 from typing import Iterator, Sequence
 
-from .logs import Log, lines_in
+from .logs import Log, content, lines_of
 
 CONTEXT = 3
 ECHO = "> "  # before a line of the log in a transcript
@@ -51,7 +51,7 @@ def echoes_in(log: Log, said: Sequence[str]) -> Iterator[tuple[int, str]]:
     files = (it for it in log.words if it.endswith(".log"))
     paths = ((it, os.path.join(log.suite.top, it)) for it in files)
     name, path = next((it for it in paths if os.path.isfile(it[1])), ("", ""))
-    lines = enumerate(map(str.rstrip, lines_in(path) if path else []), 1)
+    lines = enumerate(map(str.rstrip, lines_of(content(path)) if path else []), 1)
     asked = [(number, line) for number, line in lines if line and not line.startswith("#")]
     echoes = [(at, line[len(ECHO) :].rstrip()) for at, line in enumerate(said) if line[:2] == ECHO]
     for first, second, size in blocks([it for _, it in echoes], [it for _, it in asked]):

@@ -6,6 +6,7 @@ import os
 import re
 from difflib import get_close_matches
 from functools import cached_property
+from io import StringIO
 from itertools import takewhile
 from typing import Iterator, Protocol
 
@@ -28,10 +29,14 @@ class Place(Protocol):
         """Whether the head of some log names a file, by its path from the top."""
 
 
-def lines_in(path: str) -> list[str]:
-    """The lines of a file. Only a line feed ends one."""
-    with open(path, encoding="latin-1", newline="\n") as file:
-        return [*file]
+def lines_of(text: bytes) -> list[str]:
+    """The lines of a text. Only a line feed ends one."""
+    return [*StringIO(text.decode("latin-1"), newline="\n")]
+
+
+def content(path: str) -> bytes:
+    with open(path, "rb") as file:
+        return file.read()
 
 
 class Log:
@@ -75,8 +80,7 @@ class Log:
         """The lines of the log; none of a transcript or a script that has no log."""
         if not self.has(".log"):
             return 0
-        with open(f"{self.stem}.log", "rb") as file:
-            return file.read().count(b"\n")
+        return content(f"{self.stem}.log").count(b"\n")
 
     @property
     def status(self) -> int:

@@ -6,69 +6,19 @@ import argparse
 import io
 import os
 import shutil
-import subprocess
 import sys
-import time
-from concurrent.futures import ThreadPoolExecutor
-from dataclasses import dataclass, field
 from shlex import quote
 
-from .hunks import CONTEXT, Hunk, differences, sentence, visible
-from .logs import Log, lines_in
+from .hunks import Hunk, differences, sentence
+from .logs import Log
+from .plays import Played, all_played
 from .reports import ForReaders, Progress, Result, Sums, Tap, junit
-from .runs import command_line, play
+from .runs import command_line
 from .suites import NAME, Suite, Suites, shards
 from .updates import Asked, write
 
 SECONDS = 60.0  # that a run may take
 CLOSED, STOPPED = 141, 130  # the status after SIGPIPE, and after SIGINT
-
-
-@dataclass
-class Played:
-    """What came of a run: what is wrong, the transcript, and what is printed now."""
-
-    hunks: list[Hunk]
-    old: list[str] = field(default_factory=list)
-    new: list[str] = field(default_factory=list)
-    is_played: bool = False  # whether both are there to be compared
-    seconds: float = 0.0
-
-
-def wrong_status(log: Log, status: int, new: list[str]) -> Hunk:
-    """What is said of a run that ends with another status."""
-    lines = [f"status {status}, expected {log.status}", *map(visible, new[-CONTEXT:])]
-    cave = log.head.get("cave", [""])[0]
-    if cave and not os.path.exists(os.path.join(log.suite.top, cave)):
-        lines.append(f"there is no {cave} in {log.suite.top}: --top names another folder")
-    return sentence(*lines)
-
-
-def compared(program: str, log: Log, seconds: float) -> Played:
-    """Plays a log, and compares what is printed with its transcript."""
-    if log.misplaced:
-        return Played([sentence(log.misplaced)])
-    new, status = play(program, log, seconds)
-    if status != log.status:
-        return Played([wrong_status(log, status, new)])
-    if not log.has(".out"):
-        said = f"there is no {log.path}.out: read what the program prints, and accept it"
-        return Played([sentence(said)], [], new, True)
-    old = lines_in(f"{log.stem}.out")
-    hunks = [*differences(log, old, new)] if old != new else []
-    return Played(hunks, old if hunks else [], new if hunks else [], True)
-
-
-def played(program: str, log: Log, seconds: float) -> Played:
-    began = time.monotonic()
-    try:
-        found = compared(program, log, seconds)
-    except subprocess.TimeoutExpired:
-        found = Played([sentence(f"the run takes longer than {seconds:g} s")])
-    except (OSError, ValueError, subprocess.SubprocessError) as error:
-        found = Played([sentence(str(error))])
-    found.seconds = time.monotonic() - began
-    return found
 
 
 def updated(log: Log, found: Played, asked: Asked | None) -> list[Hunk]:
@@ -94,26 +44,25 @@ def result_of(log: Log, found: Played) -> Result:
 
 def run_all(logs: list[Log], said: argparse.Namespace) -> int:
     """Plays logs, several at once, and says in their order what is wrong with them."""
-    report = Tap(said.all) if said.tap else ForReaders(said.all)
-    sums, progress, results = Sums(), Progress(len(logs)), []
+    report: Tap | ForReaders = Tap(said.all) if said.tap else ForReaders(said.all)
+    sums, progress = Sums(), Progress(len(logs))
+    results: list[Result] = []
     asked = Asked() if said.is_asking else None
-    print("".join(f"{it}\n" for it in report.head(len(logs))), end="")
-    pool = ThreadPoolExecutor(said.jobs)
+    print("".join(f"{it}\n" for it in report.head(len(logs))), end="", flush=True)
     try:
-        found = pool.map(lambda it: played(said.program, it, said.seconds), logs)
-        for at, (log, one) in enumerate(zip(logs, found), 1):
-            if said.update and one.hunks:
-                progress.clear()
-                one.hunks = updated(log, one, asked)
-            result = result_of(log, one)
-            sums.add(result)
-            if lines := report.of(result, at):
-                progress.clear()
-                print("".join(f"{it}".rstrip() + "\n" for it in lines), end="", flush=True)
-            progress.show(at, sums.failed)
-            results += [result] if said.junit else []
+        with all_played(said.program, logs, said.seconds, said.jobs) as found:
+            for at, (log, one) in enumerate(zip(logs, found), 1):
+                if said.update and one.hunks:
+                    progress.clear()
+                    one.hunks = updated(log, one, asked)
+                result = result_of(log, one)
+                sums.add(result)
+                if lines := report.of(result, at):
+                    progress.clear()
+                    print("".join(f"{it}".rstrip() + "\n" for it in lines), end="", flush=True)
+                progress.show(at, sums.failed)
+                results += [result] if said.junit else []
     finally:
-        pool.shutdown(cancel_futures=True)
         progress.clear()
     print("".join(f"{it}\n" for it in report.end(sums)), end="", flush=True)
     if said.junit:
@@ -205,7 +154,8 @@ def settle(asks: argparse.ArgumentParser, said: argparse.Namespace) -> None:
 
 def chosen(asks: argparse.ArgumentParser, said: argparse.Namespace, suites: Suites) -> list[Log]:
     """The logs that are meant, each once, or those of the shard."""
-    default, meant = suites.default, {}
+    default = suites.default
+    meant: dict[Log, None] = {}
     for word in said.words:
         found = suites.meant(word)
         if not found:

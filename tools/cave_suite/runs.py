@@ -9,7 +9,6 @@ import shutil
 import stat
 import subprocess
 import tempfile
-from io import StringIO
 from shlex import quote
 from typing import Callable, Iterator
 
@@ -20,11 +19,6 @@ READ_ONLY = 0o555
 # What a process of root gives up so that permissions of files hold for it too.
 PR_CAPBSET_DROP, CAP_DAC_OVERRIDE = 24, 1
 LIBC = ctypes.CDLL(None)
-
-
-def split(text: str) -> list[str]:
-    """The lines of a text. Only a line feed ends one."""
-    return [*StringIO(text, newline="\n")]
 
 
 def limits(head: Head) -> Callable[[], None] | None:
@@ -81,12 +75,12 @@ def left_in(folder: str, head: Head) -> Iterator[bytes]:
             yield f"== {OWN}{name}{mode}\n".encode() + file.read()
 
 
-def play(program: str, log: Log, seconds: float) -> tuple[list[str], int]:
-    """The lines that a log's run prints, and its status."""
+def play(program: str, log: Log, seconds: float) -> tuple[bytes, int]:
+    """What a log's run prints, with the files that it leaves, and its status."""
     words, head = log.words, log.head
     if not (head.keys() & {"copies", "link", "folder"} or any(OWN in it for it in words)):
         status, said = call(program, words, log, seconds)
-        return split(said.decode("latin-1")), status
+        return said, status
     with tempfile.TemporaryDirectory() as folder:
         try:
             fill(folder, head, log.suite.top)
@@ -95,7 +89,7 @@ def play(program: str, log: Log, seconds: float) -> tuple[list[str], int]:
             said += b"".join(left_in(folder, head))
         finally:
             os.chmod(folder, stat.S_IRWXU)
-    return split(said.decode("latin-1").replace(f"{folder}/", OWN)), status
+    return said.replace(f"{folder}/".encode(), OWN.encode()), status
 
 
 def command_line(program: str, log: Log) -> str:
