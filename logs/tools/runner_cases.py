@@ -1,4 +1,4 @@
-"""Parts of `logs/tools/check-runner`: what a runner of suites compares, shares out, writes and says.
+"""Parts of `logs/tools/check-runner`: what a runner compares, shares out, writes and says.
 
 Each part is a function that gives what is wrong, a line each.
 """
@@ -10,7 +10,7 @@ import subprocess
 import time
 from xml.etree import ElementTree
 
-from small_suites import REPEAT, RIGHT, Folder, Suite, answers, walk, without_time
+from small_suites import REPEAT, Folder, Suite, answers, walk, without_time
 
 WORDS = "no in down get drop east west wait look up out".split()
 WALK, SAID = walk(WORDS), answers(WORDS)
@@ -177,8 +177,10 @@ def faults_of_junit():
         ("f", "a", "logs/f/a.log", "failure"),
     ]:
         yield f"the file for a CI has {counts} and {said}"
-    elif "- So\\x01<up>&.\n" not in cases[2][0].text or "the <bird>" not in cases[1][0].get("message"):
-        yield f"the file for a CI says {cases[2][0].text}"
+        return
+    why, text = cases[1][0].get("message"), cases[2][0].text
+    if "- So\\x01<up>&.\n" not in text or why != "known to fail: the <bird>":
+        yield f"the file for a CI says {why}, and {text}"
 
 
 def on_terminal(command, folder, typed):
@@ -240,7 +242,7 @@ def faults_of_updates():
 
 def faults_of_stops():
     """Runners that say something of a closed pipe or of an interrupt, or go on after it."""
-    folder = Folder({f"logs/{it}.out": "" for it in range(300)} | {"logs/a.log": RIGHT["right.log"]})
+    folder = Folder({f"logs/{it}.out": "" for it in range(300)})
     to = {"cwd": folder.top, "stdout": subprocess.PIPE, "stderr": subprocess.PIPE}
     with subprocess.Popen(folder.command(), **to) as ran:
         ran.stdout.close()

@@ -1,4 +1,4 @@
-"""Small suites for `logs/tools/check-runner`, each in a folder of its own, and programs for them."""
+"""Small suites for `logs/tools/check-runner`, each in its own folder, and programs for them."""
 
 import os
 import re

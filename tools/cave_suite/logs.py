@@ -65,7 +65,7 @@ class Log:
             return [it.rstrip() for it in takewhile(lambda it: it.startswith("#"), file)]
 
     def said(self) -> Iterator[tuple[str, str, list[str]]]:
-        """Each of these comments that has a word before a colon, that word, and what is after it."""
+        """Each of these comments with a word before a colon, that word, and what is after it."""
         for line in self.comments:
             if said := SAID.match(line):
                 yield line, said[1], said[2].split()
@@ -122,7 +122,7 @@ class Log:
 
     @cached_property
     def misplaced(self) -> str | None:
-        """Why the name is that of no run; None if it is, or if the log is rightly meant for none."""
+        """Why the name is that of no run; None if it is, or if the log rightly has none."""
         if not self.has(".log"):
             return "there is no log of this name"
         if line := self.misspelt():

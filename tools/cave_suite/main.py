@@ -22,7 +22,7 @@ CLOSED, STOPPED = 141, 130  # the status after SIGPIPE, and after SIGINT
 
 
 def updated(log: Log, found: Played, asked: Asked | None) -> list[Hunk]:
-    """Writes the transcript of a log again, as a reader says if one is asked; gives what is left."""
+    """Writes a transcript again, as a reader says if one is asked; gives what is left."""
     if not found.is_played or log.xfail is not None or not found.hunks:
         return found.hunks
     if asked is None or not found.new:
