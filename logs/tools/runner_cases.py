@@ -68,6 +68,7 @@ PLACES = [
     ("a/caves", "", 2, "the suite is empty"),
     ("a", "--shard 2/2", 2, "the part is empty"),
     ("a", "--shard 3/2", 2, "expected K/M"),
+    ("a", "--junit no-such/it.xml", 2, "the file for a CI can't be written"),
     ("a", "-j 0", 2, "expected a number from 1 on"),
     ("a", "--program no-such-program", 2, "no-such-program is no program"),
     ("a", "--yes", 2, "--yes goes with --update"),

@@ -61,8 +61,11 @@ class Log:
     @cached_property
     def comments(self) -> list[str]:
         """The comments before the first other line."""
-        with open(f"{self.stem}.log", encoding="latin-1", newline="\n") as file:
-            return [it.rstrip() for it in takewhile(lambda it: it.startswith("#"), file)]
+        try:
+            with open(f"{self.stem}.log", encoding="latin-1", newline="\n") as file:
+                return [it.rstrip() for it in takewhile(lambda it: it.startswith("#"), file)]
+        except OSError:
+            return []  # `misplaced` says so
 
     def said(self) -> Iterator[tuple[str, str, list[str]]]:
         """Each of these comments with a word before a colon, that word, and what is after it."""
@@ -125,6 +128,8 @@ class Log:
         """Why the name is that of no run; None if it is, or if the log rightly has none."""
         if not self.has(".log"):
             return "there is no log of this name"
+        if not os.access(f"{self.stem}.log", os.R_OK):
+            return "the log can't be read"
         if line := self.misspelt():
             return f"a key is there twice, or has a letter wrong: `{line}`"
         if empty := next((it for it in self.head if not self.head[it] and it not in EMPTY), None):

@@ -176,13 +176,16 @@ def chosen(asks: argparse.ArgumentParser, said: argparse.Namespace, suites: Suit
     logs = shards(logs, count)[number - 1] if count > 1 else logs
     if not logs:
         asks.error("the part is empty: there are fewer logs than parts")
+    if said.junit:
+        try:
+            open(said.junit, "w", encoding="utf-8").close()
+        except OSError as error:
+            asks.error(f"the file for a CI can't be written: {error}")
     return logs
 
 
 def run(words: list[str], doc: str, top: str | None) -> int:
-    name = os.path.basename(sys.argv[0])
-    usage = f"{name} PROGRAM [OPTION ..] [FOLDER|LOG ..]" if top else (
-        f"{name} [OPTION ..] [FOLDER|LOG ..]")
+    usage = f"{'logs/run PROGRAM' if top else 'cave-suite'} [OPTION ..] [FOLDER|LOG ..]"
     here, asks = os.getcwd(), options(doc, usage, top is not None)
     said = asks.parse_intermixed_args(words)
     if top is not None:
@@ -215,3 +218,6 @@ def main(doc: str, top: str | None = None) -> int:
         return CLOSED
     except KeyboardInterrupt:
         return STOPPED
+    except EOFError:
+        print("a process that plays logs was killed", file=sys.stderr)
+        return 1
