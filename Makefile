@@ -145,11 +145,14 @@ page: has-dot $(PROGRAM) ## makes a page of two walks for a browser, docs/tour.h
 picture: has-chromium has-chromedriver page ## takes a picture of that page: docs/tour.png
 	@tools/picture docs/tour.html docs/tour.png
 
-# Puts the program into PREFIX, with cave(1), cave-rules(7) and the completions of shells.
+# Puts the program into PREFIX, with the runner of suites, cave(1), cave-rules(7) and the completions
+# of shells.
 RULES = 'cave-rules(7): the rules of the games that cave plays' \
 	docs/TURN.md docs/PLAY.md docs/VERBS.md
-install: $(PROGRAM) ## puts the program, its manuals and completions into ~/.local
+install: $(PROGRAM) ## puts program, cave-suite, manuals and completions into ~/.local
 	install -D -m 755 $(PROGRAM) '$(PREFIX)/bin/cave'
+	install -D -m 755 tools/cave-suite '$(PREFIX)/bin/cave-suite'
+	install -D -m 644 -t '$(PREFIX)/share/cave/cave_suite' tools/cave_suite/*.py
 	@mkdir -p out
 	tools/manual docs/PROGRAM.md > out/cave.1
 	install -D -m 644 out/cave.1 '$(PREFIX)/share/man/man1/cave.1'

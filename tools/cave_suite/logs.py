@@ -1,0 +1,151 @@
+"""A log of a suite: what its head says, how it is run, and what is wrong with its place."""
+
+from __future__ import annotations
+
+import os
+import re
+from difflib import get_close_matches
+from functools import cached_property
+from io import StringIO
+from itertools import takewhile
+from shlex import split as words_in
+from typing import Iterator, Protocol
+
+KINDS = (".log", ".out", ".script")
+KEYS = [*"cave run status stdin stdout copies mode link disk folder xfail".split(), "no run"]
+SAID = re.compile(r"# ?([\w ]+?) ?: ?(.*)")
+EMPTY = ("run", "copies")  # keys that may have nothing after them
+ALIKE = 0.75  # a word that is this much like a key was meant to be one
+OWN = "@/"  # before the name of a file in the folder of a run
+Head = dict[str, list[str]]
+
+
+class Place(Protocol):
+    """What a log asks of its suite."""
+
+    top: str
+    base: str
+
+    def is_named(self, path: str) -> bool:
+        """Whether the head of some log names a file, by its path from the top."""
+
+
+def lines_of(text: bytes) -> list[str]:
+    """The lines of a text. Only a line feed ends one."""
+    return [*StringIO(text.decode("latin-1"), newline="\n")]
+
+
+def content(path: str) -> bytes:
+    with open(path, "rb") as file:
+        return file.read()
+
+
+class Log:
+    """A log by its path without a kind."""
+
+    def __init__(self, suite: Place, stem: str) -> None:
+        self.suite, self.stem = suite, stem
+
+    @cached_property
+    def name(self) -> str:
+        """The path below the suite's folder."""
+        return os.path.relpath(self.stem, self.suite.base)
+
+    @cached_property
+    def path(self) -> str:
+        """The path from the folder from which the suite's files are named."""
+        return os.path.relpath(self.stem, self.suite.top)
+
+    def has(self, kind: str) -> bool:
+        return os.path.exists(self.stem + kind)
+
+    @cached_property
+    def comments(self) -> list[str]:
+        """The comments before the first other line."""
+        try:
+            with open(f"{self.stem}.log", encoding="latin-1", newline="\n") as file:
+                return [it.rstrip() for it in takewhile(lambda it: it.startswith("#"), file)]
+        except OSError:
+            return []  # `misplaced` says so
+
+    def said(self) -> Iterator[tuple[str, str, list[str]]]:
+        """Each of these comments with a word before a colon, that word, and what is after it. The
+        words of a run may be in quotes, as in a shell."""
+        for line in self.comments:
+            if said := SAID.match(line):
+                yield line, said[1], words_in(said[2]) if said[1] == "run" else said[2].split()
+
+    @cached_property
+    def head(self) -> Head:
+        """What the first comments say: {"cave": [..], "status": [..], ..}."""
+        return {key: words for _, key, words in self.said() if key in KEYS}
+
+    @cached_property
+    def line_count(self) -> int:
+        """The lines of the log; none of a transcript or a script that has no log."""
+        if not self.has(".log"):
+            return 0
+        return content(f"{self.stem}.log").count(b"\n")
+
+    @property
+    def status(self) -> int:
+        """The status with which the program has to end."""
+        return int(self.head.get("status", ["0"])[0])
+
+    @property
+    def xfail(self) -> str | None:
+        """Why the log is known to fail, or None."""
+        return " ".join(self.head["xfail"]) if "xfail" in self.head else None
+
+    @property
+    def words(self) -> list[str]:
+        """The words with which the program is called."""
+        run = self.head.get("run", [])
+        if "cave" not in self.head:
+            return run
+        cave, *options = self.head["cave"] or [""]
+        if run == ["check"]:
+            return ["check", cave, *options]
+        if self.has(".script"):
+            return ["edit", cave, f"{self.path}.log", f"{self.path}.script", *options]
+        return ["play", cave, f"{self.path}.log", *options]
+
+    def misspelt(self) -> str | None:
+        """A line of the head with a key that is there twice, or that has a letter wrong."""
+        known: set[str] = set()
+        for line, key, _ in self.said():
+            is_right = key in KEYS and line.startswith(f"# {key}:")
+            if key in known or not is_right and get_close_matches(key.lower(), KEYS, 1, ALIKE):
+                return line
+            known |= {key} & {*KEYS}
+        return None
+
+    @property
+    def is_run(self) -> bool:
+        """Whether the log is meant for a run, or something is wrong with its place."""
+        return self.misplaced is not None or "no run" not in self.head
+
+    @cached_property
+    def misplaced(self) -> str | None:
+        """Why the name is that of no run; None if it is, or if the log rightly has none."""
+        if not self.has(".log"):
+            return "there is no log of this name"
+        if not os.access(f"{self.stem}.log", os.R_OK):
+            return "the log can't be read"
+        if line := self.misspelt():
+            return f"a key is there twice, or has a letter wrong: `{line}`"
+        if empty := next((it for it in self.head if not self.head[it] and it not in EMPTY), None):
+            return f"`# {empty}:` has nothing after it"
+        runs = self.head.keys() & {"cave", "run"}
+        if "no run" in self.head:
+            if runs or self.has(".out"):
+                return "the log is meant for no run, and has one"
+            is_named = any(self.suite.is_named(self.path + it) for it in (".log", ".script"))
+            return None if is_named else "the log is meant for no run, and no other log names it"
+        if not runs:
+            return "the first comments say neither `# cave:`, `# run:` nor `# no run:`"
+        if "cave" in self.head and self.head.get("run", ["check"]) != ["check"]:
+            return "the first comments say `# cave:`, and `# run:` with other words than `check`"
+        if self.has(".script") and f"{self.path}.script" not in self.words:
+            return "there is a script of this name, and the log isn't edited by it"
+        return None

@@ -1,0 +1,150 @@
+"""What is said of a suite that is played: for readers, as TAP and as JUnit's file, and how far the
+run is."""
+
+from __future__ import annotations
+
+import os
+import re
+import sys
+import time
+from dataclasses import dataclass
+from html import escape
+from typing import Sequence
+
+from .hunks import Hunk
+from .logs import Log
+
+MOST = 20  # lines that are shown of a hunk
+SECONDS = 0.1  # between two lines of progress
+
+
+@dataclass
+class Result:
+    """What came of a log: what is wrong with it, and why that is known, if it is."""
+
+    log: Log
+    hunks: list[Hunk]
+    seconds: float = 0.0
+    known: str | None = None
+
+    @property
+    def has_failed(self) -> bool:
+        return bool(self.hunks) and self.known is None
+
+    def shown(self, hunks: Sequence[Hunk], is_all: bool) -> list[str]:
+        """The lines of hunks, and how many lines more there are of the log."""
+        lines = [it for hunk in hunks for it in hunk.lines]
+        lines = lines if is_all or not hunks else lines[: min(len(hunks[0].lines), MOST)]
+        left = sum(len(it.lines) for it in self.hunks) - len(lines)
+        return lines + [f".. {left} lines more: --all shows them"] * (left > 0)
+
+
+class Sums:
+    """How many logs passed, failed, and failed as it is known that they do."""
+
+    def __init__(self) -> None:
+        self.passed = self.failed = self.known = 0
+        self.began = time.monotonic()
+
+    def add(self, result: Result) -> None:
+        self.failed += result.has_failed
+        self.known += result.known is not None
+        self.passed += not result.hunks
+
+    def __str__(self) -> str:
+        known = f", {self.known} known to fail" if self.known else ""
+        seconds = time.monotonic() - self.began
+        return f"{self.passed} passed, {self.failed} failed{known}, in {seconds:.1f} s"
+
+
+class Progress:
+    """A line on a terminal that says how far the run is."""
+
+    def __init__(self, count: int) -> None:
+        self.count, self.last, self.is_shown = count, 0.0, False
+        self.is_asked = sys.stderr.isatty()
+
+    def show(self, at: int, failed: int) -> None:
+        now = time.monotonic()
+        if self.is_asked and now - self.last > SECONDS:
+            said = f"{at} of {self.count} logs, {failed} failed"
+            print(f"\r{said}\x1b[K", end="", file=sys.stderr, flush=True)
+            self.last, self.is_shown = now, True
+
+    def clear(self) -> None:
+        if self.is_shown:
+            print("\r\x1b[K", end="", file=sys.stderr, flush=True)
+            self.is_shown = False
+
+
+class ForReaders:
+    """Of a log that failed its name and its first difference that no other log has shown."""
+
+    def __init__(self, is_all: bool) -> None:
+        self.is_all = is_all
+        self.first: dict[tuple[str, ...], str] = {}
+
+    def head(self, count: int) -> list[str]:
+        return []
+
+    def of(self, result: Result, at: int) -> list[str]:
+        if not result.has_failed:
+            return []
+        name, hunks = result.log.name, result.hunks
+        fresh = [it for it in hunks if self.is_all or it.change not in self.first]
+        if not fresh:
+            names = {self.first[it.change]: None for it in hunks}
+            return [f"FAILED {name}, with what differs in {', '.join(names)}"]
+        for hunk in fresh if self.is_all else fresh[:1]:
+            self.first.setdefault(hunk.change, name)
+        return [f"FAILED {name}", *(f"  {it}" for it in result.shown(fresh, self.is_all))]
+
+    def end(self, sums: Sums) -> list[str]:
+        return [str(sums)]
+
+
+class Tap:
+    """The Test Anything Protocol, version 13."""
+
+    def __init__(self, is_all: bool) -> None:
+        self.is_all = is_all
+
+    def head(self, count: int) -> list[str]:
+        return ["TAP version 13", f"1..{count}"]
+
+    def of(self, result: Result, at: int) -> list[str]:
+        name = re.sub(r"([\\#])", r"\\\1", result.log.name)
+        todo = "" if result.known is None else f" # TODO {result.known}"
+        line = f"{'not ' * bool(result.hunks)}ok {at} - {name}{todo}"
+        if not result.has_failed:
+            return [line]
+        lines = (f"    {it}" for it in result.shown(result.hunks, self.is_all))
+        return [line, "  ---", "  message: |", *lines, "  ..."]
+
+    def end(self, sums: Sums) -> list[str]:
+        return [f"# {sums}"]
+
+
+def attributes(**values: object) -> str:
+    return "".join(f' {name}="{escape(str(it))}"' for name, it in values.items())
+
+
+def junit(results: Sequence[Result], sums: Sums, is_all: bool) -> str:
+    """The file that CIs read."""
+    counts = attributes(
+        name="cave-suite", tests=len(results), failures=sums.failed, errors=0, skipped=sums.known,
+        time=f"{sum(it.seconds for it in results):.3f}")
+    lines = ['<?xml version="1.0" encoding="UTF-8"?>', "<testsuites>", f"<testsuite{counts}>"]
+    for it in results:
+        folder, name = os.path.split(it.log.name)
+        case = attributes(classname=folder or ".", name=name, file=f"{it.log.path}.log",
+                          time=f"{it.seconds:.3f}")
+        lines.append(f"<testcase{case}>")
+        if it.known is not None:
+            lines.append(f"<skipped{attributes(message=f'known to fail: {it.known}')}/>")
+        elif it.hunks:
+            first, *rest = it.shown(it.hunks, is_all)
+            text = escape("\n".join([first, *rest]), quote=False)
+            lines.append(f"<failure{attributes(message=first)}>{text}</failure>")
+        lines.append("</testcase>")
+    return "\n".join([*lines, "</testsuite>", "</testsuites>", ""])

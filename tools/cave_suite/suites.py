@@ -1,0 +1,119 @@
+"""Suites of logs: which logs they have, which of them words mean, and how they are shared out."""
+
+from __future__ import annotations
+
+import heapq
+import os
+from functools import cached_property
+from typing import Iterable
+
+from .logs import KINDS, Log
+
+NAME = "logs"  # the folder of a suite, above which the files lie that its heads name
+
+
+class Suite:
+    """The logs of a folder. Their heads name files from `top`, and they have names from `base`."""
+
+    def __init__(self, root: str, top: str | None = None) -> None:
+        self.top = os.path.realpath(top or os.path.dirname(os.path.abspath(root)))
+        self.root = os.path.realpath(root)
+        self.is_named_so = os.path.basename(self.root) == NAME
+        self.base = self.root if self.is_named_so else self.top
+        self.known: dict[str, Log] = {}
+
+    def log(self, stem: str) -> Log:
+        """The log of a path without a kind."""
+        return self.known.setdefault(stem, Log(self, stem))
+
+    @cached_property
+    def stems(self) -> list[str]:
+        """The paths, without a kind, of the logs, transcripts and scripts of the folder."""
+        found = set()
+        for folder, _, files in os.walk(self.root):
+            parts = map(os.path.splitext, files)
+            found |= {os.path.join(folder, stem) for stem, kind in parts if kind in KINDS}
+        return sorted(found, key=lambda it: os.path.relpath(it, self.base))
+
+    @cached_property
+    def names(self) -> dict[str, Log]:
+        """All of them by their names."""
+        return {it.name: it for it in map(self.log, self.stems)}
+
+    def logs(self, folder: str | None = None) -> list[Log]:
+        """The logs of a folder, with what has a wrong place, without what is meant for no run."""
+        below = os.path.join(folder or self.root, "")
+        return [self.log(it) for it in self.stems if it.startswith(below) and self.log(it).is_run]
+
+    def runs(self) -> dict[str, Log]:
+        """The logs that are run, by their names."""
+        return {it.name: it for it in self.logs() if it.misplaced is None}
+
+    @cached_property
+    def named(self) -> set[str]:
+        """The words that the heads of the logs that are run have."""
+        heads = (self.log(it).head for it in self.stems if self.log(it).has(".log"))
+        runs = (it for it in heads if "no run" not in it)
+        return {word for head in runs for words in head.values() for word in words}
+
+    def is_named(self, path: str) -> bool:
+        return path in self.named
+
+
+class Suites:
+    """The suites that the words of a command line are about."""
+
+    def __init__(self, here: str, default: Suite, top: str | None = None) -> None:
+        self.here, self.default, self.top = here, default, top
+        self.places = (here, default.top, default.root)  # where a path may begin
+        self.found = {default.root: default}
+
+    def of(self, folder: str) -> Suite:
+        """The suite of a folder: the nearest folder `logs`; if there is none, the folder, and files
+        are then named from where the call is."""
+        default, parts = self.default, folder.split(os.sep)
+        is_below = os.path.join(folder, "").startswith(os.path.join(default.root, ""))
+        if is_below and (self.top or default.is_named_so):
+            return default
+        root, top = folder, self.top or self.here
+        if NAME in parts and not self.top:
+            root = os.sep.join(parts[: len(parts) - parts[::-1].index(NAME)])
+            top = os.path.dirname(root)
+        elif is_below:
+            return default
+        if root not in self.found:
+            self.found[root] = Suite(root, top)
+        return self.found[root]
+
+    def at(self, stem: str) -> list[Log]:
+        """The log of a path, if there is one."""
+        for path in (os.path.realpath(os.path.join(it, stem)) for it in self.places[:2]):
+            if any(os.path.isfile(path + it) for it in KINDS):
+                return [self.of(os.path.dirname(path)).log(path)]
+        return []
+
+    def meant(self, word: str) -> list[Log]:
+        """The logs that a word may mean: one by its name or path, those of a folder, or those whose
+        names end with it."""
+        stem, kind = os.path.splitext(word)
+        stem = stem if kind in KINDS else word
+        names = self.default.names if self.default.is_named_so else {}
+        if found := [names[stem]] if stem in names else self.at(stem):
+            return [it for it in found if it.is_run]
+        for folder in (os.path.realpath(os.path.join(it, word)) for it in self.places):
+            if os.path.isdir(folder):
+                return self.of(folder).logs(folder)
+        ends = f"/{stem}"
+        return [it for name, it in names.items() if name.endswith(ends) and it.is_run]
+
+
+def shards(logs: Iterable[Log], count: int) -> list[list[Log]]:
+    """Logs in parts that have about as many lines each, in the order of the logs."""
+    order = {log: at for at, log in enumerate(logs)}
+    parts: list[list[Log]] = [[] for _ in range(count)]
+    lines = [(0, at) for at in range(count)]
+    for log in sorted(order, key=lambda it: (-it.line_count, it.name)):
+        least, at = heapq.heappop(lines)
+        parts[at].append(log)
+        heapq.heappush(lines, (least + log.line_count + 1, at))
+    return [sorted(it, key=order.__getitem__) for it in parts]
