@@ -92,11 +92,7 @@ impl<M: Machine> Session<M> {
 
     /// Edits the held game by each of the edits in turn, and plays it once. All of them are made,
     /// or none.
-    pub fn edit_group(
-        &mut self,
-        edits: &[Edit],
-        meter: &mut M::Meter,
-    ) -> Result<Done, GroupFault>
+    pub fn edit_group(&mut self, edits: &[Edit], meter: &mut M::Meter) -> Result<Done, GroupFault>
         ensures game { OnOk result (self.new.game
             ≡ apply_all (changes_of edits.now) self.old.game) }
         ensures kept { OnOk result (KeepsSettings self.old self.new) }

@@ -5,8 +5,8 @@ ghost use Rattle.replay_scripts.specs.Views.{applied_item};
 ghost use Rattle.play_edits.specs.Outcome.{standing_of};
 ghost use Rattle.play_edits.specs.Table.{last_state, row_by};
 
-use crate::refusal::Refusal;
 use crate::outcome::{Standing, standing_of};
+use crate::refusal::Refusal;
 use cave_replay::{Done, Session};
 use cave_world::State;
 use play_machine::CaveMachine;
