@@ -83,7 +83,7 @@ def faults_of_ends():
     """Runs that end wrong, or print something else, and pass."""
     for line, said in ENDS.items():
         suite = Suite({"walk.log": WALK, "walk.out": SAID}, REPEAT + line + "\n")
-        status, told = suite.run("--seconds", "2")
+        status, told = suite.run(*["--seconds", "2"] * ("sleep" in line))
         if status != 1 or said not in told:
             yield f"status {status} of a program that ends with `{line}`, and is said: {told}"
     for how, text in ALIKE.items():

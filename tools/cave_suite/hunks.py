@@ -3,6 +3,7 @@
 from __future__ import annotations
 
 import os
+from bisect import bisect_right
 from dataclasses import dataclass
 from difflib import SequenceMatcher
 from itertools import takewhile
@@ -28,9 +29,13 @@ class Hunk:
         return [*self.where, *(f"  {it}" if self.parts else it for it in self.body)]
 
     @property
+    def size(self) -> int:
+        return len(self.where) + len(self.body)
+
+    @property
     def change(self) -> tuple[str, ...]:
         """What two hunks share if they are the same difference: all but place and context."""
-        return tuple(it for it in self.body if not self.parts or it[:1] in "-+")
+        return tuple([it for it in self.body if it[0] != " "]) if self.parts else self.body
 
 
 def sentence(*lines: str) -> Hunk:
@@ -41,7 +46,8 @@ def sentence(*lines: str) -> Hunk:
 def visible(line: str) -> str:
     """A line as it is shown: a byte that isn't seen is its number, and after blanks is a `$`."""
     text = line[:-1] if line.endswith("\n") else line
-    text = "".join(it if it.isprintable() or it == "\t" else f"\\x{ord(it):02x}" for it in text)
+    if not text.isprintable():
+        text = "".join(it if it.isprintable() or it == "\t" else f"\\x{ord(it):02x}" for it in text)
     return text + "$" * text.endswith((" ", "\t")) + " (no line feed)" * (not line.endswith("\n"))
 
 
@@ -98,10 +104,11 @@ def differences(log: Log, old: Sequence[str], new: Sequence[str]) -> Iterator[Hu
     """A hunk for each place where the transcript and what is printed now differ: the line of the
     log whose echo is before it, the line of the transcript, and both aligned."""
     echoes = [*echoes_in(log, new)]
+    places = [it for it, _ in echoes]
     for parts in groups(old, new):
         _, first, _, start, end = next(it for it in parts if it[0] != "equal")
         at = next((it for it in range(start, end) if new[it].strip()), start - 1)
-        echo = [line for place, line in echoes if place <= at][-1:]
+        echo = [line for _, line in echoes[: bisect_right(places, at)][-1:]]
         body = tuple(line for part in parts for line in marked(old, new, part))
         yield Hunk((*echo, f"{log.path}.out:{first + 1}:"), body, tuple(parts))
 

@@ -50,7 +50,7 @@ def run_all(logs: list[Log], said: argparse.Namespace) -> int:
     asked = Asked() if said.is_asking else None
     print("".join(f"{it}\n" for it in report.head(len(logs))), end="", flush=True)
     try:
-        with all_played(said.program, logs, said.seconds, said.jobs) as found:
+        with all_played(said.program, logs, said.seconds, said.jobs, said.update) as found:
             for at, (log, one) in enumerate(zip(logs, found), 1):
                 if said.update and one.hunks:
                     progress.clear()

@@ -8,7 +8,7 @@ import subprocess
 import sys
 import time
 from contextlib import contextmanager
-from dataclasses import dataclass, field
+from dataclasses import dataclass, field, replace
 from multiprocessing import get_context
 from multiprocessing.connection import Connection, wait
 from typing import Callable, Iterator, Sequence
@@ -101,13 +101,14 @@ def in_order(ends: Sequence[Connection], count: int) -> Iterator[Played]:
 
 
 @contextmanager
-def all_played(program: str, logs: Sequence[Log], seconds: float,
-               jobs: int) -> Iterator[Iterator[Played]]:
-    """What came of each log, in their order. Each job is a process: only one thread of a process
-    can begin a program at a time."""
+def all_played(program: str, logs: Sequence[Log], seconds: float, jobs: int,
+               has_texts: bool) -> Iterator[Iterator[Played]]:
+    """What came of each log, in their order, with the texts if they are asked for. Each job is a
+    process: only one thread of a process can begin a program at a time."""
 
     def do(at: int) -> Played:
-        return played(program, logs[at], seconds)
+        found = played(program, logs[at], seconds)
+        return found if has_texts else replace(found, old=[], new=[])
 
     if min(jobs, len(logs)) == 1:
         yield map(do, range(len(logs)))

@@ -33,9 +33,9 @@ class Result:
 
     def shown(self, hunks: Sequence[Hunk], is_all: bool) -> list[str]:
         """The lines of hunks, and how many lines more there are of the log."""
-        lines = [it for hunk in hunks for it in hunk.lines]
-        lines = lines if is_all or not hunks else lines[: min(len(hunks[0].lines), MOST)]
-        left = sum(len(it.lines) for it in self.hunks) - len(lines)
+        lines = [it for hunk in hunks[: None if is_all else 1] for it in hunk.lines]
+        lines = lines if is_all else lines[:MOST]
+        left = sum(it.size for it in self.hunks) - len(lines)
         return lines + [f".. {left} lines more: --all shows them"] * (left > 0)
 
 
@@ -91,10 +91,11 @@ class ForReaders:
         if not result.has_failed:
             return []
         name, hunks = result.log.name, result.hunks
-        fresh = [it for it in hunks if self.is_all or it.change not in self.first]
+        shown = [None if self.is_all else self.first.get(it.change) for it in hunks]
+        fresh = [it for it, first in zip(hunks, shown) if first is None]
         if not fresh:
-            names = {self.first[it.change]: None for it in hunks}
-            return [f"FAILED {name}, with what differs in {', '.join(names)}"]
+            names = ", ".join(dict.fromkeys(it for it in shown if it is not None))
+            return [f"FAILED {name}, with what differs in {names}"]
         for hunk in fresh if self.is_all else fresh[:1]:
             self.first.setdefault(hunk.change, name)
         return [f"FAILED {name}", *(f"  {it}" for it in result.shown(fresh, self.is_all))]

@@ -31,7 +31,7 @@ class Suite:
         """The paths, without a kind, of the logs, transcripts and scripts of the folder."""
         found = set()
         for folder, _, files in os.walk(self.root):
-            parts = map(os.path.splitext, files)
+            parts = [os.path.splitext(it) for it in files]
             found |= {os.path.join(folder, stem) for stem, kind in parts if kind in KINDS}
         return sorted(found, key=lambda it: os.path.relpath(it, self.base))
 
