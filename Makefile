@@ -73,6 +73,7 @@ test: has-rt has-cc checks ## runs the gate: all proofs anew, wrong bodies, test
 	tools/check-wrong-lines
 	@mkdir -p out
 	tools/manual docs/PROGRAM.md > out/cave.1
+	tools/manual docs/FORMATS.md > out/cave-formats.5
 	tools/manual $(RULES) > out/cave-rules.7
 	tools/progress all out/test.log rt ci
 	@tail -n 1 out/test.log
@@ -145,8 +146,8 @@ page: has-dot $(PROGRAM) ## makes a page of two walks for a browser, docs/tour.h
 picture: has-chromium has-chromedriver page ## takes a picture of that page: docs/tour.png
 	@tools/picture docs/tour.html docs/tour.png
 
-# Puts the program into PREFIX, with the runner of suites, cave(1), cave-rules(7) and the completions
-# of shells.
+# Puts the program into PREFIX, with the runner of suites, cave(1), cave-formats(5), cave-rules(7)
+# and the completions of shells.
 RULES = 'cave-rules(7): the rules of the games that cave plays' \
 	docs/TURN.md docs/PLAY.md docs/VERBS.md
 install: $(PROGRAM) ## puts program, cave-suite, manuals and completions into ~/.local
@@ -156,6 +157,8 @@ install: $(PROGRAM) ## puts program, cave-suite, manuals and completions into ~/
 	@mkdir -p out
 	tools/manual docs/PROGRAM.md > out/cave.1
 	install -D -m 644 out/cave.1 '$(PREFIX)/share/man/man1/cave.1'
+	tools/manual docs/FORMATS.md > out/cave-formats.5
+	install -D -m 644 out/cave-formats.5 '$(PREFIX)/share/man/man5/cave-formats.5'
 	tools/manual $(RULES) > out/cave-rules.7
 	install -D -m 644 out/cave-rules.7 '$(PREFIX)/share/man/man7/cave-rules.7'
 	tools/completions bash > out/cave.bash
