@@ -162,3 +162,5 @@ install: $(PROGRAM) ## puts program, cave-suite, manuals and completions into ~/
 	install -D -m 644 out/cave.bash '$(PREFIX)/share/bash-completion/completions/cave'
 	tools/completions zsh > out/_cave
 	install -D -m 644 out/_cave '$(PREFIX)/share/zsh/site-functions/_cave'
+	tools/completions fish > out/cave.fish
+	install -D -m 644 out/cave.fish '$(PREFIX)/share/fish/vendor_completions.d/cave.fish'
