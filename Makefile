@@ -44,9 +44,9 @@ $(PROGRAM): $(SOURCES)
 
 # What takes seconds and needs no proof and no program: what nobody uses, imports from a crate that
 # doesn't have the item, functions that don't go by the word of their definition, what the pages
-# name and show, that the checks of pages and of suites fail what they should, how scripts answer
-# `--help`, and what shells complete. A check that skips something says so in a line, and adds it to
-# the file SKIPPED: `make test` ends with the sum.
+# name and show, that the changelog has the version of the code, that the checks of pages and of
+# suites fail what they should, how scripts answer `--help`, and what shells complete. A check that
+# skips something says so in a line, and adds it to the file SKIPPED: `make test` ends with the sum.
 checks test: export SKIPPED = $(CURDIR)/out/skipped
 checks: ## checks names, imports, pages and scripts, in seconds, without any proof
 	@rm -f out/skipped
@@ -56,6 +56,7 @@ checks: ## checks names, imports, pages and scripts, in seconds, without any pro
 	tools/check-numbers
 	tools/check-pages
 	tools/check-rows
+	tools/check-version
 	tools/rule-words --check
 	tools/counts --check
 	tools/check-checks
