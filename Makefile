@@ -146,8 +146,8 @@ page: has-dot $(PROGRAM) ## makes a page of two walks for a browser, docs/tour.h
 picture: has-chromium has-chromedriver page ## takes a picture of that page: docs/tour.png
 	@tools/picture docs/tour.html docs/tour.png
 
-# Puts the program into PREFIX, with cave-suite, cave-page, cave-chart, manuals, completions of shells,
-# the shipped caves and first logs.
+# Puts the program into PREFIX, with cave-suite, cave-page, cave-chart, manuals, completions, the
+# shipped caves and first logs.
 install: $(PROGRAM) ## puts program, tools, manuals and completions into ~/.local
 	@tools/package $(PROGRAM) $(GIVEN) --into '$(PREFIX)'
 

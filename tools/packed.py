@@ -41,7 +41,9 @@ SHIPPED = ["caves/*.txt", "caves/*.bind", "logs/*.log", "logs/*.out", "logs/*.sc
            "logs/shown/play.*", "logs/shown/edit.*", "logs/shown/edit-reports.*"]
 RULES = ["cave-rules(7): the rules of the games that cave plays", "docs/TURN.md", "docs/PLAY.md",
          "docs/VERBS.md"]
-MANUALS = {"cave.1": ["docs/PROGRAM.md"], "cave-rules.7": RULES, "cave-formats.5": ["docs/FORMATS.md"]}
+# Manual pages and what they are made of, if it is there.
+MANUALS = {"cave.1": ["docs/PROGRAM.md"], "cave-rules.7": RULES,
+           "cave-formats.5": ["docs/FORMATS.md"]}
 BASH, FISH = "share/bash-completion/completions/cave", "share/fish/vendor_completions.d/cave.fish"
 
 
@@ -126,14 +128,15 @@ class Build:
             rows += [("as built", f"SHA-256 {hashlib.sha256(self.built).hexdigest()}"),
                      ("", f"The packed program is the built one without {SYMBOLS}.")]
         how = (
-            "The program was handed to `make package`: whether it was built from this commit, and by"
-            " this toolchain, isn't known here."
+            "The program was handed to `make package`: whether it was built from this commit, and"
+            " by this toolchain, isn't known here."
             if self.is_given else
             "The program was built by `make`, which first has that toolchain prove all contracts of"
             " the crates that the program is made of, and stops if one isn't proved. What they say,"
             " and what is trusted, is in README.md and docs/PROVED.md of that commit.")
         told = [f"{name:10}{said}" for name, said in rows]
-        return "\n".join([f"cave {self.version}, {SYSTEM}", "", *told, "", *textwrap.wrap(how, 78), ""])
+        head = f"cave {self.version}, {SYSTEM}"
+        return "\n".join([head, "", *told, "", *textwrap.wrap(how, 78), ""])
 
 
 def packed_small(content: bytes) -> bytes:
@@ -159,11 +162,14 @@ def as_users_call_it(name: str, interpreter: str) -> bytes:
 def manual_of_tool(name: str) -> bytes:
     """The manual page of a tool, made of what it says of itself."""
     script = TOOLS[name][0]
-    about, _, rest = without_folder(said_by(sys.executable, script, "--help").decode()).partition("\n\n")
-    about, _, rest = rest.partition("\n\n") if about.startswith("usage:") else (about, "", rest)
+    said = without_folder(said_by(sys.executable, script, "--help").decode())
+    about, _, rest = said.partition("\n\n")
+    if about.startswith("usage:"):
+        about, _, rest = rest.partition("\n\n")
     rest, mark, options = rest.partition("\n\npositional arguments:")
-    page = [f"# {name}(1)", f"`{name}`: {about[:1].lower()}{' '.join(about[1:].split()).rstrip('.')}",
-            "## Description", rest.strip("\n")]
+    about = " ".join(about.split()).rstrip(".")
+    page = [f"# {name}(1)", f"`{name}`: {about[:1].lower()}{about[1:]}", "## Description",
+            rest.strip("\n")]
     if mark:
         page += ["## Options", textwrap.indent(f"positional arguments:{options}".rstrip(), "    ")]
     with tempfile.NamedTemporaryFile("w", suffix=".md", encoding="utf-8") as file:
@@ -208,10 +214,10 @@ def debian_changelog() -> bytes:
 def copyright_of(build: Build) -> str:
     year = datetime.datetime.fromtimestamp(build.moment, datetime.timezone.utc).year
     return (f"Copyright {year} Rackshoal maintainers\n\n"
-            "The owner of Rackshoal has chosen no licence yet. Until one is chosen, nothing here may\n"
-            "be copied, changed or passed on without the owner's leave. The program also has parts\n"
-            "of the libraries that the README of Rackshoal lists as trusted, which have terms of\n"
-            "their own.\n")
+            "The owner of Rackshoal has chosen no licence yet. Until one is chosen, nothing here\n"
+            "may be copied, changed or passed on without the owner's leave. The program also has\n"
+            "parts of the libraries that the README of Rackshoal lists as trusted, which have\n"
+            "terms of their own.\n")
 
 
 def pages(kind: Kind) -> Iterator[tuple[str, File]]:
@@ -255,7 +261,7 @@ def sums_of(files: dict[str, File]) -> bytes:
 
 
 def put(files: dict[str, File], folder: str, moment: int | None = None) -> None:
-    """Puts a tree into a folder, with permissions of its own, and with one date if that is given."""
+    """Puts a tree into a folder, with permissions of its own, and with one date if it is given."""
     for path in folders_of([*files]):
         os.makedirs(f"{folder}/{path}", exist_ok=True)
     for path, it in files.items():
