@@ -72,7 +72,9 @@ class File:
 
 
 def said_by(*words: str) -> bytes:
-    return subprocess.run(words, cwd=TOP, capture_output=True, check=True).stdout
+    """What a command prints for a reader with lines of 80 columns, of whatever terminal."""
+    env = os.environ | {"COLUMNS": "80", "NO_COLOR": "1"}
+    return subprocess.run(words, cwd=TOP, env=env, stdout=subprocess.PIPE, check=True).stdout
 
 
 def bytes_of(path: str) -> bytes:
