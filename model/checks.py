@@ -1,4 +1,4 @@
-"""What `check` tells of a cave that is accepted (docs/PROGRAM.md, Names to Doubts)."""
+"""What `check` tells of a cave that is accepted (docs/FORMATS.md, Names to Doubts)."""
 
 from database import NAMES, ROLES, SECONDS, SECTIONS, numbered_rows
 from lines import fields_of, folded, lines_of

@@ -1,4 +1,4 @@
-"""Which texts of a cave the plays of logs never say (docs/PROGRAM.md, Coverage)."""
+"""Which texts of a cave the plays of logs never say (docs/FORMATS.md, Coverage)."""
 
 from database import ROLES
 

@@ -1,6 +1,6 @@
 """The score: what counts, what costs, and what it comes to.
 
-docs/TURN.md, The score; docs/PROGRAM.md, The score.
+docs/TURN.md, The score; docs/FORMATS.md, The score.
 """
 
 CLOSED = {"success": 45, "wrong way": 30, "klutz": 25}  # by the ending; 10 without one of these
