@@ -14,6 +14,7 @@ import gzip
 import hashlib
 import os
 import re
+import shutil
 import subprocess
 import sys
 import tempfile
@@ -118,13 +119,20 @@ class Build:
         """When the commit was made, in seconds: all files have this date."""
         return int(said_by("git", "log", "-1", "--format=%ct"))
 
+    @cached_property
+    def toolchain(self) -> str:
+        """The toolchain that is here and built the program, otherwise the one that README names."""
+        if not self.is_given and shutil.which("rt"):
+            return said_by("rt", "version").decode().strip()
+        named = TRUSTED.search(" ".join(versions.text_of("README.md").split()))
+        return named[1] if named else "unknown"
+
     def text(self) -> str:
         """What says by which commit and toolchain the program was proved."""
         day = datetime.datetime.fromtimestamp(self.moment, datetime.timezone.utc)
-        toolchain = TRUSTED.search(" ".join(versions.text_of("README.md").split()))
         changed = ", with changes that aren't committed" if self.is_changed else ""
         rows = [("commit", f"{self.commit} of {day:%Y-%m-%d}{changed}"),
-                ("toolchain", toolchain[1] if toolchain else "unknown"),
+                ("toolchain", self.toolchain),
                 ("program", f"SHA-256 {hashlib.sha256(self.packed).hexdigest()}")]
         if self.packed != self.built:
             rows += [("as built", f"SHA-256 {hashlib.sha256(self.built).hexdigest()}"),
