@@ -78,6 +78,14 @@ def said_by(*words: str) -> bytes:
     return subprocess.run(words, cwd=TOP, env=env, stdout=subprocess.PIPE, check=True).stdout
 
 
+def said_by_git(*words: str) -> str:
+    """What git says, or nothing if there is no git, or this is no clone."""
+    if not shutil.which("git"):
+        return ""
+    ran = subprocess.run(["git", *words], cwd=TOP, text=True, capture_output=True, check=False)
+    return "" if ran.returncode else ran.stdout.strip()
+
+
 def bytes_of(path: str) -> bytes:
     with open(os.path.join(TOP, path), "rb") as file:
         return file.read()
@@ -108,16 +116,18 @@ class Build:
 
     @cached_property
     def commit(self) -> str:
-        return said_by("git", "rev-parse", "HEAD").decode().strip()
+        return said_by_git("rev-parse", "HEAD")
 
     @cached_property
     def is_changed(self) -> bool:
-        return bool(said_by("git", "status", "--porcelain"))
+        return bool(said_by_git("status", "--porcelain"))
 
     @cached_property
     def moment(self) -> int:
-        """When the commit was made, in seconds: all files have this date."""
-        return int(said_by("git", "log", "-1", "--format=%ct"))
+        """When the commit was made, in seconds: all files have this date. Without git it is the day
+        of the newest version."""
+        day = datetime.datetime.fromisoformat(f"{versions.releases()[0].day}T00:00:00+00:00")
+        return int(said_by_git("log", "-1", "--format=%ct") or day.timestamp())
 
     @cached_property
     def toolchain(self) -> str:
@@ -131,7 +141,8 @@ class Build:
         """What says by which commit and toolchain the program was proved."""
         day = datetime.datetime.fromtimestamp(self.moment, datetime.timezone.utc)
         changed = ", with changes that aren't committed" if self.is_changed else ""
-        rows = [("commit", f"{self.commit} of {day:%Y-%m-%d}{changed}"),
+        commit = f"{self.commit} of {day:%Y-%m-%d}{changed}" if self.commit else "unknown"
+        rows = [("commit", commit),
                 ("toolchain", self.toolchain),
                 ("program", f"SHA-256 {hashlib.sha256(self.packed).hexdigest()}")]
         if self.packed != self.built:
