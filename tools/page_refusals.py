@@ -114,7 +114,7 @@ def charts(pages):
     if not shutil.which("gnuplot"):
         return
     yield "a chart: the status", chart_of(steps, output).returncode, 0
-    named = {"score", "lamp", "treasure found", "treasure home", "line of the log"}
+    named = {"score", "lamp", "treasure found", "treasure home", "place in the log"}
     yield "a chart: what it names", words_of(output) & {*named, "died"}, named
     log = f"{TOP}/logs/shoal/three-deaths.log"
     table = pages.printed("play", SHOAL[0], log, *SHOAL[1], "--seed", "1", "--print", "steps")
