@@ -1,4 +1,4 @@
-.PHONY: help try play checks test soak suite duel map chart page picture install
+.PHONY: help try play checks test soak suite duel map chart page picture install package
 
 # The first target, so `make` alone lists them too: each has its sentence after `##`.
 help: ## lists what `make` can do
@@ -12,7 +12,8 @@ has-%:
 	@tools/command_line.py $*
 
 PREFIX ?= $(HOME)/.local
-PROGRAM = crates/cave/out/cave
+BUILT = crates/cave/out/cave
+PROGRAM = $(BUILT)
 SOURCES = crates.txt \
 	$(shell find crates -name out -prune -o -type f \( -name '*.rt' -o -name '*.antt' \) -print)
 FIRST_GAME = play '$(CURDIR)/caves/shoal.txt' '$(CURDIR)/logs/tour.log' \
@@ -36,7 +37,7 @@ play: $(PROGRAM) ## proves and builds the program, and plays that log with it
 	@$(PROGRAM) $(FIRST_GAME)
 
 # Proves the program with all that it is built on, and builds it. What was said is in out/build.log.
-$(PROGRAM): $(SOURCES)
+$(BUILT): $(SOURCES)
 	@mkdir -p crates/cave/out
 	@echo "Proving and building. What is said goes into out/build.log."
 	@cd crates/cave && ../../tools/progress cave ../../out/build.log rt run -- $(FIRST_GAME)
@@ -44,9 +45,9 @@ $(PROGRAM): $(SOURCES)
 
 # What takes seconds and needs no proof and no program: what nobody uses, imports from a crate that
 # doesn't have the item, functions that don't go by the word of their definition, what the pages
-# name and show, that the checks of pages and of suites fail what they should, how scripts answer
-# `--help`, and what shells complete. A check that skips something says so in a line, and adds it to
-# the file SKIPPED: `make test` ends with the sum.
+# name and show, that the changelog has the version of the code, that the checks of pages and of
+# suites fail what they should, how scripts answer `--help`, and what shells complete. A check that
+# skips something says so in a line, and adds it to the file SKIPPED: `make test` ends with the sum.
 checks test: export SKIPPED = $(CURDIR)/out/skipped
 checks: ## checks names, imports, pages and scripts, in seconds, without any proof
 	@rm -f out/skipped
@@ -56,6 +57,7 @@ checks: ## checks names, imports, pages and scripts, in seconds, without any pro
 	tools/check-numbers
 	tools/check-pages
 	tools/check-rows
+	tools/check-version
 	tools/rule-words --check
 	tools/counts --check
 	tools/check-checks
@@ -72,9 +74,7 @@ checks: ## checks names, imports, pages and scripts, in seconds, without any pro
 test: has-rt has-cc checks ## runs the gate: all proofs anew, wrong bodies, tests, suite and duel
 	tools/check-wrong-lines
 	@mkdir -p out
-	tools/manual docs/PROGRAM.md > out/cave.1
-	tools/manual docs/FORMATS.md > out/cave-formats.5
-	tools/manual $(RULES) > out/cave-rules.7
+	tools/package --manuals out
 	tools/progress all out/test.log rt ci
 	@tail -n 1 out/test.log
 	@! grep 'BAD EDIT' out/test.log
@@ -146,22 +146,13 @@ page: has-dot $(PROGRAM) ## makes a page of two walks for a browser, docs/tour.h
 picture: has-chromium has-chromedriver page ## takes a picture of that page: docs/tour.png
 	@tools/picture docs/tour.html docs/tour.png
 
-# Puts the program into PREFIX, with the runner of suites, cave(1), cave-formats(5), cave-rules(7)
-# and the completions of shells.
-RULES = 'cave-rules(7): the rules of the games that cave plays' \
-	docs/TURN.md docs/PLAY.md docs/VERBS.md
-install: $(PROGRAM) ## puts program, cave-suite, manuals and completions into ~/.local
-	install -D -m 755 $(PROGRAM) '$(PREFIX)/bin/cave'
-	install -D -m 755 tools/cave-suite '$(PREFIX)/bin/cave-suite'
-	install -D -m 644 -t '$(PREFIX)/share/cave/cave_suite' tools/cave_suite/*.py
-	@mkdir -p out
-	tools/manual docs/PROGRAM.md > out/cave.1
-	install -D -m 644 out/cave.1 '$(PREFIX)/share/man/man1/cave.1'
-	tools/manual docs/FORMATS.md > out/cave-formats.5
-	install -D -m 644 out/cave-formats.5 '$(PREFIX)/share/man/man5/cave-formats.5'
-	tools/manual $(RULES) > out/cave-rules.7
-	install -D -m 644 out/cave-rules.7 '$(PREFIX)/share/man/man7/cave-rules.7'
-	tools/completions bash > out/cave.bash
-	install -D -m 644 out/cave.bash '$(PREFIX)/share/bash-completion/completions/cave'
-	tools/completions zsh > out/_cave
-	install -D -m 644 out/_cave '$(PREFIX)/share/zsh/site-functions/_cave'
+# Puts the program into PREFIX, with cave-suite, cave-page, cave-chart, manuals, completions, the
+# shipped caves and first logs.
+install: $(PROGRAM) ## puts program, tools, manuals and completions into ~/.local
+	@tools/package $(PROGRAM) $(GIVEN) --into '$(PREFIX)'
+
+# Packs the same as an archive and as a Debian package, into out/package. Another program than the
+# one that is built here is PROGRAM=FILE; the packages then say that it was handed over.
+GIVEN = $(if $(filter-out $(BUILT),$(PROGRAM)),--given)
+package: has-dpkg-deb has-strip $(PROGRAM) ## packs the program as an archive and for Debian
+	@tools/package $(PROGRAM) $(GIVEN)

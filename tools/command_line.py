@@ -16,7 +16,8 @@ import sys
 
 # The packages of Debian that have the programs, if they have other names.
 PACKAGES = {"cc": "gcc", "dot": "graphviz", "gnuplot": "gnuplot-nox",
-            "chromedriver": "chromium-driver"}
+            "chromedriver": "chromium-driver", "dpkg-deb": "dpkg", "strip": "binutils",
+            "man": "man-db"}
 OLDEST = (3, 10)  # Python
 
 if sys.version_info < OLDEST:
