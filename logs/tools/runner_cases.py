@@ -253,7 +253,9 @@ def faults_of_stops():
     slow = {f"logs/{it}.log": "# run: play\n" for it in range(9)}
     folder = Folder(slow, "#!/bin/sh\necho > begun\nexec sleep 2\n")
     began = time.monotonic()
-    with subprocess.Popen(folder.command("-j", "1"), **to | {"cwd": folder.top}) as ran:
+    # What runs in the background may have been told to ignore an interrupt, and the runner would too.
+    heard = {"preexec_fn": lambda: signal.signal(signal.SIGINT, signal.default_int_handler)}
+    with subprocess.Popen(folder.command("-j", "1"), **to | heard | {"cwd": folder.top}) as ran:
         while not os.path.exists(f"{folder.top}/begun") and time.monotonic() - began < PATIENCE:
             time.sleep(0.05)
         ran.send_signal(signal.SIGINT)
