@@ -256,6 +256,30 @@ pub IsFoundIn-opened : {S : Type 0} (every : ℕ) (game : List (List ℕ)) (seed
 IsFoundIn-opened every game seed found r fits near is h =
     found_by every game seed found fits near (refused_for _ found r is h)
 
+-- ---- a log that is watched
+
+-- a log that was watched to its end has no fault
+pub lines_fault-watched : (game : List (List ℕ)) (seed : ℕ)
+    → or_game_fault (first_bad_line game 1) game seed ≡ None → lines_fault game ≡ None
+unfolding lines_fault
+lines_fault-watched game seed none = or_game_fault-none (first_bad_line game 1) game seed none
+
+lines_fault-refused : (game : List (List ℕ)) (seed : ℕ) (found : OpenFault)
+    → large_seed seed ≡ None → or_game_fault (first_bad_line game 1) game seed ≡ Some found
+    → lines_fault game ≡ Some (opening_fault found)
+unfolding lines_fault
+lines_fault-refused game seed found fits is =
+    or_game_fault-fits (first_bad_line game 1) game seed found fits is
+
+-- a log that wasn't watched to its end
+pub IsFoundIn-watched : (game : List (List ℕ)) (seed : ℕ) (found : OpenFault)
+    → large_seed seed ≡ None
+    → (found ≡ session.Memory) ⊎ (or_game_fault (first_bad_line game 1) game seed ≡ Some found)
+    → IsFoundIn (judging_stage (lines_fault game) ∷ []) (opening_fault found)
+IsFoundIn-watched game seed found fits (inl memory) = rw memory (inl (inl tt))
+IsFoundIn-watched game seed found fits (inr is) =
+    inl (inr (lines_fault-refused game seed found fits is))
+
 -- ---- a script
 
 pub IsFoundIn-script : (guarded : Bool) (bytes : List ℕ) (found : PlayFault)

@@ -10,3 +10,4 @@ mod StrictLemmas
 mod TextsLemmas
 mod UndoLemmas
 mod ViewLemmas
+mod WatchedLemmas

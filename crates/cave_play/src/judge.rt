@@ -13,6 +13,8 @@ ghost use Rattle.cave_play.specs.Judge.{large_seed, every_fault, lines_fault, sc
 ghost use Rattle.cave_play.specs.Judge.{cave_refusal, inputs_fault, opening_fault};
 ghost use Rattle.cave_play.specs.Doubted.{IsReadOf};
 ghost use Rattle.play_machine.specs.HeldGame.{HoldsGame};
+ghost use Rattle.play_machine.specs.Moments.{noted_of};
+ghost use Rattle.play_machine.specs.Watch.{IsEndOf, NotesMore};
 ghost use Rattle.cave_play.specs.Run.{Judges};
 ghost use Rattle.cave_play.specs.Stages.{judging_stage};
 ghost use Rattle.cave_play.specs.Stages.{cave_stages, log_stage, script_stage};
@@ -26,7 +28,7 @@ use cave_data::Cave;
 use cave_replay::{OpenFault, Session};
 use check_tables::clue_of;
 use data_rows::{Cause, CaveError};
-use play_machine::CaveMachine;
+use play_machine::{CaveMachine, PlayEnd, Watch, watch_log};
 use replay_scripts::{Script, ScriptRefusal};
 use std::alloc::Global;
 use std::io::Read;
@@ -181,6 +183,28 @@ pub fn play_log<'a, L: Read>(
 {
     let log = read(alloc, Input::Log, log)?;
     open_session(alloc, machine, &log, seed, every)
+}
+
+/// Reads a log and plays it in a cave, while it is watched.
+pub fn watch_play<W: Watch, L: Read>(
+    alloc: Global,
+    machine: CaveMachine<'_>,
+    log: &mut L,
+    seed: u32,
+    watch: &mut W,
+) -> Result<PlayEnd, PlayFault>
+    requires { large_seed seed ≡ None }
+    ensures judged { (bytes : List ℕ) × Says (L.remaining log.old) bytes
+        × Judges (log_stage bytes ∷ [])
+        (λ end. NotesMore W.HasNoted (noted_of W.first_facts W.facts machine.entry.rules.cave.now
+        (game_of seed (lines bytes))) watch.old watch.new
+        × IsEndOf machine.entry.rules.cave.now (game_of seed (lines bytes)) end) result }
+{
+    let log = read(alloc, Input::Log, log)?;
+    match watch_log(alloc, machine, &log, seed, watch) {
+        Ok(end) => Ok(end),
+        Err(fault) => Err(opening_fault(fault)),
+    }
 }
 
 /// Reads a script, some of whose lines may be guards.

@@ -18,7 +18,6 @@ use crate::inputs::Inputs;
 use crate::judge::{check_every, check_seed, play_log, read_cave};
 use crate::output::write_output;
 use crate::views::{check_text, play_view_text};
-use base_lines::limits::MAX_EVERY;
 use cave_data::Cave;
 use cave_words::Lexicon;
 use play_command::{CheckView, Editing, PlayView};
@@ -116,12 +115,7 @@ fn play_in_cave<L: Read>(
 {
     let lexicon = Lexicon::build(alloc, cave)?;
     let machine = CaveMachine::new(cave, &lexicon);
-    // Nothing is edited, so hardly any state is kept.
-    let session = play_log(alloc, machine, log, seed, MAX_EVERY)?;
-    let text = play_view_text(alloc, &session, view);
-    // The checker can't drop a session over a borrowed machine at the end of a block.
-    drop(session);
-    text
+    play_view_text(alloc, machine, log, seed, view)
 }
 
 /// What is asked for of a script in a cave.

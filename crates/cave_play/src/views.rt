@@ -1,18 +1,28 @@
 //! What is asked for of a cave, and of a play in it.
 
-ghost use Rattle.std.specs.Prelude.{◌≡◌, ◌++◌, MatchResult, OnOk};
+ghost use Rattle.std.specs.Prelude.{◌≡◌, ℕ, List, [], ◌∷◌, None, ◌++◌, MatchResult, OnOk};
+ghost use Rattle.std.specs.Str.Lines.{lines};
+ghost use Rattle.replay_edits.specs.Edit.{game_of};
+ghost use Rattle.cave_play.specs.Input.{Says};
+ghost use Rattle.cave_play.specs.Judge.{large_seed};
+ghost use Rattle.cave_play.specs.Run.{Judges};
+ghost use Rattle.cave_play.specs.Stages.{log_stage};
 ghost use Rattle.cave_play.specs.Output.{cave_line, check_text, play_view_text};
 ghost use Rattle.turn_ends.specs.Score.{max_score_of};
 
 use crate::fault::PlayFault;
+use crate::judge::watch_play;
 use cave_data::Cave;
-use cave_replay::Session;
 use cave_words::Lexicon;
 use check_tables::{push_names, push_unused};
 use data_bindings::push_bindings;
 use play_command::{CheckView, PlayView};
-use play_machine::{CaveMachine, push_final_state, push_play, push_score, push_steps};
+use play_machine::{
+    CaveMachine, StepTable, Transcript, Unwatched, push_play_end, push_state_after,
+};
+use play_tables::push_score_table;
 use std::alloc::{AllocError, Global};
+use std::io::Read;
 use turn_ends::max_score;
 use turn_scene::Rules;
 
@@ -48,22 +58,41 @@ fn push_cave_line(alloc: Global, text: &mut Vec<u8>, most: u32) -> Result<(), Al
     text.extend_from_slice(line.as_bytes())
 }
 
-/// What is asked for of the play that a session of the machine holds.
-pub(crate) fn play_view_text(
+/// What is asked for of the play of a log that is read.
+pub(crate) fn play_view_text<L: Read>(
     alloc: Global,
-    session: &Session<CaveMachine<'_>>,
+    machine: CaveMachine<'_>,
+    log: &mut L,
+    seed: u32,
     view: PlayView,
 ) -> Result<Vec<u8>, PlayFault>
-    ensures told { MatchResult result (λ text. text.items
-        ≡ play_view_text view session.now.machine.rules.cave.now session.now.game)
-        (λ fault. fault ≡ PlayFault.Memory) }
+    requires { large_seed seed ≡ None }
+    ensures judged { (moves : List ℕ) × Says (L.remaining log.old) moves
+        × Judges (log_stage moves ∷ []) (λ text. text.items
+        ≡ play_view_text view machine.entry.rules.cave.now (game_of seed (lines moves))) result }
 {
     let mut text = Vec::new(alloc);
     match view {
-        PlayView::Transcript => push_play(alloc, session, &mut text)?,
-        PlayView::Steps => push_steps(alloc, session, &mut text)?,
-        PlayView::Score => push_score(alloc, session, &mut text)?,
-        PlayView::FinalState => push_final_state(alloc, session, &mut text)?,
+        PlayView::Transcript => {
+            let mut transcript = Transcript { text };
+            let end = watch_play(alloc, machine, log, seed, &mut transcript)?;
+            push_play_end(alloc, machine, &end.state, end.turns, &mut transcript.text)?;
+            Ok(transcript.text)
+        }
+        PlayView::Steps => {
+            let mut table = StepTable { text };
+            watch_play(alloc, machine, log, seed, &mut table)?;
+            Ok(table.text)
+        }
+        PlayView::Score => {
+            let end = watch_play(alloc, machine, log, seed, &mut Unwatched)?;
+            push_score_table(alloc, &mut text, &machine.rules(), &end.state)?;
+            Ok(text)
+        }
+        PlayView::FinalState => {
+            let end = watch_play(alloc, machine, log, seed, &mut Unwatched)?;
+            push_state_after(alloc, machine, &end.state, end.turns, &mut text)?;
+            Ok(text)
+        }
     }
-    Ok(text)
 }

@@ -1,67 +1,50 @@
 -- What is said of logs by their order and their number.
-use Rattle.std.proofs.Common.{◌≡◌, ℕ, ◌<◌, Bool, true, false, List, ◌∷◌, length, refl, sym, ap, ◌∙◌}
+use Rattle.std.proofs.Common.{◌≡◌, ℕ, Bool, true, false, List, ◌∷◌, refl, sym, ap, ◌∙◌}
 use Rattle.std.specs.Prelude.{◌||◌}
 use Rattle.std.specs.List.{Contains, list_any}
 use Rattle.std.proofs.lemmas.List.Folds.{list_any_at}
 use Rattle.std.proofs.lemmas.List.Sorted.{length_permutation, list_any-IsPermutation}
-use Rattle.std.specs.List.Sorted.{IsPermutation}
-use Rattle.cave_data.specs.CaveView.{CaveView}
-use Rattle.play_logs.proofs.Lists.{any_flat}
-use Rattle.play_command.specs.declared.views.CoverView.TheVariants.{Rules, Said}
-use Rattle.play_command.specs.declared.views.TextView.{TextView}
 use Rattle.cave_data.proofs.ReadLemmas.{same_cave}
-use Rattle.play_cover.specs.Plays.{OrderIsNothing, AgainIsNothing, OneCoveredOutput, cover_text}
-use Rattle.play_cover.specs.Plays.{said_in_all, said_in_log, report_of_logs}
-use Rattle.play_cover.specs.Texts.{is_among, is_same, end_of_numbers}
-use Rattle.play_cover.specs.declared.text.Text.{Text}
-use Rattle.play_cover.proofs.Agreeing.{agree_view}
-use Rattle.play_cover.proofs.RuleLawLemmas.{order_is_nothing as rules_in_order}
+use Rattle.cave_data.specs.CaveView.{CaveView}
+use Rattle.play_command.specs.declared.views.CoverView.{CoverView}
+use Rattle.play_logs.proofs.Lists.{any_flat}
+use Rattle.play_cover.specs.Marks.{is_among, is_same}
+use Rattle.play_cover.specs.Plays.{AgainIsNothing, OneCoveredOutput, OrderIsNothing, cover_text}
+use Rattle.play_cover.specs.Plays.{covered_in_all, covered_in_log, report_by}
+use Rattle.play_cover.specs.declared.marks.Mark.{Mark}
 
--- whether a log says a text
-abbrev says : CaveView → ℕ → Text → List ℕ → Bool
-says cave seed text log = is_among text (said_in_log cave seed log)
+-- whether a log covers it
+abbrev covers : CoverView → CaveView → ℕ → Mark → List ℕ → Bool
+covers view cave seed mark log = is_among mark (covered_in_log view cave seed log)
 
-among_all : (cave : CaveView) (seed : ℕ) (logs : List (List ℕ)) (text : Text)
-    → is_among text (said_in_all cave seed logs) ≡ list_any (says cave seed text) logs
-among_all cave seed logs text = any_flat (is_same text) (said_in_log cave seed) logs
-
-texts_in_order : (cave : CaveView) (seed : ℕ) (view : TextView) (logs others : List (List ℕ))
-    → IsPermutation logs others
-    → report_of_logs cave seed view others (length others)
-    ≡ report_of_logs cave seed view logs (length logs)
-texts_in_order cave seed view logs others shuffled =
-    let of_logs = λ (text : Text). is_among text (said_in_all cave seed logs) in
-    let of_others = λ (text : Text). is_among text (said_in_all cave seed others) in
-    let agree = λ (text : Text) (below : text.number < end_of_numbers).
-    among_all cave seed others text
-    ∙ sym (list_any-IsPermutation (says cave seed text) logs others shuffled)
-    ∙ sym (among_all cave seed logs text) in
-    ap (report_of_logs cave seed view others) (length_permutation logs others shuffled)
-    ∙ agree_view cave of_others of_logs agree view (length logs)
+among_all : (view : CoverView) (cave : CaveView) (seed : ℕ) (logs : List (List ℕ)) (mark : Mark)
+    → is_among mark (covered_in_all view cave seed logs) ≡ list_any (covers view cave seed mark) logs
+among_all view cave seed logs mark = any_flat (is_same mark) (covered_in_log view cave seed) logs
 
 pub order_is_nothing : OrderIsNothing
-order_is_nothing database cave seed (Said view) logs others shuffled =
-    texts_in_order cave seed view logs others shuffled
-order_is_nothing database cave seed Rules logs others shuffled =
-    rules_in_order database cave seed logs others shuffled
+order_is_nothing database cave seed view logs others shuffled =
+    let agree = λ (mark : Mark).
+    among_all view cave seed others mark
+    ∙ sym (list_any-IsPermutation (covers view cave seed mark) logs others shuffled)
+    ∙ sym (among_all view cave seed logs mark) in
+    let many = length_permutation logs others shuffled in
+    λ i. report_by view database cave (λ mark. agree mark i) (many i)
 
-said_once : (says : List ℕ → Bool) (logs : List (List ℕ)) (log : List ℕ) → Contains logs log
-    → (says log || list_any says logs) ≡ list_any says logs
-said_once says logs log (place, below, is) = go (says log) refl
+once : (covers : List ℕ → Bool) (logs : List (List ℕ)) (log : List ℕ) → Contains logs log
+    → (covers log || list_any covers logs) ≡ list_any covers logs
+once covers logs log (place, below, is) = go (covers log) refl
   where
-    go : (b : Bool) → says log ≡ b → (b || list_any says logs) ≡ list_any says logs
-    go false not_said = refl
-    go true said = sym (list_any_at says logs place log below (ap says is ∙ said))
+    go : (b : Bool) → covers log ≡ b → (b || list_any covers logs) ≡ list_any covers logs
+    go false never = refl
+    go true does = sym (list_any_at covers logs place log below (ap covers is ∙ does))
 
 pub again_is_nothing : AgainIsNothing
-again_is_nothing cave seed view logs log given count =
-    let of_logs = λ (text : Text). is_among text (said_in_all cave seed logs) in
-    let of_more = λ (text : Text). is_among text (said_in_all cave seed (log ∷ logs)) in
-    let agree = λ (text : Text) (below : text.number < end_of_numbers).
-    among_all cave seed (log ∷ logs) text
-    ∙ said_once (says cave seed text) logs log given
-    ∙ sym (among_all cave seed logs text) in
-    agree_view cave of_more of_logs agree view count
+again_is_nothing database cave seed view logs log given count =
+    let agree = λ (mark : Mark).
+    among_all view cave seed (log ∷ logs) mark
+    ∙ once (covers view cave seed mark) logs log given
+    ∙ sym (among_all view cave seed logs mark) in
+    λ i. report_by view database cave (λ mark. agree mark i) count
 
 pub one_covered_output : OneCoveredOutput
 one_covered_output database bindings logs seed view =

@@ -1,12 +1,9 @@
-pub mod Agreeing
 pub mod CountedRows
 pub mod LawLemmas
 pub mod Noting
-pub mod Reaching
-pub mod Telling
-pub mod PlayLemmas
+pub mod Numbers
+pub mod Padding
 pub mod QuestionLemmas
-pub mod RowNoting
-pub mod RuleLawLemmas
-pub mod RuleLineLemmas
-pub mod RuleTelling
+pub mod Reaching
+pub mod RowMarkLemmas
+pub mod Telling

@@ -1,25 +1,13 @@
 -- What several notings make together.
-use Rattle.std.proofs.Common.{◌≡◌, ℕ, zero, suc, ◌+◌, ◌<◌, Bool, true, false, List, [], ◌∷◌, ◌++◌}
-use Rattle.std.proofs.Common.{length, get_or, take, replicate, refl, sym, ap, ◌∙◌, subst, ◌≤◌}
-use Rattle.std.proofs.Common.{append-nil}
+use Rattle.std.proofs.Common.{◌≡◌, ℕ, ◌+◌, ◌<◌, ◌≤◌, Bool, true, false, List, [], ◌∷◌, ◌++◌, length}
+use Rattle.std.proofs.Common.{append-nil, get_or, map, take, refl, sym, ap, ◌∙◌, subst}
 use Rattle.std.specs.Prelude.{◌||◌}
 use Rattle.std.specs.List.{flat_map}
-use Rattle.std.proofs.lemmas.List.{take_all, take_more}
+use Rattle.std.proofs.lemmas.List.{map-append, take_all, take_more}
 use Rattle.std.proofs.lemmas.Grind.{flat_map-append}
 use Rattle.std.proofs.lemmas.List.Folds.{list_any-append}
-use Rattle.play_cover.specs.Texts.{Notes, is_marked, place_of_mark, is_among, is_same}
-use Rattle.play_cover.specs.declared.text.Text.{Text}
-
-get_or-unmarked : (n i : ℕ) → get_or (replicate n false) i false ≡ false
-get_or-unmarked zero i = refl
-get_or-unmarked (suc n) zero = refl
-get_or-unmarked (suc n) (suc i) = get_or-unmarked n i
-
--- where nothing is noted yet
-pub unmarked : (marks : List Bool) (n : ℕ) → marks ≡ replicate n false → (text : Text)
-    → is_marked marks text ≡ false
-unmarked marks n none text = ap (λ marks. is_marked marks text) none
-    ∙ get_or-unmarked n (place_of_mark text)
+use Rattle.play_cover.specs.Marks.{AreMarksOf, Notes, is_among, is_marked, is_same}
+use Rattle.play_cover.specs.declared.marks.Mark.{Mark}
 
 regrouped : (p q r : Bool) → (q || (p || r)) ≡ ((p || q) || r)
 regrouped true true r = refl
@@ -27,37 +15,77 @@ regrouped true false r = refl
 regrouped false true r = refl
 regrouped false false r = refl
 
-pub Notes-none : (marks : List Bool) → Notes [] marks marks
-Notes-none marks = record { is = λ text fits. refl }
+or_swapped : (p q : Bool) → (q || p) ≡ (p || q)
+or_swapped true true = refl
+or_swapped true false = refl
+or_swapped false true = refl
+or_swapped false false = refl
+
+pub Notes-none : (marks : List (List Bool)) → Notes [] marks marks
+Notes-none marks = record { is = λ one. refl }
 
 -- one noting and then another
-pub Notes-append : (first later : List Text) (old between new : List Bool) → Notes first old between
-    → Notes later between new → Notes (first ++ later) old new
+pub Notes-append : (first later : List Mark) (old between new : List (List Bool))
+    → Notes first old between → Notes later between new → Notes (first ++ later) old new
 Notes-append first later old between new one other = record {
-  is = λ text fits.
-      other.is text fits ∙ ap (λ b. is_among text later || b) (one.is text fits)
-      ∙ regrouped (is_among text first) (is_among text later) (is_marked old text)
-      ∙ ap (λ b. b || is_marked old text) (sym (list_any-append (is_same text) first later));
+  is = λ mark.
+      other.is mark ∙ ap (λ b. is_among mark later || b) (one.is mark)
+      ∙ regrouped (is_among mark first) (is_among mark later) (is_marked old mark)
+      ∙ ap (λ b. b || is_marked old mark) (sym (list_any-append (is_same mark) first later));
 }
 
 -- what one more element says is noted too
-pub Notes-more : {X : Type 0} (says : X → List Text) (xs : List X) (place : ℕ) (x : X)
-    (old between new : List Bool)
+pub Notes-more : {X : Type 0} (says : X → List Mark) (xs : List X) (place : ℕ) (x : X)
+    (old between new : List (List Bool))
     → place < length xs → x ≡ get_or xs place x
     → Notes (flat_map says (take place xs)) old between → Notes (says x) between new
     → Notes (flat_map says (take (place + 1) xs)) old new
 Notes-more says xs place x old between new inside is before now =
-    let texts : flat_map says (take (place + 1) xs) ≡ flat_map says (take place xs) ++ says x =
+    let marks : flat_map says (take (place + 1) xs) ≡ flat_map says (take place xs) ++ says x =
     ap (flat_map says) (take_more xs place x inside)
     ∙ flat_map-append says (take place xs) (get_or xs place x ∷ [])
     ∙ ap (λ y. flat_map says (take place xs) ++ y)
     (append-nil (says (get_or xs place x)) ∙ ap says (sym is)) in
-    subst (λ texts. Notes texts old new) (sym texts)
+    subst (λ marks. Notes marks old new) (sym marks)
     (Notes-append (flat_map says (take place xs)) (says x) old between new before now)
 
 -- no element is left
-pub Notes-all : {X : Type 0} (says : X → List Text) (xs : List X) (place : ℕ) (old new : List Bool)
-    → length xs ≤ place
+pub Notes-all : {X : Type 0} (says : X → List Mark) (xs : List X) (place : ℕ)
+    (old new : List (List Bool)) → length xs ≤ place
     → Notes (flat_map says (take place xs)) old new → Notes (flat_map says xs) old new
 Notes-all says xs place old new past noted =
     subst (λ ys. Notes (flat_map says ys) old new) (take_all place xs past) noted
+
+-- the same where each element has one mark
+pub Notes-more_mark : {X : Type 0} (mark_of : X → Mark) (xs : List X) (place : ℕ) (d : X)
+    (old between new : List (List Bool)) → place < length xs
+    → Notes (map mark_of (take place xs)) old between
+    → Notes (mark_of (get_or xs place d) ∷ []) between new
+    → Notes (map mark_of (take (place + 1) xs)) old new
+Notes-more_mark mark_of xs place d old between new inside before now =
+    let last = mark_of (get_or xs place d) in
+    let marks : map mark_of (take (place + 1) xs) ≡ map mark_of (take place xs) ++ last ∷ [] =
+    ap (map mark_of) (take_more xs place d inside)
+    ∙ map-append mark_of (take place xs) (get_or xs place d ∷ []) in
+    subst (λ marks. Notes marks old new) (sym marks)
+    (Notes-append (map mark_of (take place xs)) (last ∷ []) old between new before now)
+
+pub Notes-all_marks : {X : Type 0} (mark_of : X → Mark) (xs : List X) (place : ℕ)
+    (old new : List (List Bool)) → length xs ≤ place
+    → Notes (map mark_of (take place xs)) old new → Notes (map mark_of xs) old new
+Notes-all_marks mark_of xs place old new past noted =
+    subst (λ ys. Notes (map mark_of ys) old new) (take_all place xs past) noted
+
+-- nothing is marked yet
+pub none_marked : AreMarksOf [] []
+none_marked = record { is = λ one. refl }
+
+-- more was marked
+pub more_marked : (marks more : List Mark) (old new : List (List Bool)) → AreMarksOf marks old
+    → Notes more old new → AreMarksOf (marks ++ more) new
+more_marked marks more old new marked noted = record {
+  is = λ one.
+      noted.is one ∙ ap (λ b. is_among one more || b) (marked.is one)
+      ∙ or_swapped (is_among one marks) (is_among one more)
+      ∙ sym (list_any-append (is_same one) marks more);
+}

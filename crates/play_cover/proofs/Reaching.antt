@@ -10,7 +10,7 @@ use Rattle.std.proofs.lemmas.List.FromFn.{length-range_with_len, get_or-range_wi
 use Rattle.cave_data.specs.CaveView.{CaveView, ClassEntry, Rated, rating_at_row, class_from}
 use Rattle.cave_data.specs.CaveView.{class_of}
 use Rattle.turn_ends.specs.Score.{max_score_of}
-use Rattle.play_cover.specs.Texts.{has_bound, is_reached}
+use Rattle.play_cover.specs.Texts.{has_bound, is_class_reached}
 
 -- a test that holds of no number below an end holds of none of a range that ends there
 any_none : (p : ℕ → Bool) (end first count : ℕ) → ((n : ℕ) → n < end → p n ≡ false)
@@ -68,8 +68,8 @@ greater row score more bound (class ∷ classes) up within has =
     here false false e f next other later has = later has
 
 pub reached : (cave : CaveView) (bound : ℕ)
-    → is_reached cave bound ≡ has_bound (class_of cave (min bound (max_score_of cave))) bound
-unfolding is_reached
+    → is_class_reached cave bound ≡ has_bound (class_of cave (min bound (max_score_of cave))) bound
+unfolding is_class_reached
 reached cave bound = go (belongs (min bound most)) refl
   where
     most : ℕ

@@ -1,56 +1,82 @@
--- Which texts the plays of logs say, and what is reported of them and of the rules.
-use Rattle.std.specs.Prelude.{◌≡◌, ℕ, List, ◌++◌, length, ◌∷◌}
+-- Which texts the plays of logs say, which rows of the rules they apply, and what is reported of
+-- these.
+use Rattle.std.specs.Prelude.{◌≡◌, ℕ, Bool, List, [], ◌∷◌, length, map}
 use Rattle.std.specs.List.{flat_map, Contains}
-use Rattle.std.specs.Str.Lines.{lines}
 use Rattle.std.specs.List.Sorted.{IsPermutation}
+use Rattle.std.specs.Str.Lines.{lines}
 use Rattle.cave_data.specs.CaveView.{CaveView}
 use Rattle.cave_data.specs.Reads.{Reads}
-use Rattle.play_machine.specs.Machine.{cave_rules}
-use Rattle.replay_edits.specs.Edit.{Game, game_of}
-use Rattle.cave_replay.specs.Play.{texts_of}
+use Rattle.cave_play.specs.Run.{AtMostOne}
+use Rattle.cave_world.specs.declared.part.Part.{Part}
+use Rattle.cave_world.specs.declared.state.State.{State}
+use Rattle.cave_world.specs.declared.tables.RuleRow.TheVariants.{OfTable}
+use Rattle.cave_world.specs.declared.tables.Table.TheVariants as table
+use Rattle.data_bindings.specs.WayLines.{way_lines}
 use Rattle.play_command.specs.declared.views.CoverView.{CoverView}
 use Rattle.play_command.specs.declared.views.CoverView.TheVariants.{Rules, Said}
-use Rattle.play_command.specs.declared.views.TextView.{TextView}
-use Rattle.cave_play.specs.Run.{AtMostOne}
-use Rattle.play_cover.specs.RulePlays.{rules_text}
-use Rattle.play_cover.specs.Missing.{report_by}
-use Rattle.play_cover.specs.Texts.{is_among, said_by_all}
-use Rattle.play_cover.specs.declared.text.Text.{Text}
+use Rattle.play_machine.specs.Moments.{Moment, noted_of}
+use Rattle.replay_edits.specs.Edit.{Game, game_of}
+use Rattle.play_cover.specs.Marks.{is_among}
+use Rattle.play_cover.specs.RowReport.{mark_of_row, row_report}
+use Rattle.play_cover.specs.TextReport.{text_report}
+use Rattle.play_cover.specs.Texts.{said_by_all}
+use Rattle.play_cover.specs.declared.marks.Mark.{Mark}
 
--- the texts that playing a game says, from its first line to its last
-unfoldable pub texts_said_in : CaveView → Game → List Text
-texts_said_in cave game =
-    let rules = cave_rules cave in
-    said_by_all cave (rules.greeting game.seed)
-    ++ flat_map (said_by_all cave) (texts_of rules (rules.begun game.seed) game.log)
+-- ---- what a play covers
 
-abbrev pub said_in_games : CaveView → List Game → List Text
-said_in_games cave games = flat_map (texts_said_in cave) games
+abbrev pub said_at_start : CaveView → State → List Part → List Mark
+said_at_start cave begun greeting = said_by_all cave greeting
 
-abbrev pub report_on_games : CaveView → TextView → List Game → List ℕ
-report_on_games cave view games =
-    report_by cave (λ text. is_among text (said_in_games cave games)) view (length games)
+abbrev pub said_at : CaveView → Moment → List Mark
+said_at cave moment = said_by_all cave moment.parts
 
-abbrev pub said_in_log : CaveView → ℕ → List ℕ → List Text
-said_in_log cave seed log = texts_said_in cave (game_of seed (lines log))
+-- a game begins with the question whether the player wants instructions
+abbrev pub rows_at_start : CaveView → State → List Part → List Mark
+rows_at_start cave begun greeting = mark_of_row (OfTable table.Questions 1) ∷ []
 
--- the texts that are said where each log is played by itself
-abbrev pub said_in_all : CaveView → ℕ → List (List ℕ) → List Text
-said_in_all cave seed logs = flat_map (said_in_log cave seed) logs
+abbrev pub rows_at : CaveView → Moment → List Mark
+rows_at cave moment = map mark_of_row moment.rows
 
-abbrev pub report_of_logs : CaveView → ℕ → TextView → List (List ℕ) → ℕ → List ℕ
-report_of_logs cave seed view logs count =
-    report_by cave (λ text. is_among text (said_in_all cave seed logs)) view count
+-- the texts that playing a game says, or the rows that it applies or tries, from its beginning to
+-- its last line
+abbrev pub covered_in : CoverView → CaveView → Game → List Mark
+covered_in (Said view) cave game = noted_of said_at_start said_at cave game
+covered_in Rules cave game = noted_of rows_at_start rows_at cave game
+
+-- ---- what is reported
+
+-- the report on the logs of which there are so many, by what they cover
+abbrev pub report_by : CoverView → List ℕ → CaveView → (Mark → Bool) → ℕ → List ℕ
+report_by (Said view) database cave is_covered logs = text_report cave view is_covered logs
+report_by Rules database cave is_covered logs = row_report is_covered (way_lines database) logs
+
+abbrev pub report_on_games : CoverView → List ℕ → CaveView → List Game → List ℕ
+report_on_games view database cave games =
+    report_by view database cave (λ mark. is_among mark (flat_map (covered_in view cave) games))
+    (length games)
+
+abbrev pub covered_in_log : CoverView → CaveView → ℕ → List ℕ → List Mark
+covered_in_log view cave seed log = covered_in view cave (game_of seed (lines log))
+
+-- what is covered where each log is played by itself
+abbrev pub covered_in_all : CoverView → CaveView → ℕ → List (List ℕ) → List Mark
+covered_in_all view cave seed logs = flat_map (covered_in_log view cave seed) logs
+
+abbrev pub report_of_logs : List ℕ → CaveView → ℕ → CoverView → List (List ℕ) → ℕ → List ℕ
+report_of_logs database cave seed view logs count =
+    report_by view database cave (λ mark. is_among mark (covered_in_all view cave seed logs)) count
 
 abbrev pub cover_text : List ℕ → CaveView → ℕ → CoverView → List (List ℕ) → List ℕ
-cover_text database cave seed (Said view) logs = report_of_logs cave seed view logs (length logs)
-cover_text database cave seed Rules logs = rules_text database cave seed logs
+cover_text database cave seed view logs =
+    report_of_logs database cave seed view logs (length logs)
 
 -- the output is the report on the logs in the cave of the database and its bindings
 abbrev pub IsCovered : List ℕ → List ℕ → List (List ℕ) → ℕ → CoverView → List ℕ → Type 0
 IsCovered database bindings logs seed view output =
     (cave : CaveView) × Reads database bindings cave
     × (output ≡ cover_text database cave seed view logs)
+
+-- ---- laws
 
 -- the order of the logs changes no byte of the output
 abbrev pub OrderIsNothing : Type 0
@@ -63,10 +89,12 @@ OrderIsNothing =
 -- a log that is given once more changes nothing of it but the number of logs
 abbrev pub AgainIsNothing : Type 0
 AgainIsNothing =
-    (cave : CaveView) (seed : ℕ) (view : TextView) (logs : List (List ℕ)) (log : List ℕ)
+    (database : List ℕ) (cave : CaveView) (seed : ℕ) (view : CoverView) (logs : List (List ℕ))
+    (log : List ℕ)
     → Contains logs log
     → (count : ℕ)
-    → report_of_logs cave seed view (log ∷ logs) count ≡ report_of_logs cave seed view logs count
+    → report_of_logs database cave seed view (log ∷ logs) count
+    ≡ report_of_logs database cave seed view logs count
 
 -- a database with its bindings, logs and a seed have one output at most
 abbrev pub OneCoveredOutput : Type 0

@@ -30,8 +30,8 @@ abbrev pub row_count : Table → ℕ
 row_count t = length (row_words t)
 
 -- when a row of a table applies, in words; rows are counted from 1
-abbrev pub words_of : Table → ℕ → List ℕ
-words_of t number = slice_index_or (row_words t) (number - 1) []
+abbrev pub words_of_row : Table → ℕ → List ℕ
+words_of_row t number = slice_index_or (row_words t) (number - 1) []
 
 -- each table stands at its number
 abbrev pub TablesAreInOrder : Type 0

@@ -1,7 +1,7 @@
--- The texts of a cave, each by its kind and its number, which of them a part says, and their marks.
+-- The texts of a cave, each by its kind and its number, and which of them a part says.
 use Rattle.std.specs.Prelude.{ℕ, ◌+◌, ◌*◌, ◌/◌, ◌%◌, ℤ, pos, negsuc, Bool, false, ◌==◌, nat_lt}
-use Rattle.std.specs.Prelude.{◌&&◌, is_some, if◌then◌else◌, List, [], ◌∷◌, length, Option, Some}
-use Rattle.std.specs.Prelude.{None, ◌≡◌, ◌<◌, ◌||◌, slice_index_or}
+use Rattle.std.specs.Prelude.{is_some, if◌then◌else◌, List, [], ◌∷◌, length, Option, Some}
+use Rattle.std.specs.Prelude.{None}
 use Rattle.std.specs.List.{list_any, flat_map, range_with_len}
 use Rattle.std.specs.FinMap as map
 use Rattle.cave_data.specs.CaveView.{CaveView, Rated, class_of, look_of, name_of}
@@ -11,7 +11,8 @@ use Rattle.cave_world.specs.declared.part.Part.{Part}
 use Rattle.cave_world.specs.declared.part.Part.TheVariants as part
 use Rattle.play_cover.specs.declared.text.TextKind.{TextKind}
 use Rattle.play_cover.specs.declared.text.TextKind.TheVariants as kind
-use Rattle.play_cover.specs.declared.text.Text.{Text}
+use Rattle.play_cover.specs.Marks.{mark}
+use Rattle.play_cover.specs.declared.marks.Mark.{Mark}
 
 -- the numbers of texts are below it
 abbrev pub end_of_numbers : ℕ
@@ -20,9 +21,6 @@ end_of_numbers = 10000
 -- the number of a look is that of its object times this, and its prop
 abbrev pub PROPS_PER_OBJECT : ℕ
 PROPS_PER_OBJECT = 100
-
-abbrev pub KIND_COUNT : ℕ
-KIND_COUNT = 7
 
 -- its place among the kinds, from 0
 abbrev pub kind_number : TextKind → ℕ
@@ -34,14 +32,9 @@ kind_number kind.Message = 4
 kind_number kind.Role = 5
 kind_number kind.Class = 6
 
-abbrev pub text : TextKind → ℕ → Text
-text kind number = record { kind = kind; number = number }
-
-abbrev pub is_same : Text → Text → Bool
-is_same one other = kind_number one.kind == kind_number other.kind && one.number == other.number
-
-abbrev pub is_among : Text → List Text → Bool
-is_among one texts = list_any (is_same one) texts
+-- the mark of a text
+abbrev pub text : TextKind → ℕ → Mark
+text kind number = mark (kind_number kind) number
 
 -- ---- which texts a cave has
 
@@ -51,8 +44,8 @@ has_bound None bound = false
 has_bound (Some rated) bound = rated.bound == bound
 
 -- some score of the cave, from 0 to the greatest, belongs to the class with that bound
-unfoldable pub is_reached : CaveView → ℕ → Bool
-is_reached cave bound =
+unfoldable pub is_class_reached : CaveView → ℕ → Bool
+is_class_reached cave bound =
     list_any (λ score. has_bound (class_of cave score) bound)
     (range_with_len 0 (max_score_of cave + 1))
 
@@ -65,27 +58,27 @@ has_text cave kind.Look number =
 has_text cave kind.Name number = is_some (name_of cave number)
 has_text cave kind.Message number = is_some (map.get cave.messages number)
 has_text cave kind.Role number = nat_lt number (length ROLE_NAMES)
-has_text cave kind.Class number = is_reached cave number
+has_text cave kind.Class number = is_class_reached cave number
 
 -- ---- which texts a part says
 
 -- a role that is bound says its message too
-abbrev pub message_said : Option ℕ → List Text
+abbrev pub message_said : Option ℕ → List Mark
 message_said None = []
 message_said (Some number) = text kind.Message number ∷ []
 
-abbrev pub class_said : Option Rated → List Text
+abbrev pub class_said : Option Rated → List Mark
 class_said None = []
 class_said (Some rated) = text kind.Class rated.bound ∷ []
 
-abbrev pub look_said : CaveView → ℕ → ℤ → List Text
+abbrev pub look_said : CaveView → ℕ → ℤ → List Mark
 look_said cave object (pos prop) =
     if is_some (look_of cave object prop)
     then text kind.Look (PROPS_PER_OBJECT * object + prop) ∷ [] else []
 look_said cave object (negsuc n) = []
 
 -- the texts that a part says; the game's own lines are none of the cave's
-unfoldable pub said_by_part : CaveView → Part → List Text
+unfoldable pub said_by_part : CaveView → Part → List Mark
 said_by_part cave (part.Long place) = text kind.Long place ∷ []
 said_by_part cave (part.Short place) = text kind.Short place ∷ []
 said_by_part cave (part.Object object prop) = look_said cave object prop
@@ -98,24 +91,5 @@ said_by_part cave (part.Number form number most) = []
 said_by_part cave (part.Word form word) = []
 said_by_part cave (part.Turns score most) = []
 
-abbrev pub said_by_all : CaveView → List Part → List Text
+abbrev pub said_by_all : CaveView → List Part → List Mark
 said_by_all cave parts = flat_map (said_by_part cave) parts
-
-abbrev pub place_of_mark : Text → ℕ
-place_of_mark text = end_of_numbers * kind_number text.kind + text.number
-
--- there is a mark for each number of each of the seven kinds
-abbrev pub MARK_COUNT : ℕ
-MARK_COUNT = 70000
-
-abbrev pub is_marked : List Bool → Text → Bool
-is_marked marks text = slice_index_or marks (place_of_mark text) false
-
--- the marks are those of these texts
-pub record AreMarksOf (texts : List Text) (marks : List Bool) : Type 0 where
-  pub is : (text : Text) → text.number < end_of_numbers → is_marked marks text ≡ is_among text texts
-
--- the texts were noted: a text is marked now if it is one of them or was marked before
-pub record Notes (texts : List Text) (old new : List Bool) : Type 0 where
-  pub is : (text : Text) → text.number < end_of_numbers
-      → is_marked new text ≡ (is_among text texts || is_marked old text)

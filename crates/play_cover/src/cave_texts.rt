@@ -1,15 +1,16 @@
 //! Which texts a cave has.
 
 ghost use Rattle.std.specs.Prelude.{◌≡◌, IfOk};
-ghost use Rattle.play_cover.specs.Texts.{has_text, is_reached};
+ghost use Rattle.play_cover.specs.Texts.{has_text, is_class_reached};
 
 use crate::text::{PROPS_PER_OBJECT, TextKind};
 use cave_data::Cave;
 use cave_words::Lexicon;
 use data_rows::role::ROLE_NAMES;
-use play_machine::CaveMachine;
 use std::alloc::{AllocError, Global};
 use std::marker::Model;
+use turn_ends::max_score;
+use turn_scene::Rules;
 
 /// A cave, with its greatest score by which it has its classes.
 #[derive(Drop)]
@@ -38,7 +39,7 @@ impl<'a> CaveTexts<'a> {
         ensures { IfOk result (λ texts. texts ≡ cave.now) }
     {
         let lexicon = Lexicon::build(alloc, cave)?;
-        let max_score = CaveMachine::new(cave, &lexicon).max_score();
+        let max_score = max_score(&Rules::of(cave, &lexicon));
         Ok(CaveTexts { cave, max_score })
     }
 
@@ -51,8 +52,8 @@ impl<'a> CaveTexts<'a> {
 
     /// Whether some score of the cave belongs to the class with that bound.
     #[tactic(auto, using(crate::proofs::Reaching::reaching))]
-    fn is_reached(&self, bound: u16) -> bool
-        ensures { result ≡ is_reached self.now bound }
+    fn is_class_reached(&self, bound: u16) -> bool
+        ensures { result ≡ is_class_reached self.now bound }
     {
         // If any score belongs to a class, the greatest one up to its bound does.
         let score = u32::from(bound).min(self.max_score);
@@ -76,7 +77,7 @@ impl<'a> CaveTexts<'a> {
             TextKind::Name => cave.name(number).is_some(),
             TextKind::Message => cave.message(number).is_some(),
             TextKind::Role => (number as usize) < ROLE_NAMES.len(),
-            TextKind::Class => self.is_reached(number),
+            TextKind::Class => self.is_class_reached(number),
         }
     }
 }

@@ -1,7 +1,11 @@
-//! Laws of what is written of the plays of logs. Each is the contract of a function that does
-//! nothing.
+//! Laws of the tables of the rules, and of what is written of the plays of logs. Each is the
+//! contract of a function that does nothing.
 
 ghost use Rattle.play_cover.specs.Plays.{AgainIsNothing, OneCoveredOutput, OrderIsNothing};
+ghost use Rattle.play_cover.specs.QuestionRows.{QuestionsAreInOrder};
+ghost use Rattle.play_cover.specs.RowCounts.{EachCountIsOfItsRows};
+ghost use Rattle.play_cover.specs.RowMarks.{EachRowHasItsMark};
+ghost use Rattle.play_cover.specs.RuleTables.{TablesAreInOrder};
 
 /// The order of the logs changes no byte of the output.
 pub fn order_is_nothing()
@@ -16,4 +20,24 @@ pub fn again_is_nothing()
 /// A database with its bindings, logs and a seed have one output at most.
 pub fn one_covered_output()
     ensures { OneCoveredOutput }
+{}
+
+/// Rows that have one mark are one.
+pub fn each_row_has_its_mark()
+    ensures { EachRowHasItsMark }
+{}
+
+/// Each table stands in the list at the place of its variant.
+pub fn tables_are_in_order()
+    ensures { TablesAreInOrder }
+{}
+
+/// Each table has as many rows, in words, as its definition has.
+pub fn each_count_is_of_its_rows()
+    ensures { EachCountIsOfItsRows }
+{}
+
+/// Each question stands at its row, from 1 to the count of the questions.
+pub fn questions_are_in_order()
+    ensures { QuestionsAreInOrder }
 {}

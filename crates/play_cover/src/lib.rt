@@ -2,19 +2,17 @@
 #![tactic(auto)]
 
 pub mod cave_texts;
+pub mod coverage;
 pub mod each_table;
 pub mod laws;
 pub mod line_rows;
 pub mod marks;
-pub mod missing;
 pub mod parts;
-pub mod report;
 pub mod row_report;
-pub mod row_set;
-pub mod rule_games;
-pub mod rule_laws;
+pub mod rule_notes;
 pub mod rule_tables;
 pub mod run;
 pub mod said;
 pub mod text;
+pub mod text_report;
 pub mod travel_report;

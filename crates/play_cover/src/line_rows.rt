@@ -1,15 +1,18 @@
 //! The rows that are noted of a line.
 
-ghost use Rattle.std.specs.Prelude.{◌≡◌, [], None, OnOk};
-ghost use Rattle.play_cover.specs.Rows.{NotesRows};
+ghost use Rattle.std.specs.Prelude.{◌≡◌, None, OnOk, map};
+ghost use Rattle.play_cover.specs.Marks.{Notes};
+ghost use Rattle.play_cover.specs.RowReport.{mark_of_row};
 
-use crate::row_set::RowSet;
+use crate::marks::Marks;
+use crate::rule_tables::row_mark;
 use cave_world::{GhostRows, RowNotes, RuleRow};
+use play_machine::LineRows;
 use std::alloc::{AllocError, Global};
 
 /// Notes on the rows of a line, in order.
 #[derive(Drop)]
-pub struct LineRows {
+pub struct KeptRows {
     rows: Vec<RuleRow>,
     /// Why some are missing, if memory ran out.
     failed: Option<AllocError>,
@@ -17,30 +20,29 @@ pub struct LineRows {
     ghost kept: { failed ≡ None → rows.items ≡ all.rows },
 }
 
-impl LineRows {
-    /// No row is noted yet.
-    pub fn new(alloc: Global) -> LineRows
-        ensures { result.all.rows ≡ [] }
-    {
-        LineRows {
-            rows: Vec::new(alloc),
-            failed: None,
-            all: GhostRows::new(),
-        }
+/// Marks the rows.
+fn mark_rows(alloc: Global, rows: &[RuleRow], marks: &mut Marks) -> Result<(), AllocError>
+    ensures { OnOk result (Notes (map mark_of_row rows.now) marks.old marks.new) }
+{
+    for row in rows {
+        marks.note(alloc, row_mark(*row))?;
     }
+    Ok(())
+}
 
-    /// Puts the rows into a set.
-    pub fn add_to(&self, noted: &mut RowSet) -> Result<(), AllocError>
-        ensures { OnOk result (NotesRows self.now.all.rows noted.old noted.new) }
+impl KeptRows {
+    /// Marks the rows.
+    pub fn mark_all(&self, alloc: Global, marks: &mut Marks) -> Result<(), AllocError>
+        ensures { OnOk result (Notes (map mark_of_row self.now.all.rows) marks.old marks.new) }
     {
         match self.failed {
             Some(error) => Err(error),
-            None => noted.note_all(&self.rows),
+            None => mark_rows(alloc, &self.rows, marks),
         }
     }
 }
 
-impl RowNotes for LineRows {
+impl RowNotes for KeptRows {
     ghost rows = { λ n. n.all.rows };
 
     fn note(&mut self, row: RuleRow) {
@@ -48,5 +50,21 @@ impl RowNotes for LineRows {
             self.failed = Some(error.into());
         }
         self.all = self.all.and(row);
+    }
+}
+
+impl LineRows for KeptRows {
+    fn none(alloc: Global) -> KeptRows {
+        KeptRows {
+            rows: Vec::new(alloc),
+            failed: None,
+            all: GhostRows::new(),
+        }
+    }
+
+    fn clear(&mut self) {
+        self.rows.clear();
+        self.failed = None;
+        self.all = GhostRows::new();
     }
 }

@@ -1,63 +1,84 @@
-//! The set of texts that were said.
+//! The set of what was covered.
 
-ghost use Rattle.std.specs.Prelude.{◌≡◌, ◌<◌, ◌∷◌, [], false, IfOk};
-ghost use Rattle.play_cover.specs.Texts.{Notes, is_marked, place_of_mark, end_of_numbers};
-ghost use Rattle.play_cover.specs.Texts as defined;
-ghost use Rattle.play_cover.specs.declared.text.Text.{Text};
+ghost use Rattle.std.specs.Prelude.{◌≡◌, ◌==◌, ◌||◌, ◌<◌, ◌∷◌, [], ℕ, false, length, OnOk};
+ghost use Rattle.std.specs.Prelude.{slice_index_or};
+ghost use Rattle.play_cover.specs.Marks.{Notes, is_marked};
 
-use crate::text::{NUMBERS, Text};
 use std::alloc::{AllocError, Global};
 use std::marker::Model;
 
-/// How many marks there are: one for each number of each kind.
-const MARK_COUNT: usize = 70_000;
+/// What may be covered: a text of a kind, or a row of a table, by the number of that group and its
+/// own.
+#[derive(Clone, Copy, Debug, PartialEq, Eq)]
+pub struct Mark {
+    pub group: usize,
+    pub number: usize,
+}
 
-/// A set of texts, with a place for each.
+/// A set of marks, in which one is made or found at its place.
 #[derive(Drop)]
-pub struct SaidTexts {
-    marks: Vec<bool>,
+pub struct Marks {
+    groups: Vec<Vec<bool>>,
 }
 
-impl Model for SaidTexts {
-    ghost use Rattle.std.specs.Prelude.{◌≡◌, List, Bool, vec_len};
-    ghost use Rattle.play_cover.specs.Texts as defined;
+impl Model for Marks {
+    ghost use Rattle.std.specs.Prelude.{List, Bool, map};
 
-    ghost Value = { List Bool };
+    ghost Value = { List (List Bool) };
 
-    ghost view = { λ s. s.marks.items };
-
-    ghost invariant = { λ s. vec_len s.marks ≡ defined.MARK_COUNT };
+    ghost view = { λ s. map (λ group. group.items) s.groups.items };
 }
 
-fn place_of(text: Text) -> usize
-    ensures value { result ≡ place_of_mark text }
-    ensures within { text.number < end_of_numbers → result < defined.MARK_COUNT }
+/// Marks a number in a group.
+#[tactic(auto, using(crate::proofs::Padding::padded))]
+fn mark_number(group: &mut Vec<bool>, number: usize) -> Result<(), AllocError>
+    ensures { OnOk result ((other : ℕ) → slice_index_or group.new.items other false
+        ≡ (other == number || slice_index_or group.old.items other false)) }
 {
-    NUMBERS * text.kind.number() + text.number as usize
+    while group.len() <= number {
+        group.push(false)?;
+    }
+    group[number] = true;
+    Ok(())
 }
 
-impl SaidTexts {
-    /// The set in which no text is.
-    pub fn new(alloc: Global) -> Result<SaidTexts, AllocError>
-        ensures { IfOk result (λ said. (text : Text) → is_marked said text ≡ false) }
+impl Marks {
+    /// The set in which nothing is marked.
+    pub fn new(alloc: Global) -> Marks
+        ensures { result ≡ [] }
     {
-        let marks = vec![in alloc; false; MARK_COUNT]?;
-        Ok(SaidTexts { marks })
-    }
-
-    /// Whether the text is in the set.
-    pub fn is_marked(&self, text: Text) -> bool
-        ensures { result ≡ is_marked self.now text }
-    {
-        self.marks.get(place_of(text)).copied().unwrap_or(false)
-    }
-
-    /// Puts a text into the set. One whose number no text may have stays out.
-    pub fn note(&mut self, text: Text)
-        ensures { Notes (text ∷ []) self.old self.new }
-    {
-        if (text.number as usize) < NUMBERS {
-            self.marks[place_of(text)] = true;
+        Marks {
+            groups: Vec::new(alloc),
         }
+    }
+
+    /// Whether it is marked.
+    pub fn has(&self, mark: Mark) -> bool
+        ensures { result ≡ is_marked self.now mark }
+    {
+        match self.groups.get(mark.group) {
+            Some(group) => group.get(mark.number).copied().unwrap_or(false),
+            None => false,
+        }
+    }
+
+    /// Makes room for a group.
+    #[tactic(auto, using(crate::proofs::Padding::with_empty))]
+    fn open_group(&mut self, alloc: Global, group: usize) -> Result<(), AllocError>
+        ensures room { OnOk result (group < length self.new) }
+        ensures kept { OnOk result ((mark : Mark) → is_marked self.new mark ≡ is_marked self.old mark) }
+    {
+        while self.groups.len() <= group {
+            self.groups.push(Vec::new(alloc))?;
+        }
+        Ok(())
+    }
+
+    /// Marks it.
+    pub fn note(&mut self, alloc: Global, mark: Mark) -> Result<(), AllocError>
+        ensures { OnOk result (Notes (mark ∷ []) self.old self.new) }
+    {
+        self.open_group(alloc, mark.group)?;
+        mark_number(&mut self.groups[mark.group], mark.number)
     }
 }

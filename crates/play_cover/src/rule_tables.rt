@@ -1,11 +1,13 @@
 //! The tables of the rules, by number and name, and the rows of each by their numbers.
 
-ghost use Rattle.std.specs.Prelude.{◌≡◌, ◌<◌, ◌≤◌};
-ghost use Rattle.play_cover.specs.RuleTables.{row_count, table_name, table_number, words_of};
+ghost use Rattle.std.specs.Prelude.{◌≡◌, ◌<◌};
+ghost use Rattle.play_cover.specs.RowReport.{mark_of_row};
+ghost use Rattle.play_cover.specs.RuleTables.{row_count, table_name, table_number, words_of_row};
 ghost use Rattle.play_cover.specs.RuleTables as defined;
 
 use crate::each_table::table_name_and_words;
-use cave_world::Table;
+use crate::marks::Mark;
+use cave_world::{RuleRow, Table};
 
 /// The place of a table among all of them, from 0.
 pub fn table_number(table: Table) -> usize
@@ -23,18 +25,36 @@ pub fn table_name(table: Table) -> &'static str
 }
 
 /// How many rows a table has.
-pub fn row_count(table: Table) -> u8
+pub fn row_count(table: Table) -> u16
     ensures value { result ≡ row_count table }
     ensures within { result < defined.ROW_END }
 {
-    table_name_and_words(table).1.len() as u8
+    table_name_and_words(table).1.len() as u16
 }
 
-/// When a row of a table applies, in words.
-pub fn words_of(table: Table, number: u8) -> &'static str
-    requires first { 1 ≤ number }
-    requires last { number ≤ row_count table }
-    ensures { result.now ≡ words_of table number }
+/// When a row of a table applies, in words. A row that it doesn't have has none.
+pub fn words_of_row(table: Table, number: u16) -> &'static str
+    ensures { result.now ≡ words_of_row table number }
 {
-    table_name_and_words(table).1[number as usize - 1]
+    let words = table_name_and_words(table).1;
+    match words.get((number as usize).saturating_sub(1)) {
+        Some(words) => *words,
+        None => "",
+    }
+}
+
+/// The mark of a row.
+pub fn row_mark(row: RuleRow) -> Mark
+    ensures { result ≡ mark_of_row row }
+{
+    match row {
+        RuleRow::OfTable(table, number) => Mark {
+            group: 3 * table_number(table),
+            number: number as usize,
+        },
+        RuleRow::OfPlace(place, index, applies) => Mark {
+            group: 3 * place as usize + 1 + usize::from(applies),
+            number: index,
+        },
+    }
 }

@@ -6,8 +6,8 @@ ghost use Rattle.play_cover.specs.Plays.{IsCovered};
 ghost use Rattle.cave_play.specs.Input.{Says};
 ghost use Rattle.play_logs.specs.Faults.{RunsLogs, first_stages};
 
-use crate::marks::SaidTexts;
-use crate::rule_games::RuleNotes;
+use crate::rule_notes::RuleNotes;
+use crate::said::SaidTexts;
 use cave_play::CaveReaders;
 use play_command::CoverView;
 use play_logs::fault::LogsFault;

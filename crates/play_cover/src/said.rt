@@ -1,62 +1,73 @@
 //! Which texts plays say.
 
-ghost use Rattle.std.specs.List.{flat_map};
-ghost use Rattle.play_cover.specs.Texts.{Notes, said_by_all};
-ghost use Rattle.play_cover.specs.Plays.{texts_said_in};
-
 use crate::cave_texts::CaveTexts;
-use crate::marks::SaidTexts;
-use crate::missing::push_view;
+use crate::marks::Marks;
 use crate::parts::note_parts;
+use crate::text_report::push_text_report;
 use cave_data::Cave;
-use cave_replay::Session;
+use cave_world::{State, Unnoted};
 use play_command::TextView;
 use play_logs::notes::PlayNotes;
-use play_machine::{CaveMachine, Piece};
+use play_machine::{Begun, SeenLine, Watch};
 use std::alloc::{AllocError, Global};
 
-/// Notes what was said at each line.
-fn note_pieces(said: &mut SaidTexts, cave: &Cave, pieces: &[Piece])
-    ensures { Notes (flat_map (λ piece. said_by_all cave.now piece.items) pieces.now)
-        said.old said.new }
-{
-    for piece in pieces {
-        note_parts(said, cave, piece);
-    }
+/// The texts that plays say.
+#[derive(Drop)]
+pub struct SaidTexts {
+    marks: Marks,
 }
 
-/// Notes what the play that a session holds says.
-fn note_session(said: &mut SaidTexts, session: &Session<CaveMachine<'_>>)
-    ensures { Notes (texts_said_in session.now.machine.rules.cave.now session.now.game)
-        said.old said.new }
-{
-    let machine = session.machine();
-    let cave = machine.cave();
-    note_parts(said, cave, session.opening());
-    note_pieces(said, cave, session.pieces());
+impl Watch for SaidTexts {
+    ghost use Rattle.play_cover.specs.Marks.{AreMarksOf};
+    ghost use Rattle.play_cover.specs.Plays.{said_at, said_at_start};
+    ghost use Rattle.play_cover.specs.declared.marks.Mark.{Mark};
+
+    type Before = ();
+
+    type Rows = Unnoted;
+
+    ghost Fact = { Mark };
+
+    ghost kept = { λ _. tt };
+
+    ghost first_facts = { said_at_start };
+
+    ghost facts = { said_at };
+
+    ghost HasNoted = { λ marks said. AreMarksOf marks said.marks };
+
+    fn before(_: &State) {}
+
+    #[tactic(auto, using(crate::proofs::Noting::more_marked))]
+    fn start(&mut self, alloc: Global, begun: &Begun<'_>) -> Result<(), AllocError> {
+        note_parts(alloc, &mut self.marks, begun.rules.cave, begun.parts)
+    }
+
+    #[tactic(auto, using(crate::proofs::Noting::more_marked))]
+    fn see(
+        &mut self,
+        alloc: Global,
+        seen: &SeenLine<'_, ()>,
+        _: &Unnoted,
+    ) -> Result<(), AllocError> {
+        note_parts(alloc, &mut self.marks, seen.rules.cave, seen.parts)
+    }
 }
 
 impl PlayNotes for SaidTexts {
-    ghost use Rattle.play_cover.specs.Texts.{AreMarksOf};
-    ghost use Rattle.play_cover.specs.Plays.{report_on_games, said_in_games};
+    ghost use Rattle.play_command.specs.declared.views.CoverView.TheVariants.{Said};
+    ghost use Rattle.play_cover.specs.Plays.{report_on_games};
 
     type View = TextView;
 
-    ghost AreNotesOn = { λ cave games marks. AreMarksOf (said_in_games cave games) marks };
+    ghost report_on = { λ database cave view games.
+        report_on_games (Said view) database cave games };
 
-    ghost report_on = { λ _ cave view games. report_on_games cave view games };
-
+    #[tactic(auto, using(crate::proofs::Noting::none_marked))]
     fn none(alloc: Global) -> Result<SaidTexts, AllocError> {
-        SaidTexts::new(alloc)
-    }
-
-    fn note_play(
-        &mut self,
-        _alloc: Global,
-        session: &Session<CaveMachine<'_>>,
-    ) -> Result<(), AllocError> {
-        note_session(self, session);
-        Ok(())
+        Ok(SaidTexts {
+            marks: Marks::new(alloc),
+        })
     }
 
     fn push_report(
@@ -69,6 +80,6 @@ impl PlayNotes for SaidTexts {
         text: &mut Vec<u8>,
     ) -> Result<(), AllocError> {
         let texts = CaveTexts::of(alloc, cave)?;
-        push_view(alloc, &texts, self, view, logs, text)
+        push_text_report(alloc, &texts, &self.marks, view, logs, text)
     }
 }

@@ -1,8 +1,9 @@
 //! The texts of a cave, each by its kind and its number.
 
-ghost use Rattle.std.specs.Prelude.{◌≡◌, ◌<◌};
-ghost use Rattle.play_cover.specs.Texts.{kind_number};
-ghost use Rattle.play_cover.specs.Texts as defined;
+ghost use Rattle.std.specs.Prelude.{◌≡◌};
+ghost use Rattle.play_cover.specs.Texts.{kind_number, text};
+
+use crate::marks::Mark;
 
 /// One more than the greatest number that a text may have.
 pub const NUMBERS: usize = 10_000;
@@ -29,11 +30,8 @@ pub enum TextKind {
     Class,
 }
 
-/// How many kinds there are.
-pub const KIND_COUNT: usize = 7;
-
 /// The kinds in the order of the sections.
-pub const KINDS: [TextKind; KIND_COUNT] = [
+pub const KINDS: [TextKind; 7] = [
     TextKind::Long,
     TextKind::Short,
     TextKind::Look,
@@ -46,18 +44,20 @@ pub const KINDS: [TextKind; KIND_COUNT] = [
 impl TextKind {
     /// Its place among the kinds, from 0.
     pub fn number(self) -> usize
-        ensures value { result ≡ kind_number self }
-        ensures within { result < defined.KIND_COUNT }
+        ensures { result ≡ kind_number self }
     {
         self as usize
     }
 }
 
-/// A text of a cave. It has the number of its place, its object, its message or its role, and a
+/// The mark of a text. It has the number of its place, its object, its message or its role, and a
 /// class that of its greatest score. The text of an object at a prop has a hundred times the number
 /// of the object and the prop, as in a database.
-#[derive(Clone, Copy, Debug, PartialEq, Eq)]
-pub struct Text {
-    pub kind: TextKind,
-    pub number: u16,
+pub fn text_mark(kind: TextKind, number: u16) -> Mark
+    ensures { result ≡ text kind number }
+{
+    Mark {
+        group: kind.number(),
+        number: number as usize,
+    }
 }

@@ -1,9 +1,10 @@
 -- How far several logs are read.
 use Rattle.std.proofs.Common.{◌≡◌, ℕ, ◌+◌, ◌<◌, ◌≤◌, List, [], ◌∷◌, ◌++◌, length, map, take, drop}
-use Rattle.std.proofs.Common.{set, get_or, Option, None, inr, refl, sym, ap, ◌∙◌, subst, arith}
+use Rattle.std.proofs.Common.{append-nil, set, get_or, Option, None, inr, refl, sym, ap, ◌∙◌, subst, arith}
 use Rattle.std.specs.List.{AllZip}
 use Rattle.std.specs.Str.Lines.{lines}
 use Rattle.std.proofs.lemmas.Grind.{drop_more_same}
+use Rattle.std.proofs.lemmas.List.Concat.{flat_map-append}
 use Rattle.std.proofs.lemmas.List.{drop-set-lt, drop_more, get_or-drop, length-map, length-take-le}
 use Rattle.std.proofs.lemmas.List.{map-append, take-append-drop, take_all, take_more}
 use Rattle.cave_play.specs.Input.{Says}
@@ -12,23 +13,47 @@ use Rattle.cave_play.specs.Run as stage
 use Rattle.cave_play.specs.Stages.{log_stage}
 use Rattle.cave_play.specs.declared.fault.PlayFault.{PlayFault}
 use Rattle.replay_edits.specs.Edit.{Game, game_of}
-use Rattle.play_logs.specs.Faults.{AreValidLogs, IsFoundFrom, IsFoundInLogs, at_log, NotesMore}
-use Rattle.play_logs.specs.Faults.{games_of}
+use Rattle.cave_data.specs.CaveView.{CaveView}
+use Rattle.cave_world.specs.declared.part.Part.{Part}
+use Rattle.cave_world.specs.declared.state.State.{State}
+use Rattle.play_machine.specs.Moments.{Moment, noted_of}
+use Rattle.play_machine.specs.Watch.{NotesMore}
+use Rattle.play_logs.specs.Faults.{AreValidLogs, IsFoundFrom, IsFoundInLogs, at_log}
+use Rattle.play_logs.specs.Faults.{games_of, noted_of_all}
 use Rattle.play_logs.proofs.FaultLemmas.{AllSay-some, AllZip-append, AllZip-length}
 use Rattle.play_logs.proofs.FaultLemmas.{AreValidLogs-more, IsFoundFrom-here, IsFoundFrom-later}
 
+module _ {Fact N : Type 0} (HasNoted : List Fact → N → Type 0)
+    (first : CaveView → State → List Part → List Fact) (facts : CaveView → Moment → List Fact)
+    (cave : CaveView) where
+  -- the plays of the games were noted
+  abbrev pub AreNotesOn : List Game → N → Type 0
+  AreNotesOn games notes = HasNoted (noted_of_all first facts cave games) notes
+
+  -- one more play was noted
+  pub AreNotesOn-more : (game : Game) (old new : N)
+      → NotesMore HasNoted (noted_of first facts cave game) old new
+      → (games : List Game) → AreNotesOn games old → AreNotesOn (games ++ game ∷ []) new
+  AreNotesOn-more game old new more games noted =
+      let noted_more : noted_of_all first facts cave games ++ noted_of first facts cave game
+      ≡ noted_of_all first facts cave (games ++ game ∷ []) =
+      sym (flat_map-append (noted_of first facts cave) games (game ∷ [])
+      ∙ ap (λ more. noted_of_all first facts cave games ++ more)
+      (append-nil (noted_of first facts cave game))) in
+      subst (λ facts. HasNoted facts new) noted_more (more (noted_of_all first facts cave games) noted)
+
 -- the logs that readers had were read, none of them has a fault, and their plays were noted
 pub record HasRead {N : Type 0} (known : List (Option (List ℕ)))
-    (AreNotesOn : List Game → N → Type 0)
+    (AreNotes : List Game → N → Type 0)
     (seed : ℕ) (notes : N) (read : List (List ℕ)) : Type 0 where
   pub says : AllZip Says known read
   pub right : AreValidLogs read
-  pub noted : AreNotesOn (games_of seed read) notes
+  pub noted : AreNotes (games_of seed read) notes
 
 -- none is read yet
-pub HasRead-none : {N : Type 0} (AreNotesOn : List Game → N → Type 0) (seed : ℕ) (notes : N)
-    → AreNotesOn [] notes → HasRead [] AreNotesOn seed notes []
-HasRead-none AreNotesOn seed notes none = record { says = tt; right = tt; noted = none }
+pub HasRead-none : {N : Type 0} (AreNotes : List Game → N → Type 0) (seed : ℕ) (notes : N)
+    → AreNotes [] notes → HasRead [] AreNotes seed notes []
+HasRead-none AreNotes seed notes none = record { says = tt; right = tt; noted = none }
 
 module _ {L : Type 0} (remaining : L → Option (List ℕ)) (logs : List L) (place : ℕ) (log : L)
     (inside : place < length logs) (is : log ≡ get_or logs place log) where
@@ -49,14 +74,15 @@ module _ {L : Type 0} (remaining : L → Option (List ℕ)) (logs : List L) (pla
       ∙ ap (λ l. map remaining (take place logs)
       ++ (remaining l ∷ map remaining (drop (place + 1) logs))) (sym is)
 
-  module _ {N : Type 0} (AreNotesOn : List Game → N → Type 0) (seed : ℕ) (old : N)
+  module _ {N : Type 0} (AreNotes : List Game → N → Type 0) (seed : ℕ) (old : N)
       (read : List (List ℕ)) (moves : List ℕ)
-      (before : HasRead (map remaining (take place logs)) AreNotesOn seed old read)
+      (before : HasRead (map remaining (take place logs)) AreNotes seed old read)
       (said : Says (remaining log) moves) where
     -- one more log is read
     pub HasRead-more : (new : N) → log_fault moves ≡ None
-        → NotesMore AreNotesOn (game_of seed (lines moves)) old new
-        → HasRead (map remaining (take (place + 1) logs)) AreNotesOn seed new (read ++ moves ∷ [])
+        → ((games : List Game) → AreNotes games old
+        → AreNotes (games ++ game_of seed (lines moves) ∷ []) new)
+        → HasRead (map remaining (take (place + 1) logs)) AreNotes seed new (read ++ moves ∷ [])
     HasRead-more new right noted =
         let games : games_of seed (read ++ moves ∷ []) ≡ games_of seed read
         ++ game_of seed (lines moves) ∷ [] =
@@ -66,7 +92,7 @@ module _ {L : Type 0} (remaining : L → Option (List ℕ)) (logs : List L) (pla
               (AllZip-append Says (map remaining (take place logs)) (remaining log ∷ []) read
               (moves ∷ []) before.says (said, tt));
           right = AreValidLogs-more read moves before.right right;
-          noted = subst (λ played. AreNotesOn played new) (sym games)
+          noted = subst (λ played. AreNotes played new) (sym games)
               (noted (games_of seed read) before.noted);
         }
 
@@ -97,13 +123,13 @@ module _ {L : Type 0} (remaining : L → Option (List ℕ)) (logs : List L) (pla
 
 -- all logs are read
 pub HasRead-all : {L : Type 0} (remaining : L → Option (List ℕ)) (logs : List L) (place : ℕ)
-    {N : Type 0} (AreNotesOn : List Game → N → Type 0) (seed : ℕ) (notes : N)
+    {N : Type 0} (AreNotes : List Game → N → Type 0) (seed : ℕ) (notes : N)
     (read : List (List ℕ))
     → length logs ≤ place
-    → HasRead (map remaining (take place logs)) AreNotesOn seed notes read
-    → HasRead (map remaining logs) AreNotesOn seed notes read
-HasRead-all remaining logs place AreNotesOn seed notes read past has =
-    subst (λ ls. HasRead (map remaining ls) AreNotesOn seed notes read) (take_all place logs past)
+    → HasRead (map remaining (take place logs)) AreNotes seed notes read
+    → HasRead (map remaining logs) AreNotes seed notes read
+HasRead-all remaining logs place AreNotes seed notes read past has =
+    subst (λ ls. HasRead (map remaining ls) AreNotes seed notes read) (take_all place logs past)
     has
 
 -- the reader at a place is as it was, where no later one was used

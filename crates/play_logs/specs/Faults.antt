@@ -13,15 +13,19 @@ use Rattle.play_logs.specs.declared.fault.LogsFault.{LogsFault}
 use Rattle.std.specs.Str.Lines.{lines}
 use Rattle.cave_data.specs.CaveView.{CaveView}
 use Rattle.cave_data.specs.Reads.{Reads}
+use Rattle.cave_world.specs.declared.part.Part.{Part}
+use Rattle.cave_world.specs.declared.state.State.{State}
+use Rattle.play_machine.specs.Moments.{Moment, noted_of}
 use Rattle.replay_edits.specs.Edit.{Game, game_of}
+use Rattle.std.specs.List.{flat_map}
 
 abbrev pub games_of : ℕ → List (List ℕ) → List Game
 games_of seed logs = map (λ log. game_of seed (lines log)) logs
 
--- the play of one more game was noted
-abbrev pub NotesMore : {N : Type 0} → (List Game → N → Type 0) → Game → N → N → Type 0
-NotesMore AreNotesOn game old new =
-    (games : List Game) → AreNotesOn games old → AreNotesOn (games ++ game ∷ []) new
+-- what is noted of the plays of games, one after another
+abbrev pub noted_of_all : {Fact : Type 0} → (CaveView → State → List Part → List Fact)
+    → (CaveView → Moment → List Fact) → CaveView → List Game → List Fact
+noted_of_all first_facts facts cave games = flat_map (noted_of first_facts facts cave) games
 
 -- the output is the report on the plays of the logs in the cave of the database and its bindings
 abbrev pub IsReported : {V : Type 0} → (List ℕ → CaveView → V → List Game → List ℕ)

@@ -1,3 +1,4 @@
 mod FinalStateLemmas
 mod Shown
 mod TranscriptLemmas
+mod WatchLemmas

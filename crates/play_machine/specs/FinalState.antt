@@ -1,6 +1,7 @@
 -- The state that a play leads to.
 use Rattle.std.specs.Prelude.{ℕ, List, length}
 use Rattle.cave_data.specs.CaveView.{CaveView}
+use Rattle.cave_world.specs.declared.state.State.{State}
 use Rattle.cave_replay.specs.Play.{state_after, ticks_of}
 use Rattle.play_state_text.specs.StateText.{state_text}
 use Rattle.replay_edits.specs.Edit.{Game}
@@ -9,11 +10,15 @@ use Rattle.turn_ends.specs.Score.{score_of}
 use Rattle.play_machine.specs.Machine.{cave_rules}
 use Rattle.play_machine.specs.Transcript.{ticks}
 
+-- the text of a state that a play is in after so many turns
+abbrev pub state_text_after : CaveView → ℕ → State → List ℕ
+state_text_after cave turns state =
+    state_text cave (starting_objects cave) turns (score_of cave state) state
+
 -- the state to which playing a log in a cave leads, from its first line on
 unfoldable pub final_state_text : CaveView → Game → List ℕ
 final_state_text cave game =
     let rules = cave_rules cave in
     let begun = rules.begun game.seed in
-    let last = state_after rules begun game.log in
-    state_text cave (starting_objects cave)
-    (ticks (ticks_of rules begun game.log) (length game.log)) (score_of cave last) last
+    state_text_after cave (ticks (ticks_of rules begun game.log) (length game.log))
+    (state_after rules begun game.log)

@@ -1,8 +1,10 @@
 pub mod FinalState
 pub mod HeldGame
 pub mod Machine
+pub mod Moments
 pub mod Piece
 pub mod PieceParts
 pub mod Score
 pub mod Steps
 pub mod Transcript
+pub mod Watch

@@ -1,25 +1,19 @@
 -- The table of the lines of a play.
-use Rattle.std.specs.Prelude.{ℕ, ◌+◌, List, [], ◌∷◌, ◌++◌, if◌then◌else◌}
+use Rattle.std.specs.Prelude.{ℕ, List}
 use Rattle.cave_data.specs.CaveView.{CaveView}
-use Rattle.replay_edits.specs.Edit.{Game}
+use Rattle.cave_world.specs.declared.part.Part.{Part}
 use Rattle.cave_world.specs.declared.state.State.{State}
+use Rattle.replay_edits.specs.Edit.{Game}
 use Rattle.play_tables.specs.Step.{step_head_row, step_row}
-use Rattle.play_machine.specs.Machine.{cave_rules}
+use Rattle.play_machine.specs.Moments.{Moment, noted_of}
 
--- a row for each line, of the states that it leads from and to; the first line has this place, and
--- so many turns were taken before it
-abbrev pub step_rows_from : CaveView → ℕ → ℕ → State → List (List ℕ) → List ℕ
-step_rows_from cave place turns state [] = []
-step_rows_from cave place turns state (line ∷ lines) =
-    let rules = cave_rules cave in
-    let after = rules.after state line in
-    let taken = turns + (if rules.ticked state line then 1 else 0) in
-    step_row cave place line taken state after ++ step_rows_from cave (place + 1) taken after lines
+-- the row of a line
+abbrev pub moment_row : CaveView → Moment → List ℕ
+moment_row cave moment =
+    step_row cave moment.place moment.line moment.turns moment.before moment.after
 
--- the names of the columns, and then the rows of the lines of a log, which begins with a state
-unfoldable pub table_from : CaveView → State → List (List ℕ) → List ℕ
-table_from cave state log = step_head_row ++ step_rows_from cave 0 0 state log
-
--- the table of playing the game from its first line to its last
+-- the names of the columns, and then the rows of the lines of playing the game, from its first line
+-- to its last
 unfoldable pub steps_text : CaveView → Game → List ℕ
-steps_text cave game = table_from cave ((cave_rules cave).begun game.seed) game.log
+steps_text cave game =
+    noted_of (λ cave (begun : State) (greeting : List Part). step_head_row) moment_row cave game

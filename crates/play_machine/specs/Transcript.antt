@@ -11,6 +11,7 @@ use Rattle.cave_replay.specs.Play.{state_after, texts_of, ticks_of}
 use Rattle.replay_edits.specs.Edit.{Game}
 use Rattle.turn_ends.specs.Score.{max_score_of, score_of}
 use Rattle.play_machine.specs.Machine.{cave_rules, rendering_of}
+use Rattle.play_machine.specs.Moments.{Moment}
 
 -- a line of the log, as it is shown above what was said at it
 abbrev pub echo : List ℕ → List ℕ
@@ -60,3 +61,7 @@ play_text cave game =
     transcript (rendering_of cave) (rules.greeting game.seed) game.log
     (texts_of rules begun game.log) (ticks_of rules begun game.log)
     (score_of cave (state_after rules begun game.log)) (max_score_of cave)
+
+-- a moment of a play as a transcript shows it
+abbrev pub shown_moment : CaveView → Moment → List ℕ
+shown_moment cave moment = shown_line (rendering_of cave) moment.line moment.parts moment.turns

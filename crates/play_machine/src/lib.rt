@@ -2,16 +2,20 @@
 //! lines and of its score, and its last state.
 #![tactic(auto)]
 
+pub mod course;
 pub mod final_state;
 pub mod machine;
 pub mod piece;
 pub mod score;
 pub mod steps;
 pub mod transcript;
+pub mod watch;
 
-pub use final_state::push_final_state;
+pub use course::{PlayEnd, watch_log};
+pub use final_state::{push_final_state, push_state_after};
 pub use machine::CaveMachine;
 pub use piece::Piece;
 pub use score::push_score;
-pub use steps::push_steps;
-pub use transcript::push_play;
+pub use steps::{StepTable, push_steps};
+pub use transcript::{Transcript, push_play, push_play_end};
+pub use watch::{Begun, LineRows, SeenLine, Unwatched, Watch};

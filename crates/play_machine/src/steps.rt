@@ -1,109 +1,65 @@
 //! The table of the lines of a play.
 
-ghost use Rattle.std.specs.Prelude.{◌≡◌, ◌+◌, ◌<◌, ◌^◌, ◌++◌, OnOk, IsTrue, if◌then◌else◌};
-ghost use Rattle.base_lines.specs.Line.{is_line};
-ghost use Rattle.turn_scene.specs.Scene.{cave_of};
-ghost use Rattle.play_tables.specs.Step.{step_row};
-ghost use Rattle.play_machine.specs.Machine.{cave_rules};
-ghost use Rattle.play_machine.specs.Steps.{step_rows_from, steps_text, table_from};
+ghost use Rattle.std.specs.Prelude.{◌≡◌, ◌++◌, OnOk};
+ghost use Rattle.play_machine.specs.Steps.{steps_text};
 
+use crate::course::watch_session;
 use crate::machine::CaveMachine;
-use base_lines::Meter;
+use crate::watch::{Begun, SeenLine, Watch};
 use cave_replay::Session;
-use cave_turn::{start, turn};
-use cave_world::{Out, State};
+use cave_world::{State, Unnoted};
 use play_tables::{StepRow, push_step_head_row, push_step_row};
 use std::alloc::{AllocError, Global};
-use turn_scene::Rules;
+use std::mem;
 
-/// How far a play has come: the turns up to a line, and the state before it.
-#[derive(Clone, Copy)]
-struct Progress {
-    turns: u32,
-    state: State,
+/// A text that the table of the lines of a play is appended to.
+#[derive(Drop)]
+pub struct StepTable {
+    pub text: Vec<u8>,
 }
 
-/// Plays a line, and appends its row.
-fn push_next_row(
-    alloc: Global,
-    text: &mut Vec<u8>,
-    rules: &Rules<'_>,
-    progress: &mut Progress,
-    place: u32,
-    line: &[u8],
-) -> Result<(), AllocError>
-    requires line { IsTrue (is_line line.now) }
-    requires room { progress.old.turns + 1 < 2 ^ 32 }
-    ensures turns { OnOk result (progress.new.turns ≡ progress.old.turns
-        + (if (cave_rules (cave_of rules.now)).ticked progress.old.state line.now then 1 else 0)) }
-    ensures state { OnOk result (progress.new.state
-        ≡ (cave_rules (cave_of rules.now)).after progress.old.state line.now) }
-    ensures told { OnOk result (text.new.items ≡ text.old.items
-        ++ step_row (cave_of rules.now) place line.now progress.new.turns progress.old.state
-        progress.new.state) }
-{
-    let mut out = Out::new();
-    let mut meter = Meter::new();
-    let turned = turn(rules, &progress.state, line, &mut out, &mut meter);
-    let turns = progress.turns + u32::from(turned.ticked);
-    let step = StepRow {
-        place,
-        line,
-        turns,
-        before: &progress.state,
-        after: &turned.state,
-    };
-    push_step_row(alloc, text, rules, &step)?;
-    progress.turns = turns;
-    progress.state = turned.state;
-    Ok(())
-}
+impl Watch for StepTable {
+    ghost use Rattle.std.specs.Prelude.{◌≡◌, ℕ};
+    ghost use Rattle.play_tables.specs.Step.{step_head_row};
+    ghost use Rattle.play_machine.specs.Steps.{moment_row};
 
-/// Appends the rows of the lines of the log that a session holds, which begins with a state.
-fn push_rows(
-    alloc: Global,
-    text: &mut Vec<u8>,
-    session: &Session<CaveMachine<'_>>,
-    state: State,
-) -> Result<(), AllocError>
-    ensures { OnOk result (text.new.items ≡ text.old.items
-        ++ step_rows_from session.now.machine.rules.cave.now 0 0 state session.now.game.log) }
-{
-    let mut progress = Progress { turns: 0, state };
-    let rules = session.machine().rules;
-    for place in 0..session.lines() {
-        push_next_row(
-            alloc,
-            text,
-            &rules,
-            &mut progress,
-            place,
-            session.line(place),
-        )?;
+    type Before = State;
+
+    type Rows = Unnoted;
+
+    ghost Fact = { ℕ };
+
+    ghost kept = { λ state. state };
+
+    ghost first_facts = { λ _ _ _. step_head_row };
+
+    ghost facts = { moment_row };
+
+    ghost HasNoted = { λ bytes table. table.text.items ≡ bytes };
+
+    fn before(state: &State) -> State {
+        *state
     }
-    Ok(())
-}
 
-/// Appends the table of the lines of the log that a session holds, which begins with a state.
-#[tactic(auto, unfolding(crate::specs::Steps::table_from))]
-fn push_table(
-    alloc: Global,
-    text: &mut Vec<u8>,
-    session: &Session<CaveMachine<'_>>,
-    state: &State,
-) -> Result<(), AllocError>
-    ensures { OnOk result (text.new.items ≡ text.old.items
-        ++ table_from session.now.machine.rules.cave.now state.now session.now.game.log) }
-{
-    push_step_head_row(text)?;
-    push_rows(alloc, text, session, *state)
-}
+    fn start(&mut self, _: Global, _: &Begun<'_>) -> Result<(), AllocError> {
+        push_step_head_row(&mut self.text)
+    }
 
-fn beginning_state(machine: CaveMachine<'_>, seed: u32) -> State
-    ensures { result ≡ (cave_rules machine.entry.rules.cave.now).begun seed }
-{
-    let mut out = Out::new();
-    start(machine.rules.cave, seed, &mut out)
+    fn see(
+        &mut self,
+        alloc: Global,
+        seen: &SeenLine<'_, State>,
+        _: &Unnoted,
+    ) -> Result<(), AllocError> {
+        let row = StepRow {
+            place: seen.place,
+            line: seen.line,
+            turns: seen.turns,
+            before: &seen.before,
+            after: seen.after,
+        };
+        push_step_row(alloc, &mut self.text, &seen.rules, &row)
+    }
 }
 
 /// Appends the table of the lines of the play that a session of the machine holds.
@@ -116,7 +72,10 @@ pub fn push_steps(
     ensures { OnOk result (text.new.items ≡ text.old.items
         ++ steps_text session.now.machine.rules.cave.now session.now.game) }
 {
-    // A session keeps no state between its checkpoints, so its log is played once more.
-    let begun = beginning_state(*session.machine(), session.seed());
-    push_table(alloc, text, session, &begun)
+    let mut table = StepTable {
+        text: mem::replace(text, Vec::new(alloc)),
+    };
+    watch_session(alloc, session, &mut table)?;
+    *text = table.text;
+    Ok(())
 }

@@ -2,14 +2,16 @@
 
 ghost use Rattle.std.specs.Prelude.{◌≡◌, ◌≤◌, ◌++◌, OnOk};
 ghost use Rattle.base_lines.specs.LogLine.{log_line};
+ghost use Rattle.turn_ends.specs.Score.{max_score_of, score_of};
 ghost use Rattle.play_machine.specs.Machine.{rendering_of};
 ghost use Rattle.play_machine.specs.Transcript.{echo, is_shown, last_line, play_text, shown_line};
 
 use crate::machine::CaveMachine;
+use crate::watch::{Begun, SeenLine, Watch};
 use base_lines::is_skipped;
 use cave_data::Cave;
 use cave_replay::Session;
-use cave_world::Part;
+use cave_world::{Part, State, Unnoted};
 use std::alloc::{AllocError, Global};
 use turn_text::render;
 
@@ -81,6 +83,21 @@ fn push_last_line(
     text.extend_from_slice(line.as_bytes())
 }
 
+/// Appends the last line of the transcript of a play that is in a state after so many turns.
+pub fn push_play_end(
+    alloc: Global,
+    machine: CaveMachine<'_>,
+    state: &State,
+    turns: u32,
+    text: &mut Vec<u8>,
+) -> Result<(), AllocError>
+    ensures { let cave = machine.entry.rules.cave.now in OnOk result (text.new.items
+        ≡ text.old.items ++ last_line (score_of cave state.now) (max_score_of cave) turns) }
+{
+    let score = machine.score(state);
+    push_last_line(alloc, text, score, machine.max_score(), turns)
+}
+
 /// Appends a line of the log and what was said at it, where the line is shown.
 fn push_line(
     cave: &Cave,
@@ -97,4 +114,42 @@ fn push_line(
     }
     push_echo(text, line)?;
     render(cave, piece, turns, text)
+}
+
+/// A text that the transcript of a play is appended to, up to its last line.
+#[derive(Drop)]
+pub struct Transcript {
+    pub text: Vec<u8>,
+}
+
+impl Watch for Transcript {
+    ghost use Rattle.std.specs.Prelude.{◌≡◌, ℕ};
+    ghost use Rattle.turn_ends.specs.Score.{max_score_of, score_of};
+    ghost use Rattle.play_machine.specs.Machine.{rendering_of};
+    ghost use Rattle.play_machine.specs.Transcript.{shown_moment};
+
+    type Before = ();
+
+    type Rows = Unnoted;
+
+    ghost Fact = { ℕ };
+
+    ghost kept = { λ _. tt };
+
+    ghost first_facts = { λ cave _ parts. rendering_of cave parts 0 };
+
+    ghost facts = { shown_moment };
+
+    ghost HasNoted = { λ bytes transcript. transcript.text.items ≡ bytes };
+
+    fn before(_: &State) {}
+
+    fn start(&mut self, _: Global, begun: &Begun<'_>) -> Result<(), AllocError> {
+        render(begun.rules.cave, begun.parts, 0, &mut self.text)
+    }
+
+    fn see(&mut self, _: Global, seen: &SeenLine<'_, ()>, _: &Unnoted) -> Result<(), AllocError> {
+        let cave = seen.rules.cave;
+        push_line(cave, &mut self.text, seen.line, seen.parts, seen.turns)
+    }
 }

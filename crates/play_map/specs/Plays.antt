@@ -5,12 +5,11 @@ use Rattle.std.specs.List.{flat_map}
 use Rattle.std.specs.Str.Lines.{lines}
 use Rattle.cave_data.specs.CaveView.{CaveView}
 use Rattle.cave_data.specs.Reads.{Reads}
-use Rattle.play_machine.specs.Machine.{cave_rules}
+use Rattle.play_machine.specs.Moments.{Moment, noted_of}
 use Rattle.cave_world.specs.declared.ending.Question.{Question}
 use Rattle.cave_world.specs.declared.ending.Question.TheVariants as question
 use Rattle.cave_world.specs.declared.part.Part.{Part}
 use Rattle.cave_world.specs.declared.state.State.{State}
-use Rattle.cave_replay.specs.Play.{MachineRules}
 use Rattle.replay_edits.specs.Edit.{Game, game_of}
 use Rattle.map_graph.specs.Map.{map_of_places}
 use Rattle.map_graph.specs.Stops.{stop}
@@ -23,22 +22,22 @@ asks_of_dragon (Some question.Dragon) = true
 asks_of_dragon _ = false
 
 -- the line kills the dragon: it answers the question whether to fight it, and is no command
-abbrev pub is_fight : MachineRules State (List Part) → State → List ℕ → Bool
-is_fight rules state line = asks_of_dragon state.question && not (rules.ticked state line)
+abbrev pub is_fight : Moment → Bool
+is_fight moment = asks_of_dragon moment.before.question && not moment.ticked
 
--- the stops at the states that follow a state, one at each line
-abbrev pub stops_after : MachineRules State (List Part) → State → List (List ℕ) → List Stop
-stops_after rules state [] = []
-stops_after rules state (line ∷ lines) =
-    stop state.trail.here (rules.after state line).trail (is_fight rules state line)
-    ∷ stops_after rules (rules.after state line) lines
+-- the stop at the end of a line
+abbrev pub stop_at : Moment → Stop
+stop_at moment = stop moment.before.trail.here moment.after.trail (is_fight moment)
 
--- the stops of playing a game; none is before the first state
-unfoldable pub stops_in : CaveView → Game → List Stop
+-- none is before the first state
+abbrev pub first_stop : State → Stop
+first_stop begun = stop 0 begun.trail false
+
+-- the stops of playing a game: at its first state, and at the end of each line
+abbrev pub stops_in : CaveView → Game → List Stop
 stops_in cave game =
-    let rules = cave_rules cave in
-    let begun = rules.begun game.seed in
-    stop 0 begun.trail false ∷ stops_after rules begun game.log
+    noted_of (λ cave begun (greeting : List Part). first_stop begun ∷ [])
+    (λ cave moment. stop_at moment ∷ []) cave game
 
 -- the map of a cave with what the plays of games saw of it
 abbrev pub map_of_games : CaveView → List Game → List ℕ

@@ -1,18 +1,47 @@
-//! The stops of a play.
+//! The stops of plays.
 
-ghost use Rattle.std.specs.Prelude.{◌≡◌, ◌+◌, ◌<◌, ◌^◌, ◌++◌, false, IfOk, OnOk, IsTrue};
-ghost use Rattle.play_map.specs.Plays.{asks_of_dragon, is_fight, stops_after, stops_in};
-ghost use Rattle.map_graph.specs.Stops.{stop};
-ghost use Rattle.play_machine.specs.Machine.{cave_rules};
-ghost use Rattle.base_lines.specs.Line.{is_line};
+ghost use Rattle.std.specs.Prelude.{◌≡◌, []};
+ghost use Rattle.play_map.specs.Plays.{asks_of_dragon};
 
-use base_lines::Meter;
-use cave_replay::{Machine, Session};
-use cave_world::{Out, Question, State};
+use cave_world::{Question, State, Unnoted};
 use map_graph::stops::Stop;
-use play_machine::CaveMachine;
+use play_machine::{Begun, SeenLine, Watch};
 use std::alloc::{AllocError, Global};
+use std::marker::Model;
 use world_objects::Place;
+
+/// The stops of plays, at the beginning and at the end of each line.
+#[derive(Drop)]
+pub struct Stops {
+    stops: Vec<Stop>,
+}
+
+impl Model for Stops {
+    ghost use Rattle.std.specs.Prelude.{List};
+    ghost use Rattle.map_graph.specs.declared.stops.Stop.{Stop};
+
+    ghost Value = { List Stop };
+
+    ghost view = { λ s. s.stops.items };
+}
+
+impl Stops {
+    /// The stops of no play.
+    pub fn new(alloc: Global) -> Stops
+        ensures { result ≡ [] }
+    {
+        Stops {
+            stops: Vec::new(alloc),
+        }
+    }
+
+    /// The stops, in their order.
+    pub fn as_slice(&self) -> &[Stop]
+        ensures { result.now ≡ self.now }
+    {
+        &self.stops
+    }
+}
 
 /// Whether a question asks if the player fights the dragon.
 fn asks_of_dragon(question: Option<Question>) -> bool
@@ -21,86 +50,64 @@ fn asks_of_dragon(question: Option<Question>) -> bool
     matches!(question, Some(Question::Dragon))
 }
 
-/// Plays one line, and returns the stop at its end.
-fn next_stop(
-    alloc: Global,
-    machine: CaveMachine<'_>,
-    scratch: &mut Out,
-    state: &mut State,
-    line: &[u8],
-    meter: &mut Meter,
-) -> Result<Stop, AllocError>
-    requires line { IsTrue (is_line line.now) }
-    requires room { meter.old + 1 < 2 ^ 64 }
-    ensures counted { OnOk result (meter.new ≡ meter.old + 1) }
-    ensures state { OnOk result
-        (state.new ≡ (cave_rules machine.entry.rules.cave.now).after state.old line.now) }
-    ensures stop { IfOk result (λ made. made ≡ stop state.old.trail.here state.new.trail
-        (is_fight (cave_rules machine.entry.rules.cave.now) state.old line.now)) }
-{
-    let before = state.trail.here;
-    let is_asked = asks_of_dragon(state.question);
-    let stepped = machine.step(alloc, scratch, state, line, meter)?;
-    Ok(Stop {
-        before,
-        trail: state.trail,
-        is_fight: is_asked && !stepped.ticked,
-    })
+/// What a stop says of the state before its line: the player's place, and whether it is asked about
+/// the dragon.
+#[derive(Clone, Copy)]
+pub struct BeforeStop {
+    pub here: Place,
+    pub is_asked: bool,
 }
 
-/// Adds the stops at the lines of the log that a session holds, beginning with a state.
-fn push_later_stops(
-    alloc: Global,
-    session: &Session<CaveMachine<'_>>,
-    state: &mut State,
-    stops: &mut Vec<Stop>,
-) -> Result<(), AllocError>
-    ensures { OnOk result (stops.new.items ≡ stops.old.items
-        ++ stops_after (cave_rules session.now.machine.rules.cave.now) state.old
-        session.now.game.log) }
-{
-    let machine = *session.machine();
-    let mut scratch = machine.scratch(alloc)?;
-    let mut meter = Meter::new();
-    for place in 0..session.lines() {
-        let line = session.line(place);
-        let stop = next_stop(alloc, machine, &mut scratch, state, line, &mut meter)?;
-        stops.push(stop)?;
+impl Watch for Stops {
+    ghost use Rattle.std.specs.Prelude.{◌≡◌, [], ◌∷◌, false};
+    ghost use Rattle.map_graph.specs.Stops.{stop};
+    ghost use Rattle.map_graph.specs.declared.stops.Stop.{Stop};
+    ghost use Rattle.play_map.specs.Plays.{asks_of_dragon, first_stop, stop_at};
+
+    type Before = BeforeStop;
+
+    type Rows = Unnoted;
+
+    ghost Fact = { Stop };
+
+    ghost kept = { λ state. record {
+      here = state.trail.here;
+      is_asked = asks_of_dragon state.question;
+    } };
+
+    ghost first_facts = { λ _ begun _. first_stop begun ∷ [] };
+
+    ghost facts = { λ _ moment. stop_at moment ∷ [] };
+
+    ghost HasNoted = { λ stops seen. seen ≡ stops };
+
+    fn before(state: &State) -> BeforeStop {
+        BeforeStop {
+            here: state.trail.here,
+            is_asked: asks_of_dragon(state.question),
+        }
     }
-    Ok(())
-}
 
-fn first_stop(state: &State) -> Stop
-    ensures { result ≡ stop 0 state.now.trail false }
-{
-    Stop {
-        before: Place::new(0),
-        trail: state.trail,
-        is_fight: false,
+    fn start(&mut self, _: Global, begun: &Begun<'_>) -> Result<(), AllocError> {
+        self.stops.push(Stop {
+            before: Place::new(0),
+            trail: begun.state.trail,
+            is_fight: false,
+        })?;
+        Ok(())
     }
-}
 
-fn beginning_state(alloc: Global, machine: CaveMachine<'_>, seed: u32) -> Result<State, AllocError>
-    ensures { IfOk result
-        (λ state. state ≡ (cave_rules machine.entry.rules.cave.now).begun seed) }
-{
-    let started = machine.start(alloc, seed)?;
-    Ok(started.state)
-}
-
-/// Adds the stops of the play that a session of the machine holds.
-#[tactic(auto, unfolding(crate::specs::Plays::stops_in))]
-pub fn push_stops(
-    alloc: Global,
-    session: &Session<CaveMachine<'_>>,
-    stops: &mut Vec<Stop>,
-) -> Result<(), AllocError>
-    ensures { OnOk result (stops.new.items
-        ≡ stops.old.items ++ stops_in session.now.machine.rules.cave.now session.now.game) }
-{
-    // A session keeps no state between its checkpoints, so its log is played once more.
-    let begun = beginning_state(alloc, *session.machine(), session.seed())?;
-    let mut state = Box::new(alloc, begun)?;
-    stops.push(first_stop(&state))?;
-    push_later_stops(alloc, session, &mut state, stops)
+    fn see(
+        &mut self,
+        _: Global,
+        seen: &SeenLine<'_, BeforeStop>,
+        _: &Unnoted,
+    ) -> Result<(), AllocError> {
+        self.stops.push(Stop {
+            before: seen.before.here,
+            trail: seen.after.trail,
+            is_fight: seen.before.is_asked && !seen.ticked,
+        })?;
+        Ok(())
+    }
 }

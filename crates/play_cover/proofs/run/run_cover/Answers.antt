@@ -1,7 +1,8 @@
+use Rattle.play_command.specs.declared.views.CoverView.TheVariants.{Rules, Said}
 use Rattle.play_logs.specs.Faults.{first_stages}
-use Rattle.play_cover.specs.Plays.{IsCovered}
 use Rattle.play_logs.proofs.FaultLemmas.{RunsLogs-also}
-use Rattle.play_cover.proofs.Telling.{rules_reported, texts_reported}
+use Rattle.play_cover.specs.Plays.{IsCovered}
+use Rattle.play_cover.proofs.Telling.{covered-reported}
 use Rattle.play_cover.proofs.run.run_cover.Goals as goal
 
 pub returns-in-Said : goal.returns-in-Said
@@ -17,8 +18,8 @@ returns-in-Said g c =
         last,
         RunsLogs-also (first_stages database bindings c.args.seed) moves _
             (IsCovered database bindings moves c.args.seed c.args.view) _ _ _
-            (texts_reported database bindings moves c.args.seed c.args.view c.in-Said.view
-            c.in-Said.is) runs,
+            (λ output. covered-reported database bindings moves c.args.seed c.args.view
+            (Said c.in-Said.view) output c.in-Said.is) runs,
       );
     }
 
@@ -35,6 +36,7 @@ returns-in-Rules g c =
         last,
         RunsLogs-also (first_stages database bindings c.args.seed) moves _
             (IsCovered database bindings moves c.args.seed c.args.view) _ _ _
-            (rules_reported database bindings moves c.args.seed c.args.view tt c.in-Rules.is) runs,
+            (λ output. covered-reported database bindings moves c.args.seed c.args.view
+            Rules output c.in-Rules.is) runs,
       );
     }

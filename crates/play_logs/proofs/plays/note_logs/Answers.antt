@@ -1,13 +1,17 @@
 use Rattle.std.proofs.Common.{◌<◌, [], ◌∷◌, ◌++◌, length, arith, subst, sym}
 use Rattle.cave_play.specs.Input.{Says}
 use Rattle.play_logs.proofs.FaultLemmas.{log_right}
-use Rattle.play_logs.proofs.Progress.{HasRead-more, HasRead-refused, same_later, same_reader}
+use Rattle.std.specs.Str.Lines.{lines}
+use Rattle.replay_edits.specs.Edit.{game_of}
+use Rattle.play_logs.proofs.Progress.{AreNotesOn, AreNotesOn-more, HasRead-more, HasRead-refused}
+use Rattle.play_logs.proofs.Progress.{same_later, same_reader}
 use Rattle.play_logs.proofs.plays.note_logs.Goals as goal
 
 pub returns-in-Err : goal.returns-in-Err
 returns-in-Err g c =
     let (moves, said, decided) = c.in-Err.ensures.judged in
     let before = c.loop-place.invariant in
+    let watch = g.N.Watch in
     let place = c.loop-place.place in
     let log = c.index-logs-place.result in
     let inside : place < length c.args.logs.now = omega arith in
@@ -17,7 +21,8 @@ returns-in-Err g c =
     record {
       judged =
           HasRead-refused g.L.Read.remaining c.args.logs.now place log inside same
-          (g.N.PlayNotes.AreNotesOn c.args.machine.rules.cave.now) c.args.seed c.loop-place.notes
+          (AreNotesOn watch.HasNoted watch.first_facts watch.facts c.args.machine.rules.cave.now)
+          c.args.seed c.loop-place.notes
           before.0.0 moves before.0.1 here c.in-Err.fault decided;
     }
 
@@ -25,6 +30,7 @@ pub loop-place-preserved : goal.loop-place-preserved
 loop-place-preserved g c =
     let (moves, said, noted) = c.in-Ok.ensures.judged in
     let before = c.loop-place.invariant in
+    let watch = g.N.Watch in
     let place = c.loop-place.place in
     let log = c.index-logs-place.result in
     let inside : place < length c.args.logs.now = omega arith in
@@ -34,8 +40,12 @@ loop-place-preserved g c =
       (
         before.0.0 ++ moves ∷ [],
         HasRead-more g.L.Read.remaining c.args.logs.now place log inside same
-            (g.N.PlayNotes.AreNotesOn c.args.machine.rules.cave.now) c.args.seed c.loop-place.notes
-            before.0.0 moves before.0.1 here c.note_log.new.notes (log_right moves noted.0) noted.1,
+            (AreNotesOn watch.HasNoted watch.first_facts watch.facts
+            c.args.machine.rules.cave.now) c.args.seed c.loop-place.notes
+            before.0.0 moves before.0.1 here c.watch_play.new.watch (log_right moves noted.0)
+            (AreNotesOn-more watch.HasNoted watch.first_facts watch.facts
+            c.args.machine.rules.cave.now (game_of c.args.seed (lines moves)) c.loop-place.notes
+            c.watch_play.new.watch noted.1.0),
       ),
-      same_later c.loop-place.logs c.args.logs.now place c.note_log.new.log before.1,
+      same_later c.loop-place.logs c.args.logs.now place c.watch_play.new.log before.1,
     )

@@ -6,6 +6,7 @@ use Rattle.cave_play.specs.Input.{Says}
 use Rattle.replay_edits.specs.Edit.{game_of}
 use Rattle.play_logs.specs.Faults.{games_of}
 use Rattle.play_logs.proofs.FaultLemmas.{AllSay-some, AllZip-length}
+use Rattle.play_logs.proofs.Progress.{AreNotesOn}
 use Rattle.play_logs.proofs.run.report_in_cave.Goals as goal
 
 pub returns-in_err-lexicon : goal.returns-in_err-lexicon
@@ -23,13 +24,14 @@ returns-in_err-notes g c =
     rw (exit.1, exit.2) (record { judged = (known.0, known.1, inl (refl, refl)) })
 
 pub note_logs-requires-clause-none : goal.note_logs-requires-clause-none
-note_logs-requires-clause-none g c = c.in_ok-notes.ensures c.new-machine.result.rules.cave.now
+note_logs-requires-clause-none g c = c.in_ok-notes.ensures
 
 pub returns : goal.returns
 returns g c =
     let (moves, said, noted) = c.in_ok-note_logs.ensures.judged in
     let notes = c.note_logs.new.notes in
     let report_on = g.N.PlayNotes.report_on in
+    let watch = g.N.Watch in
     let played = games_of c.args.seed moves in
     let count = length c.note_logs.new.logs in
     let kept : count ≡ length c.args.logs.now = omega arith in
@@ -39,7 +41,8 @@ returns g c =
     ∙ sym (length-map moves (λ log. game_of c.args.seed (lines log))) in
     let read = c.args.read.now in
     let here =
-    subst (λ cave. g.N.PlayNotes.AreNotesOn cave played notes) c.new-machine.ensures noted.2 in
+    subst (λ cave. AreNotesOn watch.HasNoted watch.first_facts watch.facts cave played notes)
+    c.new-machine.ensures noted.2 in
     let text =
     c.in_ok-push_report.ensures played here many
     ∙ ap (λ t. t ++ report_on c.deref.result.now read.cave c.args.view played)

@@ -1,0 +1,85 @@
+//! Which rows apply in plays.
+
+use crate::line_rows::KeptRows;
+use crate::marks::Marks;
+use crate::row_report::push_row_report;
+use crate::rule_tables::row_mark;
+use cave_data::Cave;
+use cave_world::{RuleRow, State, Table};
+use data_bindings::way_lines;
+use play_logs::notes::PlayNotes;
+use play_machine::{Begun, SeenLine, Watch};
+use std::alloc::{AllocError, Global};
+
+/// The rows that apply in plays, or are tried.
+#[derive(Drop)]
+pub struct RuleNotes {
+    marks: Marks,
+}
+
+impl Watch for RuleNotes {
+    ghost use Rattle.play_cover.specs.Marks.{AreMarksOf};
+    ghost use Rattle.play_cover.specs.Plays.{rows_at, rows_at_start};
+    ghost use Rattle.play_cover.specs.declared.marks.Mark.{Mark};
+
+    type Before = ();
+
+    type Rows = KeptRows;
+
+    ghost Fact = { Mark };
+
+    ghost kept = { λ _. tt };
+
+    ghost first_facts = { rows_at_start };
+
+    ghost facts = { rows_at };
+
+    ghost HasNoted = { λ marks notes. AreMarksOf marks notes.marks };
+
+    fn before(_: &State) {}
+
+    #[tactic(auto, using(crate::proofs::Noting::more_marked))]
+    fn start(&mut self, alloc: Global, _: &Begun<'_>) -> Result<(), AllocError> {
+        let row = RuleRow::OfTable(Table::Questions, 1);
+        self.marks.note(alloc, row_mark(row))
+    }
+
+    #[tactic(auto, using(crate::proofs::Noting::more_marked))]
+    fn see(
+        &mut self,
+        alloc: Global,
+        _: &SeenLine<'_, ()>,
+        rows: &KeptRows,
+    ) -> Result<(), AllocError> {
+        rows.mark_all(alloc, &mut self.marks)
+    }
+}
+
+impl PlayNotes for RuleNotes {
+    ghost use Rattle.play_command.specs.declared.views.CoverView.TheVariants.{Rules};
+    ghost use Rattle.play_cover.specs.Plays.{report_on_games};
+
+    type View = ();
+
+    ghost report_on = { λ database cave _ games. report_on_games Rules database cave games };
+
+    #[tactic(auto, using(crate::proofs::Noting::none_marked))]
+    fn none(alloc: Global) -> Result<RuleNotes, AllocError> {
+        Ok(RuleNotes {
+            marks: Marks::new(alloc),
+        })
+    }
+
+    fn push_report(
+        &self,
+        alloc: Global,
+        database: &[u8],
+        _cave: &Cave,
+        _view: (),
+        logs: usize,
+        text: &mut Vec<u8>,
+    ) -> Result<(), AllocError> {
+        let ways = way_lines(alloc, database)?;
+        push_row_report(alloc, &self.marks, &ways, logs, text)
+    }
+}

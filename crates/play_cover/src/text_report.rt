@@ -1,0 +1,175 @@
+//! The report on the texts of a cave, of which some were said.
+
+ghost use Rattle.std.specs.Prelude.{◌≡◌, [], ◌++◌, map, OnOk, option_map, slice_index_or};
+ghost use Rattle.play_cover.specs.Marks.{is_marked};
+ghost use Rattle.play_cover.specs.TextReport.{detail_of, first_line_shown, heading_of_kind};
+ghost use Rattle.play_cover.specs.TextReport.{text_at, text_report, word_of_kind};
+
+use crate::cave_texts::CaveTexts;
+use crate::coverage::{Detail, Groups, Totals, push_groups};
+use crate::marks::Marks;
+use crate::text::{KINDS, NUMBERS, PROPS_PER_OBJECT, TextKind};
+use cave_data::Cave;
+use data_bindings::first_line;
+use data_rows::role::ROLE_NAMES;
+use play_command::TextView;
+use std::alloc::{AllocError, Global};
+
+/// How the line of a kind begins.
+fn heading(kind: TextKind) -> &'static str
+    ensures { result.now ≡ heading_of_kind kind }
+{
+    match kind {
+        TextKind::Long => "long texts",
+        TextKind::Short => "short texts",
+        TextKind::Look => "object texts",
+        TextKind::Name => "inventory texts",
+        TextKind::Message => "messages",
+        TextKind::Role => "roles",
+        TextKind::Class => "classes",
+    }
+}
+
+/// What one text of a kind is called.
+fn word(kind: TextKind) -> &'static str
+    ensures { result.now ≡ word_of_kind kind }
+{
+    match kind {
+        TextKind::Long => "long text",
+        TextKind::Short => "short text",
+        TextKind::Look => "object text",
+        TextKind::Name => "inventory text",
+        TextKind::Message => "message",
+        TextKind::Role => "role",
+        TextKind::Class => "class",
+    }
+}
+
+fn text_at(cave: &Cave, kind: TextKind, number: u16) -> Option<&[u8]>
+    ensures { option_map (λ text. text.now) result ≡ text_at cave.now kind number }
+{
+    match kind {
+        TextKind::Long => cave.long(number),
+        TextKind::Short => cave.short(number),
+        TextKind::Look => cave.look(number / PROPS_PER_OBJECT, number % PROPS_PER_OBJECT),
+        TextKind::Name => cave.name(number),
+        TextKind::Message => cave.message(number),
+        TextKind::Role => None,
+        TextKind::Class => match cave.class_of(u32::from(number)) {
+            Some(rating) => Some(rating.text),
+            None => None,
+        },
+    }
+}
+
+/// Appends the first line of a text, where there is one.
+fn push_first_line(found: Option<&[u8]>, text: &mut Vec<u8>) -> Result<(), AllocError>
+    ensures { OnOk result (text.new.items
+        ≡ text.old.items ++ first_line_shown (option_map (λ found. found.now) found.entry)) }
+{
+    match found {
+        Some(found) => {
+            text.extend_from_slice(b": ")?;
+            text.extend_from_slice(first_line(found))?;
+            text.extend_from_slice(b"\n")
+        }
+        None => text.extend_from_slice(b"\n"),
+    }
+}
+
+/// The name at a place of a table.
+fn name_at<'a>(names: &[&'a str], number: u16) -> &'a str
+    ensures { result.now ≡ slice_index_or (map (λ name. name.now) names.now) number [] }
+{
+    match names.get(number as usize) {
+        Some(name) => *name,
+        None => "",
+    }
+}
+
+impl<'a> Groups for CaveTexts<'a> {
+    ghost use Rattle.play_cover.specs.TextReport.{cave_texts};
+
+    type Group = TextKind;
+
+    ghost catalogue = { λ texts. cave_texts texts };
+
+    fn groups(&self) -> &[TextKind] {
+        &KINDS
+    }
+
+    fn number(&self, kind: TextKind) -> usize {
+        kind.number()
+    }
+
+    fn heading(&self, kind: TextKind) -> &'static str {
+        heading(kind)
+    }
+
+    #[tactic(auto, unfolding(crate::specs::TextReport::texts_of_kind))]
+    fn present(&self, alloc: Global, kind: TextKind) -> Result<Vec<u16>, AllocError> {
+        (0..NUMBERS as u16)
+            .filter(|number| self.has(kind, *number))
+            .collect(alloc)
+    }
+
+    fn push_name(
+        &self,
+        alloc: Global,
+        kind: TextKind,
+        number: u16,
+        text: &mut Vec<u8>,
+    ) -> Result<(), AllocError> {
+        let name = match kind {
+            TextKind::Look => {
+                let (object, prop) = (number / PROPS_PER_OBJECT, number % PROPS_PER_OBJECT);
+                format!(in alloc; " {object}:{prop}")?
+            }
+            TextKind::Role => {
+                let name = name_at(&ROLE_NAMES, number);
+                format!(in alloc; " {name}")?
+            }
+            _ => format!(in alloc; " {number}")?,
+        };
+        text.extend_from_slice(name.as_bytes())
+    }
+
+    fn push_missing_line(
+        &self,
+        alloc: Global,
+        kind: TextKind,
+        number: u16,
+        text: &mut Vec<u8>,
+    ) -> Result<(), AllocError> {
+        text.extend_from_slice(word(kind).as_bytes())?;
+        self.push_name(alloc, kind, number, text)?;
+        push_first_line(text_at(self.cave(), kind, number), text)
+    }
+}
+
+fn detail_of(view: TextView) -> Detail
+    ensures { result ≡ detail_of view }
+{
+    match view {
+        TextView::Counts => Detail::Counts,
+        TextView::Texts => Detail::Missing,
+    }
+}
+
+/// Appends what is asked for of a cave of whose texts some were said in so many logs.
+#[tactic(auto, unfolding(crate::specs::TextReport::text_report))]
+pub fn push_text_report(
+    alloc: Global,
+    cave: &CaveTexts<'_>,
+    said: &Marks,
+    view: TextView,
+    logs: usize,
+    text: &mut Vec<u8>,
+) -> Result<(), AllocError>
+    ensures { OnOk result (text.new.items
+        ≡ text.old.items ++ text_report cave.now view (is_marked said.now) logs) }
+{
+    let Totals { covered, present } = push_groups(alloc, cave, said, detail_of(view), text)?;
+    let closing = format!(in alloc; "-- {covered} of {present} texts in {logs} logs\n")?;
+    text.extend_from_slice(closing.as_bytes())
+}
