@@ -92,14 +92,19 @@ def refuser(crate, name, said):
     return None
 
 
-def labels_of(function):
-    """The labels of the clauses of a function, a list for what each of that name asks and one for
-    what it promises."""
-    for text in texts("*", "src/**/*.rt"):
+def labels_of(function, crate="*"):
+    """The labels of the clauses of a function of a crate, or of any, a list for what each of that
+    name asks and one for what it promises."""
+    for text in texts(crate, "src/**/*.rt"):
         for found in re.finditer(rf"^( *)(?:pub(?:\(crate\))? )?fn {function}\b", text, re.M):
             contract = re.split(rf"\n{found[1]}\{{|;\n", text[found.end() :])[0]
             for kind in ("requires", r"ensures\*?"):
                 yield re.findall(rf"^ *{kind} (?:(\w+) )?\{{", contract, re.M)
+
+
+def clauses_of(crate, function):
+    """The labels of all clauses of the functions of that name in a crate."""
+    return {label for labels in labels_of(function, crate) for label in labels}
 
 
 def is_clause(crate, function, label):
