@@ -1,6 +1,6 @@
 -- Where the fault of a run over several logs is found, and what a run has written when it ends.
 use Rattle.std.specs.Prelude.{◌≡◌, ℕ, ◌+◌, ◌⊎◌, ⊤, List, [], ◌∷◌, Option, Some, None, Result, Ok}
-use Rattle.std.specs.Prelude.{Err, ◌++◌, map}
+use Rattle.std.specs.Prelude.{Err, map}
 use Rattle.std.specs.Io.KnownBytes.{Appends, Keeps}
 use Rattle.cave_play.specs.Judge.{log_fault, large_seed}
 use Rattle.cave_play.specs.Run.{WritesPrefix, IsFoundAt}

@@ -60,7 +60,6 @@ pub struct BeforeStop {
 
 impl Watch for Stops {
     ghost use Rattle.std.specs.Prelude.{◌≡◌, [], ◌∷◌, false};
-    ghost use Rattle.map_graph.specs.Stops.{stop};
     ghost use Rattle.map_graph.specs.declared.stops.Stop.{Stop};
     ghost use Rattle.play_map.specs.Plays.{asks_of_dragon, first_stop, stop_at};
 

@@ -1,6 +1,6 @@
 //! The run that draws a map: from readers of the inputs to a writer of the output.
 
-ghost use Rattle.std.specs.Prelude.{◌≡◌, ℕ, List, map};
+ghost use Rattle.std.specs.Prelude.{ℕ, List, map};
 ghost use Rattle.std.specs.List.{AllZip};
 ghost use Rattle.play_logs.specs.Faults.{RunsLogs, first_stages};
 ghost use Rattle.play_map.specs.Plays.{IsMapped};
