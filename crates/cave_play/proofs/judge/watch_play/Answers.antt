@@ -34,9 +34,10 @@ returns-in-Ok g c =
             NotesMore watch.HasNoted (noted_of watch.first_facts watch.facts cave
             (game_of c.args.seed log)) c.args.watch.now c.watch_log.new.watch
             × IsEndOf cave (game_of c.args.seed log) end) bytes
-            text (Ok c.in-Ok.end) (c.deref.ensures.value ∙ read.0) read.1
-            (first_decided-one (judging_stage (lines_fault (lines text))) none,
-            (c.in-Ok.ensures.noted, c.in-Ok.ensures.end)),
+            text (Ok c.in-Ok.end) (c.deref.ensures.value ∙ read.0) read.1 (
+              first_decided-one (judging_stage (lines_fault (lines text))) none,
+              (c.in-Ok.ensures.noted, c.in-Ok.ensures.end),
+            ),
       );
     }
 
