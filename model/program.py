@@ -12,6 +12,7 @@ from re import fullmatch
 import checks
 import cover
 import edits
+import ends
 import scores
 from database import KEYS, PLACES, ROLES, Cave, bindings_of, sections_of, with_mark
 from lines import GREATEST_SEED, MOST_BYTES, Fault, log_of, near_name
@@ -216,8 +217,15 @@ def stretch(group, log, new_log, old, new):
             return start, at + shift, at + shift - start
     return start, None, len(new_log) - start
 
-def run_edit(cave, file, log, script, options):
-    """Edits a log by a script, and gives what is printed, as lines."""
+def small(text, name):
+    """A text that is printed for a run to read."""
+    if len(text) > MOST_BYTES:
+        more = "would be larger than 1,048,576 bytes, and no run could read it"
+        raise Stop(6, f"cave: {name} {more}\n")
+    return text
+
+def run_edit(cave, file, log, script, log_ends, options):
+    """Edits a log by a script, and gives what is printed: its lines, or a text with its own ends."""
     seed, reports, backs, rows = options["seed"], [], [], []
     replays = options["print"] in ("reports", "table")
     before, played, wanted = edits.play(cave, seed, log, True) if replays else None, 0, 0
@@ -245,17 +253,21 @@ def run_edit(cave, file, log, script, options):
             before, played, wanted = after, played + count, wanted + len(new_log)
         reports.append(report)
         backs.append(edits.undo_of(group, seed, log, options["guarded"]))
+        log_ends.follow(group)
         seed, log = new_seed, new_log
     if options["print"] == "table":
         return ["\t".join(map(str, row)) for row in [edits.TABLE, *rows]]
     if replays:
         return [*reports, f"played {played} lines; from the start it would have been {wanted}"]
     if options["print"] == "undo":
-        return [line for lines in reversed(backs) for line in lines]
+        lines = [line for lines in reversed(backs) for line in lines]
+        return small(log_ends.script_text(lines), "the script that takes the edits back")
+    if options["print"] == "log":
+        return small(log_ends.log_text(log), "the edited log")
     if options["print"] == "steps":
         return edits.steps(cave, seed, log)
     ended = edits.play(cave, seed, log)
-    return {"log": log, "score": scores.table(ended.game), "state": ended.game.state_lines(),
+    return {"score": scores.table(ended.game), "state": ended.game.state_lines(),
             "play": ended.transcript,
             "transcript": [*reports, *ended.transcript]}[options["print"]]
 
@@ -268,7 +280,7 @@ def run_cover(cave, names, files, options):
     return cover.report(cave, said, len(names), options["print"])
 
 def run_words(words):
-    """What a run prints, as lines; a fault of it ends it by `Stop`."""
+    """What a run prints, as lines or as a text; a fault of it ends it by `Stop`."""
     command, names, options = words_of(words)
     bind, in_order = options["bind"], names[:1] + [options["bind"]] + names[1:]
     files = [None if it is None else opened(it) for it in in_order]
@@ -283,12 +295,14 @@ def run_words(words):
         return check_lines(cave, options, names[0], database, bindings)
     if command == "cover":
         return run_cover(cave, names[1:], files[2:], options)
-    log = judged_as(3, names[1], log_of, text_of(files[2]))
+    log_text = text_of(files[2])
+    log = judged_as(3, names[1], log_of, log_text)
     if command == "edit":
         name, text = (names[2], text_of(files[3])) if options["edit"] is None else (
             "--edit", "".join(it + "\n" for it in options["edit"]))
         script = judged_as(4, name, edits.script_of, text, options["guarded"])
-        return run_edit(cave, name, log, script, options)
+        log_ends = ends.Ends(log_text, text)
+        return run_edit(cave, name, log, script, log_ends, options)
     if options["print"] == "steps":
         return edits.steps(cave, options["seed"], log)
     played = edits.play(cave, options["seed"], log)
@@ -298,6 +312,8 @@ def run_words(words):
 def run(words):
     """The status, the output and what is said on standard error, as bytes."""
     try:
-        return 0, "".join(it + "\n" for it in run_words(words)).encode("latin-1"), b""
+        printed = run_words(words)
+        text = printed if isinstance(printed, str) else "".join(it + "\n" for it in printed)
+        return 0, text.encode("latin-1"), b""
     except Stop as stop:
         return stop.status, b"", stop.message.encode()

@@ -1,4 +1,7 @@
+mod BytesLemmas
 mod DoubtLemmas
+mod EndedLemmas
+mod GuardLawLemmas
 pub mod InputLemmas
 mod JudgeLemmas
 mod OneOutputLemmas
@@ -6,6 +9,7 @@ mod RefusalLemmas
 mod RunLemmas
 mod ScriptLemmas
 pub mod StageLemmas
+mod SizeLemmas
 mod StrictLemmas
 mod TextsLemmas
 mod UndoLemmas

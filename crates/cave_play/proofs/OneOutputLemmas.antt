@@ -1,5 +1,5 @@
 -- Two outputs of the same inputs are the same.
-use Rattle.std.proofs.Common.{◌≡◌, ℕ, Bool, true, false, List, subst, sym, ap, ◌∙◌}
+use Rattle.std.proofs.Common.{◌≡◌, ℕ, Bool, true, false, List, Ok, subst, sym, ap, ◌∙◌}
 use Rattle.std.specs.Str.Lines.{lines}
 use Rattle.cave_data.specs.CaveView.{CaveView}
 use Rattle.cave_data.proofs.ReadLemmas.{same_cave}
@@ -9,13 +9,15 @@ use Rattle.play_command.specs.declared.editing.EditView.TheVariants.{Steps, Scor
 use Rattle.play_command.specs.declared.editing.EditView.TheVariants.{Table, Undo}
 use Rattle.replay_edits.specs.Edit.{Game, game_of}
 use Rattle.replay_scripts.proofs.Grammar.{script_of-only}
-use Rattle.replay_scripts.specs.Guards.{IsScriptBy}
+use Rattle.replay_scripts.specs.Guards.{IsScriptBy, script_by}
 use Rattle.replay_scripts.specs.Script.{Applied}
 use Rattle.cave_play.specs.Laws.{OneCheckedOutput, OnePlayedOutput, OneEditedOutput}
 use Rattle.cave_play.specs.Laws.{KnowsNoCheckpoints}
 use Rattle.cave_play.specs.Output.{check_text, play_view_text}
+use Rattle.cave_play.specs.Ended.{ended_view, ends_after_items}
 use Rattle.cave_play.specs.Views.{IsViewOf}
 use Rattle.play_edits.specs.Outcome.{ItemOutcome}
+use Rattle.replay_ends.specs.LogEnds.{log_ends}
 
 pub one_checked_output : OneCheckedOutput
 one_checked_output database bindings view =
@@ -34,14 +36,19 @@ one_played_output database bindings log seed view =
     ∙ ap (λ c. play_view_text view c game) (same_cave database bindings kept cave rereads reads)
     ∙ sym same
 
--- a script spells the same items, whoever reads it
-same_items : (guarded : Bool) (script : List ℕ) (items others : List Applied)
+-- items that a script spells are what is read of it
+pub script_by-spelled : (guarded : Bool) (script : List ℕ) (items : List Applied)
+    → IsScriptBy guarded script items → script_by guarded script ≡ Ok items
+script_by-spelled false script items spelled = script_of-only script items spelled
+script_by-spelled true script items (read, spelled) = read
+
+-- so it spells the same items, whoever reads it
+pub same_items : (guarded : Bool) (script : List ℕ) (items others : List Applied)
     → IsScriptBy guarded script items → IsScriptBy guarded script others → items ≡ others
-same_items false script items others spelled respelled =
-    let first = script_of-only script items spelled in
-    let second = script_of-only script others respelled in
+same_items guarded script items others spelled respelled =
+    let first = script_by-spelled guarded script items spelled in
+    let second = script_by-spelled guarded script others respelled in
     cc
-same_items true script items others (first, spelled) (second, respelled) = cc
 
 -- so for the same items in the same cave it is the same text, whatever came of them
 one_view : (view : EditView) (cave : CaveView) (game : Game) (guarded : Bool) (items : List Applied)
@@ -65,10 +72,19 @@ one_edited_output database bindings log script seed near far view guarded strict
     let (cave, reads, is) = first in
     let (kept, rereads, same) = second in
     let game = game_of seed (lines log) in
+    let opened = log_ends log script in
     let caves = same_cave database bindings kept cave rereads reads in
     let here =
-    subst (λ k. IsViewOf view k game guarded is.items is.outcomes one) caves is.written in
-    let spells = same_items guarded script is.items same.items is.spelled same.spelled in
-    let there = subst (λ l. IsViewOf view kept game guarded l is.outcomes one) spells here in
-    one_view view kept game guarded same.items is.outcomes same.outcomes one other free there
-    same.written
+    subst (λ k. IsViewOf view k game guarded is.edit.items is.edit.outcomes is.text) caves
+    is.edit.written in
+    let spells =
+    same_items guarded script is.edit.items same.edit.items is.edit.spelled same.edit.spelled in
+    let there =
+    subst (λ l. IsViewOf view kept game guarded l is.edit.outcomes is.text) spells here in
+    let texts =
+    one_view view kept game guarded same.edit.items is.edit.outcomes same.edit.outcomes is.text
+    same.text free there same.edit.written in
+    is.printed
+    ∙ ap (λ items. ended_view view (ends_after_items items game opened) is.text) spells
+    ∙ ap (ended_view view (ends_after_items same.edit.items game opened)) texts
+    ∙ sym same.printed

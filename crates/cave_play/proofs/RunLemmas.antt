@@ -23,7 +23,8 @@ use Rattle.cave_play.specs.Laws.{IsDecided}
 use Rattle.cave_play.specs.Run.{EndsBy, Runs, IsFoundIn}
 use Rattle.cave_play.specs.Stages.{Stage, first_decided}
 use Rattle.cave_play.specs.Stages.{cave_stages, log_stage, script_stage, strict_stage, play_stages}
-use Rattle.cave_play.specs.Stages.{edit_stages}
+use Rattle.cave_play.specs.Stages.{edit_stages, size_stage}
+use Rattle.cave_play.proofs.SizeLemmas.{unwritten_by_output}
 use Rattle.cave_play.proofs.StrictLemmas.{unwritten_by_strict}
 use Rattle.play_command.specs.declared.editing.Editing.{Editing}
 use Rattle.cave_play.specs.declared.fault.Input.{Input}
@@ -127,14 +128,17 @@ unwritten_by_edit database bindings moves edits editing =
     let game = game_of editing.seed (lines moves) in
     let guarded = editing.guarded in
     let strict = strict_stage editing.strict game guarded edits in
+    let size = size_stage moves edits editing in
     unwritten_by_both _ _ (unwritten_by_seed editing.seed)
     (unwritten_by_both _ _ (unwritten_by_every editing.every)
     (unwritten_by_cave database bindings (log_stage moves ∷ script_stage guarded edits
-    ∷ strict ∷ [])
+    ∷ strict ∷ size ∷ [])
     (unwritten_by_both _ _ (unwritten_by_log moves)
     (unwritten_by_both _ _ (unwritten_by_script guarded edits)
     (unwritten_by_both _ _ (unwritten_by_strict editing.strict game (script_by guarded edits))
-    unwritten_by_none)))))
+    (unwritten_by_both _ _
+    (unwritten_by_output editing.view guarded moves editing.seed edits (script_by guarded edits))
+    unwritten_by_none))))))
 
 unwritten : (stages : List Stage) → (first_decided stages ≡ Some fault.Write → ⊥)
     → IsDecided stages fault.Write → ⊥
@@ -156,6 +160,8 @@ EndsBy-unwritten (fault.Log refused) stages IsOutput old new never there kept = 
 EndsBy-unwritten (fault.Script refused) stages IsOutput old new never there kept = (there, kept)
 EndsBy-unwritten (fault.Refused refusal) stages IsOutput old new never there kept = (there, kept)
 EndsBy-unwritten (fault.Read from) stages IsOutput old new never there kept = (there, kept)
+EndsBy-unwritten fault.LargeLog stages IsOutput old new never there kept = (there, kept)
+EndsBy-unwritten fault.LargeUndo stages IsOutput old new never there kept = (there, kept)
 EndsBy-unwritten fault.Memory stages IsOutput old new never there kept = (there, kept)
 
 -- what the writing of an output that is right leaves where it fails

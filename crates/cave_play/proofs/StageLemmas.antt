@@ -97,6 +97,8 @@ outside_unread input fault.Every outside = absurd outside
 outside_unread input (fault.Log refused) outside = absurd outside
 outside_unread input (fault.Script refused) outside = absurd outside
 outside_unread input (fault.Refused refusal) outside = absurd outside
+outside_unread input fault.LargeLog outside = absurd outside
+outside_unread input fault.LargeUndo outside = absurd outside
 outside_unread input fault.Write outside = absurd outside
 
 -- what is right of an input that was read is right of the reading too
@@ -122,6 +124,8 @@ outside_of reads fault.Every outside = absurd outside
 outside_of reads (fault.Log refused) outside = absurd outside
 outside_of reads (fault.Script refused) outside = absurd outside
 outside_of reads (fault.Refused refusal) outside = absurd outside
+outside_of reads fault.LargeLog outside = absurd outside
+outside_of reads fault.LargeUndo outside = absurd outside
 outside_of reads fault.Write outside = absurd outside
 
 decided_after : (stage : Stage) (stages : List Stage) (found : PlayFault)

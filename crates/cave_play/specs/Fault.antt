@@ -25,6 +25,8 @@ status_of (fault.Script refused) = 4
 status_of (fault.Refused refusal) = 4
 status_of (fault.Read from) = 5
 status_of fault.Write = 6
+status_of fault.LargeLog = 6
+status_of fault.LargeUndo = 6
 status_of fault.Memory = 7
 
 -- which of a cave's two inputs a place of a fault is in

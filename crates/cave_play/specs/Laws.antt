@@ -20,7 +20,7 @@ use Rattle.play_command.specs.declared.editing.EditView.{EditView}
 use Rattle.play_command.specs.declared.views.CheckView.{CheckView}
 use Rattle.play_command.specs.declared.editing.EditView.TheVariants as asked
 use Rattle.play_command.specs.declared.views.PlayView.{PlayView}
-use Rattle.cave_play.specs.Views.{IsEdited}
+use Rattle.cave_play.specs.Ended.{IsEdited}
 
 -- a database and its bindings have one output of a check at most
 abbrev pub OneCheckedOutput : Type 0

@@ -8,6 +8,10 @@ pub mod Laws
 pub mod Run
 pub mod Output
 pub mod Views
+pub mod Ended
+pub mod Size
+pub mod Bytes
+pub mod GuardLaws
 pub use Rattle.base_lines.specs as base_lines
 pub use Rattle.cave_data.specs as cave_data
 pub use Rattle.replay_checkpoints.specs as replay_checkpoints

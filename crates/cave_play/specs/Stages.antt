@@ -7,6 +7,7 @@ use Rattle.replay_edits.specs.Edit.{Game, game_of}
 use Rattle.replay_scripts.specs.Guards.{script_by}
 use Rattle.cave_play.specs.Judge.{large_seed, every_fault, input_size_fault, inputs_fault}
 use Rattle.cave_play.specs.Judge.{log_fault, script_fault}
+use Rattle.cave_play.specs.Size.{output_fault}
 use Rattle.cave_play.specs.Strict.{fault_of_items}
 use Rattle.cave_play.specs.declared.fault.Input.{Input}
 use Rattle.cave_play.specs.declared.fault.Input.TheVariants as input
@@ -50,11 +51,18 @@ abbrev pub strict_stage : Bool → Game → Bool → List ℕ → Stage
 strict_stage strict game guarded script =
     judging_stage (fault_of_items strict game (script_by guarded script))
 
--- first the seed is judged, then the distance of checkpoints, the cave, the log, the script, and
--- last its items
+-- what is printed is judged by its size, where a run is to read it again
+abbrev pub size_stage : List ℕ → List ℕ → Editing → Stage
+size_stage log script editing =
+    judging_stage (output_fault editing.view editing.guarded log editing.seed script
+    (script_by editing.guarded script))
+
+-- first the seed is judged, then the distance of checkpoints, the cave, the log, the script, its
+-- items, and last the size of what is printed
 abbrev pub edit_stages : List ℕ → List ℕ → List ℕ → List ℕ → Editing → List Stage
 edit_stages database bindings log script editing =
     judging_stage (large_seed editing.seed) ∷ judging_stage (every_fault editing.every)
     ∷ cave_stages database bindings
     ++ log_stage log ∷ script_stage editing.guarded script
-    ∷ strict_stage editing.strict (game_of editing.seed (lines log)) editing.guarded script ∷ []
+    ∷ strict_stage editing.strict (game_of editing.seed (lines log)) editing.guarded script
+    ∷ size_stage log script editing ∷ []

@@ -3,13 +3,11 @@ use Rattle.std.specs.Prelude.{◌≡◌, ℕ, Bool, true, List, ◌++◌, length
 use Rattle.std.specs.List.{sum_by}
 use Rattle.std.specs.Str.Lines.{lines}
 use Rattle.cave_data.specs.CaveView.{CaveView}
-use Rattle.cave_data.specs.Reads.{Reads}
-use Rattle.play_command.specs.declared.editing.Editing.{Editing}
 use Rattle.play_command.specs.declared.editing.EditView.{EditView}
 use Rattle.play_command.specs.declared.editing.EditView.TheVariants as asked
 use Rattle.cave_replay.specs.LogText.{log_text}
 use Rattle.replay_checkpoints.specs.Spacing.{IsSpaced}
-use Rattle.replay_edits.specs.Edit.{Game, game_of}
+use Rattle.replay_edits.specs.Edit.{Game}
 use Rattle.replay_scripts.specs.Script.{Applied}
 use Rattle.replay_scripts.specs.Guards.{IsScriptBy}
 use Rattle.play_edits.specs.Accounts.{accounts}
@@ -79,11 +77,3 @@ pub record IsEditOf (view : EditView) (cave : CaveView) (every : ℕ) (game : Ga
   pub came : AreOutcomes cave every items game checkpoints outcomes
   pub played_is : played ≡ sum_by played_in outcomes
   pub written : IsViewOf view cave game guarded items outcomes text
-
--- so many lines were played, and the output is what was asked for, of the script that edits the log
--- in the cave of the database and its bindings
-abbrev pub IsEdited : List ℕ → List ℕ → List ℕ → List ℕ → Editing → ℕ → List ℕ → Type 0
-IsEdited database bindings log script editing played output =
-    (cave : CaveView) × Reads database bindings cave
-    × IsEditOf editing.view cave editing.every (game_of editing.seed (lines log))
-    editing.guarded script played output

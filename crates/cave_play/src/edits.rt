@@ -9,6 +9,7 @@ ghost use Rattle.replay_scripts.specs.Views.{applied_item, items_of};
 ghost use Rattle.replay_scripts.specs.ScriptText.{groups_in};
 ghost use Rattle.play_edits.specs.Edits.{Applies, IsApplied, kept_for, text_of_item};
 ghost use Rattle.play_machine.specs.HeldGame.{HoldsGame};
+ghost use Rattle.cave_play.specs.Ended.{IsEndedEditOf, ends_after_items, ends_left};
 ghost use Rattle.cave_play.specs.Input.{Says};
 ghost use Rattle.play_edits.specs.Items.{game_after_items};
 ghost use Rattle.play_edits.specs.Outcome.{refusal_in};
@@ -16,7 +17,7 @@ ghost use Rattle.cave_play.specs.Run.{Judges};
 ghost use Rattle.cave_play.specs.Stages.{script_stage, strict_stage};
 ghost use Rattle.cave_play.specs.Strict.{first_strict_fault, strict_fault, strict_fault_by};
 ghost use Rattle.play_edits.specs.Undo.{backs_of};
-ghost use Rattle.cave_play.specs.Views.{IsEditOf};
+ghost use Rattle.replay_ends.specs.LogEnds.{log_ends, shown_ends};
 
 use crate::fault::PlayFault;
 use crate::judge::read_script;
@@ -24,21 +25,34 @@ use cave_replay::{Done, Session};
 use play_command::Editing;
 use play_edits::{Refusal, Totals, apply_item, keep_back, push_end, push_start};
 use play_machine::CaveMachine;
+use replay_ends::LogEnds;
 use replay_scripts::{BackEdit, Item, Script};
-use std::alloc::Global;
+use std::alloc::{AllocError, Global};
 use std::io::Read;
 
-/// What edits of a log made: what is asked for, and how many lines were played for them.
+/// What edits of a log made: what is asked for, how many lines were played for them, and how the
+/// lines of the log end.
 #[derive(Drop)]
 pub(crate) struct Edited {
     pub(crate) text: Vec<u8>,
     pub(crate) played: u64,
+    pub(crate) ends: LogEnds,
 }
 
-/// What a script makes that is applied to a session of the machine.
+/// What is kept of the items of a script, beside what is written of them.
+#[derive(Drop)]
+struct Kept {
+    /// What takes each back, where that is asked for.
+    backs: Vec<Vec<BackEdit>>,
+    /// How the lines of the log end.
+    ends: LogEnds,
+}
+
+/// What a script makes that is applied to a session of the machine, over a log of these bytes.
 pub(crate) fn edit_session<S: Read>(
     alloc: Global,
     session: &mut Session<CaveMachine<'_>>,
+    log: &[u8],
     script: &mut S,
     editing: Editing,
 ) -> Result<Edited, PlayFault>
@@ -48,40 +62,47 @@ pub(crate) fn edit_session<S: Read>(
     ensures judged { (edits : List ℕ) × Says (S.remaining script.old) edits
         × Judges (script_stage editing.guarded edits
         ∷ strict_stage editing.strict session.old.game editing.guarded edits ∷ [])
-        (λ edited. IsEditOf editing.view session.old.machine.rules.cave.now session.old.every
-        session.old.game editing.guarded edits edited.played edited.text.items) result }
+        (λ edited. IsEndedEditOf editing.view session.old.machine.rules.cave.now session.old.every
+        session.old.game editing.guarded edits (log_ends log.now edits) edited.played
+        edited.text.items (shown_ends edited.ends)) result }
 {
-    let script = read_script(alloc, script, editing.guarded)?;
+    let read = read_script(alloc, script, editing.guarded)?;
     let mut text = Vec::new(alloc);
-    let mut backs = Vec::new(alloc);
+    let backs = Vec::new(alloc);
+    let ends = LogEnds::of(alloc, log, &read.text)?;
+    let mut kept = Kept { backs, ends };
     push_start(editing.view, &mut text)?;
-    let totals = apply(alloc, session, &script, editing, &mut text, &mut backs)?;
+    let totals = apply(alloc, session, &read.script, editing, &mut text, &mut kept)?;
+    let Kept { mut backs, ends } = kept;
     backs.reverse();
     push_end(alloc, session, editing.view, totals, &backs, &mut text)?;
     Ok(Edited {
         text,
         played: totals.played,
+        ends,
     })
 }
 
 /// Applies the items of a script to the held game, writes of each what is asked for, and keeps
-/// what takes each back, where that is asked for.
+/// what takes each back, where that is asked for, and how the lines of the log end.
 fn apply(
     alloc: Global,
     session: &mut Session<CaveMachine<'_>>,
     script: &Script,
     editing: Editing,
     text: &mut Vec<u8>,
-    backs: &mut Vec<Vec<BackEdit>>,
+    kept: &mut Kept,
 ) -> Result<Totals, PlayFault>
     requires { length script.now.items.items < 2 ^ 32 }
     ensures held { OnOk result (HoldsGame session.old.machine.rules.cave.now
         (game_after_items (items_of script.now.items) session.old.game) session.new) }
     ensures applied { IfOk result (λ totals. IsApplied editing.view (items_of script.now.items)
         session.old text.old.items text.new.items totals.played totals.lines) }
-    ensures kept { OnOk result (groups_in backs.new.items ≡ groups_in backs.old.items
+    ensures kept { OnOk result (groups_in kept.new.backs.items ≡ groups_in kept.old.backs.items
         ++ kept_for editing.view
         (backs_of editing.guarded (items_of script.now.items) session.old.game)) }
+    ensures ends { OnOk result (ends_after_items (items_of script.now.items) session.old.game
+        (shown_ends kept.old.ends) ≡ shown_ends kept.new.ends) }
     ensures accepted { OnOk result (first_strict_fault editing.strict (items_of script.now.items)
         session.old.game ≡ None) }
     ensures refused { IfErr result (λ found. (found ≡ PlayFault.Memory)
@@ -95,9 +116,25 @@ fn apply(
     for item in &script.items {
         let outcome = apply_judged(alloc, session, item, editing, text)?;
         totals = totals.with(&outcome);
-        keep_back(alloc, session, editing, outcome, backs)?;
+        leave_ends(&mut kept.ends, item, &outcome)?;
+        keep_back(alloc, session, editing, outcome, &mut kept.backs)?;
     }
     Ok(totals)
+}
+
+/// Makes the edits of an item among the ends of the log's lines, unless the item was refused.
+fn leave_ends(
+    ends: &mut LogEnds,
+    item: &Item,
+    outcome: &Result<Done, Refusal>,
+) -> Result<(), AllocError>
+    ensures { OnOk result (shown_ends ends.new
+        ≡ ends_left (applied_item item.now) (refusal_in outcome.now) (shown_ends ends.old)) }
+{
+    match outcome {
+        Ok(_) => ends.follow_item(item),
+        Err(_) => Ok(()),
+    }
 }
 
 /// Applies an item to the held game, and writes of it what is asked for. A strict run ends where it

@@ -133,6 +133,12 @@ pub enum PlayFault {
     /// The writer answered an error, or took nothing.
     #[error("the output can't be written")]
     Write,
+    /// The edited log has more bytes than an input may have, so no run could read it.
+    #[error("the edited log would be larger than 1,048,576 bytes, and no run could read it")]
+    LargeLog,
+    /// So has the script that takes the edits back.
+    #[error("the script that takes the edits back would be larger than 1,048,576 bytes, and no run could read it")]
+    LargeUndo,
     /// Memory was refused.
     #[error("there isn't enough memory")]
     Memory,
@@ -167,7 +173,7 @@ impl PlayFault {
             PlayFault::Log(_) => 3,
             PlayFault::Script(_) | PlayFault::Refused(_) => 4,
             PlayFault::Read(_) => 5,
-            PlayFault::Write => 6,
+            PlayFault::Write | PlayFault::LargeLog | PlayFault::LargeUndo => 6,
             PlayFault::Memory => 7,
         }
     }
@@ -184,6 +190,7 @@ impl PlayFault {
             PlayFault::Script(_) | PlayFault::Refused(_) => Some(Input::Script),
             PlayFault::Read(input) => Some(input),
             PlayFault::Seed | PlayFault::Every | PlayFault::Write | PlayFault::Memory => None,
+            PlayFault::LargeLog | PlayFault::LargeUndo => None,
         }
     }
 

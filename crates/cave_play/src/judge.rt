@@ -142,7 +142,7 @@ fn opening_fault(fault: OpenFault) -> PlayFault
 }
 
 /// Plays a log in a cave.
-fn open_session<'a>(
+pub(crate) fn open_session<'a>(
     alloc: Global,
     machine: CaveMachine<'a>,
     log: &[u8],
@@ -162,27 +162,6 @@ fn open_session<'a>(
         Ok(session) => Ok(session),
         Err(fault) => Err(opening_fault(fault)),
     }
-}
-
-/// Reads a log and plays it in a cave.
-pub fn play_log<'a, L: Read>(
-    alloc: Global,
-    machine: CaveMachine<'a>,
-    log: &mut L,
-    seed: u32,
-    every: u32,
-) -> Result<Session<CaveMachine<'a>>, PlayFault>
-    requires seed_fits { large_seed seed ≡ None }
-    requires every_fits { every_fault every ≡ None }
-    ensures judged { (bytes : List ℕ) × Says (L.remaining log.old) bytes
-        × Judges (log_stage bytes ∷ [])
-        (HoldsGame machine.entry.rules.cave.now (game_of seed (lines bytes))) result }
-    ensures every { IfOk result (λ session. session.every ≡ every) }
-    ensures spaced { IfOk result (λ session.
-        IsSpaced session.every session.checkpoints (length session.game.log)) }
-{
-    let log = read(alloc, Input::Log, log)?;
-    open_session(alloc, machine, &log, seed, every)
 }
 
 /// Reads a log and plays it in a cave, while it is watched.
@@ -207,21 +186,29 @@ pub fn watch_play<W: Watch, L: Read>(
     }
 }
 
+/// A script with the text that it was read from.
+#[derive(Drop)]
+pub(crate) struct ReadScript {
+    pub(crate) script: Script,
+    pub(crate) text: Vec<u8>,
+}
+
 /// Reads a script, some of whose lines may be guards.
 pub(crate) fn read_script<S: Read>(
     alloc: Global,
     script: &mut S,
     guarded: bool,
-) -> Result<Script, PlayFault>
+) -> Result<ReadScript, PlayFault>
     ensures judged { (bytes : List ℕ) × Says (S.remaining script.old) bytes
         × Judges (script_stage guarded bytes ∷ [])
-        (λ script. IsScriptBy guarded bytes (items_of script.items)
-        × (length script.items.items < 2 ^ 32)
-        × (script_by guarded bytes ≡ Ok (items_of script.items))) result }
+        (λ read. IsScriptBy guarded bytes (items_of read.script.items)
+        × (length read.script.items.items < 2 ^ 32)
+        × (script_by guarded bytes ≡ Ok (items_of read.script.items))
+        × (read.text.items ≡ bytes)) result }
 {
     let text = read(alloc, Input::Script, script)?;
     match script_in(alloc, &text, guarded) {
-        Ok(script) => Ok(script),
+        Ok(script) => Ok(ReadScript { script, text }),
         Err(fault) => Err(script_refusal(fault)),
     }
 }

@@ -1,6 +1,9 @@
-//! Laws of runs: in which order faults are found, what edits are refused for, and that the inputs
-//! determine the output. Each is the contract of a function that does nothing.
+//! Laws of runs: in which order faults are found, what edits are refused for, that the inputs
+//! determine the output, that an edited log is read again, and that `--guarded` changes nothing where
+//! there are no guards. Each is the contract of a function that does nothing.
 
+ghost use Rattle.cave_play.specs.Bytes.{EditedLogsAreAccepted};
+ghost use Rattle.cave_play.specs.GuardLaws.{NoGuardsNoOtherOutput, NoGuardsNoOtherScript};
 ghost use Rattle.cave_play.specs.Laws.{CavesAreJudgedWhole, FirstIsFound, RefusalsAreOfChanges};
 ghost use Rattle.cave_play.specs.Laws.{OneCheckedOutput, OneEditedOutput, OnePlayedOutput};
 
@@ -33,4 +36,21 @@ pub fn one_played_output()
 /// the distance of checkpoints.
 pub fn one_edited_output()
     ensures { OneEditedOutput }
+{}
+
+/// An edited log that is printed has the lines of the edited game, and is accepted unless it is too
+/// large.
+pub fn edited_logs_are_accepted()
+    ensures { EditedLogsAreAccepted }
+{}
+
+/// A script without guards gives the same items, or the same refusal, whether or not it may have
+/// some.
+pub fn no_guards_no_other_script()
+    ensures { NoGuardsNoOtherScript }
+{}
+
+/// The same is printed of it then, except by a script that takes the edits back.
+pub fn no_guards_no_other_output()
+    ensures { NoGuardsNoOtherOutput }
 {}

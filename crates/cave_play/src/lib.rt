@@ -3,6 +3,7 @@
 
 pub mod doubted;
 mod edits;
+mod ended;
 pub mod fault;
 pub mod input;
 pub mod inputs;

@@ -10,13 +10,16 @@ ghost use Rattle.cave_play.specs.Output.{IsChecked, IsPlayed, play_view_text};
 ghost use Rattle.cave_play.specs.Run.{Judges, Runs, RunsWith};
 ghost use Rattle.cave_play.specs.Stages.{cave_stages, log_stage, script_stage, strict_stage};
 ghost use Rattle.cave_play.specs.Stages.{play_stages, edit_stages};
-ghost use Rattle.cave_play.specs.Views.{IsEditOf, IsEdited};
+ghost use Rattle.cave_play.specs.Ended.{IsEdited, IsEndedEditOf};
+ghost use Rattle.replay_ends.specs.LogEnds.{log_ends, shown_ends};
 
 use crate::edits::{Edited, edit_session};
-use crate::fault::PlayFault;
+use crate::ended::{check_size, ended_view};
+use crate::fault::{Input, PlayFault};
 use crate::inputs::Inputs;
-use crate::judge::{check_every, check_seed, play_log, read_cave};
+use crate::judge::{check_every, check_seed, open_session, read_cave};
 use crate::output::write_output;
+use crate::read::read;
 use crate::views::{check_text, play_view_text};
 use cave_data::Cave;
 use cave_words::Lexicon;
@@ -75,9 +78,9 @@ pub fn run_play<C: Read, B: Read, L: Read, S: Read, W: Write>(
 
 /// Edits a log by a script, and writes what is asked for, once it is whole: a report on each item
 /// of the script and then the transcript of the edited log, that log, what each item replayed, the
-/// table of the edited log's lines, that of its score, or the state that it leads to. Returns how
-/// many lines were played for the items: the sum of what was played for each, which is within the
-/// bound of its replay.
+/// table of the edited log's lines, that of its score, or the state that it leads to. Each line of
+/// the edited log has the end that it has in the log. Returns how many lines were played for the
+/// items: the sum of what was played for each, which is within the bound of its replay.
 pub fn run_edit<C: Read, B: Read, L: Read, S: Read, W: Write>(
     alloc: Global,
     inputs: &mut Inputs<C, B, L, S>,
@@ -95,7 +98,10 @@ pub fn run_edit<C: Read, B: Read, L: Read, S: Read, W: Write>(
     let cave = read_cave(alloc, &mut inputs.cave)?;
     let made = edit_in_cave(alloc, &cave, &mut inputs.log, &mut inputs.script, editing);
     drop(cave);
-    let Edited { text, played } = made?;
+    let edited = made?;
+    let played = edited.played;
+    let text = ended_view(alloc, editing.view, edited)?;
+    check_size(editing.view, &text)?;
     write_output(output, &text)?;
     Ok(played)
 }
@@ -133,14 +139,15 @@ fn edit_in_cave<L: Read, S: Read>(
         × Judges (log_stage moves ∷ script_stage editing.guarded edits
         ∷ strict_stage editing.strict (game_of editing.seed (lines moves)) editing.guarded edits
         ∷ [])
-        (λ edited. IsEditOf editing.view cave.now editing.every
-        (game_of editing.seed (lines moves)) editing.guarded edits edited.played
-        edited.text.items) result }
+        (λ edited. IsEndedEditOf editing.view cave.now editing.every
+        (game_of editing.seed (lines moves)) editing.guarded edits (log_ends moves edits)
+        edited.played edited.text.items (shown_ends edited.ends)) result }
 {
     let lexicon = Lexicon::build(alloc, cave)?;
     let machine = CaveMachine::new(cave, &lexicon);
-    let mut session = play_log(alloc, machine, log, editing.seed, editing.every)?;
-    let made = edit_session(alloc, &mut session, script, editing);
+    let bytes = read(alloc, Input::Log, log)?;
+    let mut session = open_session(alloc, machine, &bytes, editing.seed, editing.every)?;
+    let made = edit_session(alloc, &mut session, &bytes, script, editing);
     drop(session);
     made
 }

@@ -6,7 +6,7 @@ use Rattle.check_doubts.specs.declared.listing.DoubtFiles.{DoubtFiles}
 use Rattle.cave_play.specs.Output.{IsChecked, IsPlayed}
 use Rattle.cave_play.specs.Run as one
 use Rattle.cave_play.specs.Stages.{Stage, cave_stages, play_stages, edit_stages}
-use Rattle.cave_play.specs.Views.{IsEdited}
+use Rattle.cave_play.specs.Ended.{IsEdited}
 use Rattle.cave_play.specs.declared.fault.PlayFault.{PlayFault}
 use Rattle.play_map.specs.Plays.{IsMapped}
 use Rattle.play_cover.specs.Plays.{IsCovered}

@@ -23,7 +23,7 @@ fn complaint_of(alloc: Global, fault: PlayFault) -> Result<String, AllocError> {
 }
 
 /// Faults, the status of each, and the line that is printed.
-const FAULTS: [(PlayFault, u8, &str); 12] = [
+const FAULTS: [(PlayFault, u8, &str); 14] = [
     (
         PlayFault::Cave(
             CaveError {
@@ -79,6 +79,17 @@ const FAULTS: [(PlayFault, u8, &str); 12] = [
         "cave: a.script: the file can't be read",
     ),
     (PlayFault::Write, 6, "cave: the output can't be written"),
+    (
+        PlayFault::LargeLog,
+        6,
+        "cave: the edited log would be larger than 1,048,576 bytes, and no run could read it",
+    ),
+    (
+        PlayFault::LargeUndo,
+        6,
+        "cave: the script that takes the edits back would be larger than 1,048,576 bytes, and no \
+        run could read it",
+    ),
     (PlayFault::Memory, 7, "cave: there isn't enough memory"),
 ];
 

@@ -1,4 +1,4 @@
-use Rattle.std.proofs.Common.{◌≡◌, ◌++◌, List, None, Some, ◌∙◌, ap, refl, map, subst, arith}
+use Rattle.std.proofs.Common.{◌≡◌, ◌++◌, List, None, Some, ◌∙◌, ap, refl, map, subst, sym, arith}
 use Rattle.std.specs.Prelude.{◌⊎◌}
 use Rattle.std.proofs.lemmas.Result.{err_from_is_err_and}
 use Rattle.cave_play.specs.Strict.{first_strict_fault}
@@ -9,7 +9,10 @@ use Rattle.replay_scripts.specs.ScriptText.{groups_in}
 use Rattle.play_edits.specs.Edits.{IsApplied, kept_for}
 use Rattle.play_edits.specs.Undo.{backs_of}
 use Rattle.play_edits.proofs.EditLemmas.{Completes-none, Completes-more, IsApplied-whole}
-use Rattle.play_edits.proofs.EditLemmas.{game_after_items-more}
+use Rattle.play_edits.proofs.EditLemmas.{game_after_items-more, item_refusal-outcome}
+use Rattle.replay_ends.specs.LogEnds.{shown_ends}
+use Rattle.cave_play.specs.Ended.{ends_after_items}
+use Rattle.cave_play.proofs.EndedLemmas.{ends_after_items-end, ends_after_items-more}
 use Rattle.cave_play.proofs.StrictLemmas.{first_strict_fault-more, first_strict_fault-here}
 use Rattle.cave_play.proofs.StrictLemmas.{first_strict_fault-end}
 use Rattle.play_edits.proofs.BackLemmas.{back_of-outcome, kept-more, kept-whole}
@@ -24,6 +27,7 @@ loop-item-init c =
           (map applied_item c.deref-item-items.result.now) first.game first.checkpoints
           c.args.text.now.items;
       kept = refl;
+      ends = refl;
       strict = refl;
       game = refl;
       cave = refl;
@@ -42,7 +46,7 @@ loop-item-preserved c =
     let guarded = c.args.editing.guarded in
     let old = c.loop-item.session in
     let kept = c.in_ok-keep_back.ensures
-    ∙ ap (λ some. groups_in c.loop-item.backs.items ++ kept_for view some)
+    ∙ ap (λ some. groups_in c.loop-item.kept.backs.items ++ kept_for view some)
     (back_of-outcome guarded old.machine.rules.cave.now old.every
     (applied_item c.item-item.result) old.game _ old.checkpoints _ applies.came
     applies.holds.game_is) in
@@ -54,6 +58,11 @@ loop-item-preserved c =
           c.with-totals.ensures.lines before.completes;
       kept = kept-more c.args.editing.view c.args.editing.guarded items place c.item-item.result _ _ _ _ _
           c.loop-item-test.true c.item-item.is applies.holds.game_is kept before.kept;
+      ends = ends_after_items-more items place c.item-item.result old.game _ _ _ _ _
+          c.loop-item-test.true c.item-item.is applies.holds.game_is
+          (item_refusal-outcome old.machine.rules.cave.now old.every
+          (applied_item c.item-item.result) old.game old.checkpoints _ applies.came)
+          c.in_ok-leave_ends.ensures before.ends;
       strict = first_strict_fault-more c.args.editing.strict items place c.item-item.result
           _ _ c.loop-item-test.true c.item-item.is _ applies.holds.game_is
           c.in_ok-outcome.ensures.accepted before.strict;
@@ -83,9 +92,19 @@ returns-clause-kept c =
     let whole =
     kept-whole c.args.editing.view c.args.editing.guarded c.deref-item-items.result.now last.item-index _ _ _
     (omega (arith, c.loop-item-test.false)) last.invariant.kept in
-    subst (λ (items : List Item). groups_in last.backs.items
-    ≡ groups_in c.args.backs.now.items
+    subst (λ (items : List Item). groups_in last.kept.backs.items
+    ≡ groups_in c.args.kept.now.backs.items
     ++ kept_for c.args.editing.view (backs_of c.args.editing.guarded (map applied_item items) c.args.session.now.game))
+    c.deref-item-items.ensures.value whole
+
+pub returns-clause-ends : goal.returns-clause-ends
+returns-clause-ends c =
+    let last = c.loop-item in
+    let whole =
+    sym (ends_after_items-end c.deref-item-items.result.now last.item-index _ _ _
+    (omega (arith, c.loop-item-test.false)) last.invariant.ends) in
+    subst (λ (items : List Item). ends_after_items (map applied_item items)
+    c.args.session.now.game (shown_ends c.args.kept.now.ends) ≡ shown_ends last.kept.ends)
     c.deref-item-items.ensures.value whole
 
 pub returns-clause-accepted : goal.returns-clause-accepted

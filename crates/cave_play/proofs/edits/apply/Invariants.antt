@@ -5,6 +5,8 @@ use Rattle.replay_scripts.specs.ScriptText.{groups_in}
 use Rattle.play_edits.specs.Edits.{kept_for}
 use Rattle.play_edits.specs.Items.{game_after_items}
 use Rattle.play_edits.specs.Undo.{backs_of}
+use Rattle.replay_ends.specs.LogEnds.{shown_ends}
+use Rattle.cave_play.specs.Ended.{ends_after_items}
 use Rattle.cave_play.specs.Strict.{first_strict_fault}
 use Rattle.play_edits.proofs.EditLemmas.{Completes}
 use Rattle.cave_play.proofs.edits.apply.Given as goal
@@ -19,10 +21,12 @@ invariant-loop-item l =
           first.game
           l.session.game first.checkpoints l.session.checkpoints
           l.initial.text.items l.text.items l.totals.played l.totals.lines;
-      kept : groups_in l.backs.items
+      kept : groups_in l.kept.backs.items
           ++ kept_for l.editing.view (backs_of l.editing.guarded left l.session.game)
-          ≡ groups_in l.initial.backs.items
+          ≡ groups_in l.initial.kept.backs.items
           ++ kept_for l.editing.view (backs_of l.editing.guarded all first.game);
+      ends : ends_after_items left l.session.game (shown_ends l.kept.ends)
+          ≡ ends_after_items all first.game (shown_ends l.initial.kept.ends);
       strict : first_strict_fault l.editing.strict left l.session.game
           ≡ first_strict_fault l.editing.strict all first.game;
       game : game_after_items left l.session.game ≡ game_after_items all first.game;

@@ -1,4 +1,4 @@
-use Rattle.std.proofs.Common.{◌≡◌, List, [], ◌∷◌, ◌++◌, reverse, subst, ap, ◌∙◌}
+use Rattle.std.proofs.Common.{◌≡◌, List, [], ◌∷◌, ◌++◌, reverse, subst, sym, ap, ◌∙◌}
 use Rattle.std.proofs.lemmas.Result.{err_from_is_err_and}
 use Rattle.cave_data.specs.CaveView.{CaveView}
 use Rattle.std.specs.Global.{Vec}
@@ -15,14 +15,16 @@ use Rattle.cave_play.proofs.StageLemmas.{first_decided-later}
 use Rattle.cave_play.proofs.StrictLemmas.{IsFoundIn-strict, first_decided-strict}
 use Rattle.play_edits.proofs.BackLemmas.{groups_turned}
 use Rattle.cave_play.proofs.ViewLemmas.{told-whole}
+use Rattle.cave_play.specs.Ended.{ends_after_items}
 use Rattle.cave_play.specs.Views.{IsEditOf}
+use Rattle.replay_ends.specs.LogEnds.{log_ends, shown_ends}
 use Rattle.cave_play.proofs.edits.edit_session.Goals as goal
 
-pub returns-in_err-script : goal.returns-in_err-script
-returns-in_err-script g c =
+pub returns-in_err-read : goal.returns-in_err-read
+returns-in_err-read g c =
     let guarded = c.args.editing.guarded in
     let exit = err_from_is_err_and c.from_residual.result c.from_residual.ensures.1 in
-    let (edits, said, found) = c.in_err-script.ensures.judged in
+    let (edits, said, found) = c.in_err-read.ensures.judged in
     let strict =
     strict_stage c.args.editing.strict c.args.session.now.game guarded edits in
     rw (exit.1, exit.2)
@@ -34,13 +36,27 @@ returns-in_err-script g c =
       );
     })
 
+pub returns-in_err-ends : goal.returns-in_err-ends
+returns-in_err-ends g c =
+    let guarded = c.args.editing.guarded in
+    let exit =
+    err_from_is_err_and c.from_residual-in_err-ends.result
+    c.from_residual-in_err-ends.ensures.1 in
+    let (edits, said, made) = c.in_ok-read.ensures.judged in
+    let strict =
+    strict_stage c.args.editing.strict c.args.session.now.game guarded edits in
+    rw (exit.1, exit.2)
+    (record {
+      judged = (edits, said, IsFoundIn-memory (script_stage guarded edits ∷ strict ∷ []));
+    })
+
 pub returns-in_err-push_start : goal.returns-in_err-push_start
 returns-in_err-push_start g c =
     let guarded = c.args.editing.guarded in
     let exit =
     err_from_is_err_and c.from_residual-in_err-push_start.result
     c.from_residual-in_err-push_start.ensures.1 in
-    let (edits, said, made) = c.in_ok-script.ensures.judged in
+    let (edits, said, made) = c.in_ok-read.ensures.judged in
     let strict =
     strict_stage c.args.editing.strict c.args.session.now.game guarded edits in
     rw (exit.1, exit.2)
@@ -54,10 +70,10 @@ returns-in_err-totals g c =
     let exit =
     err_from_is_err_and c.from_residual-in_err-totals.result
     c.from_residual-in_err-totals.ensures.1 in
-    let (edits, said, made) = c.in_ok-script.ensures.judged in
+    let (edits, said, made) = c.in_ok-read.ensures.judged in
     let game = c.args.session.now.game in
     let strict = c.args.editing.strict in
-    let items = items_of c.in_ok-script.script.items in
+    let items = items_of c.in_ok-read.read.script.items in
     let found =
     IsFoundIn-strict strict game guarded edits items _ made.1.2
     c.in_err-totals.ensures.refused in
@@ -78,7 +94,7 @@ returns-in_err-push_end g c =
     let exit =
     err_from_is_err_and c.from_residual-in_err-push_end.result
     c.from_residual-in_err-push_end.ensures.1 in
-    let (edits, said, made) = c.in_ok-script.ensures.judged in
+    let (edits, said, made) = c.in_ok-read.ensures.judged in
     let strict =
     strict_stage c.args.editing.strict c.args.session.now.game guarded edits in
     rw (exit.1, exit.2)
@@ -89,8 +105,8 @@ returns-in_err-push_end g c =
 pub returns : goal.returns
 returns g c =
     let guarded = c.args.editing.guarded in
-    let (edits, said, made) = c.in_ok-script.ensures.judged in
-    let items = items_of c.in_ok-script.script.items in
+    let (edits, said, made) = c.in_ok-read.ensures.judged in
+    let items = items_of c.in_ok-read.read.script.items in
     let old = c.args.session.now in
     let cave = old.machine.rules.cave.now in
     let view = c.args.editing.view in
@@ -106,17 +122,17 @@ returns g c =
     ∙ ap (λ t. t ++ text_of_items (text_of_item view cave) items old.game applied.outcomes)
     started in
     let backs = groups_in c.reverse.new.self.items in
-    let kept : groups_in c.apply.new.backs.items ≡ kept_for view (backs_of guarded items old.game) =
+    let kept : groups_in c.apply.new.kept.backs.items ≡ kept_for view (backs_of guarded items old.game) =
     c.in_ok-totals.ensures.kept
     ∙ ap (λ some. groups_in some ++ kept_for view (backs_of guarded items old.game))
     c.new-backs.ensures.items in
     let turned : backs ≡ reverse (kept_for view (backs_of guarded items old.game)) =
     ap groups_in c.reverse.ensures.items
-    ∙ groups_turned c.apply.new.backs.items ∙ ap reverse kept in
+    ∙ groups_turned c.apply.new.kept.backs.items ∙ ap reverse kept in
     let ends = c.in_ok-push_end.ensures.told
     ∙ ap (λ (each : List (Vec BackEdit)). c.apply.new.text.items
     ++ text_at_end view c.apply.new.session.machine.rules.cave.now c.apply.new.session.game
-    totals.played totals.lines (groups_in each)) c.deref.ensures.value
+    totals.played totals.lines (groups_in each)) c.deref-2.ensures.value
     ∙ ap (λ (k : CaveView). c.apply.new.text.items
     ++ text_at_end view k c.apply.new.session.game totals.played totals.lines backs) held.cave_is
     ∙ ap (λ (now : Game). c.apply.new.text.items
@@ -144,4 +160,9 @@ returns g c =
       played_is = applied.played_is;
       written = whole;
     } in
-    record { judged = (edits, said, (none, edited)) }
+    let opened : shown_ends c.in_ok-ends.ends ≡ log_ends c.args.log.now edits =
+    c.in_ok-ends.ensures
+    ∙ ap (log_ends c.args.log.now) (c.deref.ensures.value ∙ made.1.3) in
+    let after =
+    sym c.in_ok-totals.ensures.ends ∙ ap (ends_after_items items old.game) opened in
+    record { judged = (edits, said, (none, (edited, after))) }

@@ -34,13 +34,14 @@ returns-in-Ok g c =
             spelled,
             few_items guarded items _ bytes c.in-Ok.ensures.grammar same read.1,
             is,
+            read.0,
           ),
         ),
       );
     }
 
-pub returns : goal.returns
-returns g c =
+pub returns-in-Err : goal.returns-in-Err
+returns-in-Err g c =
     let (bytes, said, read) = c.in_ok-text.ensures.read in
     rw c.script_refusal.ensures
     (record {

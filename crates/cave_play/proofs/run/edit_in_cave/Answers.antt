@@ -1,13 +1,20 @@
-use Rattle.std.proofs.Common.{ℕ, List, [], ◌∷◌, subst, sym}
+use Rattle.std.proofs.Common.{◌≡◌, ◌≤◌, ℕ, List, [], ◌∷◌, length, None, Ok, Err, subst, sym, ◌∙◌}
+use Rattle.std.specs.Prelude.{⊤}
+use Rattle.base_lines.specs.Limits.{MAX_INPUT_BYTES}
+use Rattle.play_machine.specs.HeldGame.{HoldsGame}
+use Rattle.cave_play.specs.Judge.{lines_fault}
+use Rattle.cave_play.specs.declared.fault.PlayFault.{PlayFault}
+use Rattle.cave_play.proofs.JudgeLemmas.{IsFoundIn-log, Judges-log}
 use Rattle.std.specs.Str.Lines.{lines}
 use Rattle.std.proofs.lemmas.Result.{err_from_is_err_and}
 use Rattle.cave_data.specs.CaveView.{CaveView}
 use Rattle.play_command.specs.declared.editing.Editing.{Editing}
 use Rattle.replay_edits.specs.Edit.{Game, IsGame, game_of}
-use Rattle.cave_play.specs.Views.{IsEditOf}
+use Rattle.cave_play.specs.Ended.{IsEndedEditOf}
+use Rattle.replay_ends.specs.LogEnds.{log_ends, shown_ends}
 use Rattle.cave_play.specs.declared.edits.Edited.{Edited}
-use Rattle.cave_play.specs.Run.{Judges}
-use Rattle.cave_play.specs.Stages.{Stage}
+use Rattle.cave_play.specs.Run.{IsFoundIn, Judges}
+use Rattle.cave_play.specs.Stages.{Stage, first_decided, judging_stage}
 use Rattle.cave_play.specs.Stages.{log_stage, script_stage, strict_stage}
 use Rattle.cave_play.proofs.InputLemmas.{Says-some}
 use Rattle.cave_play.proofs.RefusalLemmas.{IsGame-accepted}
@@ -20,14 +27,35 @@ abbrev strict_of : Editing → List ℕ → List ℕ → Stage
 strict_of editing moves edits =
     strict_stage editing.strict (game_of editing.seed (lines moves)) editing.guarded edits
 
--- what edits made is right for a cave, a distance of checkpoints and a game
-abbrev right_in : Editing → List ℕ → CaveView → ℕ → Game → Edited → Type 0
-right_in editing edits cave every game edited =
-    IsEditOf editing.view cave every game editing.guarded edits edited.played edited.text.items
+-- what edits made is right for a cave, a distance of checkpoints, a game and the bytes of its log
+abbrev right_in : Editing → List ℕ → CaveView → ℕ → Game → List ℕ → Edited → Type 0
+right_in editing edits cave every game log edited =
+    IsEndedEditOf editing.view cave every game editing.guarded edits (log_ends log edits)
+    edited.played edited.text.items (shown_ends edited.ends)
+
+-- a log that is judged by its lines
+log_judged : {X : Type 0} (P : List (List ℕ) → X → Type 0) (moves text : List ℕ) (x : X)
+    → text ≡ moves → length moves ≤ MAX_INPUT_BYTES
+    → Judges (judging_stage (lines_fault (lines text)) ∷ []) (P (lines text)) (Ok x)
+    → (first_decided (log_stage moves ∷ []) ≡ None) × P (lines moves) x
+log_judged P moves text x same fits judged = Judges-log P moves text (Ok x) same fits judged
+
+log_refused : (moves text : List ℕ) (found : PlayFault)
+    → text ≡ moves → length moves ≤ MAX_INPUT_BYTES
+    → IsFoundIn (judging_stage (lines_fault (lines text)) ∷ []) found
+    → IsFoundIn (log_stage moves ∷ []) found
+log_refused moves text found same fits refused =
+    let P : List (List ℕ) → ℕ → Type 0 = λ log n. ⊤ in
+    Judges-log P moves text (Err found) same fits refused
 
 pub edit_session-made-requires-clause-game : goal.edit_session-made-requires-clause-game
 edit_session-made-requires-clause-game g c =
-    let (moves, said, made) = c.in_ok-session.ensures.judged in
+    let (moves, said, read) = c.in_ok-bytes.ensures.read in
+    let cave = c.new-machine.result.rules.cave.now in
+    let made =
+    log_judged (λ log. HoldsGame cave (game_of c.args.editing.seed log)) moves c.deref.result.now
+    c.in_ok-session.session (c.deref.ensures.value ∙ read.0) read.1
+    c.in_ok-session.ensures.judged in
     let free = first_decided-alone (log_stage moves) made.0 in
     subst IsGame (sym made.1.game_is)
     (IsGame-accepted moves c.args.editing.seed free c.requires.seed_fits)
@@ -50,13 +78,13 @@ returns-in_err-lexicon g c =
       );
     })
 
-pub returns-in_err-session : goal.returns-in_err-session
-returns-in_err-session g c =
+pub returns-in_err-bytes : goal.returns-in_err-bytes
+returns-in_err-bytes g c =
     let guarded = c.args.editing.guarded in
     let exit =
-    err_from_is_err_and c.from_residual-in_err-session.result
-    c.from_residual-in_err-session.ensures.1 in
-    let (moves, said, found) = c.in_err-session.ensures.judged in
+    err_from_is_err_and c.from_residual-in_err-bytes.result
+    c.from_residual-in_err-bytes.ensures.1 in
+    let (moves, said, refused) = c.in_err-bytes.ensures.read in
     let (edits, others) = Says-some (g.S.Read.remaining c.args.script.now) in
     rw (exit.1, exit.2)
     (record {
@@ -66,29 +94,58 @@ returns-in_err-session g c =
         said,
         others,
         IsFoundIn-first (log_stage moves ∷ [])
-            (script_stage guarded edits ∷ strict_of c.args.editing moves edits ∷ []) _ found,
+            (script_stage guarded edits ∷ strict_of c.args.editing moves edits ∷ []) _
+            (IsFoundIn-log moves _ refused),
+      );
+    })
+
+pub returns-in_err-session : goal.returns-in_err-session
+returns-in_err-session g c =
+    let guarded = c.args.editing.guarded in
+    let exit =
+    err_from_is_err_and c.from_residual-in_err-session.result
+    c.from_residual-in_err-session.ensures.1 in
+    let (moves, said, read) = c.in_ok-bytes.ensures.read in
+    let (edits, others) = Says-some (g.S.Read.remaining c.args.script.now) in
+    rw (exit.1, exit.2)
+    (record {
+      judged = (
+        moves,
+        edits,
+        said,
+        others,
+        IsFoundIn-first (log_stage moves ∷ [])
+            (script_stage guarded edits ∷ strict_of c.args.editing moves edits ∷ []) _
+            (log_refused moves c.deref.result.now _ (c.deref.ensures.value ∙ read.0) read.1
+            c.in_err-session.ensures.judged),
       );
     })
 
 pub returns : goal.returns
 returns g c =
     let guarded = c.args.editing.guarded in
-    let (moves, said, made) = c.in_ok-session.ensures.judged in
+    let (moves, said, read) = c.in_ok-bytes.ensures.read in
     let (edits, others, judges) = c.edit_session-made.ensures.judged in
     let editing = c.args.editing in
     let cave = c.new-machine.result.rules.cave.now in
     let game = game_of editing.seed (lines moves) in
-    let right = λ (cave : CaveView). right_in editing edits cave editing.every game in
+    let right = λ (cave : CaveView). right_in editing edits cave editing.every game moves in
     let held = c.in_ok-session.session in
+    let made =
+    log_judged (λ log. HoldsGame cave (game_of editing.seed log)) moves c.deref.result.now held
+    (c.deref.ensures.value ∙ read.0) read.1 c.in_ok-session.ensures.judged in
+    let log = c.deref-2.result.now in
+    let log_is = c.deref-2.ensures.value ∙ read.0 in
     let held_cave = held.machine.rules.cave.now in
-    let held_right = right_in editing edits held_cave held.every held.game in
+    let held_right = right_in editing edits held_cave held.every held.game log in
     let gives =
     λ (edited : Edited) (is : held_right edited).
-    subst (λ now. right_in editing edits cave editing.every now edited) made.1.game_is
-    (subst (λ every. right_in editing edits cave every held.game edited)
+    subst (λ bytes. right_in editing edits cave editing.every game bytes edited) log_is
+    (subst (λ now. right_in editing edits cave editing.every now log edited) made.1.game_is
+    (subst (λ every. right_in editing edits cave every held.game log edited)
     c.in_ok-session.ensures.every
-    (subst (λ (k : CaveView). right_in editing edits k held.every held.game edited)
-    made.1.cave_is is)) in
+    (subst (λ (k : CaveView). right_in editing edits k held.every held.game log edited)
+    made.1.cave_is is))) in
     let strict = strict_of editing moves edits in
     let staged =
     subst (λ (game : Game). Judges (script_stage guarded edits

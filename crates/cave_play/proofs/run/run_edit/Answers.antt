@@ -1,4 +1,7 @@
-use Rattle.std.proofs.Common.{◌≡◌, ℕ, List, [], ◌∷◌, ◌++◌, None, inl, inr, subst, sym, ◌∙◌}
+use Rattle.std.proofs.Common.{◌≡◌, ℕ, List, [], ◌∷◌, ◌++◌, length, None, inl, inr, subst, sym, ap}
+use Rattle.std.proofs.Common.{◌∙◌}
+use Rattle.cave_data.specs.CaveView.{CaveView}
+use Rattle.cave_data.specs.Reads.{Reads}
 use Rattle.std.specs.Str.Lines.{lines}
 use Rattle.std.proofs.lemmas.Result.{err_from_is_err_and}
 use Rattle.std.proofs.KnownBytes.{Keeps-refl}
@@ -7,19 +10,30 @@ use Rattle.replay_edits.specs.Edit.{game_of}
 use Rattle.cave_play.specs.Judge.{large_seed, every_fault}
 use Rattle.cave_play.specs.Stages.{Stage, first_decided, judging_stage}
 use Rattle.cave_play.specs.Stages.{cave_stages, edit_stages, log_stage, script_stage, strict_stage}
-use Rattle.cave_play.specs.Views.{IsEdited}
+use Rattle.cave_play.specs.Stages.{size_stage}
+use Rattle.cave_play.specs.Size.{size_fault}
+use Rattle.cave_play.proofs.SizeLemmas.{output_fault-printed}
+use Rattle.cave_play.proofs.OneOutputLemmas.{script_by-spelled}
+use Rattle.replay_scripts.specs.Guards.{script_by}
+use Rattle.cave_play.specs.Ended.{IsEdited, IsEndedEditOf, ended_view}
+use Rattle.replay_ends.specs.LogEnds.{EndsOfLog, log_ends}
 use Rattle.cave_play.proofs.InputLemmas.{Says-some}
 use Rattle.cave_play.proofs.RunLemmas.{EndsBy-unwritten, EndsBy-written, unwritten_by_edit}
-use Rattle.cave_play.proofs.StageLemmas.{IsFoundIn-first, IsFoundIn-later, first_decided-after}
-use Rattle.cave_play.proofs.StageLemmas.{first_decided-later}
+use Rattle.cave_play.proofs.StageLemmas.{IsFoundIn-first, IsFoundIn-later, IsFoundIn-memory}
+use Rattle.cave_play.proofs.StageLemmas.{first_decided-after}
+use Rattle.cave_play.proofs.StageLemmas.{first_decided-later, first_decided-one}
 use Rattle.cave_play.proofs.TextsLemmas.{AreTextsOf-some}
 use Rattle.cave_play.proofs.run.run_edit.Goals as goal
 
 -- the stages of the log and of the script
-abbrev after_cave : List ℕ → List ℕ → Editing → List Stage
-after_cave log script editing =
+abbrev of_edit : List ℕ → List ℕ → Editing → List Stage
+of_edit log script editing =
     log_stage log ∷ script_stage editing.guarded script
     ∷ strict_stage editing.strict (game_of editing.seed (lines log)) editing.guarded script ∷ []
+
+-- and that of what is printed
+abbrev after_cave : List ℕ → List ℕ → Editing → List Stage
+after_cave log script editing = of_edit log script editing ++ size_stage log script editing ∷ []
 
 -- the stages after that of the distance of checkpoints
 abbrev after_every : List ℕ → List ℕ → List ℕ → List ℕ → Editing → List Stage
@@ -90,16 +104,18 @@ returns-in_err-cave g c =
       );
     })
 
-pub returns-in_err-text : goal.returns-in_err-text
-returns-in_err-text g c =
+pub returns-in_err-edited : goal.returns-in_err-edited
+returns-in_err-edited g c =
     let exit =
-    err_from_is_err_and c.from_residual-in_err-text.result
-    c.from_residual-in_err-text.ensures.1 in
+    err_from_is_err_and c.from_residual-in_err-edited.result
+    c.from_residual-in_err-edited.ensures.1 in
     let (database, bindings, one, two, read) = c.in_ok-cave.ensures.judged in
-    let (moves, edits, three, four, refused) = c.in_err-text.ensures.judged in
+    let (moves, edits, three, four, refused) = c.in_err-edited.ensures.judged in
     let found =
     IsFoundIn-later (cave_stages database bindings) (after_cave moves edits c.args.editing)
-    _ read.0 refused in
+    _ read.0
+    (IsFoundIn-first (of_edit moves edits c.args.editing)
+    (size_stage moves edits c.args.editing ∷ []) _ refused) in
     rw (exit.1, exit.2)
     (record {
       runs = (
@@ -117,15 +133,94 @@ returns-in_err-text g c =
 decides_none : (database bindings log script : List ℕ) (editing : Editing)
     → large_seed editing.seed ≡ None → every_fault editing.every ≡ None
     → first_decided (cave_stages database bindings) ≡ None
-    → first_decided (after_cave log script editing) ≡ None
+    → first_decided (of_edit log script editing) ≡ None
+    → (size_stage log script editing).decides ≡ None
     → first_decided (edit_stages database bindings log script editing) ≡ None
-decides_none database bindings log script editing seed every cave later =
+decides_none database bindings log script editing seed every cave edited small =
     let rest = after_every database bindings log script editing in
+    let size = size_stage log script editing in
     first_decided-after (large_seed editing.seed) (judging_stage (every_fault editing.every) ∷ rest)
     seed
     (first_decided-after (every_fault editing.every) rest every
     (first_decided-later (cave_stages database bindings) (after_cave log script editing) cave
-    ∙ later))
+    ∙ first_decided-later (of_edit log script editing) (size ∷ []) edited
+    ∙ first_decided-one size small))
+
+-- what is printed, where these edits were made
+printed_of : (database bindings log script : List ℕ) (editing : Editing) (cave : CaveView)
+    (played : ℕ) (text output : List ℕ) (ends : EndsOfLog) → Reads database bindings cave
+    → IsEndedEditOf editing.view cave editing.every (game_of editing.seed (lines log))
+    editing.guarded script (log_ends log script) played text ends
+    → output ≡ ended_view editing.view ends text
+    → IsEdited database bindings log script editing played output
+printed_of database bindings log script editing cave played text output ends reads (edit, after) is = (
+  cave,
+  reads,
+  record {
+    text = text;
+    edit = edit;
+    printed = is ∙ ap (λ now. ended_view editing.view now text) after;
+  },
+)
+
+-- and what its size decides
+size_of : (database bindings log script : List ℕ) (editing : Editing) (played : ℕ)
+    (output : List ℕ) → IsEdited database bindings log script editing played output
+    → size_fault editing.view (length output) ≡ (size_stage log script editing).decides
+size_of database bindings log script editing played output (cave, reads, is) =
+    output_fault-printed editing.view cave log script editing.seed editing.guarded is.edit.items
+    (script_by editing.guarded script) is.edit.outcomes is.text output
+    (script_by-spelled editing.guarded script is.edit.items is.edit.spelled) is.edit.written
+    is.printed
+
+pub returns-in_err-text : goal.returns-in_err-text
+returns-in_err-text g c =
+    let exit =
+    err_from_is_err_and c.from_residual-in_err-text.result
+    c.from_residual-in_err-text.ensures.1 in
+    let (database, bindings, one, two, read) = c.in_ok-cave.ensures.judged in
+    let (moves, edits, three, four, edited) = c.in_ok-edited.ensures.judged in
+    let stages = edit_stages database bindings moves edits c.args.editing in
+    rw (exit.1, exit.2)
+    (record {
+      runs = (
+        record { database = database; bindings = bindings; log = moves; script = edits },
+        record { database = one; bindings = two; log = three; script = four },
+        (IsFoundIn-memory stages, Keeps-refl _),
+      );
+    })
+
+pub returns-in_err-check_size : goal.returns-in_err-check_size
+returns-in_err-check_size g c =
+    let exit =
+    err_from_is_err_and c.from_residual-in_err-check_size.result
+    c.from_residual-in_err-check_size.ensures.1 in
+    let (database, bindings, one, two, read) = c.in_ok-cave.ensures.judged in
+    let (moves, edits, three, four, edited) = c.in_ok-edited.ensures.judged in
+    let editing = c.args.editing in
+    let is : IsEdited database bindings moves edits editing c.in_ok-edited.edited.played
+    c.in_ok-text.text.items =
+    printed_of database bindings moves edits editing _ _ _ _ _ read.1 edited.1
+    c.in_ok-text.ensures in
+    let large =
+    sym (size_of database bindings moves edits editing _ _ is)
+    ∙ sym (ap (λ t. size_fault editing.view (length t)) c.deref.ensures.value)
+    ∙ c.in_err-check_size.ensures in
+    let found =
+    IsFoundIn-later (cave_stages database bindings) (after_cave moves edits editing) _ read.0
+    (IsFoundIn-later (of_edit moves edits editing) (size_stage moves edits editing ∷ []) _
+    edited.0 (inl (inr large))) in
+    rw (exit.1, exit.2)
+    (record {
+      runs = (
+        record { database = database; bindings = bindings; log = moves; script = edits },
+        record { database = one; bindings = two; log = three; script = four },
+        EndsBy-unwritten _ (edit_stages database bindings moves edits editing) _ _ _
+            (unwritten_by_edit database bindings moves edits editing)
+            (inr (c.in_ok-check_seed.ensures, inr (c.in_ok-check_every.ensures, found)))
+            (Keeps-refl _),
+      );
+    })
 
 pub returns-in_err-write_output : goal.returns-in_err-write_output
 returns-in_err-write_output g c =
@@ -133,15 +228,21 @@ returns-in_err-write_output g c =
     err_from_is_err_and c.from_residual-in_err-write_output.result
     c.from_residual-in_err-write_output.ensures.1 in
     let (database, bindings, one, two, read) = c.in_ok-cave.ensures.judged in
-    let (moves, edits, three, four, edited) = c.in_ok-text.ensures.judged in
+    let (moves, edits, three, four, edited) = c.in_ok-edited.ensures.judged in
     let editing = c.args.editing in
     let right = IsEdited database bindings moves edits editing in
-    let played = c.in_ok-text.field-0.played in
-    let output =
-    subst (right played) (sym c.deref.ensures.value) (c.in_ok-cave.cave, read.1, edited.1) in
+    let played = c.in_ok-edited.edited.played in
+    let is : right played c.in_ok-text.text.items =
+    printed_of database bindings moves edits editing _ _ _ _ _ read.1 edited.1
+    c.in_ok-text.ensures in
+    let output = subst (right played) (sym c.deref-2.ensures.value) is in
+    let small =
+    sym (size_of database bindings moves edits editing _ _ is)
+    ∙ sym (ap (λ t. size_fault editing.view (length t)) c.deref.ensures.value)
+    ∙ c.in_ok-check_size.ensures in
     let none =
     decides_none database bindings moves edits editing c.in_ok-check_seed.ensures
-    c.in_ok-check_every.ensures read.0 edited.0 in
+    c.in_ok-check_every.ensures read.0 edited.0 small in
     rw (exit.1, exit.2)
     (record {
       runs = (
@@ -156,19 +257,25 @@ returns-in_err-write_output g c =
 pub returns : goal.returns
 returns g c =
     let (database, bindings, one, two, read) = c.in_ok-cave.ensures.judged in
-    let (moves, edits, three, four, edited) = c.in_ok-text.ensures.judged in
+    let (moves, edits, three, four, edited) = c.in_ok-edited.ensures.judged in
     let editing = c.args.editing in
     let right = IsEdited database bindings moves edits editing in
-    let output =
-    subst (right c.in_ok-text.field-0.played) (sym c.deref.ensures.value)
-    (c.in_ok-cave.cave, read.1, edited.1) in
+    let played = c.in_ok-edited.edited.played in
+    let is : right played c.in_ok-text.text.items =
+    printed_of database bindings moves edits editing _ _ _ _ _ read.1 edited.1
+    c.in_ok-text.ensures in
+    let output = subst (right played) (sym c.deref-2.ensures.value) is in
+    let small =
+    sym (size_of database bindings moves edits editing _ _ is)
+    ∙ sym (ap (λ t. size_fault editing.view (length t)) c.deref.ensures.value)
+    ∙ c.in_ok-check_size.ensures in
     let none =
     decides_none database bindings moves edits editing c.in_ok-check_seed.ensures
-    c.in_ok-check_every.ensures read.0 edited.0 in
+    c.in_ok-check_every.ensures read.0 edited.0 small in
     record {
       runs = (
         record { database = database; bindings = bindings; log = moves; script = edits },
         record { database = one; bindings = two; log = three; script = four },
-        (none, (c.deref.result.now, output, c.in_ok-write_output.ensures.written)),
+        (none, (c.deref-2.result.now, output, c.in_ok-write_output.ensures.written)),
       );
     }

@@ -1,0 +1,65 @@
+-- What an edit of a log prints, where the lines of a log and of a script end as those of the log
+-- that was read.
+use Rattle.std.specs.Prelude.{◌≡◌, ℕ, Bool, false, List, [], ◌∷◌, Option, None, Some}
+use Rattle.std.specs.Str.Lines.{lines}
+use Rattle.cave_data.specs.CaveView.{CaveView}
+use Rattle.cave_data.specs.Reads.{Reads}
+use Rattle.play_command.specs.declared.editing.Editing.{Editing}
+use Rattle.play_command.specs.declared.editing.EditView.{EditView}
+use Rattle.play_command.specs.declared.editing.EditView.TheVariants as asked
+use Rattle.play_edits.specs.Items.{game_after_item}
+use Rattle.play_edits.specs.Refusal.{item_refusal}
+use Rattle.play_edits.specs.declared.refusal.Refusal.{Refusal}
+use Rattle.replay_edits.specs.Edit.{Game, game_of}
+use Rattle.replay_ends.specs.LineEnds.{ended_text}
+use Rattle.replay_ends.specs.LogEnds.{EndsOfLog, ends_after_item, log_ends}
+use Rattle.replay_scripts.specs.Script.{Applied}
+use Rattle.cave_play.specs.Views.{IsEditOf}
+
+-- how the lines of a log end after an item: as before it, where it was refused
+abbrev pub ends_left : Applied → Option Refusal → EndsOfLog → EndsOfLog
+ends_left item None ends = ends_after_item item ends
+ends_left item (Some refusal) ends = ends
+
+-- and after items, each applied to the game that those before it left
+abbrev pub ends_after_items : List Applied → Game → EndsOfLog → EndsOfLog
+ends_after_items [] game ends = ends
+ends_after_items (item ∷ items) game ends =
+    ends_after_items items (game_after_item item game)
+    (ends_left item (item_refusal item game.log) ends)
+
+-- What is printed of the text that a view made. A line of a log has its own end. A line of the
+-- script that takes edits back has the usual one.
+abbrev pub ended_view : EditView → EndsOfLog → List ℕ → List ℕ
+ended_view asked.Transcript ends text = text
+ended_view asked.Play ends text = text
+ended_view asked.Log ends text = ended_text ends.usual ends.unended ends.each (lines text)
+ended_view asked.Undo ends text = ended_text ends.usual false [] (lines text)
+ended_view asked.Reports ends text = text
+ended_view asked.Table ends text = text
+ended_view asked.Steps ends text = text
+ended_view asked.Score ends text = text
+ended_view asked.FinalState ends text = text
+
+-- the script edits the game, whose lines end so before it, and so after it
+abbrev pub IsEndedEditOf : EditView → CaveView → ℕ → Game → Bool → List ℕ → EndsOfLog → ℕ
+    → List ℕ → EndsOfLog → Type 0
+IsEndedEditOf view cave every game guarded script before played text after =
+    (edit : IsEditOf view cave every game guarded script played text)
+    × (after ≡ ends_after_items edit.items game before)
+
+-- so many lines were played for the items of the script that edits the log, and this is printed
+pub record IsEndedEdit (view : EditView) (cave : CaveView) (every : ℕ) (log : List ℕ) (seed : ℕ)
+    (guarded : Bool) (script : List ℕ) (played : ℕ) (output : List ℕ) : Type 0 where
+  pub text : List ℕ
+  pub edit : IsEditOf view cave every (game_of seed (lines log)) guarded script played text
+  pub printed : output ≡ ended_view view
+      (ends_after_items edit.items (game_of seed (lines log)) (log_ends log script)) text
+
+-- so many lines were played, and the output is what was asked for, of the script that edits the log
+-- in the cave of the database and its bindings
+abbrev pub IsEdited : List ℕ → List ℕ → List ℕ → List ℕ → Editing → ℕ → List ℕ → Type 0
+IsEdited database bindings log script editing played output =
+    (cave : CaveView) × Reads database bindings cave
+    × IsEndedEdit editing.view cave editing.every log editing.seed editing.guarded script played
+    output

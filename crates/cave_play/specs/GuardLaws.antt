@@ -1,0 +1,38 @@
+-- Where no line of a script is a guard, `--guarded` changes nothing of a run.
+use Rattle.std.specs.Prelude.{◌≡◌, ◌↔◌, ℕ, true, false, List, All, None, ⊤}
+use Rattle.std.specs.Str.Lines.{lines}
+use Rattle.cave_data.specs.CaveView.{CaveView}
+use Rattle.play_command.specs.declared.editing.EditView.{EditView}
+use Rattle.play_command.specs.declared.editing.EditView.TheVariants as asked
+use Rattle.replay_scripts.specs.Guards.{script_by}
+use Rattle.replay_scripts.specs.Line.{expected_in}
+use Rattle.cave_play.specs.Ended.{IsEndedEdit}
+
+-- no line of a script is spelled as a guard
+abbrev pub HasNoGuard : List ℕ → Type 0
+HasNoGuard script = All (λ line. expected_in line ≡ None) (lines script)
+
+-- what is asked for has no guards of its own
+abbrev pub PrintsNoGuards : EditView → Type 0
+PrintsNoGuards asked.Transcript = ⊤
+PrintsNoGuards asked.Play = ⊤
+PrintsNoGuards asked.Log = ⊤
+PrintsNoGuards asked.Undo = ⊥
+PrintsNoGuards asked.Reports = ⊤
+PrintsNoGuards asked.Table = ⊤
+PrintsNoGuards asked.Steps = ⊤
+PrintsNoGuards asked.Score = ⊤
+PrintsNoGuards asked.FinalState = ⊤
+
+-- a script without guards gives the same items, or the same refusal
+abbrev pub NoGuardsNoOtherScript : Type 0
+NoGuardsNoOtherScript =
+    (script : List ℕ) → HasNoGuard script → script_by true script ≡ script_by false script
+
+-- and the same is printed of it, but for a script that takes the edits back
+abbrev pub NoGuardsNoOtherOutput : Type 0
+NoGuardsNoOtherOutput =
+    (view : EditView) (cave : CaveView) (every : ℕ) (log script output : List ℕ) (seed played : ℕ)
+    → PrintsNoGuards view → HasNoGuard script
+    → IsEndedEdit view cave every log seed true script played output
+    ↔ IsEndedEdit view cave every log seed false script played output

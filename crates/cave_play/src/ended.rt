@@ -1,0 +1,43 @@
+//! What an edit prints, where the lines of a log and of a script end as those of the log did.
+
+ghost use Rattle.std.specs.Prelude.{◌≡◌, length, IfOk, MatchResult, None, Some};
+ghost use Rattle.cave_play.specs.Ended.{ended_view};
+ghost use Rattle.cave_play.specs.Size.{size_fault};
+ghost use Rattle.replay_ends.specs.LogEnds.{shown_ends};
+
+use crate::edits::Edited;
+use crate::fault::PlayFault;
+use base_lines::limits::is_large_input;
+use play_command::EditView;
+use replay_ends::ended_text;
+use std::alloc::{AllocError, Global};
+
+/// What is printed of what edits made, by what is asked for.
+pub(crate) fn ended_view(
+    alloc: Global,
+    view: EditView,
+    edited: Edited,
+) -> Result<Vec<u8>, AllocError>
+    ensures { IfOk result (λ text. text.items
+        ≡ ended_view view (shown_ends edited.ends) edited.text.items) }
+{
+    let Edited { text, ends, .. } = edited;
+    match view {
+        EditView::Log => ended_text(alloc, ends.usual, ends.unended, &ends.each, &text),
+        EditView::Undo => ended_text(alloc, ends.usual, false, &[], &text),
+        EditView::Transcript | EditView::Play | EditView::Reports | EditView::Table => Ok(text),
+        EditView::Steps | EditView::Score | EditView::FinalState => Ok(text),
+    }
+}
+
+/// Checks that a run could read an output, where it is a log or a script.
+pub(crate) fn check_size(view: EditView, output: &[u8]) -> Result<(), PlayFault>
+    ensures { MatchResult result (λ _. size_fault view (length output.now) ≡ None)
+        (λ found. size_fault view (length output.now) ≡ Some found) }
+{
+    match view {
+        EditView::Log if is_large_input(output.len()) => Err(PlayFault::LargeLog),
+        EditView::Undo if is_large_input(output.len()) => Err(PlayFault::LargeUndo),
+        _ => Ok(()),
+    }
+}

@@ -1,0 +1,3 @@
+pub mod ByteLemmas
+pub mod AlikeLemmas
+pub mod TextLemmas

@@ -1,0 +1,12 @@
+-- what the bytes that are left give, after those that were read, is what the text gives
+use Rattle.std.proofs.Common.{◌≡◌, ◌++◌, length}
+use Rattle.replay_ends.specs.LineEnds.{ends_from, ends_in, last_byte}
+use Rattle.replay_ends.proofs.line_end.text_ends.Given as goal
+
+abbrev pub invariant-loop-byte : goal.invariant-loop-byte
+invariant-loop-byte l =
+    (l.ends.items ++ ends_from l.last l.left ≡ ends_in l.text)
+    × (last_byte l.last l.left ≡ last_byte 10 l.text)
+
+abbrev pub decreases-loop-byte : goal.decreases-loop-byte
+decreases-loop-byte l = length l.left

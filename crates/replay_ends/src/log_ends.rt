@@ -1,0 +1,95 @@
+//! How the lines of a log end, and what items of a script make of that.
+
+ghost use Rattle.std.specs.Prelude.{◌≡◌, IfOk, OnOk};
+ghost use Rattle.replay_edits.specs.Edit.{change_of};
+ghost use Rattle.replay_ends.specs.LogEnds.{ends_after, ends_after_item, log_ends, shown_ends};
+ghost use Rattle.replay_ends.specs.LogEnds.{unlike_ends};
+ghost use Rattle.replay_scripts.specs.Views.{applied_item};
+
+use crate::line_end::{LineEnd, TextEnds, are_alike, end_of_line, ends_in, first_end, text_ends};
+use replay_edits::Edit;
+use replay_scripts::Item;
+use std::alloc::{AllocError, Global};
+
+/// How the lines of a log end.
+#[derive(Debug, Drop)]
+pub struct LogEnds {
+    /// The end of each line, where they all end alike.
+    pub usual: LineEnd,
+    /// The end of each line, where they don't.
+    pub each: Vec<LineEnd>,
+    /// Whether the last line has no end.
+    pub unended: bool,
+    /// The ends of the lines of the script that edits the log.
+    pub script: Vec<LineEnd>,
+}
+
+impl LogEnds {
+    /// How the lines of a log end that a script is to edit.
+    pub fn of(alloc: Global, log: &[u8], script: &[u8]) -> Result<LogEnds, AllocError>
+        ensures { IfOk result (λ ends. shown_ends ends ≡ log_ends log.now script.now) }
+    {
+        let TextEnds { ends, unended } = text_ends(alloc, log)?;
+        let script = ends_in(alloc, script)?;
+        let usual = first_end(first_end(LineEnd::Feed, &script), &ends);
+        let each = unlike_ends(alloc, usual, ends);
+        Ok(LogEnds {
+            usual,
+            each,
+            unended,
+            script,
+        })
+    }
+
+    /// Makes the edits of an item among the ends: each line keeps its end, and one that is inserted
+    /// ends as its line in the script does. Lines that all end alike go on to end so.
+    pub fn follow_item(&mut self, item: &Item) -> Result<(), AllocError>
+        ensures { OnOk result
+            (shown_ends self.new ≡ ends_after_item (applied_item item.now) (shown_ends self.old)) }
+    {
+        if self.each.is_empty() {
+            return Ok(());
+        }
+        let mut edits = item.edits.as_slice();
+        let mut at = 0;
+        while let Some((edit, rest)) = edits.split_first() {
+            let end = end_of_line(self.usual, &self.script, item.line_of(at));
+            edit_ends(&mut self.each, edit, end)?;
+            at += 1;
+            edits = rest;
+        }
+        Ok(())
+    }
+}
+
+/// The ends, unless all are the usual one.
+fn unlike_ends(alloc: Global, usual: LineEnd, ends: Vec<LineEnd>) -> Vec<LineEnd>
+    ensures { result.items ≡ unlike_ends usual ends.items }
+{
+    if are_alike(usual, &ends) {
+        Vec::new(alloc)
+    } else {
+        ends
+    }
+}
+
+/// Makes an edit among the ends of the lines of a log, where an inserted line has this end.
+fn edit_ends(ends: &mut Vec<LineEnd>, edit: &Edit, end: LineEnd) -> Result<(), AllocError>
+    ensures { OnOk result
+        (ends.new.items ≡ ends_after (change_of edit.now) end ends.old.items) }
+{
+    match edit {
+        Edit::Insert(place, _) => {
+            let place = ends.len().min(*place as usize);
+            ends.insert(place, end)?;
+        }
+        Edit::Delete(place) => {
+            let place = *place as usize;
+            if place < ends.len() {
+                ends.remove(place);
+            }
+        }
+        Edit::Replace(_, _) | Edit::Reseed(_) => {}
+    }
+    Ok(())
+}
