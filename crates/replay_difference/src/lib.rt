@@ -5,6 +5,7 @@ mod anchors;
 pub mod difference;
 mod ends;
 mod frontier;
+mod kept;
 mod numbers;
 pub mod open;
 mod region;

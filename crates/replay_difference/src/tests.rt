@@ -30,6 +30,17 @@ fn numbered_log(alloc: Global, numbers: usize, more: usize) -> Result<Vec<LineTe
     Ok(log)
 }
 
+/// A full log, of numbers from this one on.
+fn full_log(alloc: Global, first: usize) -> Result<Vec<LineText>, AllocError> {
+    let mut log = Vec::new(alloc);
+    for number in 0..65_535usize {
+        let number = number.saturating_add(first);
+        let line = format!(in alloc; "{number}")?;
+        log.push(LineText::from_slice(alloc, line.as_bytes())?)?;
+    }
+    Ok(log)
+}
+
 /// The words of `a` and `b` of at most four letters, by their numbers from 1 to 31.
 fn word(alloc: Global, number: u8) -> Result<Vec<u8>, AllocError> {
     let mut word = Vec::new(alloc);
@@ -112,6 +123,17 @@ fn long_logs_have_few_edits(rt: HostRuntime) -> Result<(), Fail> {
         assert_eq!(rt; changed_lines(alloc, &old, &new)?, more);
         assert_eq!(rt; changed_lines(alloc, &new, &old)?, more);
     }
+    Ok(())
+}
+
+#[test]
+fn full_logs_have_few_edits(rt: HostRuntime) -> Result<(), Fail> {
+    let alloc = rt.alloc();
+    let old = full_log(alloc, 0)?;
+    let new = full_log(alloc, 1)?;
+    assert_eq!(rt; changed_lines(alloc, &old, &new)?, 2);
+    // A line comes at the front, for which there is no room until the last one goes.
+    assert_eq!(rt; changed_lines(alloc, &new, &old)?, 2);
     Ok(())
 }
 
