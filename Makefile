@@ -70,8 +70,8 @@ checks: ## checks names, imports, pages and scripts, in seconds, without any pro
 
 # Those checks, and the lines that must not compile; then the gate: each proof from nothing, the
 # edits that must fail, each of which has to compile, the tests and the program; and then the suite
-# with the program that was proved, and what the suite leaves out; cut caves, and refused memory;
-# and last the second opinion.
+# with the program that was proved, and what the suite leaves out; runs that are disturbed as they
+# write; cut caves, and refused memory; and last the second opinion.
 test: has-rt has-cc checks ## runs the gate: all proofs anew, wrong bodies, tests, suite and duel
 	tools/check-wrong-lines
 	@mkdir -p out
@@ -85,6 +85,7 @@ test: has-rt has-cc checks ## runs the gate: all proofs anew, wrong bodies, test
 	logs/tools/check-coverage $(PROGRAM)
 	logs/tools/check-maps $(PROGRAM)
 	logs/tools/check-undo $(PROGRAM)
+	logs/tools/check-drafts $(PROGRAM)
 	tools/prefixes --lines $(PROGRAM)
 	tools/prefixes $(PROGRAM)
 	tools/check-memory
@@ -107,6 +108,7 @@ suite: checks $(PROGRAM) ## plays the logs of logs/, and compares them with thei
 	@logs/tools/check-coverage $(PROGRAM)
 	@logs/tools/check-maps $(PROGRAM)
 	@logs/tools/check-undo $(PROGRAM)
+	@logs/tools/check-drafts $(PROGRAM)
 	@model/suite
 
 # Plays directed and random games, and reads mutated databases, with the program and with the model

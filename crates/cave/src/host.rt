@@ -3,15 +3,35 @@
 
 ghost use Rattle.std.specs.Prelude.{None};
 
-use play_program::{FileBeside, Message, System, replace};
-use std::fs::File;
+use crate::beside::FileBeside;
+use crate::seen::{SeenFile, Stamp};
+use play_program::{Message, System, replace};
+use std::fs::{File, Metadata};
 use std::io::ErrorKind;
 use std::{env, io};
 
-/// The operating system.
+/// The operating system, with the files that were opened.
 #[derive(Drop)]
 pub(crate) struct Host<'a> {
-    pub(crate) rt: &'a HostRuntime,
+    rt: &'a HostRuntime,
+    seen: Vec<SeenFile>,
+}
+
+impl<'a> Host<'a> {
+    /// The operating system, of which no file is open.
+    pub(crate) fn new(rt: &'a HostRuntime) -> Host<'a> {
+        Host {
+            rt,
+            seen: Vec::new(rt.alloc()),
+        }
+    }
+
+    /// Keeps what was found of a file, in case it is the one that is written.
+    fn note(&mut self, file: &str, found: &Metadata) -> io::Result<()> {
+        let name = String::from_str(self.rt.alloc(), file)?;
+        let stamp = Stamp::of(found);
+        Ok(self.seen.push(SeenFile { name, stamp })?)
+    }
 }
 
 impl System for Host<'_> {
@@ -24,14 +44,16 @@ impl System for Host<'_> {
     /// A folder opens, and can't be read, so it is refused here.
     fn open(&mut self, file: &str) -> io::Result<File> {
         let opened = File::open(self.rt, file)?;
-        if opened.metadata()?.is_dir() {
+        let found = opened.metadata()?;
+        if found.is_dir() {
             return Err(io::Error::from(ErrorKind::IsADirectory));
         }
+        self.note(file, &found)?;
         Ok(opened)
     }
 
     fn put(&mut self, file: &str, bytes: &[u8]) -> io::Result<()> {
-        let mut place = FileBeside::at(self.rt, self.rt.alloc(), file)?;
+        let mut place = FileBeside::at(self.rt, file, self.seen.as_slice())?;
         replace(&mut place, bytes)
     }
 

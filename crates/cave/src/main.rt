@@ -2,7 +2,10 @@
 //! never show, and draws maps.
 #![tactic(auto)]
 
+mod beside;
+mod draft;
 mod host;
+mod seen;
 
 use crate::host::{Host, words};
 use play_program::run_program;
@@ -11,7 +14,7 @@ use std::process::ExitCode;
 
 /// The program: does what its words ask for.
 fn main(rt: HostRuntime) -> ExitCode {
-    let mut host = Host { rt: &rt };
+    let mut host = Host::new(&rt);
     let status = run_program(rt.alloc(), &mut host, words(&rt), &mut io::writer(&rt));
     ExitCode::from(status)
 }

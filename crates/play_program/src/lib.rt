@@ -2,7 +2,6 @@
 //! a fault.
 #![tactic(auto)]
 
-pub mod beside;
 pub mod command;
 pub mod failure;
 pub mod message;
@@ -14,8 +13,8 @@ pub mod system;
 pub mod target;
 pub mod whole;
 
-pub use beside::FileBeside;
 pub use message::Message;
 pub use program::run_program;
 pub use system::System;
+pub use target::Target;
 pub use whole::replace;

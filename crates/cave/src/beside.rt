@@ -1,0 +1,152 @@
+//! A file of the system, which a draft in the same folder takes the place of.
+
+ghost use Rattle.std.specs.Prelude.{None};
+
+use crate::draft::DraftFile;
+use crate::seen::{SeenFile, Stamp};
+use play_program::Target;
+use std::fs::{File, Permissions};
+use std::io::ErrorKind;
+use std::path::Path;
+use std::{fs, io};
+
+/// A file of the system.
+#[derive(Drop)]
+pub(crate) struct FileBeside<'a> {
+    rt: &'a HostRuntime,
+    path: String,
+    /// Who may read and write the file, where it is there.
+    permissions: Option<Permissions>,
+    /// What this run saw of the file, where it has read it.
+    read: Option<Stamp>,
+}
+
+/// Whether a name leads to the file of a path.
+fn leads_to(rt: &HostRuntime, name: &str, path: &str) -> io::Result<bool> {
+    match fs::canonicalize(rt, name) {
+        Ok(real) => Ok(real.as_str() == path),
+        Err(reason) if reason.kind() == ErrorKind::OutOfMemory => Err(reason),
+        Err(_) => Ok(false),
+    }
+}
+
+/// What was seen of the file of a path and a name, where it was opened by this name, or by another
+/// one that leads to it.
+fn stamp_of(
+    rt: &HostRuntime,
+    seen: &[SeenFile],
+    path: &str,
+    name: &str,
+) -> io::Result<Option<Stamp>> {
+    for file in seen {
+        let known = file.name.as_str();
+        if known == name || leads_to(rt, known, path)? {
+            return Ok(Some(file.stamp));
+        }
+    }
+    Ok(None)
+}
+
+/// The folder of a path.
+fn folder_of(path: &str) -> &str {
+    match Path::new(path).parent() {
+        Some(folder) if !folder.as_str().is_empty() => folder.as_str(),
+        _ => ".",
+    }
+}
+
+impl<'a> FileBeside<'a> {
+    /// The file of a name, which is a file or isn't there yet, with what was seen of it if it is one
+    /// of those that were opened. A link is followed, so that the file that it leads to is replaced
+    /// and the link stays.
+    pub(crate) fn at(
+        rt: &'a HostRuntime,
+        name: &str,
+        seen: &[SeenFile],
+    ) -> io::Result<FileBeside<'a>> {
+        let (path, permissions) = match fs::metadata(rt, name) {
+            Ok(found) if found.is_dir() => {
+                return Err(io::Error::from(ErrorKind::IsADirectory));
+            }
+            Ok(found) if !found.is_file() => {
+                return Err(io::Error::other("is no regular file"));
+            }
+            Ok(found) => (
+                fs::canonicalize(rt, name)?.into_string(),
+                Some(found.permissions()),
+            ),
+            Err(reason) if reason.kind() == ErrorKind::NotFound => {
+                (String::from_str(rt.alloc(), name)?, None)
+            }
+            Err(reason) => return Err(reason),
+        };
+        let read = stamp_of(rt, seen, path.as_str(), name)?;
+        Ok(FileBeside {
+            rt,
+            path,
+            permissions,
+            read,
+        })
+    }
+
+    /// Whether the file is still what this run has read, where it has read it.
+    fn is_as_read(&self) -> io::Result<bool> {
+        let Some(read) = self.read else {
+            return Ok(true);
+        };
+        match fs::metadata(self.rt, self.path.as_str()) {
+            Ok(found) => Ok(Stamp::of(&found) == read),
+            Err(reason) if reason.kind() == ErrorKind::NotFound => Ok(false),
+            Err(reason) => Err(reason),
+        }
+    }
+
+    /// Gives a draft the permissions of the file.
+    fn permit(&self, draft: &DraftFile) -> io::Result<()> {
+        match &self.permissions {
+            Some(permissions) => draft.file.set_permissions(permissions.clone()?),
+            None => Ok(()),
+        }
+    }
+
+    /// Puts a draft that is on the disk in the place of the file. The permissions come last, since
+    /// they may keep the next run from opening a draft that is left.
+    fn put(&self, draft: &DraftFile) -> io::Result<()> {
+        draft.file.sync_all()?;
+        if !self.is_as_read()? {
+            return Err(io::Error::other("it has changed since it was read"));
+        }
+        self.permit(draft)?;
+        fs::rename(self.rt, draft.path.as_str(), self.path.as_str())
+    }
+
+    /// Has the system write the folder to the disk, too, where it can: the file is replaced anyway.
+    fn sync_folder(&self) {
+        if let Ok(folder) = File::open(self.rt, folder_of(self.path.as_str())) {
+            let _ = folder.sync_all();
+        }
+    }
+}
+
+impl Target for FileBeside<'_> {
+    type Draft = DraftFile;
+
+    ghost shown = { λ _. None };
+
+    fn begin(&mut self) -> io::Result<DraftFile> {
+        DraftFile::beside(self.rt, self.path.as_str(), self.permissions.is_some())
+    }
+
+    fn publish(&mut self, draft: DraftFile) -> io::Result<()> {
+        let put = self.put(&draft);
+        match &put {
+            Ok(()) => self.sync_folder(),
+            Err(_) => draft.remove(self.rt),
+        }
+        put
+    }
+
+    fn discard(&mut self, draft: DraftFile) {
+        draft.remove(self.rt);
+    }
+}

@@ -1,0 +1,148 @@
+//! The draft of a file: a file of the same folder, which one run at a time holds by a lock. The lock
+//! ends with the run, however that ends, so a draft that nobody holds was left by a run that was
+//! ended, and the next run removes it.
+
+ghost use Rattle.std.specs.Prelude.{◌≡◌, ◌++◌, IfOk, codes, string_bytes};
+
+use std::alloc::{AllocError, Global};
+use std::fs::{File, OpenOptions, TryLockError};
+use std::io::{ErrorKind, Write};
+use std::os::unix::fs::{MetadataExt, OpenOptionsExt};
+use std::{fs, io};
+
+/// How often a draft is made that another run takes away before this one holds it.
+const MAX_TRIES: u32 = 100;
+
+/// Until it is whole, its owner alone may read a draft that takes the place of a file.
+const OWNER_ALONE: u32 = 0o600;
+
+/// A file that is written before it takes the place of another.
+#[derive(Drop)]
+pub(crate) struct DraftFile {
+    pub(crate) file: File,
+    pub(crate) path: String,
+}
+
+impl Write for DraftFile {
+    fn write(&mut self, buf: &[u8]) -> io::Result<usize> {
+        self.file.write(buf)
+    }
+
+    fn flush(&mut self) -> io::Result<()> {
+        self.file.flush()
+    }
+}
+
+/// The name of a draft: that of the file, so that both are in one folder, with an ending.
+fn draft_name(alloc: Global, path: &str) -> Result<String, AllocError>
+    ensures { IfOk result (λ name. string_bytes name ≡ path.now ++ codes ".cave-draft") }
+{
+    format!(in alloc; "{path}.cave-draft")
+}
+
+/// Why a file can't be written whose draft another run holds.
+fn busy() -> io::Error {
+    io::Error::other("another run is writing it")
+}
+
+/// Whether an open file is the one that has this name.
+fn is_named(rt: &HostRuntime, file: &File, path: &str) -> io::Result<bool> {
+    let opened = file.metadata()?;
+    match fs::symlink_metadata(rt, path) {
+        Ok(named) => Ok(named.dev() == opened.dev() && named.ino() == opened.ino()),
+        Err(reason) if reason.kind() == ErrorKind::NotFound => Ok(false),
+        Err(reason) => Err(reason),
+    }
+}
+
+/// Makes a draft, unless a file has its name.
+fn create(rt: &HostRuntime, path: &str, replaces: bool) -> io::Result<Option<File>> {
+    let mut options = OpenOptions::new();
+    options.write(true).create_new(true);
+    if replaces {
+        options.mode(OWNER_ALONE);
+    }
+    match options.open(rt, path) {
+        Ok(file) => Ok(Some(file)),
+        Err(reason) if reason.kind() == ErrorKind::AlreadyExists => Ok(None),
+        Err(reason) => Err(reason),
+    }
+}
+
+/// Locks a draft that this run has made, and says whether it is still the one of that name: another
+/// run may have taken it for one that was left. Where the file system has no locks, nobody does so.
+fn hold(rt: &HostRuntime, file: &File, path: &str) -> io::Result<bool> {
+    match file.try_lock() {
+        Ok(()) => is_named(rt, file, path),
+        Err(TryLockError::WouldBlock) => Err(busy()),
+        Err(TryLockError::Error(_)) => Ok(true),
+    }
+}
+
+/// Opens a draft that was left: to write, as locks of some file systems need, or else to read.
+fn open_left(rt: &HostRuntime, path: &str) -> io::Result<File> {
+    match OpenOptions::new().write(true).open(rt, path) {
+        Err(reason) if reason.kind() == ErrorKind::PermissionDenied => File::open(rt, path),
+        opened => opened,
+    }
+}
+
+/// Removes a draft that was left, while it is locked, so that no run loses one that it holds.
+fn remove_locked(rt: &HostRuntime, file: &File, path: &str) -> io::Result<()> {
+    match file.try_lock() {
+        Ok(()) => {}
+        Err(TryLockError::WouldBlock) => return Err(busy()),
+        Err(TryLockError::Error(_)) => {
+            return Err(io::Error::other("its draft is there, and can't be locked"));
+        }
+    }
+    if is_named(rt, file, path)? {
+        return fs::remove_file(rt, path);
+    }
+    Ok(())
+}
+
+/// Removes a draft that was left, where it is still there.
+fn remove_left(rt: &HostRuntime, path: &str) -> io::Result<()> {
+    match fs::symlink_metadata(rt, path) {
+        Ok(found) if found.is_file() => {}
+        Ok(_) => return Err(io::Error::other("the name of its draft is taken")),
+        Err(reason) if reason.kind() == ErrorKind::NotFound => return Ok(()),
+        Err(reason) => return Err(reason),
+    }
+    match open_left(rt, path) {
+        Ok(file) => remove_locked(rt, &file, path),
+        Err(reason) if reason.kind() == ErrorKind::NotFound => Ok(()),
+        Err(reason) => Err(reason),
+    }
+}
+
+/// Makes a draft that this run holds.
+fn make(rt: &HostRuntime, path: &str, replaces: bool) -> io::Result<File> {
+    for _ in 0..MAX_TRIES {
+        match create(rt, path, replaces)? {
+            Some(file) => {
+                if hold(rt, &file, path)? {
+                    return Ok(file);
+                }
+            }
+            None => remove_left(rt, path)?,
+        }
+    }
+    Err(busy())
+}
+
+impl DraftFile {
+    /// The draft of the file of a path, which it replaces, or which isn't there yet.
+    pub(crate) fn beside(rt: &HostRuntime, file: &str, replaces: bool) -> io::Result<DraftFile> {
+        let path = draft_name(rt.alloc(), file)?;
+        let file = make(rt, path.as_str(), replaces)?;
+        Ok(DraftFile { file, path })
+    }
+
+    /// Removes it.
+    pub(crate) fn remove(self, rt: &HostRuntime) {
+        let _ = fs::remove_file(rt, self.path.as_str());
+        drop(self);
+    }
+}

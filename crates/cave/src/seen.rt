@@ -1,0 +1,39 @@
+//! What was seen of a file when it was opened, so that a change since then shows.
+
+use std::fs::Metadata;
+use std::os::unix::fs::MetadataExt;
+
+/// Which file it was, how long, and when it and what it holds were last changed.
+#[derive(Clone, Copy, PartialEq, Eq)]
+pub(crate) struct Stamp {
+    device: u64,
+    node: u64,
+    length: u64,
+    modified: i64,
+    modified_nanos: i64,
+    changed: i64,
+    changed_nanos: i64,
+}
+
+impl Stamp {
+    /// The stamp of a file of which this was found.
+    pub(crate) fn of(found: &Metadata) -> Stamp {
+        Stamp {
+            device: found.dev(),
+            node: found.ino(),
+            length: found.len(),
+            modified: found.mtime(),
+            modified_nanos: found.mtime_nsec(),
+            changed: found.ctime(),
+            changed_nanos: found.ctime_nsec(),
+        }
+    }
+}
+
+/// A file that was opened.
+#[derive(Drop)]
+pub(crate) struct SeenFile {
+    /// Its name, as it was given.
+    pub(crate) name: String,
+    pub(crate) stamp: Stamp,
+}
