@@ -1,7 +1,7 @@
 """The files of `play_cover` that declare the tables of the rules, made of the pages: a module.
 
-On either side one file has all tables, in the order of the pages: each with its name and the words
-of its rows. Of each page one more file has these words, table by table. Nobody edits them.
+Either side has one file with all tables, in the order of the pages: each with its name and the
+words of its rows. Nobody edits them.
 """
 
 import re
@@ -9,10 +9,7 @@ import textwrap
 
 CRATE = "crates/play_cover"
 SPECS = "Rattle.play_cover.specs"
-# The formatter keeps a list on its line where it has no more letters between its brackets, and the
-# line no more in all.
-MAX_SHORT, MAX_LINE = 60, 100
-HEAD = "of {page} apply, in words. `tools/rule-words --write` makes this of the page."
+MAX_LINE = 100
 CODE = """\
 //! The tables of the rules, as the pages have them. `tools/rule-words --write` makes this of them.
 
@@ -20,17 +17,38 @@ ghost use Rattle.std.specs.Prelude.{{◌≡◌, ◌<◌, length, map}};
 ghost use Rattle.play_cover.specs.RuleTables.{{row_words, table_name}};
 ghost use Rattle.play_cover.specs.RuleTables as defined;
 
-{modules}
-
 use cave_world::Table;
+
+/// Hands all tables, in the order of the pages, to a macro: of each its variant, what it is called,
+/// and when each of its rows applies, in words.
+macro_rules! all_tables {{
+    ($write:ident $($asked:ident)?) => {{
+        $write! {{
+            $($asked)?
+{tables}
+        }}
+    }};
+}}
+
+macro_rules! variants {{
+    ($($table:ident $name:literal [$($words:literal),+])*) => {{
+        [$(Table::$table),*]
+    }};
+}}
+
+macro_rules! name_and_words {{
+    ($asked:ident $($table:ident $name:literal [$($words:literal),+])*) => {{
+        match $asked {{
+            $(Table::$table => ($name, &[$($words),+]),)*
+        }}
+    }};
+}}
 
 /// How many tables there are.
 pub const TABLE_COUNT: usize = {count};
 
 /// Each table, in the order of the pages.
-pub const EACH_TABLE: [Table; TABLE_COUNT] = [
-{tables}
-];
+pub const EACH_TABLE: [Table; TABLE_COUNT] = all_tables!(variants);
 
 /// What a table is called, and when each of its rows applies, in words.
 #[tactic(auto, unfolding(crate::specs::EachTable::declared))]
@@ -39,9 +57,7 @@ pub fn table_name_and_words(table: Table) -> (&'static str, &'static [&'static s
     ensures words {{ map (λ words. words.now) result.1.now ≡ row_words table }}
     ensures within {{ length result.1.now < defined.ROW_END }}
 {{
-    match table {{
-{cases}
-    }}
+    all_tables!(name_and_words table)
 }}
 """
 DEFINITION = """\
@@ -49,7 +65,6 @@ DEFINITION = """\
 use Rattle.std.specs.Prelude.{{ℕ, List, [], ◌∷◌, codes}}
 use Rattle.cave_world.specs.declared.tables.Table.{{Table}}
 use Rattle.cave_world.specs.declared.tables.Table.TheVariants as table
-{modules}
 
 -- what a table is called, and when each of its rows applies, in words
 pub record RuleTable : Type 0 where
@@ -70,77 +85,48 @@ unfoldable pub declared : Table → RuleTable
 """
 
 
-def page_of(path):
-    """What a page is called: `turn` for docs/TURN.md."""
-    return re.search(r"(\w+)\.md", path)[1].lower()
-
-
-def words_of(table):
-    """What the words of a table are called: `take_words` for Take."""
-    return re.sub(r"\B(?=[A-Z])", "_", table).lower() + "_words"
-
-
 def quoted(words):
     return '"' + re.sub(r'["\\]', r"\\\g<0>", words) + '"'
 
 
-def code_of(table, words):
-    items = [quoted(it) for it in words]
-    short = ", ".join(items)
-    head = f"pub(crate) const {words_of(table).upper()}: [&str; {len(items)}] = ["
-    if len(short) <= MAX_SHORT and len(f"{head}{short}];") <= MAX_LINE:
-        return f"{head}{short}];\n"
-    return "\n".join([head, *(f"    {it}," for it in items), "];\n"])
+def filled(items, indent):
+    """Items one after another, in lines that no item is broken over."""
+    words = " ".join(it.replace(" ", "\xa0") for it in items)
+    lines = textwrap.fill(
+        words, MAX_LINE, initial_indent=indent, subsequent_indent=indent, break_on_hyphens=False
+    )
+    return lines.replace("\xa0", " ")
 
 
-def definition_of(table, words):
-    name = words_of(table)
-    rows = "\n".join(f"    codes {quoted(it)} ∷" for it in words)
-    return f"abbrev pub {name} : List (List ℕ)\n{name} =\n{rows} []\n"
+def entry(head, items, indent):
+    """A head and its items, in one line or with the items below the head."""
+    line = f"{indent}{head} {' '.join(items)}"
+    if len(line) <= MAX_LINE:
+        return line
+    return f"{indent}{head}\n{filled(items, indent + '    ')}"
 
 
-def files_of(page, tables):
-    """The two files of the words of a page."""
-    head = HEAD.format(page=f"{page.upper()}.md")
-    words = {table: rows for table, (_, rows) in tables.items()}
-    code = [f"//! When the rows {head}\n", *(code_of(*it) for it in words.items())]
-    imports = "use Rattle.std.specs.Prelude.{ℕ, List, [], ◌∷◌, codes}\n"
-    definitions = [f"-- When the rows {head}\n{imports}"]
-    definitions += (definition_of(*it) for it in words.items())
-    yield f"{CRATE}/src/each_table/{page}.rt", "\n".join(code)
-    yield f"{CRATE}/specs/{page.capitalize()}Words.antt", "\n".join(definitions)
-
-
-def case_in_code(page, table, name):
+def in_code(table, name, words):
     """What the code says of a table."""
-    return f"        Table::{table} => ({quoted(name)}, &{page}::{words_of(table).upper()}),"
+    items = [f"{quoted(it)}," for it in words[:-1]] + [f"{quoted(words[-1])}]"]
+    return entry(f"{table} {quoted(name)}", [f"[{items[0]}", *items[1:]], " " * 12)
 
 
-def case_in_definitions(page, table, name):
+def in_definitions(table, name, words):
     """And what the definitions say of it."""
-    return f"declared table.{table} = rule_table (codes {quoted(name)}) {page}.{words_of(table)}"
+    # no line begins with the sign
+    items = [f"codes {quoted(it)} ∷" for it in words]
+    items[0] = f"({items[0]}"
+    return entry(f"declared table.{table} = rule_table (codes {quoted(name)})", [*items, "[])"], "")
 
 
 def files(shown):
     """The text of each file by its path, of each page's tables, each with its name and words."""
-    pages = {page_of(path): tables for path, tables in shown.items()}
-    for page, tables in pages.items():
-        yield from files_of(page, tables)
-    named = {page: {it: name for it, (name, _) in tables.items()} for page, tables in pages.items()}
-    listed = [(page, *it) for page, tables in named.items() for it in tables.items()]
-    modules = "\n".join(f"mod {page};" for page in sorted(pages))
+    listed = [(table, *it) for tables in shown.values() for table, it in tables.items()]
     yield f"{CRATE}/src/each_table.rt", CODE.format(
-        modules=modules,
-        count=len(listed),
-        tables="\n".join(f"    Table::{table}," for _, table, _ in listed),
-        cases="\n".join(case_in_code(*it) for it in listed),
+        count=len(listed), tables="\n".join(in_code(*it) for it in listed)
     )
-    modules = "\n".join(f"use {SPECS}.{it.capitalize()}Words as {it}" for it in pages)
-    # no line begins with the sign
-    order = " ".join([*(f"table.{table}\xa0∷" for _, table, _ in listed), "[]"])
-    order = textwrap.fill(order, MAX_LINE, initial_indent="    ", subsequent_indent="    ")
     yield f"{CRATE}/specs/EachTable.antt", DEFINITION.format(
-        modules=modules,
-        tables=order.replace("\xa0", " "),
-        cases="\n".join(case_in_definitions(*it) for it in listed),
+        tables=filled([*(f"table.{it} ∷" for it, *_ in listed), "[]"], "    "),
+        cases="\n".join(in_definitions(*it) for it in listed),
     )

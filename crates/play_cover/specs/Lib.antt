@@ -3,7 +3,6 @@ pub mod DefinedRows
 pub mod EachTable
 pub mod Marks
 pub mod Plays
-pub mod PlayWords
 pub mod QuestionRows
 pub mod RowCounts
 pub mod RowMarks
@@ -11,5 +10,3 @@ pub mod RowReport
 pub mod RuleTables
 pub mod TextReport
 pub mod Texts
-pub mod TurnWords
-pub mod VerbsWords

@@ -4,125 +4,317 @@ ghost use Rattle.std.specs.Prelude.{◌≡◌, ◌<◌, length, map};
 ghost use Rattle.play_cover.specs.RuleTables.{row_words, table_name};
 ghost use Rattle.play_cover.specs.RuleTables as defined;
 
-mod play;
-mod turn;
-mod verbs;
-
 use cave_world::Table;
+
+/// Hands all tables, in the order of the pages, to a macro: of each its variant, what it is called,
+/// and when each of its rows applies, in words.
+macro_rules! all_tables {
+    ($write:ident $($asked:ident)?) => {
+        $write! {
+            $($asked)?
+            Asking "asking" ["ScoreQuit is asked", "otherwise"]
+            Questions "questions"
+                ["Welcome", "Quit", "ScoreQuit", "Die", "Hint", "Take", "Oyster", "Dragon"]
+            Die "death question"
+                ["no death was counted before", "one was counted before", "otherwise"]
+            Replies "replies" ["yes", "no", "otherwise"]
+            Yes "yes" ["Welcome", "Quit", "ScoreQuit", "Die", "Hint", "Take", "Oyster", "Dragon"]
+            No "no" ["Welcome", "Quit", "ScoreQuit", "Die", "Hint", "Take", "Oyster", "Dragon"]
+            Lair "lair"
+                ["both places of DRAGON are places", "the first place of DRAGON is a place",
+                "the second place of DRAGON is a place", "otherwise"]
+            Gathering "gathering" ["the first half of x is at a place of DRAGON"]
+            Death "death" ["the cave is closing", "otherwise"]
+            Reborn "words of revival"
+                ["no death was counted before", "one was counted before", "otherwise"]
+            Revival "revival" ["it is the third death", "otherwise"]
+            LampPutOut "lamp put out" ["LAMP is carried"]
+            Fall "belongings" ["x is LAMP", "x is another object"]
+            Clocks "clocks"
+                ["the first clock goes, and is at 1", "the first clock goes",
+                "the second clock goes, and is at 1 in a cave that can be closed",
+                "the second clock goes"]
+            ClosingBear "bear at the closing" ["BEAR has prop 3", "otherwise"]
+            Panic "panic" ["the player panicked before", "the cave is closed", "otherwise"]
+            Burning "burning" ["LAMP has prop 1"]
+            Lamp "lamp"
+                ["30 turns or fewer, fresh BATTERIES and LAMP are at hand",
+                "exactly 0 turns, LAMP is at hand", "exactly 0 turns",
+                "the lamp went out, and the player is at a place up to outside",
+                "30 turns or fewer, no warning so far, LAMP is at hand"]
+            LampWarning "lamp warning"
+                ["BATTERIES have prop 1", "BATTERIES are nowhere", "otherwise"]
+            Hands "closed cave, carried"
+                ["the cave is closed, OYSTER is in the hands, its prop is below 0",
+                "the cave is closed"]
+            ObjectShown "object shown" ["x is in the hands, and its prop v is below 0"]
+            HintTurns "hint turns"
+                ["a hint of the cave, not taken, counted, out of its area",
+                "a hint of the cave, not taken, in its area"]
+            Offers "hint offers"
+                ["the hint is due, and a question is open or the game has ended", "the hint is due"]
+            HintGuards "hint guards"
+                ["hint 4, GRATE has prop 0, and KEYS aren't at hand",
+                "hint 5, BIRD is at hand and the last object, and ROD is carried",
+                "hint 6, SNAKE is at hand, and BIRD isn't",
+                "hint 7, nothing at the last three places, two objects or more in the hands",
+                "hint 8, EMERALD has a prop other than -1, PYRAMID has prop -1",
+                "a hint from 9 to 20", "hint 5, not offered", "otherwise"]
+            HintGiven "hint given"
+                ["the cave has the hint, and the lamp burns more than 30 turns",
+                "the cave has the hint"]
+            Classes "classes"
+                ["the score has a class, and a row follows it in the file", "the score has a class",
+                "otherwise"]
+            Anger "anger"
+                ["asleep (0), and the player is at deep or a higher place", "asleep (0)",
+                "stirring (1)", "awake (2 or more)"]
+            Waking "waking"
+                ["the player is at a place below deep", "in 95 of 100 cases", "otherwise"]
+            Leaving "dwarf leaves" ["in 50 of 100 cases"]
+            Apart "dwarf kept apart"
+                ["the dwarf is where the player is, and dwarfalt is bound", "otherwise"]
+            DwarfTurn "dwarf turn" ["the dwarf is gone", "otherwise"]
+            DwarfWays "dwarf ways"
+                ["no place is offered", "more than 19 places are offered", "otherwise"]
+            DwarfSight "dwarf sight"
+                ["the dwarf had seen the player, who is at deep or a higher place",
+                "the dwarf chose the place of the player",
+                "the dwarf was at the place of the player before", "otherwise"]
+            Threats "knife throws"
+                ["the dwarf doesn't see the player",
+                "the dwarf wasn't at the place of the player before it moved",
+                "a draw of 1,000 is below 95 times the anger above 2", "otherwise"]
+            KnifeThrown "thrown knife" ["it was said that knives vanish", "otherwise"]
+            DwarvesHere "lines of dwarves"
+                ["no dwarf sees the player", "one dwarf sees the player", "otherwise"]
+            Provoked "provoked" ["a knife was thrown, and the anger is 2"]
+            Knives "lines of knives"
+                ["no knife was thrown", "one knife was thrown, and hit", "one knife was thrown",
+                "several knives were thrown, and none hit",
+                "several knives were thrown, and one hit", "otherwise"]
+            PirateTurn "pirate turn" ["the pirate is gone", "otherwise"]
+            Chase "chase"
+                ["the pirate sees the player, who is at chest",
+                "the pirate sees the player, and CHEST was seen", "the pirate sees the player"]
+            Pirate "pirate"
+                ["a treasure that it takes is carried, and MESSAGE is nowhere",
+                "a treasure that it takes is carried",
+                "no treasure at hand, one left, CHEST nowhere, lit LAMP at hand",
+                "the pirate isn't where it was before, in 20 of 100 cases"]
+            Theft "theft"
+                ["x is PYRAMID, and the player is at its home or that of EMERALD", "x is carried",
+                "x is here and not fixed"]
+            KnifeForgotten "knife left behind" ["a knife lies at another place than the player"]
+            Words "reading 1: line"
+                ["two words, after SAY alone", "one word, after SAY alone", "two words", "one word"]
+            TwoWords "reading 2: pair"
+                ["ENTER and another",
+                "WATER or OIL and PLANT or DOOR, and that PLANT or DOOR is here", "otherwise"]
+            WordEntered "word after ENTER"
+                ["STREAM or WATER, at a lake of WATER", "STREAM or WATER", "any other word"]
+            WordAlone "reading 3: single word"
+                ["isn't one of the cave", "is a motion", "is a special word", "is an object",
+                "is SAY, action 3", "is another action"]
+            WordBefore "reading 4: first word"
+                ["isn't one of the cave", "is a motion", "is a special word", "is an object",
+                "is SAY, action 3", "is another action"]
+            UnknownWord "unknown word"
+                ["the second draw happens", "the first draw happens", "otherwise"]
+            ObjectWord "word for an object"
+                ["k is here, or it is carried", "k is GRATE, and the player is at place 1, 4 or 7",
+                "k is GRATE, and the player is at a place from 10 to 14",
+                "k is DWARF, and a dwarf is here",
+                "k is what is in BOTTLE, which is at hand, or what the lake is of",
+                "k is PLANT, PLANT2 is here, and its prop isn't 0",
+                "k is KNIFE, and a knife was thrown here", "k is ROD, and ROD2 is at hand",
+                "the verb is FIND or INVENTORY, and no word comes after W", "otherwise"]
+            HalfCommand "half commands"
+                ["asks \"W what?\"", "asks \"What do you want to do with the W?\"",
+                "has an unknown word where it is read", "any other command"]
+            WordAloud "word aloud" ["motion 62, 65 or 71", "FOO, action 25", "otherwise"]
+            OwnMotions "motions"
+                ["motion 21", "motion 57, look round",
+                "motion 67, the cave, at a place below outside", "motion 67, the cave",
+                "motion 8, back", "otherwise"]
+            Enough "enough" ["it counts as said less than three times"]
+            BackFrom "way back"
+                ["motion is forced at the place where the player came from", "otherwise"]
+            Back "BACK"
+                ["the place that is sought is the one where the player is",
+                "a row leads to the place that is sought",
+                "a row leads to it through a forced place", "otherwise"]
+            NoMotion "motions without a row"
+                ["motion 29, 30 or 43 to 50", "motion 7, 36 or 37", "motion 11 or 19",
+                "motion 62 or 65", "motion 17", "otherwise"]
+            Squeeze "narrow passage"
+                ["one of its ends isn't bound, or the player is at neither",
+                "nothing is in the hands, or EMERALD alone", "otherwise"]
+            Bridge "bridge"
+                ["there is no bridge", "TROLL has prop 1",
+                "BEAR isn't carried, once TROLL has let the player pass", "otherwise"]
+            Toll "toll" ["TROLL has prop 0"]
+            SpicesLost "spices lost" ["SPICES have a prop below 0"]
+            Blocking "blocked ways"
+                ["the cave is closing, and the place is from 1 to outside",
+                "a dwarf that has seen the player was at the place before"]
+            Arrival "arrival"
+                ["the place is 0", "motion is forced at the place", "the place has bit 3"]
+            Hits "knife deaths" ["a knife hits", "otherwise"]
+            Stops "described anew" ["motion is forced at the place", "otherwise"]
+            Description "description"
+                ["it isn't dark", "it was dark before, in 35 of 100 cases", "otherwise"]
+            BearFollows "bear follows" ["BEAR is in the hands"]
+            PlaceText "text of a place"
+                ["the game is brief, and the place has no visits",
+                "the game isn't brief, and the visits are a multiple of 5, 0 among them",
+                "the place has no short text", "otherwise"]
+            Hollow "hollow" ["at y2, the cave isn't closing, in 25 of 100 cases"]
+            ObjectHere "object at a place"
+                ["it is STEPS, and GOLD is in the hands", "it is unseen, and the cave is closed",
+                "it is unseen, and is RUG or CHAIN", "it is unseen", "otherwise"]
+            LastTreasure "last treasure"
+                ["all that are left to be seen count as lost, and some are left"]
+            ObjectText "text of an object" ["it is STEPS at their second place", "otherwise"]
+            Vessel "put: vessel" ["x is what is in the bottle", "otherwise"]
+            CagedBird "put: caged bird" ["x is CAGE, and BIRD has a prop other than 0"]
+            FreeBird "put: free bird" ["x is BIRD"]
+            LayDown "lay down" ["x is carried"]
+            SnakeLoss "lost to the snake" ["the first half of SNAKE is at home"]
+            BareTake "TAKE alone"
+                ["exactly one half is in the list of this place, and no dwarf is here", "otherwise"]
+            Take "TAKE"
+                ["x is carried", "x is fixed, is PLANT, and its prop is 0 or less",
+                "x is fixed, is BEAR, and its prop is 1",
+                "x is fixed, is CHAIN, and BEAR has a prop other than 0", "x is fixed",
+                "x is in the bottle, and BOTTLE is at hand",
+                "x is WATER or OIL, BOTTLE is carried, and its prop is 1",
+                "x is WATER or OIL, and BOTTLE is carried", "x is WATER or OIL",
+                "seven objects or more are in the hands",
+                "x is BIRD, its prop is 0, and ROD is carried",
+                "x is BIRD, its prop is 0, and CAGE isn't carried", "x is BIRD, and its prop is 0",
+                "x is BIRD", "x is CAGE, and BIRD has a prop other than 0", "otherwise"]
+            Drop "DROP"
+                ["x is ROD and isn't carried, but ROD2 is", "x isn't carried",
+                "x is BIRD, SNAKE is at hand, and the cave is closed",
+                "x is BIRD, and SNAKE is at hand", "x is COINS, and VENDING is at hand",
+                "x is BIRD, DRAGON is here, and its prop is 0", "x is BEAR, and TROLL is here",
+                "x is VASE, away from the home of PILLOW, and PILLOW is here",
+                "x is VASE, away from the home of PILLOW", "otherwise"]
+            BareOpen "OPEN/LOCK alone"
+                ["it is meant for something, and CHAIN is at hand", "it is meant for something",
+                "CHAIN is at hand", "otherwise"]
+            Open "OPEN/LOCK"
+                ["x is CLAM or OYSTER, to LOCK", "x is CLAM, and TRIDENT isn't carried",
+                "x is OYSTER, and TRIDENT isn't carried", "x is CLAM, which is carried",
+                "x is OYSTER, which is carried", "x is CLAM", "x is OYSTER",
+                "x is DOOR, and its prop is 1", "x is DOOR", "x is CAGE", "x is KEYS",
+                "x is GRATE or CHAIN, and KEYS aren't at hand",
+                "x is GRATE, and the cave is closing", "x is GRATE, to OPEN, and its prop is 0",
+                "x is GRATE, to OPEN", "x is GRATE, and its prop is 0", "x is GRATE",
+                "x is CHAIN, to OPEN, and its prop is 0",
+                "x is CHAIN, to OPEN, and BEAR's prop is 0",
+                "x is CHAIN, to OPEN, and BEAR's prop is 3", "x is CHAIN, to OPEN",
+                "x is CHAIN, away from its home", "x is CHAIN, and its prop is other than 0",
+                "x is CHAIN", "otherwise"]
+            On "ON"
+                ["LAMP isn't at hand", "the lamp went out", "it was dark as the turn began",
+                "otherwise"]
+            Off "OFF" ["LAMP isn't at hand", "otherwise"]
+            Darkened "OFF, dark" ["it is dark now"]
+            Wave "WAVE"
+                ["x isn't carried, and it isn't ROD with ROD2 carried",
+                "x is ROD, FISSURE is here, ROD is carried, and the cave isn't closing",
+                "otherwise"]
+            BareKill "KILL alone"
+                ["there are two foes or more", "there is one foe", "BIRD and CLAM are both prey",
+                "BIRD or CLAM is prey", "otherwise"]
+            Kill "KILL"
+                ["x is BIRD, and the cave is closed", "x is BIRD", "x is CLAM or OYSTER",
+                "x is SNAKE", "x is DWARF, and the cave is closed", "x is DWARF",
+                "x is DRAGON, and its prop is 0", "x is DRAGON", "x is TROLL",
+                "x is BEAR, and its prop is 0", "x is BEAR, and its prop is 3", "x is BEAR",
+                "otherwise"]
+            Pour "POUR"
+                ["by itself or with BOTTLE, and nothing is in the bottle",
+                "what is poured isn't carried", "what is poured is neither WATER nor OIL",
+                "DOOR is here, and OIL is poured", "DOOR is here",
+                "PLANT is here, and WATER is poured", "PLANT is here", "otherwise"]
+            BareEat "EAT alone" ["FOOD is at hand", "otherwise"]
+            Eat "EAT"
+                ["x is FOOD", "x is BIRD, SNAKE, CLAM, OYSTER, DWARF, DRAGON, TROLL or BEAR",
+                "otherwise"]
+            Drink "DRINK"
+                ["by itself, and neither the lake is WATER nor water is at hand",
+                "with an object other than WATER", "water is at hand", "otherwise"]
+            Rub "RUB" ["x is LAMP", "otherwise"]
+            Throw "THROW"
+                ["x is ROD and isn't carried, but ROD2 is", "x isn't carried",
+                "x is a treasure, and TROLL is here", "x is FOOD, and BEAR is at hand",
+                "x isn't AXE", "a dwarf is here; of three numbers 0 is drawn",
+                "a dwarf is here, and none was killed before", "a dwarf is here",
+                "DRAGON is here, and its prop is 0", "TROLL is here",
+                "BEAR is at hand, and its prop is 0", "otherwise"]
+            Find "FIND/INVENTORY"
+                ["x is carried", "the cave is closed", "x is here",
+                "x is in the bottle, and BOTTLE is here", "x is what the lake is of",
+                "x is DWARF, and a dwarf is here", "otherwise"]
+            BareInventory "INVENTORY alone" ["the list is empty", "otherwise"]
+            BearAlong "INVENTORY, bear" ["BEAR is carried"]
+            Feed "FEED"
+                ["x is BIRD", "x is SNAKE, the cave isn't closed, and BIRD is at hand",
+                "x is DRAGON, and its prop is other than 0", "x is SNAKE or DRAGON", "x is TROLL",
+                "x is DWARF, and FOOD is at hand", "x is DWARF", "x is BEAR, and FOOD is at hand",
+                "x is BEAR, and its prop is 0", "x is BEAR, and its prop is 3", "x is BEAR",
+                "otherwise"]
+            BareFill "FILL alone" ["BOTTLE is at hand", "otherwise"]
+            Fill "FILL"
+                ["x is VASE, and there is no lake", "x is VASE, and isn't carried", "x is VASE",
+                "x isn't BOTTLE", "something is in the bottle", "there is no lake",
+                "the lake is OIL", "otherwise"]
+            Blast "BLAST"
+                ["the cave isn't closed", "ROD2's prop is below 0", "ROD2 is at hand",
+                "the player is at the place ne", "otherwise"]
+            BareFoo "FOO alone"
+                ["the word isn't the next one, and nothing was begun",
+                "the word isn't the next one", "the word isn't the fourth", "EGGS are absent",
+                "EGGS are at home", "EGGS are carried by a player who is where they are at home",
+                "EGGS and TROLL are nowhere, and TROLL's prop is 0", "otherwise"]
+            Eggs "eggs" ["the player is at the home of EGGS", "EGGS are at hand", "otherwise"]
+            BareRead "READ alone"
+                ["it is dark", "the cave is closed, and OYSTER is carried",
+                "exactly one of MAGAZINE, TABLET and MESSAGE is at hand", "otherwise"]
+            Read "READ"
+                ["it is dark", "x is MAGAZINE", "x is TABLET", "x is MESSAGE",
+                "x is OYSTER, which is carried, and hint 2 was taken",
+                "x is OYSTER, which is carried, and the cave is closed", "otherwise"]
+            Break "BREAK"
+                ["x is VASE, and its prop is 0", "x is MIRROR, and the cave is closed",
+                "x is MIRROR", "otherwise"]
+            Wake "WAKE" ["x is DWARF, and the cave is closed", "otherwise"]
+        }
+    };
+}
+
+macro_rules! variants {
+    ($($table:ident $name:literal [$($words:literal),+])*) => {
+        [$(Table::$table),*]
+    };
+}
+
+macro_rules! name_and_words {
+    ($asked:ident $($table:ident $name:literal [$($words:literal),+])*) => {
+        match $asked {
+            $(Table::$table => ($name, &[$($words),+]),)*
+        }
+    };
+}
 
 /// How many tables there are.
 pub const TABLE_COUNT: usize = 107;
 
 /// Each table, in the order of the pages.
-pub const EACH_TABLE: [Table; TABLE_COUNT] = [
-    Table::Asking,
-    Table::Questions,
-    Table::Die,
-    Table::Replies,
-    Table::Yes,
-    Table::No,
-    Table::Lair,
-    Table::Gathering,
-    Table::Death,
-    Table::Reborn,
-    Table::Revival,
-    Table::LampPutOut,
-    Table::Fall,
-    Table::Clocks,
-    Table::ClosingBear,
-    Table::Panic,
-    Table::Burning,
-    Table::Lamp,
-    Table::LampWarning,
-    Table::Hands,
-    Table::ObjectShown,
-    Table::HintTurns,
-    Table::Offers,
-    Table::HintGuards,
-    Table::HintGiven,
-    Table::Classes,
-    Table::Anger,
-    Table::Waking,
-    Table::Leaving,
-    Table::Apart,
-    Table::DwarfTurn,
-    Table::DwarfWays,
-    Table::DwarfSight,
-    Table::Threats,
-    Table::KnifeThrown,
-    Table::DwarvesHere,
-    Table::Provoked,
-    Table::Knives,
-    Table::PirateTurn,
-    Table::Chase,
-    Table::Pirate,
-    Table::Theft,
-    Table::KnifeForgotten,
-    Table::Words,
-    Table::TwoWords,
-    Table::WordEntered,
-    Table::WordAlone,
-    Table::WordBefore,
-    Table::UnknownWord,
-    Table::ObjectWord,
-    Table::HalfCommand,
-    Table::WordAloud,
-    Table::OwnMotions,
-    Table::Enough,
-    Table::BackFrom,
-    Table::Back,
-    Table::NoMotion,
-    Table::Squeeze,
-    Table::Bridge,
-    Table::Toll,
-    Table::SpicesLost,
-    Table::Blocking,
-    Table::Arrival,
-    Table::Hits,
-    Table::Stops,
-    Table::Description,
-    Table::BearFollows,
-    Table::PlaceText,
-    Table::Hollow,
-    Table::ObjectHere,
-    Table::LastTreasure,
-    Table::ObjectText,
-    Table::Vessel,
-    Table::CagedBird,
-    Table::FreeBird,
-    Table::LayDown,
-    Table::SnakeLoss,
-    Table::BareTake,
-    Table::Take,
-    Table::Drop,
-    Table::BareOpen,
-    Table::Open,
-    Table::On,
-    Table::Off,
-    Table::Darkened,
-    Table::Wave,
-    Table::BareKill,
-    Table::Kill,
-    Table::Pour,
-    Table::BareEat,
-    Table::Eat,
-    Table::Drink,
-    Table::Rub,
-    Table::Throw,
-    Table::Find,
-    Table::BareInventory,
-    Table::BearAlong,
-    Table::Feed,
-    Table::BareFill,
-    Table::Fill,
-    Table::Blast,
-    Table::BareFoo,
-    Table::Eggs,
-    Table::BareRead,
-    Table::Read,
-    Table::Break,
-    Table::Wake,
-];
+pub const EACH_TABLE: [Table; TABLE_COUNT] = all_tables!(variants);
 
 /// What a table is called, and when each of its rows applies, in words.
 #[tactic(auto, unfolding(crate::specs::EachTable::declared))]
@@ -131,113 +323,5 @@ pub fn table_name_and_words(table: Table) -> (&'static str, &'static [&'static s
     ensures words { map (λ words. words.now) result.1.now ≡ row_words table }
     ensures within { length result.1.now < defined.ROW_END }
 {
-    match table {
-        Table::Asking => ("asking", &turn::ASKING_WORDS),
-        Table::Questions => ("questions", &turn::QUESTIONS_WORDS),
-        Table::Die => ("death question", &turn::DIE_WORDS),
-        Table::Replies => ("replies", &turn::REPLIES_WORDS),
-        Table::Yes => ("yes", &turn::YES_WORDS),
-        Table::No => ("no", &turn::NO_WORDS),
-        Table::Lair => ("lair", &turn::LAIR_WORDS),
-        Table::Gathering => ("gathering", &turn::GATHERING_WORDS),
-        Table::Death => ("death", &turn::DEATH_WORDS),
-        Table::Reborn => ("words of revival", &turn::REBORN_WORDS),
-        Table::Revival => ("revival", &turn::REVIVAL_WORDS),
-        Table::LampPutOut => ("lamp put out", &turn::LAMP_PUT_OUT_WORDS),
-        Table::Fall => ("belongings", &turn::FALL_WORDS),
-        Table::Clocks => ("clocks", &turn::CLOCKS_WORDS),
-        Table::ClosingBear => ("bear at the closing", &turn::CLOSING_BEAR_WORDS),
-        Table::Panic => ("panic", &turn::PANIC_WORDS),
-        Table::Burning => ("burning", &turn::BURNING_WORDS),
-        Table::Lamp => ("lamp", &turn::LAMP_WORDS),
-        Table::LampWarning => ("lamp warning", &turn::LAMP_WARNING_WORDS),
-        Table::Hands => ("closed cave, carried", &turn::HANDS_WORDS),
-        Table::ObjectShown => ("object shown", &turn::OBJECT_SHOWN_WORDS),
-        Table::HintTurns => ("hint turns", &turn::HINT_TURNS_WORDS),
-        Table::Offers => ("hint offers", &turn::OFFERS_WORDS),
-        Table::HintGuards => ("hint guards", &turn::HINT_GUARDS_WORDS),
-        Table::HintGiven => ("hint given", &turn::HINT_GIVEN_WORDS),
-        Table::Classes => ("classes", &turn::CLASSES_WORDS),
-        Table::Anger => ("anger", &turn::ANGER_WORDS),
-        Table::Waking => ("waking", &turn::WAKING_WORDS),
-        Table::Leaving => ("dwarf leaves", &turn::LEAVING_WORDS),
-        Table::Apart => ("dwarf kept apart", &turn::APART_WORDS),
-        Table::DwarfTurn => ("dwarf turn", &turn::DWARF_TURN_WORDS),
-        Table::DwarfWays => ("dwarf ways", &turn::DWARF_WAYS_WORDS),
-        Table::DwarfSight => ("dwarf sight", &turn::DWARF_SIGHT_WORDS),
-        Table::Threats => ("knife throws", &turn::THREATS_WORDS),
-        Table::KnifeThrown => ("thrown knife", &turn::KNIFE_THROWN_WORDS),
-        Table::DwarvesHere => ("lines of dwarves", &turn::DWARVES_HERE_WORDS),
-        Table::Provoked => ("provoked", &turn::PROVOKED_WORDS),
-        Table::Knives => ("lines of knives", &turn::KNIVES_WORDS),
-        Table::PirateTurn => ("pirate turn", &turn::PIRATE_TURN_WORDS),
-        Table::Chase => ("chase", &turn::CHASE_WORDS),
-        Table::Pirate => ("pirate", &turn::PIRATE_WORDS),
-        Table::Theft => ("theft", &turn::THEFT_WORDS),
-        Table::KnifeForgotten => ("knife left behind", &play::KNIFE_FORGOTTEN_WORDS),
-        Table::Words => ("reading 1: line", &play::WORDS_WORDS),
-        Table::TwoWords => ("reading 2: pair", &play::TWO_WORDS_WORDS),
-        Table::WordEntered => ("word after ENTER", &play::WORD_ENTERED_WORDS),
-        Table::WordAlone => ("reading 3: single word", &play::WORD_ALONE_WORDS),
-        Table::WordBefore => ("reading 4: first word", &play::WORD_BEFORE_WORDS),
-        Table::UnknownWord => ("unknown word", &play::UNKNOWN_WORD_WORDS),
-        Table::ObjectWord => ("word for an object", &play::OBJECT_WORD_WORDS),
-        Table::HalfCommand => ("half commands", &play::HALF_COMMAND_WORDS),
-        Table::WordAloud => ("word aloud", &play::WORD_ALOUD_WORDS),
-        Table::OwnMotions => ("motions", &play::OWN_MOTIONS_WORDS),
-        Table::Enough => ("enough", &play::ENOUGH_WORDS),
-        Table::BackFrom => ("way back", &play::BACK_FROM_WORDS),
-        Table::Back => ("BACK", &play::BACK_WORDS),
-        Table::NoMotion => ("motions without a row", &play::NO_MOTION_WORDS),
-        Table::Squeeze => ("narrow passage", &play::SQUEEZE_WORDS),
-        Table::Bridge => ("bridge", &play::BRIDGE_WORDS),
-        Table::Toll => ("toll", &play::TOLL_WORDS),
-        Table::SpicesLost => ("spices lost", &play::SPICES_LOST_WORDS),
-        Table::Blocking => ("blocked ways", &play::BLOCKING_WORDS),
-        Table::Arrival => ("arrival", &play::ARRIVAL_WORDS),
-        Table::Hits => ("knife deaths", &play::HITS_WORDS),
-        Table::Stops => ("described anew", &play::STOPS_WORDS),
-        Table::Description => ("description", &play::DESCRIPTION_WORDS),
-        Table::BearFollows => ("bear follows", &play::BEAR_FOLLOWS_WORDS),
-        Table::PlaceText => ("text of a place", &play::PLACE_TEXT_WORDS),
-        Table::Hollow => ("hollow", &play::HOLLOW_WORDS),
-        Table::ObjectHere => ("object at a place", &play::OBJECT_HERE_WORDS),
-        Table::LastTreasure => ("last treasure", &play::LAST_TREASURE_WORDS),
-        Table::ObjectText => ("text of an object", &play::OBJECT_TEXT_WORDS),
-        Table::Vessel => ("put: vessel", &verbs::VESSEL_WORDS),
-        Table::CagedBird => ("put: caged bird", &verbs::CAGED_BIRD_WORDS),
-        Table::FreeBird => ("put: free bird", &verbs::FREE_BIRD_WORDS),
-        Table::LayDown => ("lay down", &verbs::LAY_DOWN_WORDS),
-        Table::SnakeLoss => ("lost to the snake", &verbs::SNAKE_LOSS_WORDS),
-        Table::BareTake => ("TAKE alone", &verbs::BARE_TAKE_WORDS),
-        Table::Take => ("TAKE", &verbs::TAKE_WORDS),
-        Table::Drop => ("DROP", &verbs::DROP_WORDS),
-        Table::BareOpen => ("OPEN/LOCK alone", &verbs::BARE_OPEN_WORDS),
-        Table::Open => ("OPEN/LOCK", &verbs::OPEN_WORDS),
-        Table::On => ("ON", &verbs::ON_WORDS),
-        Table::Off => ("OFF", &verbs::OFF_WORDS),
-        Table::Darkened => ("OFF, dark", &verbs::DARKENED_WORDS),
-        Table::Wave => ("WAVE", &verbs::WAVE_WORDS),
-        Table::BareKill => ("KILL alone", &verbs::BARE_KILL_WORDS),
-        Table::Kill => ("KILL", &verbs::KILL_WORDS),
-        Table::Pour => ("POUR", &verbs::POUR_WORDS),
-        Table::BareEat => ("EAT alone", &verbs::BARE_EAT_WORDS),
-        Table::Eat => ("EAT", &verbs::EAT_WORDS),
-        Table::Drink => ("DRINK", &verbs::DRINK_WORDS),
-        Table::Rub => ("RUB", &verbs::RUB_WORDS),
-        Table::Throw => ("THROW", &verbs::THROW_WORDS),
-        Table::Find => ("FIND/INVENTORY", &verbs::FIND_WORDS),
-        Table::BareInventory => ("INVENTORY alone", &verbs::BARE_INVENTORY_WORDS),
-        Table::BearAlong => ("INVENTORY, bear", &verbs::BEAR_ALONG_WORDS),
-        Table::Feed => ("FEED", &verbs::FEED_WORDS),
-        Table::BareFill => ("FILL alone", &verbs::BARE_FILL_WORDS),
-        Table::Fill => ("FILL", &verbs::FILL_WORDS),
-        Table::Blast => ("BLAST", &verbs::BLAST_WORDS),
-        Table::BareFoo => ("FOO alone", &verbs::BARE_FOO_WORDS),
-        Table::Eggs => ("eggs", &verbs::EGGS_WORDS),
-        Table::BareRead => ("READ alone", &verbs::BARE_READ_WORDS),
-        Table::Read => ("READ", &verbs::READ_WORDS),
-        Table::Break => ("BREAK", &verbs::BREAK_WORDS),
-        Table::Wake => ("WAKE", &verbs::WAKE_WORDS),
-    }
+    all_tables!(name_and_words table)
 }
