@@ -1,7 +1,10 @@
 -- What several notings make together.
 use Rattle.std.proofs.Common.{◌≡◌, ℕ, ◌+◌, ◌<◌, ◌≤◌, Bool, true, false, List, [], ◌∷◌, ◌++◌, length}
 use Rattle.std.proofs.Common.{append-nil, get_or, map, take, refl, sym, ap, ◌∙◌, subst}
-use Rattle.std.specs.Prelude.{◌||◌}
+use Rattle.std.specs.Prelude.{◌||◌, ◌&&◌, ◌==◌, slice_index_or}
+use Rattle.std.proofs.lemmas.Bool.{eqb-true}
+use Rattle.cave_world.specs.declared.tables.RuleRow.{RuleRow}
+use Rattle.play_cover.specs.RowReport.{mark_of_row}
 use Rattle.std.specs.List.{flat_map}
 use Rattle.std.proofs.lemmas.List.{map-append, take_all, take_more}
 use Rattle.std.proofs.lemmas.Grind.{flat_map-append}
@@ -56,25 +59,41 @@ pub Notes-all : {X : Type 0} (says : X → List Mark) (xs : List X) (place : ℕ
 Notes-all says xs place old new past noted =
     subst (λ ys. Notes (flat_map says ys) old new) (take_all place xs past) noted
 
--- the same where each element has one mark
-pub Notes-more_mark : {X : Type 0} (mark_of : X → Mark) (xs : List X) (place : ℕ) (d : X)
-    (old between new : List (List Bool)) → place < length xs
-    → Notes (map mark_of (take place xs)) old between
-    → Notes (mark_of (get_or xs place d) ∷ []) between new
-    → Notes (map mark_of (take (place + 1) xs)) old new
-Notes-more_mark mark_of xs place d old between new inside before now =
-    let last = mark_of (get_or xs place d) in
-    let marks : map mark_of (take (place + 1) xs) ≡ map mark_of (take place xs) ++ last ∷ [] =
-    ap (map mark_of) (take_more xs place d inside)
-    ∙ map-append mark_of (take place xs) (get_or xs place d ∷ []) in
-    subst (λ marks. Notes marks old new) (sym marks)
-    (Notes-append (map mark_of (take place xs)) (last ∷ []) old between new before now)
+-- one more mark was made
+pub Notes-one_more : (marks : List Mark) (place : ℕ) (d : Mark) (old between new : List (List Bool))
+    → place < length marks → Notes (take place marks) old between
+    → Notes (get_or marks place d ∷ []) between new → Notes (take (place + 1) marks) old new
+Notes-one_more marks place d old between new inside before now =
+    subst (λ marks. Notes marks old new) (sym (take_more marks place d inside))
+    (Notes-append (take place marks) (get_or marks place d ∷ []) old between new before now)
 
-pub Notes-all_marks : {X : Type 0} (mark_of : X → Mark) (xs : List X) (place : ℕ)
-    (old new : List (List Bool)) → length xs ≤ place
-    → Notes (map mark_of (take place xs)) old new → Notes (map mark_of xs) old new
-Notes-all_marks mark_of xs place old new past noted =
-    subst (λ ys. Notes (map mark_of ys) old new) (take_all place xs past) noted
+-- no mark is left
+pub Notes-whole : (marks : List Mark) (place : ℕ) (old new : List (List Bool))
+    → length marks ≤ place → Notes (take place marks) old new → Notes marks old new
+Notes-whole marks place old new past noted =
+    subst (λ made. Notes made old new) (take_all place marks past) noted
+
+-- the mark of one more row
+pub one_mark_more : (rows : List RuleRow) (row : RuleRow)
+    → map mark_of_row (rows ++ row ∷ []) ≡ map mark_of_row rows ++ mark_of_row row ∷ []
+one_mark_more rows row = map-append mark_of_row rows (row ∷ [])
+
+in_both : (p q marked : Bool) → (p ≡ true → q ≡ true → marked ≡ true)
+    → marked ≡ (((p && q) || false) || marked)
+in_both true true marked is = is refl refl
+in_both true false marked is = refl
+in_both false q marked is = refl
+
+-- it was marked before
+pub noted_before : (groups : List (List Bool)) (one : Mark) → is_marked groups one ≡ true
+    → Notes (one ∷ []) groups groups
+noted_before groups one is = record {
+  is = λ other. in_both (other.group == one.group) (other.number == one.number)
+      (is_marked groups other)
+      (λ group number. (λ i. slice_index_or
+      (slice_index_or groups (eqb-true other.group one.group group i) [])
+      (eqb-true other.number one.number number i) false) ∙ is);
+}
 
 -- nothing is marked yet
 pub none_marked : AreMarksOf [] []

@@ -1,31 +1,31 @@
-//! The rows that are noted of a line.
+//! The marks of the rows that are noted on a line.
 
 ghost use Rattle.std.specs.Prelude.{◌≡◌, None, OnOk, map};
 ghost use Rattle.play_cover.specs.Marks.{Notes};
 ghost use Rattle.play_cover.specs.RowReport.{mark_of_row};
 
-use crate::marks::Marks;
+use crate::marks::{Mark, Marks};
 use crate::rule_tables::row_mark;
 use cave_world::{GhostRows, RowNotes, RuleRow};
 use play_machine::LineRows;
 use std::alloc::{AllocError, Global};
 
-/// Notes on the rows of a line, in order.
+/// The marks of the rows of a line, in order.
 #[derive(Drop)]
 pub struct KeptRows {
-    rows: Vec<RuleRow>,
+    marks: Vec<Mark>,
     /// Why some are missing, if memory ran out.
     failed: Option<AllocError>,
     all: GhostRows,
-    ghost kept: { failed ≡ None → rows.items ≡ all.rows },
+    ghost kept: { failed ≡ None → marks.items ≡ map mark_of_row all.rows },
 }
 
-/// Marks the rows.
-fn mark_rows(alloc: Global, rows: &[RuleRow], marks: &mut Marks) -> Result<(), AllocError>
-    ensures { OnOk result (Notes (map mark_of_row rows.now) marks.old marks.new) }
+/// Makes marks.
+fn note_marks(alloc: Global, made: &[Mark], marks: &mut Marks) -> Result<(), AllocError>
+    ensures { OnOk result (Notes made.now marks.old marks.new) }
 {
-    for row in rows {
-        marks.note(alloc, row_mark(*row))?;
+    for mark in made {
+        marks.note(alloc, *mark)?;
     }
     Ok(())
 }
@@ -37,7 +37,7 @@ impl KeptRows {
     {
         match self.failed {
             Some(error) => Err(error),
-            None => mark_rows(alloc, &self.rows, marks),
+            None => note_marks(alloc, &self.marks, marks),
         }
     }
 }
@@ -45,8 +45,9 @@ impl KeptRows {
 impl RowNotes for KeptRows {
     ghost rows = { λ n. n.all.rows };
 
+    #[tactic(auto, using(crate::proofs::Noting::one_mark_more))]
     fn note(&mut self, row: RuleRow) {
-        if let Err(error) = self.rows.push(row) {
+        if let Err(error) = self.marks.push(row_mark(row)) {
             self.failed = Some(error.into());
         }
         self.all = self.all.and(row);
@@ -56,14 +57,14 @@ impl RowNotes for KeptRows {
 impl LineRows for KeptRows {
     fn none(alloc: Global) -> KeptRows {
         KeptRows {
-            rows: Vec::new(alloc),
+            marks: Vec::new(alloc),
             failed: None,
             all: GhostRows::new(),
         }
     }
 
     fn clear(&mut self) {
-        self.rows.clear();
+        self.marks.clear();
         self.failed = None;
         self.all = GhostRows::new();
     }

@@ -75,9 +75,13 @@ impl Marks {
     }
 
     /// Marks it.
+    #[tactic(auto, using(crate::proofs::Noting::noted_before))]
     pub fn note(&mut self, alloc: Global, mark: Mark) -> Result<(), AllocError>
         ensures { OnOk result (Notes (mark ∷ []) self.old self.new) }
     {
+        if self.has(mark) {
+            return Ok(());
+        }
         self.open_group(alloc, mark.group)?;
         mark_number(&mut self.groups[mark.group], mark.number)
     }
