@@ -7,8 +7,8 @@ use Rattle.play_edits.specs.Refusal.{item_refusal}
 use Rattle.play_edits.specs.declared.refusal.Refusal.{Refusal}
 use Rattle.play_edits.proofs.EditLemmas.{applied_item-drop}
 use Rattle.replay_edits.specs.Edit.{Game}
-use Rattle.replay_ends.specs.LogEnds.{EndsOfLog, ends_with}
-use Rattle.replay_ends.specs.declared.line_end.LineEnd.{LineEnd}
+use Rattle.play_edits.specs.LogEnds.{EndsOfLog, ends_with}
+use Rattle.play_edits.specs.declared.line_end.LineEnd.{LineEnd}
 use Rattle.replay_scripts.specs.Script.{Applied}
 use Rattle.replay_scripts.specs.Views.{applied_item}
 use Rattle.replay_scripts.specs.declared.script.Item.{Item}

@@ -13,5 +13,6 @@ mod SizeLemmas
 mod StrictLemmas
 mod TextsLemmas
 mod UndoLemmas
+mod UndoLines
 mod ViewLemmas
 mod WatchedLemmas

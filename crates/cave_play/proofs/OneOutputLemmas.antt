@@ -17,7 +17,7 @@ use Rattle.cave_play.specs.Output.{check_text, play_view_text}
 use Rattle.cave_play.specs.Ended.{ended_view, ends_after_items}
 use Rattle.cave_play.specs.Views.{IsViewOf}
 use Rattle.play_edits.specs.Outcome.{ItemOutcome}
-use Rattle.replay_ends.specs.LogEnds.{log_ends}
+use Rattle.play_edits.specs.LogEnds.{log_ends}
 
 pub one_checked_output : OneCheckedOutput
 one_checked_output database bindings view =

@@ -11,8 +11,8 @@ use Rattle.play_edits.specs.Items.{game_after_item}
 use Rattle.play_edits.specs.Refusal.{item_refusal}
 use Rattle.play_edits.specs.declared.refusal.Refusal.{Refusal}
 use Rattle.replay_edits.specs.Edit.{Game, game_of}
-use Rattle.replay_ends.specs.LineEnds.{ended_text}
-use Rattle.replay_ends.specs.LogEnds.{EndsOfLog, ends_after_item, log_ends}
+use Rattle.play_edits.specs.LineEnds.{ended_text}
+use Rattle.play_edits.specs.LogEnds.{EndsOfLog, ends_after_item, log_ends}
 use Rattle.replay_scripts.specs.Script.{Applied}
 use Rattle.cave_play.specs.Views.{IsEditOf}
 

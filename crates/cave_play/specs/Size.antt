@@ -9,7 +9,7 @@ use Rattle.play_command.specs.declared.editing.EditView.TheVariants as asked
 use Rattle.play_edits.specs.Items.{game_after_items}
 use Rattle.play_edits.specs.Undo.{undo_text}
 use Rattle.replay_edits.specs.Edit.{Game, game_of}
-use Rattle.replay_ends.specs.LogEnds.{EndsOfLog, log_ends}
+use Rattle.play_edits.specs.LogEnds.{EndsOfLog, log_ends}
 use Rattle.replay_scripts.specs.Script.{Applied}
 use Rattle.replay_scripts.specs.declared.fault.ScriptRefusal.{ScriptRefusal}
 use Rattle.cave_play.specs.Ended.{ended_view, ends_after_items}

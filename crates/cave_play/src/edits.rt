@@ -17,15 +17,14 @@ ghost use Rattle.cave_play.specs.Run.{Judges};
 ghost use Rattle.cave_play.specs.Stages.{script_stage, strict_stage};
 ghost use Rattle.cave_play.specs.Strict.{first_strict_fault, strict_fault, strict_fault_by};
 ghost use Rattle.play_edits.specs.Undo.{backs_of};
-ghost use Rattle.replay_ends.specs.LogEnds.{log_ends, shown_ends};
+ghost use Rattle.play_edits.specs.LogEnds.{log_ends, shown_ends};
 
 use crate::fault::PlayFault;
 use crate::judge::read_script;
 use cave_replay::{Done, Session};
 use play_command::Editing;
-use play_edits::{Refusal, Totals, apply_item, keep_back, push_end, push_start};
+use play_edits::{LogEnds, Refusal, Totals, apply_item, keep_back, push_end, push_start};
 use play_machine::CaveMachine;
-use replay_ends::LogEnds;
 use replay_scripts::{BackEdit, Item, Script};
 use std::alloc::{AllocError, Global};
 use std::io::Read;

@@ -3,13 +3,13 @@
 ghost use Rattle.std.specs.Prelude.{◌≡◌, length, IfOk, MatchResult, None, Some};
 ghost use Rattle.cave_play.specs.Ended.{ended_view};
 ghost use Rattle.cave_play.specs.Size.{size_fault};
-ghost use Rattle.replay_ends.specs.LogEnds.{shown_ends};
+ghost use Rattle.play_edits.specs.LogEnds.{shown_ends};
 
 use crate::edits::Edited;
 use crate::fault::PlayFault;
 use base_lines::limits::is_large_input;
 use play_command::EditView;
-use replay_ends::ended_text;
+use play_edits::ended_text;
 use std::alloc::{AllocError, Global};
 
 /// What is printed of what edits made, by what is asked for.

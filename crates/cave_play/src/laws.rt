@@ -1,8 +1,9 @@
 //! Laws of runs: in which order faults are found, what edits are refused for, that the inputs
-//! determine the output, that an edited log is read again, and that `--guarded` changes nothing where
-//! there are no guards. Each is the contract of a function that does nothing.
+//! determine the output, that what edits print is read again, and that `--guarded` changes nothing
+//! where there are no guards. Each is the contract of a function that does nothing.
 
-ghost use Rattle.cave_play.specs.Bytes.{EditedLogsAreAccepted};
+ghost use Rattle.cave_play.specs.Bytes.{EditedLogsAreAccepted, UndoGivesTheBytes};
+ghost use Rattle.cave_play.specs.Bytes.{UndoScriptsTakeBack};
 ghost use Rattle.cave_play.specs.GuardLaws.{NoGuardsNoOtherOutput, NoGuardsNoOtherScript};
 ghost use Rattle.cave_play.specs.Laws.{CavesAreJudgedWhole, FirstIsFound, RefusalsAreOfChanges};
 ghost use Rattle.cave_play.specs.Laws.{OneCheckedOutput, OneEditedOutput, OnePlayedOutput};
@@ -42,6 +43,17 @@ pub fn one_edited_output()
 /// large.
 pub fn edited_logs_are_accepted()
     ensures { EditedLogsAreAccepted }
+{}
+
+/// The printed script that takes edits back spells items that are accepted in the edited game and
+/// give the old one.
+pub fn undo_scripts_take_back()
+    ensures { UndoScriptsTakeBack }
+{}
+
+/// Such a script gives the bytes of the log back, line ends too, if all lines of the log end alike.
+pub fn undo_gives_the_bytes()
+    ensures { UndoGivesTheBytes }
 {}
 
 /// A script without guards gives the same items, or the same refusal, whether or not it may have

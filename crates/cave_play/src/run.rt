@@ -11,7 +11,7 @@ ghost use Rattle.cave_play.specs.Run.{Judges, Runs, RunsWith};
 ghost use Rattle.cave_play.specs.Stages.{cave_stages, log_stage, script_stage, strict_stage};
 ghost use Rattle.cave_play.specs.Stages.{play_stages, edit_stages};
 ghost use Rattle.cave_play.specs.Ended.{IsEdited, IsEndedEditOf};
-ghost use Rattle.replay_ends.specs.LogEnds.{log_ends, shown_ends};
+ghost use Rattle.play_edits.specs.LogEnds.{log_ends, shown_ends};
 
 use crate::edits::{Edited, edit_session};
 use crate::ended::{check_size, ended_view};

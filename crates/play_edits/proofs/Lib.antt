@@ -7,3 +7,6 @@ pub mod MetLemmas
 pub mod SayableLemmas
 mod StandingLemmas
 pub mod TableLemmas
+pub mod EndBytes
+pub mod EndedLines
+pub mod AlikeEnds

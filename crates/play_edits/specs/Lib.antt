@@ -6,3 +6,5 @@ pub mod Outcome
 pub mod Refusal
 pub mod Table
 pub mod Undo
+pub mod LineEnds
+pub mod LogEnds

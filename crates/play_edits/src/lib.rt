@@ -1,17 +1,22 @@
 //! The items of a script, applied to a play of a cave: what comes of each, why one is refused, what
-//! takes it back, and what is written of it.
+//! takes it back, what is written of it, and how the lines of the edited log end.
 #![tactic(auto)]
 
+pub mod ended;
 mod guards;
 pub mod items;
 pub mod laws;
+pub mod line_end;
+pub mod log_ends;
 pub mod outcome;
 pub mod refusal;
 pub mod reports;
 mod table;
 mod undo;
 
+pub use ended::ended_text;
 pub use items::{apply_item, keep_back};
+pub use log_ends::LogEnds;
 pub use outcome::Totals;
 pub use refusal::{KeptLine, Refusal};
 pub use reports::{push_end, push_start};

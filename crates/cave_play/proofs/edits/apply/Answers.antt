@@ -10,7 +10,7 @@ use Rattle.play_edits.specs.Edits.{IsApplied, kept_for}
 use Rattle.play_edits.specs.Undo.{backs_of}
 use Rattle.play_edits.proofs.EditLemmas.{Completes-none, Completes-more, IsApplied-whole}
 use Rattle.play_edits.proofs.EditLemmas.{game_after_items-more, item_refusal-outcome}
-use Rattle.replay_ends.specs.LogEnds.{shown_ends}
+use Rattle.play_edits.specs.LogEnds.{shown_ends}
 use Rattle.cave_play.specs.Ended.{ends_after_items}
 use Rattle.cave_play.proofs.EndedLemmas.{ends_after_items-end, ends_after_items-more}
 use Rattle.cave_play.proofs.StrictLemmas.{first_strict_fault-more, first_strict_fault-here}

@@ -5,7 +5,7 @@ use Rattle.replay_scripts.specs.ScriptText.{groups_in}
 use Rattle.play_edits.specs.Edits.{kept_for}
 use Rattle.play_edits.specs.Items.{game_after_items}
 use Rattle.play_edits.specs.Undo.{backs_of}
-use Rattle.replay_ends.specs.LogEnds.{shown_ends}
+use Rattle.play_edits.specs.LogEnds.{shown_ends}
 use Rattle.cave_play.specs.Ended.{ends_after_items}
 use Rattle.cave_play.specs.Strict.{first_strict_fault}
 use Rattle.play_edits.proofs.EditLemmas.{Completes}

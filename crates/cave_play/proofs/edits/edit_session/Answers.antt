@@ -17,7 +17,7 @@ use Rattle.play_edits.proofs.BackLemmas.{groups_turned}
 use Rattle.cave_play.proofs.ViewLemmas.{told-whole}
 use Rattle.cave_play.specs.Ended.{ends_after_items}
 use Rattle.cave_play.specs.Views.{IsEditOf}
-use Rattle.replay_ends.specs.LogEnds.{log_ends, shown_ends}
+use Rattle.play_edits.specs.LogEnds.{log_ends, shown_ends}
 use Rattle.cave_play.proofs.edits.edit_session.Goals as goal
 
 pub returns-in_err-read : goal.returns-in_err-read

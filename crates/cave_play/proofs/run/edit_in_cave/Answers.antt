@@ -11,7 +11,7 @@ use Rattle.cave_data.specs.CaveView.{CaveView}
 use Rattle.play_command.specs.declared.editing.Editing.{Editing}
 use Rattle.replay_edits.specs.Edit.{Game, IsGame, game_of}
 use Rattle.cave_play.specs.Ended.{IsEndedEditOf}
-use Rattle.replay_ends.specs.LogEnds.{log_ends, shown_ends}
+use Rattle.play_edits.specs.LogEnds.{log_ends, shown_ends}
 use Rattle.cave_play.specs.declared.edits.Edited.{Edited}
 use Rattle.cave_play.specs.Run.{IsFoundIn, Judges}
 use Rattle.cave_play.specs.Stages.{Stage, first_decided, judging_stage}

@@ -16,7 +16,7 @@ use Rattle.cave_play.proofs.SizeLemmas.{output_fault-printed}
 use Rattle.cave_play.proofs.OneOutputLemmas.{script_by-spelled}
 use Rattle.replay_scripts.specs.Guards.{script_by}
 use Rattle.cave_play.specs.Ended.{IsEdited, IsEndedEditOf, ended_view}
-use Rattle.replay_ends.specs.LogEnds.{EndsOfLog, log_ends}
+use Rattle.play_edits.specs.LogEnds.{EndsOfLog, log_ends}
 use Rattle.cave_play.proofs.InputLemmas.{Says-some}
 use Rattle.cave_play.proofs.RunLemmas.{EndsBy-unwritten, EndsBy-written, unwritten_by_edit}
 use Rattle.cave_play.proofs.StageLemmas.{IsFoundIn-first, IsFoundIn-later, IsFoundIn-memory}

@@ -1,7 +1,7 @@
 -- what the bytes that are left give, after those that were read, is what the text gives
 use Rattle.std.proofs.Common.{◌≡◌, ◌++◌, length}
-use Rattle.replay_ends.specs.LineEnds.{ends_from, ends_in, last_byte}
-use Rattle.replay_ends.proofs.line_end.text_ends.Given as goal
+use Rattle.play_edits.specs.LineEnds.{ends_from, ends_in, last_byte}
+use Rattle.play_edits.proofs.line_end.text_ends.Given as goal
 
 abbrev pub invariant-loop-byte : goal.invariant-loop-byte
 invariant-loop-byte l =

@@ -2,8 +2,8 @@
 
 ghost use Rattle.std.specs.Prelude.{◌≡◌, IfOk, OnOk};
 ghost use Rattle.replay_edits.specs.Edit.{change_of};
-ghost use Rattle.replay_ends.specs.LogEnds.{ends_after, ends_after_item, log_ends, shown_ends};
-ghost use Rattle.replay_ends.specs.LogEnds.{unlike_ends};
+ghost use Rattle.play_edits.specs.LogEnds.{ends_after, ends_after_item, log_ends, shown_ends};
+ghost use Rattle.play_edits.specs.LogEnds.{unlike_ends};
 ghost use Rattle.replay_scripts.specs.Views.{applied_item};
 
 use crate::line_end::{LineEnd, TextEnds, are_alike, end_of_line, ends_in, first_end, text_ends};

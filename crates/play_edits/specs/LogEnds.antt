@@ -2,10 +2,10 @@
 use Rattle.std.specs.Prelude.{ℕ, ◌+◌, Bool, List, [], ◌∷◌, insert, remove, if◌then◌else◌}
 use Rattle.std.specs.List.{list_all}
 use Rattle.replay_edits.specs.Edit.{Change, inserts, deletes, replaces, reseeds}
-use Rattle.replay_ends.specs.LineEnds.{end_of_line, ends_in, first_end, is_unended, is_same_end}
-use Rattle.replay_ends.specs.declared.line_end.LineEnd.{LineEnd}
-use Rattle.replay_ends.specs.declared.line_end.LineEnd.TheVariants.{Feed}
-use Rattle.replay_ends.specs.declared.log_ends.LogEnds.{LogEnds}
+use Rattle.play_edits.specs.LineEnds.{end_of_line, ends_in, first_end, is_unended, is_same_end}
+use Rattle.play_edits.specs.declared.line_end.LineEnd.{LineEnd}
+use Rattle.play_edits.specs.declared.line_end.LineEnd.TheVariants.{Feed}
+use Rattle.play_edits.specs.declared.log_ends.LogEnds.{LogEnds}
 use Rattle.replay_scripts.specs.Script.{Applied, line_of_refusal}
 
 -- How the lines of a log end: all by the usual end, where no others are listed, or each by its own;

@@ -5,14 +5,14 @@ use Rattle.std.specs.Prelude.{◌&&◌, if◌then◌else◌}
 use Rattle.std.specs.List.{list_all}
 use Rattle.std.proofs.lemmas.Bool.{and_parts}
 use Rattle.std.proofs.lemmas.List.Elements.{All-head, All-tail}
-use Rattle.replay_ends.specs.LineEnds.{bytes_of_end, ended_text, ends_in, first_end, is_same_end}
-use Rattle.replay_ends.specs.LineEnds.{is_unended}
-use Rattle.replay_ends.specs.LogEnds.{ends_with, log_ends, unlike_ends}
-use Rattle.replay_ends.specs.declared.line_end.LineEnd.{LineEnd}
-use Rattle.replay_ends.specs.declared.line_end.LineEnd.TheVariants.{Feed, Return}
-use Rattle.replay_ends.proofs.ByteLemmas.{ends_in-alone, ends_in-line, is_unended-alone}
-use Rattle.replay_ends.proofs.ByteLemmas.{is_unended-bare, is_unended-line, no_ends}
-use Rattle.replay_ends.proofs.TextLemmas.{IsTextLine}
+use Rattle.play_edits.specs.LineEnds.{bytes_of_end, ended_text, ends_in, first_end, is_same_end}
+use Rattle.play_edits.specs.LineEnds.{is_unended}
+use Rattle.play_edits.specs.LogEnds.{ends_with, log_ends, unlike_ends}
+use Rattle.play_edits.specs.declared.line_end.LineEnd.{LineEnd}
+use Rattle.play_edits.specs.declared.line_end.LineEnd.TheVariants.{Feed, Return}
+use Rattle.play_edits.proofs.EndBytes.{ends_in-alone, ends_in-line, is_unended-alone}
+use Rattle.play_edits.proofs.EndBytes.{is_unended-bare, is_unended-line, no_ends}
+use Rattle.replay_scripts.proofs.Texts.{IsTextLine}
 
 abbrev pub alike_text : LineEnd → Bool → List (List ℕ) → List ℕ
 alike_text end unended log = ended_text end unended [] log

@@ -5,10 +5,10 @@ use Rattle.std.specs.Prelude.{if◌then◌else◌, not}
 use Rattle.std.specs.List.{list_all}
 use Rattle.std.proofs.lemmas.Bool.{and_parts, ne_eqb}
 use Rattle.base_lines.specs.Line.{is_line_byte}
-use Rattle.replay_ends.specs.LineEnds.{bytes_of_end, end_after, ends_at, ends_from, ends_in}
-use Rattle.replay_ends.specs.LineEnds.{is_unended, last_byte}
-use Rattle.replay_ends.specs.declared.line_end.LineEnd.{LineEnd}
-use Rattle.replay_ends.specs.declared.line_end.LineEnd.TheVariants.{Feed, Return}
+use Rattle.play_edits.specs.LineEnds.{bytes_of_end, end_after, ends_at, ends_from, ends_in}
+use Rattle.play_edits.specs.LineEnds.{is_unended, last_byte}
+use Rattle.play_edits.specs.declared.line_end.LineEnd.{LineEnd}
+use Rattle.play_edits.specs.declared.line_end.LineEnd.TheVariants.{Feed, Return}
 
 pub not_that : (byte other : ℕ) → is_line_byte byte ≡ true → is_line_byte other ≡ false
     → (byte == other) ≡ false

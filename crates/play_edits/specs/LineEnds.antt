@@ -2,8 +2,8 @@
 use Rattle.std.specs.Prelude.{ℕ, ◌-◌, ◌==◌, Bool, true, false, not, List, [], ◌∷◌, ◌++◌, drop}
 use Rattle.std.specs.Prelude.{if◌then◌else◌, slice_get}
 use Rattle.std.specs.Option.{unwrap_or}
-use Rattle.replay_ends.specs.declared.line_end.LineEnd.{LineEnd}
-use Rattle.replay_ends.specs.declared.line_end.LineEnd.TheVariants.{Feed, Return}
+use Rattle.play_edits.specs.declared.line_end.LineEnd.{LineEnd}
+use Rattle.play_edits.specs.declared.line_end.LineEnd.TheVariants.{Feed, Return}
 
 -- ---- ends
 

@@ -2,7 +2,7 @@
 use Rattle.std.proofs.Common.{◌≡◌, ℕ, ◌-◌, Bool, true, false, cond, ◌==◌, List, [], ◌∷◌, ◌++◌}
 use Rattle.std.proofs.Common.{length, take, drop, All, sym, ap, ◌∙◌, refl, arith, append_assoc, append-nil}
 use Rattle.std.specs.Prelude.{slice_index, if◌then◌else◌}
-use Rattle.std.specs.List.{AllPass, slice_split, onto_first, list_all}
+use Rattle.std.specs.List.{AllPass, slice_split, onto_first}
 use Rattle.std.specs.Str.Lines.{lines, lines_of_parts, strip_carriage_return}
 use Rattle.std.proofs.lemmas.Bool.{ne_eqb}
 use Rattle.std.proofs.lemmas.Grind.{common_steps}
@@ -10,9 +10,10 @@ use Rattle.std.proofs.lemmas.List.Elements.{All-append, All-cons, All-head, All-
 use Rattle.std.proofs.lemmas.List.Sums.{AllPass-from_list_all}
 use Rattle.std.proofs.lemmas.List.Splits.{slice_split_at, slice_split_none}
 use Rattle.base_lines.specs.Line.{is_line_byte}
-use Rattle.replay_ends.specs.LineEnds.{bytes_of_end, ended_text, first_end, last_end}
-use Rattle.replay_ends.specs.declared.line_end.LineEnd.{LineEnd}
-use Rattle.replay_ends.specs.declared.line_end.LineEnd.TheVariants.{Feed, Return}
+use Rattle.replay_scripts.proofs.Texts.{IsTextLine}
+use Rattle.play_edits.specs.LineEnds.{bytes_of_end, ended_text, first_end, last_end}
+use Rattle.play_edits.specs.declared.line_end.LineEnd.{LineEnd}
+use Rattle.play_edits.specs.declared.line_end.LineEnd.TheVariants.{Feed, Return}
 
 abbrev is_feed : ℕ → Bool
 is_feed byte = byte == 10
@@ -100,9 +101,6 @@ lines_last true (byte ∷ line) end stands =
     ap lines (append-nil (byte ∷ line))
     ∙ ap lines_of_parts (slice_split_none is_feed (byte ∷ line) (no_feed (byte ∷ line) stands))
     ∙ ap (λ b. cond b [] ((byte ∷ line) ∷ [])) (ne_eqb (length (byte ∷ line)) 0 (λ z. omega arith))
-
-abbrev pub IsTextLine : List ℕ → Type 0
-IsTextLine line = list_all is_line_byte line ≡ true
 
 passes : (line : List ℕ) (more : List (List ℕ)) → All IsTextLine (line ∷ more)
     → AllPass is_line_byte line

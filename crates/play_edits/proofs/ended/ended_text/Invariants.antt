@@ -1,8 +1,8 @@
 -- the lines that are left make with their ends, after those that are written, the whole text
 use Rattle.std.proofs.Common.{◌≡◌, ◌++◌, ◌∷◌, length}
 use Rattle.std.specs.Str.Lines.{lines}
-use Rattle.replay_ends.specs.LineEnds.{ended_text}
-use Rattle.replay_ends.proofs.ended.ended_text.Given as goal
+use Rattle.play_edits.specs.LineEnds.{ended_text}
+use Rattle.play_edits.proofs.ended.ended_text.Given as goal
 
 abbrev pub invariant-loop-next : goal.invariant-loop-next
 invariant-loop-next l =

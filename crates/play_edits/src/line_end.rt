@@ -2,8 +2,8 @@
 
 ghost use Rattle.std.specs.Prelude.{◌≡◌, IfOk};
 ghost use Rattle.std.specs.List.{list_all};
-ghost use Rattle.replay_ends.specs.LineEnds.{bytes_of_end, end_after, end_of_line, ends_in};
-ghost use Rattle.replay_ends.specs.LineEnds.{first_end, is_unended, is_same_end};
+ghost use Rattle.play_edits.specs.LineEnds.{bytes_of_end, end_after, end_of_line, ends_in};
+ghost use Rattle.play_edits.specs.LineEnds.{first_end, is_unended, is_same_end};
 
 use std::alloc::{AllocError, Global};
 

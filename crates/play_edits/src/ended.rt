@@ -2,7 +2,7 @@
 
 ghost use Rattle.std.specs.Prelude.{◌≡◌, ◌++◌, drop, IfOk, OnOk};
 ghost use Rattle.std.specs.Str.Lines.{lines};
-ghost use Rattle.replay_ends.specs.LineEnds.{bytes_of_end, ended_text, first_end, last_end};
+ghost use Rattle.play_edits.specs.LineEnds.{bytes_of_end, ended_text, first_end, last_end};
 
 use crate::line_end::{LineEnd, bytes_of_end, first_end};
 use base_lines::split_line;

@@ -1,9 +1,9 @@
 -- what the edits that are left make of the ends is what all make of them
 use Rattle.std.proofs.Common.{◌≡◌, ◌+◌, length}
 use Rattle.replay_edits.specs.Edit.{changes_of}
-use Rattle.replay_ends.specs.LogEnds.{ends_after_changes}
+use Rattle.play_edits.specs.LogEnds.{ends_after_changes}
 use Rattle.replay_scripts.specs.Views.{applied_item}
-use Rattle.replay_ends.proofs.log_ends.LogEnds.follow_item.Given as goal
+use Rattle.play_edits.proofs.log_ends.LogEnds.follow_item.Given as goal
 
 abbrev pub invariant-loop-edit : goal.invariant-loop-edit
 invariant-loop-edit l =
