@@ -14,14 +14,16 @@ import cover
 import edits
 import ends
 import scores
+import walk
 from database import KEYS, PLACES, ROLES, Cave, bindings_of, sections_of, with_mark
 from lines import GREATEST_SEED, MOST_BYTES, Fault, log_of, near_name
 
 FILES = {"check": ["<CAVE>"], "play": ["<CAVE>", "<LOG>"], "edit": ["<CAVE>", "<LOG>", "[SCRIPT]"],
          "cover": ["<CAVE>", "<LOG>..."]}
 PRINTS = {"check": ["maximum", "bindings", "names", "unused", "doubts"],
-          "play": ["transcript", "steps", "score", "state"],
-          "edit": ["transcript", "play", "log", "undo", "reports", "table", "steps", "score", "state"],
+          "play": ["transcript", "steps", "walk", "score", "state"],
+          "edit": ["transcript", "play", "log", "undo", "reports", "table", "steps", "walk", "score",
+                   "state"],
           "cover": ["counts", "texts", "rules"]}
 OPTIONS = {"--bind": "FILE", "--seed": "N", "--every": "K", "--print": "WHAT", "--strict": None,
            "--guarded": None, "--edit": "EDIT"}
@@ -266,6 +268,8 @@ def run_edit(cave, file, log, script, log_ends, options):
         return small(log_ends.log_text(log), "the edited log")
     if options["print"] == "steps":
         return edits.steps(cave, seed, log)
+    if options["print"] == "walk":
+        return walk.walk(cave, seed, log)
     ended = edits.play(cave, seed, log)
     return {"score": scores.table(ended.game), "state": ended.game.state_lines(),
             "play": ended.transcript,
@@ -305,6 +309,8 @@ def run_words(words):
         return run_edit(cave, name, log, script, log_ends, options)
     if options["print"] == "steps":
         return edits.steps(cave, options["seed"], log)
+    if options["print"] == "walk":
+        return walk.walk(cave, options["seed"], log)
     played = edits.play(cave, options["seed"], log)
     return {"score": scores.table(played.game), "state": played.game.state_lines(),
             "transcript": played.transcript}[options["print"]]

@@ -34,8 +34,8 @@ SYMBOLS = "its symbols"
 # The tools of users: the name of each, its script, and the modules and folders that it needs.
 TOOLS = {
     "cave-suite": ("tools/cave-suite", ["tools/cave_suite/*.py"]),
-    "cave-page": ("tools/page", ["tools/command_line.py", "tools/drawing.py", "tools/steps.py",
-                                 "tools/walk_page/*"]),
+    "cave-page": ("tools/page", ["tools/beside.py", "tools/command_line.py", "tools/drawing.py",
+                                 "tools/steps.py", "tools/walk_page/*"]),
     "cave-chart": ("tools/chart", ["tools/command_line.py", "tools/steps.py"]),
 }
 SHIPPED = ["caves/*.txt", "caves/*.bind", "logs/*.log", "logs/*.out", "logs/*.script",

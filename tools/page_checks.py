@@ -3,8 +3,8 @@
 Each part gives, one after another, what it looks at, what is found there, and what is wanted.
 """
 
-from pages import (FULL, FULL_SEED, SEED, SHOAL, TOP, TOUR, happened_at, place_at, said_at, score_of,
-                   trail_of, visits_of)
+from pages import (FULL, FULL_SEED, SEED, SHOAL, TOP, TOUR, happened_at, line_beside, named,
+                   place_at, said_at, score_of, things_at, trail_of, visits_of)
 
 # What is seen of a line: its number wherever the page shows it, its place, its trail, its facts.
 SEEN = """
@@ -67,7 +67,8 @@ def facts_of(walk, line):
     facts = {"At": f"{at}, of {len(walk.lines)} lines", "Turn": str(steps["turns"][at]),
              "Score": f"{steps['score'][at]} of {score_of(walk).split()[-1]}"
                       + (f", {sign} at this line" if gained else ""),
-             "Lamp": str(steps["lamp"][at]), "Carried": str(steps["carried"][at]),
+             "Lamp": str(steps["lamp"][at]), "Carried": named(walk.told[line]["carried"]),
+             "Here": named(things_at(walk, place_at(walk, line), line)),
              "Chance": f"{drawn}, stream at {steps['stream'][at]}"}
     facts["Happened"] = ", ".join(happened_at(walk, line))
     facts |= {it.title(): steps[it][at].replace("-", "") for it in ("question", "ended")}
@@ -158,6 +159,10 @@ def keys(pages, page):
     yield "Keys shows keys", page.run("return document.getElementById('keys').open"), True
     page.press("Escape")
     yield "Esc hides them", page.run("return document.getElementById('keys').open"), False
+    for is_open in (True, False):
+        page.press("?")
+        yield "? shows the keys, and hides them", page.run(
+            "return document.getElementById('keys').open"), is_open
     page.run("document.getElementById('chart').focus()")
     page.press("End")
     yield "End on the chart", chosen(page), last
@@ -323,15 +328,17 @@ def against(pages, page):
     yield from line_is_beside(page, 13, "where they part after a comment")
     other = pages.tour()
     for line in (13, 14, 15):
-        places = page.run(BOTH)
-        yield f"both places, line {line}", places, [place_at(walk, line), place_at(other, line - 1)]
+        places, there = page.run(BOTH), page.run("return beside(now.at)")
+        yield f"both places, line {line}", places, [place_at(walk, line), place_at(other, there)]
         theirs = page.run("return document.querySelectorAll('#trails .trail.theirs').length")
-        yield f"the other trail, line {line}", theirs, len(trail_of(other, line - 1))
+        yield f"the other trail, line {line}", theirs, len(trail_of(other, there))
         page.press("ArrowDown")
+    there = page.run("return beside(now.at)")
     page.press("o")
-    yield "o goes to the line that is beside", chosen(page), 14
+    yield "o goes to the line that is beside", chosen(page), there
+    there = page.run("return beside(now.at)")
     page.press("o")
-    yield "o goes back", chosen(page), 15
+    yield "o goes back", chosen(page), there
     page.press("Home")
     theirs = page.run("return document.querySelectorAll('.trail.theirs, .place.there').length")
     yield "one trail before they part", theirs, 0
@@ -340,6 +347,65 @@ def against(pages, page):
     page.open(same.path)
     text = page.run("return document.getElementById('parting').textContent")
     yield "walks that never part", text, f"Plays as {TOUR} does."
+
+
+def beside(pages, page):
+    """After a line more, like stands beside like, and it is told where walks come together."""
+    other = pages.tour()
+    for name, at, line, told in [
+            ("a-look", 12, "look", "Parts from tour.log at 12 by look, not take vase; ends with 73,"
+             " as it does."),
+            ("lampless", 5, "off", ""), ("a-comment", 12, "# Here is a vase.", "")]:
+        lines = [*other.lines[:at], line, *other.lines[at:]]
+        walk = pages.of_walk(name, SHOAL[0], pages.log(f"{name}.log", lines), [*SHOAL[1], *SEED],
+                             "--against", TOUR)
+        page.open(walk.path)
+        if told:
+            text = page.run("return document.getElementById('parting').textContent")
+            yield f"{name}: what parts them", text, told
+        found = page.run("return walk().columns.map((column, at) => [beside(at), isAlone(at)])")
+        same = [line_beside(walk, other, it) for it in range(len(lines) + 1)]
+        is_alone = [it == at + 1 for it in range(len(lines) + 1)]
+        yield f"{name}: the lines beside", found, [[*it] for it in zip(same, is_alone)]
+        page.press("o")
+        back = page.run("return walk().columns.map((column, at) => beside(at))")
+        yield f"{name}: back", back, [line_beside(other, walk, it)
+                                      for it in range(len(other.lines) + 1)]
+    lines = [*other.lines[:17], "inventory", *other.lines[18:]]
+    walk = pages.of_walk("instead", SHOAL[0], pages.log("instead.log", lines), [*SHOAL[1], *SEED],
+                         "--against", TOUR)
+    page.open(walk.path)
+    yield "they part", page.run("return data.parting"), [17, 17]
+
+
+def objects(pages, page):
+    """Where objects are, on the map and in the figures; the score's table; a line of a script; the
+    foot."""
+    walk = pages.tour()
+    page.open(walk.path)
+    for line in (0, 5, 13, 19, len(walk.lines)):
+        page.run("go(arguments[0])", line)
+        shown = page.run("return [...document.querySelectorAll('#things text')].map((it) =>"
+                         " [Number(it.dataset.things), it.querySelector('title').textContent])")
+        places = [place for place in range(1, 301) if things_at(walk, place, line)]
+        wanted = [[it, named(things_at(walk, it, line))] for it in places]
+        yield f"the objects at places, line {line}", sorted(
+            [place, names.lower()] for place, names in shown), wanted
+    table = pages.printed("play", SHOAL[0], TOUR, *SHOAL[1], *SEED, "--print", "score")
+    rows = page.run("return [...document.querySelectorAll('#score-table tr')].map((row) =>"
+                    " [...row.children].map((it) => it.textContent))")
+    yield "the table of the score", rows, [it.split("\t") for it in table.splitlines()]
+    page.click("#score-box summary")
+    yield "it is shown", page.run("return document.getElementById('score-box').open"), True
+    page.run("go(18)")
+    page.run("document.getElementById('lines').focus()")
+    page.press("c")
+    said = page.run("return document.getElementById('said-now').textContent")
+    yield "a line of a script", said, f"copied: replace 17 {walk.lines[17]}"
+    foot = page.run("return document.querySelector('footer').textContent.split('. ')[0]")
+    version = pages.printed("--version").strip()
+    yield "the foot", foot, ("Played in shoal.txt, with the bindings shoal.bind, from the seed 3, by"
+                             f" {version}")
 
 
 def line_is_beside(page, line, how):
@@ -352,4 +418,5 @@ def line_is_beside(page, line, how):
 
 
 PARTS = {"facts": facts, "marks": marks, "keys": keys, "addresses": addresses, "small": small,
-         "clicks": clicks, "search": search, "colours": colours, "against": against}
+         "clicks": clicks, "search": search, "colours": colours, "against": against,
+         "beside": beside, "objects": objects}

@@ -5,12 +5,14 @@
     made.path, made.lines, made.steps, made.said, made.places
 """
 
+import json
 import os
 import re
 import subprocess
 import sys
 from collections import namedtuple
 
+from beside import same_lines
 from steps import columns_of, events_of
 
 TOP = os.path.dirname(os.path.dirname(os.path.abspath(__file__)))
@@ -19,7 +21,7 @@ TOUR = f"{TOP}/logs/tour.log"
 SEED = ["--seed", "3"]
 FULL, FULL_SEED = f"{TOP}/logs/shoal/full-score.log", ["--seed", "229"]
 
-Walk = namedtuple("Walk", "path lines steps transcript")
+Walk = namedtuple("Walk", "path lines steps transcript told")  # told: the opening, and each line
 
 
 class Unmade(Exception):
@@ -64,7 +66,9 @@ class Pages:
         with open(log, "rb") as file:
             lines = file.read().decode("ascii").splitlines()
         steps = columns_of(self.printed("play", cave, log, *options, "--print", "steps"))
-        return Walk(path, lines, steps, self.printed("play", cave, log, *options))
+        told = self.printed("play", cave, log, *options, "--print", "walk").splitlines()
+        return Walk(path, lines, steps, self.printed("play", cave, log, *options),
+                    [*map(json.loads, told)])
 
     def tour(self):
         return self.of_walk("tour", SHOAL[0], TOUR, [*SHOAL[1], *SEED])
@@ -118,6 +122,28 @@ def trail_of(walk, line):
     """The moves of the last ten lines."""
     moves = [*zip(walk.steps["from"], walk.steps["to"])][max(line - 10, 0) : line]
     return [[old, new] for old, new in moves if old != new]
+
+
+def named(things):
+    """The names of objects, as the page has them."""
+    names = [it["name"] or f"object {it['object']}" for it in things]
+    return ", ".join(names).lower() or "nothing"
+
+
+def things_at(walk, place, line):
+    """The objects that are at a place after a line, ascending."""
+    where = {}
+    for told in walk.told[: line + 1]:
+        where |= {it["object"]: it for it in told["moved"]}
+    return [it for _, it in sorted(where.items()) if place and place in (it["first"], it["second"])]
+
+
+def line_beside(walk, other, line):
+    """The line of another walk that is beside a line: the same one, or the last before it."""
+    pairs = [(first + it + 1, second + it + 1)
+             for first, second, count in same_lines(walk.lines, other.lines) for it in range(count)]
+    before = [pair for pair in [(0, 0), *pairs] if pair[0] <= line]
+    return before[-1][1]
 
 
 def happened_at(walk, line):

@@ -15,19 +15,18 @@ const most = (column, start) => walks.reduce((high, it) =>
 function setScale() {
   const box = chart.getBoundingClientRect();
   Object.assign(scale, { width: Math.max(box.width, 200), height: Math.max(box.height, 80) });
-  scale.shift = walks[1] ? shift() : 0;
-  scale.lines = Math.max(last(walk()), walks[1] ? last(other()) + scale.shift : 1, 1);
+  scale.lines = Math.max(...walks.map((it) => columnOf(it, last(it))), 1);
   scale.score = [0, most("score", 10) * 1.08];
   scale.lamp = [least("lamp", 0), most("lamp", 10) * 1.08];
 }
 
-const xOf = (at) => EDGES.left
-  + ((scale.width - EDGES.left - EDGES.right) * at) / scale.lines;
+const xOf = (column) => EDGES.left
+  + ((scale.width - EDGES.left - EDGES.right) * column) / scale.lines;
 const yOf = (value, [low, high]) => scale.height - EDGES.bottom
   - ((scale.height - EDGES.top - EDGES.bottom) * (value - low)) / (high - low);
 
-// Where a line of a walk is: those of the other are beside those of the one that is looked at.
-const xIn = (it, at) => xOf(it === walk() ? at : at + scale.shift);
+// Where a line of a walk is.
+const xIn = (it, at) => xOf(columnOf(it, at));
 
 // Round numbers for the marks of an axis.
 function ticks(low, high, count) {
@@ -43,12 +42,12 @@ function ticks(low, high, count) {
 
 // The points of a column, one a pixel and no more: the last of those that share a pixel, and the
 // least and the greatest of them.
-function pointsOf(it, column, from) {
+function pointsOf(it, column, from, until = last(it)) {
   const points = [];
   let bucket = null;
   const end = () => bucket && points.push(...[...new Set([bucket.low, bucket.high, bucket.last])]
     .map((value) => [bucket.x, value]));
-  for (let at = Math.max(from, 1); at <= last(it); at += 1) {
+  for (let at = Math.max(from, 1); at <= until; at += 1) {
     const [x, value] = [Math.round(xIn(it, at) * 2) / 2, it[column][at - 1]];
     if (!bucket || bucket.x !== x) {
       end();
@@ -67,8 +66,8 @@ function stairs(points, range) {
   return rows.map(([x, y], at) => (at ? `H${x}V${y}` : `M${x},${y}`)).join("");
 }
 
-function scorePath(it, from) {
-  return stairs(pointsOf(it, "score", from), scale.score);
+function scorePath(it, from, until) {
+  return stairs(pointsOf(it, "score", from, until), scale.score);
 }
 
 const SHAPES = {
@@ -84,7 +83,7 @@ function marksOf(it) {
   const marks = [];
   for (let at = 1; at <= last(it); at += 1) {
     for (const event of eventsAt(it, at).filter((name) => MARKED.includes(name))) {
-      if (it !== walk() && isShared(at + scale.shift)) continue;
+      if (it !== walk() && isShared(at, it)) continue;
       const [x, y] = [xIn(it, at), yOf(it.score[at - 1], scale.score)];
       const title = draw("title", {}, `at ${inLog(at)}: ${event}`);
       marks.push(draw("path", { d: SHAPES[event], "data-event": event,
@@ -107,8 +106,8 @@ function axes() {
     parts.push(draw("text", { x: right + 6, y: yOf(value, scale.lamp) + 4, class: "lamp-axis" },
       String(value)));
   }
-  for (const value of ticks(0, scale.lines - 1, Math.max(scale.width / 90, 2))) {
-    parts.push(draw("text", { x: xOf(value + 1), y: foot + 15, "text-anchor": "middle" },
+  for (const value of ticks(0, last(walk()) - 1, Math.max(scale.width / 90, 2))) {
+    parts.push(draw("text", { x: xIn(walk(), value + 1), y: foot + 15, "text-anchor": "middle" },
       String(value)));
   }
   return parts;
@@ -127,9 +126,13 @@ function drawChart() {
   }
   parts.push(path("lamp", lamp));
   if (data.parting) {
-    const x = xOf(sharedOf(walk()) + 1);
-    parts.push(path("part", `M${x},${EDGES.top}V${foot}`));
-    parts.push(path(`score ${colour(other())}`, scorePath(other(), sharedOf(other()))));
+    for (const at of [sharedOf(walk()), metOf(walk())]) {
+      if (at >= last(walk())) continue;
+      const x = xIn(walk(), at + 1);
+      parts.push(path("part", `M${x},${EDGES.top}V${foot}`));
+    }
+    const until = Math.min(metOf(other()) + 1, last(other()));
+    parts.push(path(`score ${colour(other())}`, scorePath(other(), sharedOf(other()), until)));
   }
   parts.push(path(`score ${colour(walk())}`, stairs(mine, scale.score)));
   for (const it of walks) parts.push(...marksOf(it));
@@ -161,7 +164,7 @@ function showLegend() {
 // ---- the line that is looked at
 
 function showCursor() {
-  const x = xOf(now.at);
+  const x = xIn(walk(), now.at);
   const parts = [draw("path", { class: "cursor",
     d: `M${x},${EDGES.top - 6}V${scale.height - EDGES.bottom}` })];
   for (const it of isShared(now.at) ? [walk()] : [...walks].reverse()) {
@@ -189,7 +192,7 @@ function spoken() {
 function lineAtX(x) {
   const box = chart.getBoundingClientRect();
   const part = (x - box.left - EDGES.left) / (box.width - EDGES.left - EDGES.right);
-  return Math.min(Math.max(Math.round(part * scale.lines), 0), last(walk()));
+  return atColumn(walk(), Math.round(part * scale.lines));
 }
 
 // ---- facts
@@ -212,6 +215,7 @@ function placeFact() {
   return from && from !== to ? `${shown} \u2190 ${from}` : shown;
 }
 
+const listed = (names) => names.join(", ").toLowerCase() || "nothing";
 const numbers = (count) => (count ? `${count} drawn` : "none drawn");
 
 function factsOf(at) {
@@ -221,8 +225,9 @@ function factsOf(at) {
   const [question, ended] = ["question", "ended"].map((name) => word(walk(), name, at));
   facts.push(["At", `${inLog(at)}, of ${last(walk())} lines`], ["Turn", String(figure(walk(), "turns", at))],
     ["Score", scoreFact(), "wide"],
-    ["Lamp", String(figure(walk(), "lamp", at))],
-    ["Carried", String(figure(walk(), "carried", at))],
+    ["Lamp", String(figure(walk(), "lamp", at)), "wide"],
+    ["Carried", listed(carriedAt(walk(), at)), "wide"],
+    ["Here", listed(thingsByPlace(walk(), at).get(placeAt(walk(), at)) ?? []), "wide"],
     ["Chance", `${numbers(figure(walk(), "draws", at))}, stream at ${figure(walk(), "stream", at)}`,
       "wide"]);
   if (happened) facts.push(["Happened", happened, "wide"]);

@@ -44,7 +44,8 @@ function lineAt(at) {
   }
   const said = saidAt(walk(), at);
   if (said) body.append(make("div", { class: "said" }, ...marked(said)));
-  return make("div", { class: `line${isSilent ? " comment" : ""}`, role: "option", id: `line-${at}`,
+  const kind = `${isSilent ? " comment" : ""}${isAlone(at) ? " alone" : ""}`;
+  return make("div", { class: `line${kind}`, role: "option", id: `line-${at}`,
     "data-at": at, "aria-selected": at === now.at, "aria-posinset": at + 1,
     "aria-setsize": last(walk()) + 1 }, number, body);
 }

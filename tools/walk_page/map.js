@@ -211,6 +211,7 @@ function showSight(height) {
 
 function showMap() {
   showSeen();
+  showThings();
   showTrails();
   for (const it of places.values()) {
     it.spot.classList.toggle("reached", !it.group.classList.contains("pale"));

@@ -96,10 +96,32 @@ const KEYS = {
   PageDown: () => go(now.at + 10), PageUp: () => go(now.at - 10),
   Home: () => go(0), End: () => go(last(walk())),
   v: () => visit(placeAt(walk(), now.at)), V: () => visit(placeAt(walk(), now.at), -1),
-  n: () => goToMatch(1), N: () => goToMatch(-1),
+  n: () => goToMatch(1), N: () => goToMatch(-1), "?": showKeys, c: copyLine,
   "/": () => { field.focus(); field.select(); }, o: swap,
   "+": () => nearer(1.3), "=": () => nearer(1.3), "-": () => nearer(1 / 1.3), 0: wholeOrNear,
 };
+
+function showKeys() {
+  byId("keys").toggleAttribute("open");
+}
+
+// ---- a line of a script
+
+const scriptLine = (at) => `replace ${inLog(at)} ${walk().lines[at - 1]}`;
+
+// A page from a disk has no clipboard of its own, but a field that is selected can be copied.
+function copyLine() {
+  if (!now.at) return say("the opening is no line");
+  const held = make("textarea", { class: "hidden", tabindex: "-1", "aria-hidden": "true" });
+  const focused = document.activeElement;
+  held.value = scriptLine(now.at);
+  document.body.append(held);
+  held.select();
+  const isCopied = document.execCommand("copy");
+  held.remove();
+  focused?.focus({ preventScroll: true });
+  say(isCopied ? `copied: ${scriptLine(now.at)}` : "this browser lets no text be copied");
+}
 
 function wholeOrNear() {
   if (sight.isWhole) lookReadably();
@@ -141,6 +163,7 @@ field.addEventListener("input", () => {
 byId("after").addEventListener("click", () => goToMatch(1));
 byId("before").addEventListener("click", () => goToMatch(-1));
 byId("other").addEventListener("click", swap);
+byId("copy").addEventListener("click", copyLine);
 addEventListener("hashchange", goByAddress);
 
 // ---- the pointer
@@ -241,7 +264,24 @@ function partingFrom(name) {
   const more = ours === theirs ? ", as it does."
     : `, ${Math.abs(ours - theirs)} ${ours < theirs ? "less" : "more"} than ${theirs}.`;
   return ["Parts from ", name, ` at ${sharedOf(walk())} by `, line(walk()), ", not ",
-    line(other()), `; ends with ${ours}${more}`];
+    line(other()), meetingText(), `; ends with ${ours}${more}`];
+}
+
+function meetingText() {
+  if (!data.meeting) return "";
+  const [at, there] = [metOf(walk()), metOf(other())];
+  return `; comes together again at ${at}${at === there ? "" : `, ${there} there`}`;
+}
+
+// ---- the score's own table
+
+function showTable() {
+  const [head, ...rows] = walk().table ?? [[]];
+  byId("score-box").hidden = !rows.length;
+  const cells = (tag, row) => row.map((text) => make(tag, {}, text));
+  byId("score-table").replaceChildren(
+    make("thead", {}, make("tr", {}, ...cells("th", head))),
+    make("tbody", {}, ...rows.map((row) => make("tr", {}, ...cells("td", row)))));
 }
 
 function begin() {
@@ -252,6 +292,7 @@ function begin() {
   byId("visited").replaceChildren(...visited.map((place) =>
     make("option", { value: place }, `${place} ${titleOf(place)}`)));
   showParting();
+  showTable();
   makeBlocks();
   lookFor(field.value);
   drawChart();

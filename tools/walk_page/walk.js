@@ -45,6 +45,21 @@ const gainAt = (it, at) => (at > 0 ? figure(it, "score", at) - figure(it, "score
 const signed = (number) => (number > 0 ? `+${number}` : `\u2212${Math.abs(number)}`);
 const isComment = (line) => line.startsWith("#") || !/[^ \t]/.test(line);
 
+// What each line leaves in the hands, and which objects it moved: each with its number and name.
+function unpackObjects(it) {
+  const named = (object) => ({ object, name: data.names[object] });
+  it.carriedThings = it.hands.map((list) => data.lists[list].map(named));
+  it.carried = it.carriedThings.map((things) => things.length);
+  it.moved = it.lines.map(() => []);
+  for (const [row, moves] of it.moves) it.moved[row] = moves.map(unpackMove);
+}
+
+const unpackMove = ([object, first, second]) =>
+  ({ object, name: data.names[object], first, second });
+
+if (data.opening.moves) data.opening.moved = data.opening.moves.map(unpackMove);
+for (const it of walks) if (it.hands) unpackObjects(it);
+
 // The lines at which a walk comes to each place.
 function visitsOf(it) {
   const visits = new Map();
@@ -59,11 +74,50 @@ function visitsOf(it) {
 
 for (const it of walks) it.visits = visitsOf(it);
 
-// How many lines of a walk the other one shares, or null where it shares all.
+// How many lines of a walk are before the two part, or null where they don't; and before they come
+// together again.
 const sharedOf = (it) => data.parting && data.parting[walks.indexOf(it)];
-const isShared = (at) => !data.parting || at <= sharedOf(walk());
+const metOf = (it) => (data.meeting ? data.meeting[walks.indexOf(it)] : Infinity);
+const isShared = (at, it = walk()) => !data.parting || at <= sharedOf(it) || at > metOf(it);
 
-// By how many lines the other walk comes to the parting earlier, as one with fewer comments does;
-// and its line that is beside one of this walk.
-const shift = () => (data.parting ? sharedOf(walk()) - sharedOf(other()) : 0);
-const beside = (at) => Math.min(Math.max(at - shift(), 0), last(other()));
+// The column of each line: two walks are laid beside each other, so that a line that both have is
+// in one column, and any other in a column of its own.
+function layBeside() {
+  const [ours, theirs] = walks;
+  const ends = [last(ours), last(theirs)];
+  for (const it of walks) it.columns = [0];
+  let column = 0;
+  const alone = (it, until) => {
+    while (it.columns.length <= until) it.columns.push((column += 1));
+  };
+  for (const [first, second, count] of [...data.beside, [...ends, 0]]) {
+    alone(ours, first);
+    alone(theirs, second);
+    for (let more = 0; more < count; more += 1) {
+      column += 1;
+      ours.columns.push(column);
+      theirs.columns.push(column);
+    }
+  }
+}
+
+if (data.beside) layBeside();
+
+const columnOf = (it, at) => (it.columns ? it.columns[at] : at);
+
+// The last line of a walk that isn't after a column.
+function atColumn(it, column) {
+  if (!it.columns) return Math.min(Math.max(column, 0), last(it));
+  let [low, high] = [0, last(it)];
+  while (low < high) {
+    const middle = (low + high + 1) >> 1;
+    if (it.columns[middle] <= column) low = middle;
+    else high = middle - 1;
+  }
+  return low;
+}
+
+// The line of the other walk that is beside one of this walk, and whether it is the same line.
+const beside = (at) => atColumn(other(), columnOf(walk(), at));
+const isAlone = (at) => Boolean(walks[1]) && at > 0
+  && columnOf(other(), beside(at)) !== columnOf(walk(), at);

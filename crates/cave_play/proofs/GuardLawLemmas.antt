@@ -61,6 +61,7 @@ other_view asked.Undo cave game first second items outcomes text free is = absur
 other_view asked.Reports cave game first second items outcomes text free is = is
 other_view asked.Table cave game first second items outcomes text free is = is
 other_view asked.Steps cave game first second items outcomes text free is = is
+other_view asked.Walk cave game first second items outcomes text free is = is
 other_view asked.Score cave game first second items outcomes text free is = is
 other_view asked.FinalState cave game first second items outcomes text free is = is
 

@@ -33,6 +33,7 @@ unwritten_by_bytes asked.Play bytes = λ found. cc
 unwritten_by_bytes asked.Reports bytes = λ found. cc
 unwritten_by_bytes asked.Table bytes = λ found. cc
 unwritten_by_bytes asked.Steps bytes = λ found. cc
+unwritten_by_bytes asked.Walk bytes = λ found. cc
 unwritten_by_bytes asked.Score bytes = λ found. cc
 unwritten_by_bytes asked.FinalState bytes = λ found. cc
 
@@ -62,6 +63,7 @@ size_printed asked.Play cave game guarded items outcomes ends text output writte
 size_printed asked.Reports cave game guarded items outcomes ends text output written is = refl
 size_printed asked.Table cave game guarded items outcomes ends text output written is = refl
 size_printed asked.Steps cave game guarded items outcomes ends text output written is = refl
+size_printed asked.Walk cave game guarded items outcomes ends text output written is = refl
 size_printed asked.Score cave game guarded items outcomes ends text output written is = refl
 size_printed asked.FinalState cave game guarded items outcomes ends text output written is = refl
 

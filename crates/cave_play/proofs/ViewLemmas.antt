@@ -7,7 +7,7 @@ use Rattle.cave_data.specs.CaveView.{CaveView}
 use Rattle.play_command.specs.declared.editing.EditView.{EditView}
 use Rattle.play_command.specs.declared.editing.EditView.TheVariants.{Transcript, Play, Log, Reports}
 use Rattle.play_command.specs.declared.editing.EditView.TheVariants.{Steps, Score, FinalState}
-use Rattle.play_command.specs.declared.editing.EditView.TheVariants.{Table, Undo}
+use Rattle.play_command.specs.declared.editing.EditView.TheVariants.{Table, Undo, Walk}
 use Rattle.cave_replay.specs.LogText.{log_text}
 use Rattle.replay_edits.specs.Edit.{Game, IsGame}
 use Rattle.replay_scripts.specs.Script.{Applied}
@@ -23,6 +23,7 @@ use Rattle.play_machine.specs.Transcript.{play_text}
 use Rattle.play_edits.specs.Outcome.{AreOutcomes, ItemOutcome, lines_in, played_in, refusal_in}
 use Rattle.play_machine.specs.Score.{score_text}
 use Rattle.play_machine.specs.Steps.{steps_text}
+use Rattle.play_machine.specs.Walk.{walk_text}
 use Rattle.cave_play.specs.Views.{IsViewOf}
 use Rattle.play_edits.specs.Accounts.{text_of_items, totals_line}
 
@@ -78,6 +79,10 @@ told-whole Steps cave every items game guarded opened outcomes played counted ba
     told plays counts ends back kept good =
     ends ∙ ap (λ t. t ++ steps_text cave (game_after_items items game))
     (told ∙ told-nothing (text_of_item Steps cave) (λ _ _ _. refl) items game outcomes)
+told-whole Walk cave every items game guarded opened outcomes played counted backs text whole came
+    told plays counts ends back kept good =
+    ends ∙ ap (λ t. t ++ walk_text cave (game_after_items items game))
+    (told ∙ told-nothing (text_of_item Walk cave) (λ _ _ _. refl) items game outcomes)
 told-whole Score cave every items game guarded opened outcomes played counted backs text whole came
     told plays counts ends back kept good =
     ends ∙ ap (λ t. t ++ score_text cave (game_after_items items game))

@@ -17,6 +17,7 @@ use Rattle.play_machine.specs.Machine.{cave_rules, rendering_of}
 use Rattle.play_machine.specs.Moments.{moments_from, noted_of}
 use Rattle.play_machine.specs.Score.{score_text}
 use Rattle.play_machine.specs.Steps.{moment_row, steps_text}
+use Rattle.play_machine.specs.Walk.{moment_object, opening_object, walk_text}
 use Rattle.play_machine.specs.Transcript.{last_line, play_text, shown_line, shown_moment, ticks}
 use Rattle.play_machine.specs.Transcript.{transcript_line}
 use Rattle.play_machine.specs.Watch.{IsEndOf}
@@ -87,6 +88,12 @@ pub steps_text-watched : (cave : CaveView) (game : Game)
     ≡ steps_text cave game
 unfolding steps_text
 steps_text-watched cave game = refl
+
+-- what is noted by the lines as JSON is them
+pub walk_text-watched : (cave : CaveView) (game : Game)
+    → noted_of opening_object moment_object cave game ≡ walk_text cave game
+unfolding walk_text
+walk_text-watched cave game = refl
 
 -- the table of the score at the end of a play
 pub score_text-ended : (cave : CaveView) (game : Game) (end : PlayEnd) → IsEndOf cave game end

@@ -38,6 +38,7 @@ ended_view asked.Undo ends text = ended_text ends.usual false [] (lines text)
 ended_view asked.Reports ends text = text
 ended_view asked.Table ends text = text
 ended_view asked.Steps ends text = text
+ended_view asked.Walk ends text = text
 ended_view asked.Score ends text = text
 ended_view asked.FinalState ends text = text
 

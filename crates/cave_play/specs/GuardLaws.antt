@@ -21,6 +21,7 @@ PrintsNoGuards asked.Undo = ⊥
 PrintsNoGuards asked.Reports = ⊤
 PrintsNoGuards asked.Table = ⊤
 PrintsNoGuards asked.Steps = ⊤
+PrintsNoGuards asked.Walk = ⊤
 PrintsNoGuards asked.Score = ⊤
 PrintsNoGuards asked.FinalState = ⊤
 

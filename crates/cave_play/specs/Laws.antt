@@ -42,6 +42,7 @@ KnowsNoCheckpoints asked.Undo = ⊤
 KnowsNoCheckpoints asked.Reports = ⊥
 KnowsNoCheckpoints asked.Table = ⊥
 KnowsNoCheckpoints asked.Steps = ⊤
+KnowsNoCheckpoints asked.Walk = ⊤
 KnowsNoCheckpoints asked.Score = ⊤
 KnowsNoCheckpoints asked.FinalState = ⊤
 

@@ -18,6 +18,7 @@ use Rattle.play_machine.specs.FinalState.{final_state_text}
 use Rattle.play_machine.specs.Score.{score_text}
 use Rattle.play_machine.specs.Steps.{steps_text}
 use Rattle.play_machine.specs.Transcript.{play_text}
+use Rattle.play_machine.specs.Walk.{walk_text}
 
 -- ---- what is checked
 
@@ -43,6 +44,7 @@ IsChecked view database bindings output = (cave : CaveView) × Reads database bi
 abbrev pub play_view_text : PlayView → CaveView → Game → List ℕ
 play_view_text play.Transcript cave game = play_text cave game
 play_view_text play.Steps cave game = steps_text cave game
+play_view_text play.Walk cave game = walk_text cave game
 play_view_text play.Score cave game = score_text cave game
 play_view_text play.FinalState cave game = final_state_text cave game
 

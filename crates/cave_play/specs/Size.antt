@@ -27,6 +27,7 @@ size_fault asked.Play bytes = None
 size_fault asked.Reports bytes = None
 size_fault asked.Table bytes = None
 size_fault asked.Steps bytes = None
+size_fault asked.Walk bytes = None
 size_fault asked.Score bytes = None
 size_fault asked.FinalState bytes = None
 

@@ -19,6 +19,7 @@ use Rattle.cave_play.specs.Strict.{first_strict_fault}
 use Rattle.play_edits.specs.Outcome.{AreOutcomes, ItemOutcome, played_in}
 use Rattle.play_edits.specs.Table.{table_text}
 use Rattle.play_machine.specs.Transcript.{play_text}
+use Rattle.play_machine.specs.Walk.{walk_text}
 use Rattle.play_edits.specs.Undo.{undo_text}
 
 -- ---- the edited log
@@ -59,6 +60,8 @@ IsViewOf asked.Table cave game guarded items outcomes text =
     text ≡ table_text cave items game outcomes
 IsViewOf asked.Steps cave game guarded items outcomes text =
     text ≡ steps_text cave (game_after_items items game)
+IsViewOf asked.Walk cave game guarded items outcomes text =
+    text ≡ walk_text cave (game_after_items items game)
 IsViewOf asked.Score cave game guarded items outcomes text =
     text ≡ score_text cave (game_after_items items game)
 IsViewOf asked.FinalState cave game guarded items outcomes text =

@@ -54,7 +54,7 @@ pub fn run_check<C: Read, B: Read, L: Read, S: Read, W: Write>(
 }
 
 /// Plays a log and writes what is asked for, once it is whole: the transcript, the table of its
-/// lines, that of its score, or the state that the log leads to.
+/// lines, the same as JSON, the table of its score, or the state that the log leads to.
 pub fn run_play<C: Read, B: Read, L: Read, S: Read, W: Write>(
     alloc: Global,
     inputs: &mut Inputs<C, B, L, S>,
@@ -78,9 +78,10 @@ pub fn run_play<C: Read, B: Read, L: Read, S: Read, W: Write>(
 
 /// Edits a log by a script, and writes what is asked for, once it is whole: a report on each item
 /// of the script and then the transcript of the edited log, that log, what each item replayed, the
-/// table of the edited log's lines, that of its score, or the state that it leads to. Each line of
-/// the edited log has the end that it has in the log. Returns how many lines were played for the
-/// items: the sum of what was played for each, which is within the bound of its replay.
+/// table of the edited log's lines, the same as JSON, the table of its score, or the state that it
+/// leads to. Each line of the edited log has the end that it has in the log. Returns how many lines
+/// were played for the items: the sum of what was played for each, which is within the bound of its
+/// replay.
 pub fn run_edit<C: Read, B: Read, L: Read, S: Read, W: Write>(
     alloc: Global,
     inputs: &mut Inputs<C, B, L, S>,

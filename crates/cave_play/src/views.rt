@@ -18,7 +18,7 @@ use check_tables::{push_names, push_unused};
 use data_bindings::push_bindings;
 use play_command::{CheckView, PlayView};
 use play_machine::{
-    CaveMachine, StepTable, Transcript, Unwatched, push_play_end, push_state_after,
+    CaveMachine, StepTable, Transcript, Unwatched, WalkLines, push_play_end, push_state_after,
 };
 use play_tables::push_score_table;
 use std::alloc::{AllocError, Global};
@@ -83,6 +83,11 @@ pub(crate) fn play_view_text<L: Read>(
             let mut table = StepTable { text };
             watch_play(alloc, machine, log, seed, &mut table)?;
             Ok(table.text)
+        }
+        PlayView::Walk => {
+            let mut walk = WalkLines::after(alloc, text);
+            watch_play(alloc, machine, log, seed, &mut walk)?;
+            Ok(walk.text)
         }
         PlayView::Score => {
             let end = watch_play(alloc, machine, log, seed, &mut Unwatched)?;

@@ -20,8 +20,9 @@ edit_view_named name =
     else (if bytes_eq name (codes "reports") then Some asked.Reports
     else (if bytes_eq name (codes "table") then Some asked.Table
     else (if bytes_eq name (codes "steps") then Some asked.Steps
+    else (if bytes_eq name (codes "walk") then Some asked.Walk
     else (if bytes_eq name (codes "score") then Some asked.Score
-    else (if bytes_eq name (codes "state") then Some asked.FinalState else None))))))))
+    else (if bytes_eq name (codes "state") then Some asked.FinalState else None)))))))))
 
 abbrev pub check_view_named : List ℕ → Option CheckView
 check_view_named name =
@@ -40,5 +41,6 @@ abbrev pub play_view_named : List ℕ → Option PlayView
 play_view_named name =
     if bytes_eq name (codes "transcript") then Some played.Transcript
     else (if bytes_eq name (codes "steps") then Some played.Steps
+    else (if bytes_eq name (codes "walk") then Some played.Walk
     else (if bytes_eq name (codes "score") then Some played.Score
-    else (if bytes_eq name (codes "state") then Some played.FinalState else None)))
+    else (if bytes_eq name (codes "state") then Some played.FinalState else None))))

@@ -135,8 +135,9 @@ pub(crate) fn edit_print_argument<'a>(alloc: Global) -> Arg<'a>
             "What is printed: `transcript`, the reports and what the game says, `play`, what it \
              says alone, `log`, the edited log without its seed, `undo`, the script that takes the \
              edits back, `reports`, what each edit replayed and what came of it, `table`, the \
-             same as a table, `steps`, what each line of the edited log did, `score`, where the \
-             score comes from, or `state`, the final state [default: transcript]",
+             same as a table, `steps`, what each line of the edited log did, `walk`, the same as \
+             JSON, `score`, where the score comes from, or `state`, the final state \
+             [default: transcript]",
         )
 }
 
@@ -150,8 +151,8 @@ pub(crate) fn play_print_argument<'a>(alloc: Global) -> Arg<'a>
         .value_name("WHAT")
         .help(
             "What is printed: `transcript`, what the game says, `steps`, what each line did, \
-             `score`, where the score comes from, or `state`, the final state \
-             [default: transcript]",
+             `walk`, the same as JSON, `score`, where the score comes from, or `state`, the \
+             final state [default: transcript]",
         )
 }
 

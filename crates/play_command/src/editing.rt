@@ -18,6 +18,8 @@ pub enum EditView {
     Table,
     /// What each line of the edited log did.
     Steps,
+    /// The same as JSON, with what was said and what is carried and moved.
+    Walk,
     /// Where the score of the edited log comes from.
     Score,
     /// The state that the edited log leads to.
@@ -25,7 +27,7 @@ pub enum EditView {
 }
 
 /// The names of what an edit may print.
-pub(crate) const EDIT_VIEWS: [&str; 9] = [
+pub(crate) const EDIT_VIEWS: [&str; 10] = [
     "transcript",
     "play",
     "log",
@@ -33,6 +35,7 @@ pub(crate) const EDIT_VIEWS: [&str; 9] = [
     "reports",
     "table",
     "steps",
+    "walk",
     "score",
     "state",
 ];
@@ -50,6 +53,7 @@ impl EditView {
             "reports" => Some(EditView::Reports),
             "table" => Some(EditView::Table),
             "steps" => Some(EditView::Steps),
+            "walk" => Some(EditView::Walk),
             "score" => Some(EditView::Score),
             "state" => Some(EditView::FinalState),
             _ => None,

@@ -41,6 +41,8 @@ pub enum PlayView {
     Transcript,
     /// What each line of the log did.
     Steps,
+    /// The same as JSON, with what was said and what is carried and moved.
+    Walk,
     /// Where the score comes from.
     Score,
     /// The state that the log leads to.
@@ -48,7 +50,7 @@ pub enum PlayView {
 }
 
 /// The names of what a play may print.
-pub(crate) const PLAY_VIEWS: [&str; 4] = ["transcript", "steps", "score", "state"];
+pub(crate) const PLAY_VIEWS: [&str; 5] = ["transcript", "steps", "walk", "score", "state"];
 
 impl PlayView {
     /// The view of a name, if it is the name of one.
@@ -58,6 +60,7 @@ impl PlayView {
         match name {
             "transcript" => Some(PlayView::Transcript),
             "steps" => Some(PlayView::Steps),
+            "walk" => Some(PlayView::Walk),
             "score" => Some(PlayView::Score),
             "state" => Some(PlayView::FinalState),
             _ => None,

@@ -44,6 +44,7 @@ kept-append asked.Undo first second = refl
 kept-append asked.Reports first second = refl
 kept-append asked.Table first second = refl
 kept-append asked.Steps first second = refl
+kept-append asked.Walk first second = refl
 kept-append asked.Score first second = refl
 kept-append asked.FinalState first second = refl
 
@@ -55,6 +56,7 @@ kept-nothing asked.Undo = refl
 kept-nothing asked.Reports = refl
 kept-nothing asked.Table = refl
 kept-nothing asked.Steps = refl
+kept-nothing asked.Walk = refl
 kept-nothing asked.Score = refl
 kept-nothing asked.FinalState = refl
 

@@ -23,6 +23,7 @@ use Rattle.play_machine.specs.Score.{score_text}
 use Rattle.play_machine.specs.Steps.{steps_text}
 use Rattle.play_edits.specs.Table.{table_row}
 use Rattle.play_machine.specs.Transcript.{play_text}
+use Rattle.play_machine.specs.Walk.{walk_text}
 use Rattle.play_machine.specs.declared.machine.CaveMachine.{CaveMachine}
 
 -- an item was applied to what a session held, and this came of it
@@ -43,6 +44,7 @@ text_at_start asked.Undo = []
 text_at_start asked.Reports = []
 text_at_start asked.Table = item_head_row
 text_at_start asked.Steps = []
+text_at_start asked.Walk = []
 text_at_start asked.Score = []
 text_at_start asked.FinalState = []
 
@@ -55,6 +57,7 @@ text_of_item asked.Undo cave item game outcome = []
 text_of_item asked.Reports cave item game outcome = account cave item game outcome
 text_of_item asked.Table cave item game outcome = table_row cave item game outcome
 text_of_item asked.Steps cave item game outcome = []
+text_of_item asked.Walk cave item game outcome = []
 text_of_item asked.Score cave item game outcome = []
 text_of_item asked.FinalState cave item game outcome = []
 
@@ -67,6 +70,7 @@ kept_for asked.Undo backs = backs
 kept_for asked.Reports backs = []
 kept_for asked.Table backs = []
 kept_for asked.Steps backs = []
+kept_for asked.Walk backs = []
 kept_for asked.Score backs = []
 kept_for asked.FinalState backs = []
 
@@ -92,6 +96,7 @@ text_at_end asked.Undo cave game played lines backs = script_text backs
 text_at_end asked.Reports cave game played lines backs = totals_line played lines
 text_at_end asked.Table cave game played lines backs = []
 text_at_end asked.Steps cave game played lines backs = steps_text cave game
+text_at_end asked.Walk cave game played lines backs = walk_text cave game
 text_at_end asked.Score cave game played lines backs = score_text cave game
 text_at_end asked.FinalState cave game played lines backs = final_state_text cave game
 
@@ -104,5 +109,6 @@ LogReadsBack asked.Undo log = ⊤
 LogReadsBack asked.Reports log = ⊤
 LogReadsBack asked.Table log = ⊤
 LogReadsBack asked.Steps log = ⊤
+LogReadsBack asked.Walk log = ⊤
 LogReadsBack asked.Score log = ⊤
 LogReadsBack asked.FinalState log = ⊤

@@ -64,7 +64,7 @@ pub fn apply_item(
             let outcome = edit(alloc, session, item)?;
             Ok(outcome)
         }
-        EditView::Steps | EditView::Score | EditView::FinalState => {
+        EditView::Steps | EditView::Walk | EditView::Score | EditView::FinalState => {
             let outcome = edit(alloc, session, item)?;
             Ok(outcome)
         }
@@ -153,6 +153,7 @@ pub fn keep_back(
             Err(_) => Ok(()),
         },
         EditView::Transcript | EditView::Play | EditView::Log | EditView::Reports => Ok(()),
-        EditView::Table | EditView::Steps | EditView::Score | EditView::FinalState => Ok(()),
+        EditView::Table | EditView::Steps | EditView::Walk => Ok(()),
+        EditView::Score | EditView::FinalState => Ok(()),
     }
 }

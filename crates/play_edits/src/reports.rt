@@ -14,7 +14,7 @@ use crate::refusal::Refusal;
 use cave_replay::{Done, Session};
 use cave_world::Ending;
 use play_command::EditView;
-use play_machine::{CaveMachine, push_final_state, push_play, push_score, push_steps};
+use play_machine::{CaveMachine, push_final_state, push_play, push_score, push_steps, push_walk};
 use play_tables::push_item_head_row;
 use replay_scripts::{BackEdit, Item, push_script};
 use std::alloc::{AllocError, Global};
@@ -26,7 +26,8 @@ pub fn push_start(view: EditView, text: &mut Vec<u8>) -> Result<(), AllocError>
     match view {
         EditView::Table => push_item_head_row(text),
         EditView::Transcript | EditView::Play | EditView::Log | EditView::Undo => Ok(()),
-        EditView::Reports | EditView::Steps | EditView::Score | EditView::FinalState => Ok(()),
+        EditView::Reports | EditView::Steps | EditView::Walk => Ok(()),
+        EditView::Score | EditView::FinalState => Ok(()),
     }
 }
 
@@ -51,6 +52,7 @@ pub fn push_end(
         EditView::Reports => push_totals(alloc, text, totals),
         EditView::Table => Ok(()),
         EditView::Steps => push_steps(alloc, session, text),
+        EditView::Walk => push_walk(alloc, session, text),
         EditView::Score => push_score(alloc, session, text),
         EditView::FinalState => push_final_state(alloc, session, text),
     }

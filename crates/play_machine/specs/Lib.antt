@@ -7,4 +7,5 @@ pub mod PieceParts
 pub mod Score
 pub mod Steps
 pub mod Transcript
+pub mod Walk
 pub mod Watch

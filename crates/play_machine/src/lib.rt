@@ -1,5 +1,5 @@
 //! The machine of a cave, and what is written of a play that it made: the transcript, tables of its
-//! lines and of its score, and its last state.
+//! lines and of its score, its lines as JSON, and its last state.
 #![tactic(auto)]
 
 pub mod course;
@@ -9,6 +9,7 @@ pub mod piece;
 pub mod score;
 pub mod steps;
 pub mod transcript;
+pub mod walk;
 pub mod watch;
 
 pub use course::{PlayEnd, watch_log};
@@ -18,4 +19,5 @@ pub use piece::Piece;
 pub use score::push_score;
 pub use steps::{StepTable, push_steps};
 pub use transcript::{Transcript, push_play, push_play_end};
+pub use walk::{WalkLines, push_walk};
 pub use watch::{Begun, LineRows, SeenLine, Unwatched, Watch};

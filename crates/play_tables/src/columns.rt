@@ -30,7 +30,7 @@ fn push_hint(alloc: Global, text: &mut Vec<u8>, before: &str, hint: u8) -> Resul
 }
 
 /// Appends the question that is open.
-pub(crate) fn push_question_column(
+pub fn push_question_column(
     alloc: Global,
     text: &mut Vec<u8>,
     question: Option<Question>,

@@ -24,7 +24,7 @@ fn draws_between(from: Stream, to: Stream) -> u32
 }
 
 /// How many random numbers a line drew.
-pub(crate) fn draws_at(line: &[u8], from: Stream, to: Stream) -> u32
+pub fn draws_at(line: &[u8], from: Stream, to: Stream) -> u32
     ensures { result ≡ draws_at line.now from to }
 {
     match LogLine::of(line) {

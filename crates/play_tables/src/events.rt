@@ -167,7 +167,7 @@ fn is_some_brought_home(rules: &Rules<'_>, before: &State, after: &State) -> boo
 }
 
 /// Whether an event happened between two states.
-fn happens(rules: &Rules<'_>, before: &State, after: &State, event: Event) -> bool
+pub fn happens(rules: &Rules<'_>, before: &State, after: &State, event: Event) -> bool
     ensures { result ≡ event_happens (cave_of rules.now) before.now after.now event }
 {
     match event {
@@ -188,7 +188,7 @@ fn happens(rules: &Rules<'_>, before: &State, after: &State, event: Event) -> bo
     }
 }
 
-fn event_name(event: Event) -> &'static str
+pub fn event_name(event: Event) -> &'static str
     ensures { result.now ≡ event_name event }
 {
     match event {
@@ -240,7 +240,7 @@ fn push_each_event(
     Ok(())
 }
 
-fn each_event() -> [Event; 9]
+pub fn each_event() -> [Event; 9]
     ensures { result ≡ each_event }
 {
     [

@@ -20,6 +20,19 @@ pub const STEPS: &str = "0\tno\t1\t1\t0\t32\t330\t0\t0\t0\t-\t-\t-\n\
 3\ton\t3\t3\t3\t32\t330\t1\t0\t0\t-\t-\t-\n\
 4\tdown\t3\t9\t4\t32\t329\t1\t0\t0\t-\t-\t-\n";
 
+/// The opening of a play as JSON.
+pub const WALK_HEAD: &str = "\
+{\"place\":null,\"line\":null,\"said\":\"[welcome]\\n\",\"from\":1,\"to\":1,\"turns\":0,\
+\"score\":32,\"lamp\":330,\"carried\":[],\"draws\":0,\"stream\":0,\"question\":\"welcome\",\
+\"ended\":null,\"happened\":[],\"moved\":[{\"object\":2,\"name\":\"LAMP\",\"first\":3,\
+\"second\":0}]}\n";
+
+/// The last line of the long log as JSON.
+pub const WALK: &str = "\
+{\"place\":4,\"line\":\"down\",\"said\":\"You are in a cellar.\\n\",\"from\":3,\"to\":9,\
+\"turns\":4,\"score\":32,\"lamp\":329,\"carried\":[{\"object\":2,\"name\":\"LAMP\"}],\
+\"draws\":0,\"stream\":0,\"question\":null,\"ended\":null,\"happened\":[],\"moved\":[]}\n";
+
 /// Where the score of the log comes from, and of the log as the script edits it.
 pub const SCORE: &str = "what\tfound\thome\tpoints\tof\nlives\t-\t-\t30\t30\n\
 ending\t-\t-\t0\t4\ndwarves\t-\t-\t0\t25\nclosing\t-\t-\t0\t25\nclosed\t-\t-\t0\t45\n\
@@ -46,6 +59,12 @@ pub const EDITED_STEPS: &str = "0\tno\t1\t1\t0\t32\t330\t0\t0\t0\t-\t-\t-\n\
 2\t# note\t3\t3\t1\t32\t330\t0\t0\t0\t-\t-\t-\n\
 3\ton\t3\t3\t2\t32\t330\t0\t0\t0\t-\t-\t-\n\
 4\tdown\t3\t9\t3\t32\t329\t0\t0\t0\t-\t-\t-\n";
+
+/// The last line of that log as JSON.
+pub const EDITED_WALK: &str = "\
+{\"place\":4,\"line\":\"down\",\"said\":\"[dark]\\n\",\"from\":3,\"to\":9,\"turns\":3,\
+\"score\":32,\"lamp\":329,\"carried\":[],\"draws\":0,\"stream\":0,\"question\":null,\
+\"ended\":null,\"happened\":[],\"moved\":[]}\n";
 
 /// What the edit prints.
 pub const EDITED_TEXT: &str = "line 1: ok\nline 2: refused 1\nline 3: ok\n[welcome]\n\n\

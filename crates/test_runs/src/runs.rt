@@ -1,9 +1,9 @@
 //! Runs of the program over inputs from sources that can be made to misbehave.
 
 use crate::caves::{
-    COVERED_HEAD, COVERED_TAIL, EDITED_LOG, EDITED_PLAY, EDITED_STEPS, EDITED_TEXT, KEYS_TAIL,
-    LONG_LOG, LONG_TEXT, MAP_HEAD, MAP_TAIL, REPORTS, SCORE, SCRIPT, SHORT_LOG, STEPS, STEPS_HEAD,
-    TABLE, UNDO,
+    COVERED_HEAD, COVERED_TAIL, EDITED_LOG, EDITED_PLAY, EDITED_STEPS, EDITED_TEXT, EDITED_WALK,
+    KEYS_TAIL, LONG_LOG, LONG_TEXT, MAP_HEAD, MAP_TAIL, REPORTS, SCORE, SCRIPT, SHORT_LOG, STEPS,
+    STEPS_HEAD, TABLE, UNDO, WALK, WALK_HEAD,
 };
 use crate::streams::{Sink, Source};
 use cave_play::{CaveReaders, Input, Inputs, PlayFault, run_check, run_doubts, run_edit, run_play};
@@ -44,7 +44,7 @@ pub const EDIT: Run = Run::Edit(EditView::Transcript);
 pub const COVER: Run = Run::Cover(CoverView::Said(TextView::Counts));
 
 /// Each run that the program can be asked for, and what it prints of the usual inputs.
-pub const RUNS: [(Run, Printed); 22] = [
+pub const RUNS: [(Run, Printed); 24] = [
     (
         Run::Check(CheckView::Maximum),
         Printed::Whole("cave ok, maximum 132\n"),
@@ -67,6 +67,7 @@ pub const RUNS: [(Run, Printed); 22] = [
         Run::Play(PlayView::Steps),
         Printed::Between(STEPS_HEAD, STEPS),
     ),
+    (Run::Play(PlayView::Walk), Printed::Between(WALK_HEAD, WALK)),
     (Run::Play(PlayView::Score), Printed::Whole(SCORE)),
     (
         Run::Play(PlayView::FinalState),
@@ -81,6 +82,10 @@ pub const RUNS: [(Run, Printed); 22] = [
     (
         Run::Edit(EditView::Steps),
         Printed::Between(STEPS_HEAD, EDITED_STEPS),
+    ),
+    (
+        Run::Edit(EditView::Walk),
+        Printed::Between(WALK_HEAD, EDITED_WALK),
     ),
     (Run::Edit(EditView::Score), Printed::Whole(SCORE)),
     (

@@ -112,6 +112,12 @@ const ANSWERS: [(&[&str], &str); 39] = [
         editing: Editing { seed: 0, every: 50, view: Steps, strict: false, guarded: false } }",
     ),
     (
+        &["cave", "edit", "a", "b", "c", "--print=walk"],
+        "Edit { files: Files { cave: \"a\", bind: None, output: None }, \
+        log: \"b\", script: File(\"c\"), \
+        editing: Editing { seed: 0, every: 50, view: Walk, strict: false, guarded: false } }",
+    ),
+    (
         &["cave", "edit", "--guarded", "a", "b", "c"],
         "Edit { files: Files { cave: \"a\", bind: None, output: None }, \
         log: \"b\", script: File(\"c\"), \
@@ -297,11 +303,11 @@ const TEXTS: [(&[&str], &str); 25] = [
     (
         &["cave", "edit", "a", "b", "c", "--print", "text"],
         "error: invalid value 'text' for '--print <WHAT>': wanted is transcript, play, log, \
-        undo, reports, table, steps, score or state\n\nFor more",
+        undo, reports, table, steps, walk, score or state\n\nFor more",
     ),
     (
         &["cave", "edit", "a", "b", "c", "-p", "stpes"],
-        "steps, score or state\n\n  tip: did you mean 'steps'?\n\nFor more",
+        "steps, walk, score or state\n\n  tip: did you mean 'steps'?\n\nFor more",
     ),
 ];
 

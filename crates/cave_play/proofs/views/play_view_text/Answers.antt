@@ -2,7 +2,7 @@ use Rattle.std.proofs.Common.{[], ◌++◌, ap, sym, ◌∙◌}
 use Rattle.std.specs.Str.Lines.{lines}
 use Rattle.cave_play.specs.Output.{play_view_text}
 use Rattle.cave_play.proofs.WatchedLemmas.{final_state-ended, play_text-watched, score_text-ended}
-use Rattle.cave_play.proofs.WatchedLemmas.{steps_text-watched}
+use Rattle.cave_play.proofs.WatchedLemmas.{steps_text-watched, walk_text-watched}
 use Rattle.replay_edits.specs.Edit.{game_of}
 use Rattle.turn_ends.specs.Score.{max_score_of, score_of}
 use Rattle.play_machine.specs.FinalState.{state_text_after}
@@ -29,6 +29,16 @@ returns-in_ok-watch_play-in-Steps g c =
     let game = game_of c.args.seed (lines moves) in
     let text = played.1.0 [] c.new-text.ensures.items ∙ steps_text-watched cave game
     ∙ ap (λ view. play_view_text view cave game) (sym c.in-Steps.is) in
+    record { judged = (moves, said, (played.0, text)) }
+
+pub returns-in_ok-watch_play-in-Walk : goal.returns-in_ok-watch_play-in-Walk
+returns-in_ok-watch_play-in-Walk g c =
+    let (moves, said, played) = c.in_ok-watch_play-in-Walk.ensures.judged in
+    let cave = c.args.machine.rules.cave.now in
+    let game = game_of c.args.seed (lines moves) in
+    let begun = c.after-walk.ensures ∙ c.new-text.ensures.items in
+    let text = played.1.0 [] begun ∙ walk_text-watched cave game
+    ∙ ap (λ view. play_view_text view cave game) (sym c.in-Walk.is) in
     record { judged = (moves, said, (played.0, text)) }
 
 pub returns-in_ok-push_score_table-in-Score : goal.returns-in_ok-push_score_table-in-Score

@@ -1,0 +1,4 @@
+pub mod JsonLemmas
+pub mod Moving
+pub mod WalkLemmas
+pub mod StepLemmas

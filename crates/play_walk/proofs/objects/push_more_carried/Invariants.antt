@@ -1,0 +1,10 @@
+use Rattle.std.proofs.Common.{◌≡◌, ◌++◌, take}
+use Rattle.std.specs.List.{flat_map}
+use Rattle.play_walk.specs.Json.{next_value}
+use Rattle.play_walk.specs.Objects.{carried_object}
+use Rattle.play_walk.proofs.objects.push_more_carried.Given as goal
+
+abbrev pub invariant-loop-object : goal.invariant-loop-object
+invariant-loop-object l =
+    l.text.items ≡ l.initial.text.items
+    ++ flat_map (next_value (carried_object l.cave)) (take l.object-index l.objects)

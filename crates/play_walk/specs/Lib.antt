@@ -1,0 +1,4 @@
+pub mod Json
+pub mod Objects
+pub mod Figures
+pub mod Walk
