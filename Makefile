@@ -1,4 +1,4 @@
-.PHONY: help try play checks test soak suite duel map chart page picture install package
+.PHONY: help try play checks test soak suite duel map chart page live picture install package
 
 # The first target, so `make` alone lists them too: each has its sentence after `##`.
 help: ## lists what `make` can do
@@ -86,6 +86,7 @@ test: has-rt has-cc checks ## runs the gate: all proofs anew, wrong bodies, test
 	logs/tools/check-maps $(PROGRAM)
 	logs/tools/check-undo $(PROGRAM)
 	logs/tools/check-drafts $(PROGRAM)
+	tools/check-live $(PROGRAM)
 	tools/prefixes --lines $(PROGRAM)
 	tools/prefixes $(PROGRAM)
 	tools/check-memory
@@ -145,12 +146,20 @@ page: has-dot $(PROGRAM) ## makes a page of two walks for a browser, docs/tour.h
 		--program $(PROGRAM) --output docs/tour.html
 	@echo "docs/tour.html is made: open it in a browser."
 
-# Takes the picture of that page that README shows, by a headless chromium: docs/tour.png.
-picture: has-chromium has-chromedriver page ## takes a picture of that page: docs/tour.png
-	@tools/picture docs/tour.html docs/tour.png
+# Serves a copy of the tour, out/live/tour.log, as a page on which its lines are edited. A copy that
+# is there stays as it was edited.
+live: has-dot $(PROGRAM) ## edits a copy of that log in a browser: out/live/tour.log
+	@mkdir -p out/live
+	@test -e out/live/tour.log || cp logs/tour.log out/live
+	@tools/live caves/shoal.txt out/live/tour.log $(HOW) --program $(PROGRAM)
 
-# Puts the program into PREFIX, with cave-suite, cave-page, cave-chart, manuals, completions, the
-# shipped caves and first logs.
+# Takes the pictures of both pages that the pages of docs/ show, by a headless chromium.
+picture: has-chromium has-chromedriver page ## takes the pictures of pages in docs/
+	@tools/picture docs/tour.html docs/tour.png
+	@tools/live-picture $(PROGRAM) docs/live.png
+
+# Puts the program into PREFIX, with cave-suite, cave-live, cave-page, cave-chart, manuals,
+# completions, the shipped caves and first logs.
 install: $(PROGRAM) ## puts program, tools, manuals and completions into ~/.local
 	@tools/package $(PROGRAM) $(GIVEN) --into '$(PREFIX)'
 

@@ -54,7 +54,12 @@ def demand(*programs):
 def skip(count, parts, *programs):
     """Says how many parts of a check are skipped, and why. `make test` adds these up, by the file
     that SKIPPED names."""
-    line = f"{count} {parts} skipped: {missing(*programs)}"
+    skip_for(count, parts, missing(*programs))
+
+
+def skip_for(count, parts, reason):
+    """The same, for another reason."""
+    line = f"{count} {parts} skipped: {reason}"
     print(line)
     if path := os.environ.get("SKIPPED"):
         os.makedirs(os.path.dirname(path), exist_ok=True)

@@ -34,6 +34,9 @@ SYMBOLS = "its symbols"
 # The tools of users: the name of each, its script, and the modules and folders that it needs.
 TOOLS = {
     "cave-suite": ("tools/cave-suite", ["tools/cave_suite/*.py"]),
+    "cave-live": ("tools/live", ["tools/command_line.py", "tools/drawing.py", "tools/steps.py",
+                                 "tools/live_server/*.py", "tools/live_page/*",
+                                 "tools/walk_page/*"]),
     "cave-page": ("tools/page", ["tools/beside.py", "tools/command_line.py", "tools/drawing.py",
                                  "tools/steps.py", "tools/walk_page/*"]),
     "cave-chart": ("tools/chart", ["tools/command_line.py", "tools/steps.py"]),

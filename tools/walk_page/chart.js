@@ -4,6 +4,9 @@ const chart = byId("chart");
 const EDGES = { left: 40, right: 40, top: 12, bottom: 20 };
 const MARKED = ["treasure found", "treasure home", "hint", "closing", "closed", "died"];
 const scale = {};
+// A score that is drawn under that of the walk, and the line at which each of its lines is; a page
+// that changes its walk has here how it was before.
+const under = { score: [], lineOf: (at) => at };
 
 // ---- scales
 
@@ -16,7 +19,7 @@ function setScale() {
   const box = chart.getBoundingClientRect();
   Object.assign(scale, { width: Math.max(box.width, 200), height: Math.max(box.height, 80) });
   scale.lines = Math.max(...walks.map((it) => columnOf(it, last(it))), 1);
-  scale.score = [0, most("score", 10) * 1.08];
+  scale.score = [0, under.score.reduce((a, b) => Math.max(a, b), most("score", 10)) * 1.08];
   scale.lamp = [least("lamp", 0), most("lamp", 10) * 1.08];
 }
 
@@ -125,6 +128,10 @@ function drawChart() {
     parts.push(path("area", `${stairs(mine, scale.score)}V${foot}H${mine[0][0]}z`));
   }
   parts.push(path("lamp", lamp));
+  if (under.score.length) {
+    const points = under.score.map((score, at) => [xOf(under.lineOf(at + 1)), score]);
+    parts.push(path("score before", stairs(points, scale.score)));
+  }
   if (data.parting) {
     for (const at of [sharedOf(walk()), metOf(walk())]) {
       if (at >= last(walk())) continue;
@@ -149,6 +156,7 @@ function showLegend() {
   const several = walks.length > 1;
   const entries = walks.map((it) => entry(stroke(`score ${colour(it)}`),
     several ? `score of ${it.name}` : "score"));
+  if (under.score.length) entries.push(entry(stroke("score before"), "score before"));
   entries.push(entry(stroke("lamp"), "lamp"));
   for (const event of MARKED) {
     if (!walks.some((it) => it.happened.words.some((words) => words.split(",").includes(event)))) {

@@ -6,6 +6,8 @@ let linking = 0;
 
 // ---- moves
 
+const onShown = []; // what a page that shows more does after each move
+
 function go(at, isSaid = true) {
   now.at = Math.min(Math.max(at, 0), last(walk()));
   showMap();
@@ -17,6 +19,7 @@ function go(at, isSaid = true) {
   if (isSaid && document.activeElement !== list) byId("said-now").textContent = spoken();
   clearTimeout(linking);
   linking = setTimeout(() => history.replaceState(null, "", addressOf(now.at)), 150);
+  for (const show of onShown) show();
 }
 
 const OPENING = "#opening";

@@ -1,0 +1,158 @@
+"""What a page of `tools/live` does with the file of its log, with other pages and with the server's
+end, and how fast it is; used by tools/live-test."""
+
+from __future__ import annotations
+
+import os
+
+from selenium.webdriver.common.keys import Keys
+
+from live_checks import LOG, TOUR, Checks, edit_line, lines_of, page_is, tour
+from live_window import Window
+from served import SHOAL, TOP, Served
+
+SHOWN = "return performance.getEntriesByName('shown').map((it) => [it.duration, it.detail])"
+MOVES = ["e", "w", "take lamp", "light lamp", "look", "drop lamp", "inventory"]
+LARGEST, LARGEST_SEED = f"{TOP}/logs/shoal/batteries-used.log", ["--seed", "1"]
+CHANGES = 10
+
+
+def seeds(window: Window, program: str) -> Checks:
+    """The seed at the head."""
+    with tour(program) as server:
+        window.open(server.address)
+        seed = "return byId('seed').value"
+        yield "the seed", window.run(seed), "3"
+        window.click("#seed")
+        window.retype("99")
+        window.press(Keys.TAB)
+        yield "another seed", window.wait("return byId('seed').dataset.held === '99'"), True
+        yield "the opening is replayed too", window.run("return held.stream[0]"), 99
+        window.click("#seed")
+        window.retype("2147483648")
+        window.press(Keys.TAB)
+        yield "a bad seed", "a bad seed" in window.text("#notice"), True
+        window.click("#seed")
+        window.retype("99")
+        window.run("list.focus()")
+        window.press_with(Keys.CONTROL, "z")
+        yield "taken back", window.run(seed), "3"
+        yield from page_is(window, server, "the old seed")
+
+
+def on_disk(window: Window, program: str) -> Checks:
+    """The file that changed on disk meanwhile."""
+    with tour(program) as server:
+        window.open(server.address)
+        edit_line(window, 18, "drop vase")
+        with open(server.path, "a", encoding="ascii") as file:
+            file.write("look\n")
+        window.press_with(Keys.CONTROL, "s")
+        yield "it is said", "changed on disk" in window.text("#notice"), True
+        yield "nothing is saved", lines_of(server.path), [*lines_of(TOUR), "look"]
+        window.click("#save-over")
+        yield "until one is told to", lines_of(server.path), window.run(LOG)
+        yield "saved", window.text("#unsaved"), "saved"
+
+
+def two_pages(window: Window, program: str) -> Checks:
+    """Two pages of one log show the same."""
+    with tour(program) as server:
+        window.open(server.address)
+        first = window.driver.current_window_handle
+        window.driver.switch_to.new_window("tab")
+        window.open(server.address)
+        edit_line(window, 18, "drop vase")
+        window.driver.switch_to.window(first)
+        yield "the other page shows it", window.wait(
+            "return held.lines[17] === 'drop vase' && changes.list.length === 1"), True
+        yield from page_is(window, server, "the other page")
+        window.run("list.focus()")
+        window.press_with(Keys.CONTROL, "z")
+        yield "and takes it back", window.run(LOG), lines_of(TOUR)
+        window.driver.switch_to.window(window.driver.window_handles[1])
+        yield "which the first one shows", window.wait(
+            "return held.lines[17] === 'drop pillow'"), True
+        window.driver.close()
+        window.driver.switch_to.window(first)
+
+
+def leaving(window: Window, program: str) -> Checks:
+    """A page with changes that aren't saved asks before it closes; and the server's end."""
+    with tour(program) as server:
+        window.open(server.address)
+        yield "saved: it doesn't ask", asks(window), False
+        window.open(server.address)
+        edit_line(window, 18, "drop vase")
+        held = server.got("log")
+        yield "not saved: it asks", asks(window), True
+        yield "the changes are still there", window.run("return held.lines[17]"), "drop vase"
+        window.run("window.confirm = () => true")
+        window.click("#end")
+        yield "it is said", "The server has ended" in window.text("#notice"), True
+        server.end()
+        with open(f"{server.path}.unsaved", "rb") as file:
+            yield "the draft", file.read(), held
+        yield "the file is as it was", lines_of(server.path), lines_of(TOUR)
+    with tour(program) as server:
+        window.open(server.address)
+        server.end()
+        window.run("list.focus(); go(4)")
+        yield "a server that ended", window.wait("return wire.isEnded"), True
+        yield "is said", "ended" in window.text("#notice"), True
+
+
+def asks(window: Window) -> bool:
+    """Whether a page asks before it closes."""
+    leaves = "return dispatchEvent(new Event('beforeunload', { cancelable: true }))"
+    return not window.run(leaves)
+
+
+def largest(window: Window, program: str) -> Checks:
+    """The largest log of the suite with ten changes in its middle, all taken back and saved."""
+    words = [*SHOAL, *LARGEST_SEED]
+    with Served(program, words, log=LARGEST, name="batteries-used.log") as server:
+        window.open(server.address)
+        opened = lines_of(LARGEST)
+        yield "its lines", len(window.run(LOG)), len(opened)
+        for at in range(CHANGES):
+            edit_line(window, len(opened) // 2 + 7 * at, MOVES[at % len(MOVES)])
+        changed = sum(a != b for a, b in zip(window.run(LOG), opened))
+        yield "lines that are changed", CHANGES - 2 <= changed <= CHANGES, True
+        yield from page_is(window, server, "ten changes")
+        window.run("goToChange(() => 0)")
+        window.settle()
+        yield "all taken back", window.run(LOG) == opened, True
+        window.press_with(Keys.CONTROL, "s")
+        yield "saved as it was", lines_of(server.path) == opened, True
+
+
+def quick(window: Window, program: str, count: int, most: float) -> Checks:
+    """How many milliseconds pass from a key to what it leads to, in a log of so many lines."""
+    lines = ["no", *(MOVES[at % 7] if at % 3 else f"word{at}" for at in range(1, count))]
+    log = "".join(f"{it}\n" for it in lines).encode()
+    with Served(program, [*SHOAL], log=log, name=f"{count}.log") as server:
+        window.open(server.address)
+        window.wait("return held.lines.length === arguments[0]", count)
+        for at in (count // 2, count // 4, count - 20):
+            for text in ("look", "inventory"):
+                window.run("list.focus(); performance.clearMeasures('shown'); go(arguments[0])", at)
+                window.press(Keys.ENTER)
+                window.retype(text)
+                window.press(Keys.ARROW_UP)
+                window.wait(f"{SHOWN}.length > 0")
+                taken, played = window.run(SHOWN)[0]
+                print(f"         {count:,} lines, a change at {at}: {taken:.0f} ms from the key to"
+                      f" what is shown, {played} of them of the program", flush=True)
+                yield f"{count:,} lines: the time of a change at {at}", min(taken, most), taken
+                window.press(Keys.ESCAPE)
+        held = f"{server.room.name}/held"
+        with open(held, "wb") as file:
+            file.write(server.got("log"))
+        yield "the log is the page's", lines_of(held) == window.run(LOG), True
+        os.remove(held)
+
+
+PARTS = {"seeds": seeds, "the file on disk": on_disk, "two pages": two_pages, "leaving": leaving,
+         "the largest log": largest}
+SPEEDS = {3_000: 100.0, 60_000: 400.0}

@@ -1,0 +1,141 @@
+"""The server: on the loopback address alone, for pages that have its token, and for no others."""
+
+from __future__ import annotations
+
+import secrets
+import sys
+import threading
+from http.server import BaseHTTPRequestHandler, ThreadingHTTPServer
+from socket import socket
+from urllib.parse import parse_qsl
+
+from .scripts import Malformed
+from .site import Answer, Site, object_of, told
+
+HOST = "127.0.0.1"
+MOST_SENT = 4_000_000  # bytes of what a page sends
+MOST_AT_ONCE = 32  # connections
+SECONDS = 30  # that a connection may be silent
+HEADERS = {
+    "Cache-Control": "no-store", "Referrer-Policy": "no-referrer",
+    "X-Content-Type-Options": "nosniff", "X-Frame-Options": "DENY",
+    "Cross-Origin-Resource-Policy": "same-origin", "Cross-Origin-Opener-Policy": "same-origin"}
+
+
+class Server(ThreadingHTTPServer):
+    """The server of a site, with the token of its addresses."""
+
+    daemon_threads = True
+    allow_reuse_address = True
+
+    def __init__(self, site: Site, port: int) -> None:
+        super().__init__((HOST, port), Answers)
+        self.site, self.token = site, secrets.token_urlsafe(24)
+        self.room = threading.BoundedSemaphore(MOST_AT_ONCE)
+
+    @property
+    def hosts(self) -> list[str]:
+        return [f"{HOST}:{self.server_port}", f"localhost:{self.server_port}"]
+
+    @property
+    def address(self) -> str:
+        return f"http://{self.hosts[0]}/{self.token}/"
+
+    def process_request(self, request: socket | tuple[bytes, socket], client: object) -> None:
+        """Serves a connection, unless there are too many."""
+        if not self.room.acquire(blocking=False):
+            self.shutdown_request(request)
+            return
+        super().process_request(request, client)
+
+    def process_request_thread(self, request: socket | tuple[bytes, socket],
+                               client: object) -> None:
+        try:
+            super().process_request_thread(request, client)
+        finally:
+            self.room.release()
+
+    def handle_error(self, request: socket | tuple[bytes, socket], client: object) -> None:
+        """A page that goes away while it is answered is no fault."""
+        if not isinstance(sys.exc_info()[1], (ConnectionError, TimeoutError)):
+            super().handle_error(request, client)
+
+
+class Answers(BaseHTTPRequestHandler):
+    """Answers what comes over a connection."""
+
+    protocol_version, timeout = "HTTP/1.1", SECONDS
+    server: Server
+
+    def version_string(self) -> str:
+        return "cave-live"
+
+    def log_message(self, format: str, *_: object) -> None:
+        """Nothing is logged."""
+
+    def send_error(self, code: int, message: str | None = None, explain: str | None = None) -> None:
+        """What isn't understood is answered with a status alone."""
+        self.close_connection = True
+        self.answer(None, code)
+
+    def name(self) -> str | None:
+        """What is asked for, below the token; None if nobody may ask for it."""
+        hosts: list[str] = self.headers.get_all("Host", [])
+        origins: list[str] = self.headers.get_all("Origin", [])
+        path = self.path.partition("?")[0].split("/")
+        is_allowed = (
+            len(path) == 3 and len(hosts) == 1 and hosts[0] in self.server.hosts
+            and all(it == f"http://{hosts[0]}" for it in origins) and len(origins) < 2
+            and self.headers.get("Sec-Fetch-Site", "none") in ("none", "same-origin")
+            and secrets.compare_digest(path[1].encode(), self.server.token.encode()))
+        return path[2] if is_allowed else None
+
+    def do_GET(self) -> None:  # noqa: N802, by the name that the library wants
+        name = self.name()
+        try:
+            asked = dict(parse_qsl(self.path.partition("?")[2], max_num_fields=4))
+            self.answer(None if name is None else self.server.site.get(name, asked))
+        except (Malformed, ValueError) as wrong:
+            self.answer(told(400, "malformed", str(wrong)))
+
+    def do_POST(self) -> None:  # noqa: N802
+        name = self.name()
+        try:
+            said = object_of(self.sent()) if name and self.is_ours() else None
+            self.answer(None if said is None else self.server.site.post(name or "", said))
+        except Malformed as wrong:
+            self.answer(told(400, "malformed", str(wrong)))
+
+    def is_ours(self) -> bool:
+        """Whether what is sent comes from a page of this server: browsers say so."""
+        kind = self.headers.get("Content-Type", "").partition(";")[0].strip()
+        return "Origin" in self.headers and kind == "application/json"
+
+    def sent(self) -> bytes:
+        """What is sent, which isn't larger than a change may be."""
+        length = self.headers.get("Content-Length", "")
+        if not length.isdecimal() or len(length) > 9 or int(length) > MOST_SENT:
+            self.close_connection = True
+            raise Malformed("what is sent is too large, or has no length")
+        return self.rfile.read(int(length))
+
+    def answer(self, answer: Answer | None, status: int = 404) -> None:
+        """Sends an answer; nothing but a status if there is none."""
+        given = answer or Answer(b"", status=status)
+        self.close_connection |= answer is None
+        self.send_response(given.status)
+        for name, value in HEADERS.items():
+            self.send_header(name, value)
+        if answer:
+            self.send_header("Content-Type", given.kind)
+        if self.close_connection:
+            self.send_header("Connection", "close")
+        if given.file:
+            name = given.file.encode("ascii", "replace").decode().translate(UNQUOTED)
+            self.send_header("Content-Disposition", f'attachment; filename="{name}"')
+        self.send_header("Content-Length", str(len(given.content)))
+        self.end_headers()
+        self.wfile.write(given.content)
+
+
+UNQUOTED = {ord(it): "_" for it in '"\\/?'} | dict.fromkeys(range(32), "_")

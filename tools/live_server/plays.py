@@ -1,0 +1,142 @@
+"""What the program prints of a held log, and of a script that changes it."""
+
+from __future__ import annotations
+
+import itertools
+import time
+from collections.abc import Sequence
+from dataclasses import dataclass
+
+from .program import Given, Program, Refused, Run, Word
+from .scripts import seed_after
+from .views import Report, beside_its_numbers, facts_of, report_of, turns_of, walk_of
+
+CHECKPOINTS = 300  # of a log, about: fewer cost less, and a replay begins farther ahead
+MOST_EVERY = 10_000
+
+
+@dataclass(frozen=True)
+class Held:
+    """A log as it is held: its bytes, its seed, the lines of its walk, the facts it ends with."""
+
+    log: bytes
+    seed: str
+    walk: list[bytes]
+    facts: list[str]
+
+    @property
+    def count(self) -> int:
+        """How many lines the log has."""
+        return len(self.walk) - 1
+
+
+@dataclass(frozen=True)
+class Played:
+    """What a script made of a held log."""
+
+    held: Held
+    report: Report
+    undo: bytes
+    milliseconds: float  # that the program took
+
+
+@dataclass(frozen=True)
+class Patch:
+    """What has to be put into the walk of one log to make it that of another.
+
+    The lines from `start` to `until` take the place of those to `old_until`; each later line has
+    another place and `turns` more turns. `others` are later lines that also say something else."""
+
+    start: int
+    until: int
+    old_until: int
+    turns: int
+    lines: list[bytes]
+    others: list[bytes]
+    opening: bytes | None
+
+
+@dataclass(frozen=True)
+class Game:
+    """A cave with its bindings, and the program that plays logs in it."""
+
+    program: Program
+    cave: Given
+    bind: Given | None
+
+    def options(self) -> list[Word]:
+        return ["--bind", self.bind] if self.bind else []
+
+    def checked(self, view: str) -> bytes:
+        """What `check` prints of the cave."""
+        return self.program.said("check", self.cave, *self.options(), "--print", view)
+
+    def play(self, log: Given, seed: str) -> Held:
+        """A log, played from its first line."""
+        words: list[Word] = ["play", self.cave, log, *self.options(), "--seed", seed, "--print"]
+        walk, facts = said_of([self.program.start(*words, it) for it in ("walk", "state")])
+        return Held(log.content(), seed, walk_of(walk), facts_of(facts))
+
+    def change(self, held: Held, script: bytes) -> Played:
+        """What a script makes of a held log; Refused if one of its edits is."""
+        with Given("the log", held.log) as log, Given("change", script) as edits:
+            words: list[Word] = [
+                "edit", self.cave, log, edits, *self.options(), "--seed", held.seed,
+                "--every", str(every_of(held.count)), "--guarded", "--strict", "--print"]
+            views, begun = ("walk", "reports", "log", "undo", "state"), time.monotonic()
+            walk, report, changed, undo, facts = said_of(
+                [self.program.start(*words, it) for it in views])
+            taken = (time.monotonic() - begun) * 1_000
+        seed = seed_after(script, held.seed)
+        after = Held(changed, seed, walk_of(walk), facts_of(facts))
+        return Played(after, report_of(report), undo, taken)
+
+
+def every_of(count: int) -> int:
+    """The most lines between two checkpoints, in a log of so many."""
+    return min(1 + count // CHECKPOINTS, MOST_EVERY)
+
+
+def said_of(runs: Sequence[Run]) -> list[bytes]:
+    """What runs print that go on side by side; all have ended if one is refused."""
+    said, refused = [], None
+    for run in runs:
+        try:
+            said.append(run.said())
+        except Refused as wrong:
+            refused = refused or wrong
+    if refused:
+        raise refused
+    return said
+
+
+def patch_of(old: Held, new: Held, report: Report) -> Patch:
+    """What the walk of a changed log has otherwise, by the report on the change."""
+    shift = new.count - old.count
+    until = new.count if report.met is None else report.met
+    old_until = until - shift
+    turns, others = 0, []
+    later = new.walk[1 + until:]
+    if later:
+        turns = turns_of(later[0]) - turns_of(old.walk[1 + old_until])
+    if turns:
+        pairs = zip(old.walk[1 + old_until:], later)
+        others = [line for was, line in pairs
+                  if beside_its_numbers(was) != beside_its_numbers(line)]
+    opening = None if new.walk[0] == old.walk[0] else new.walk[0]
+    return Patch(report.start, until, old_until, turns, new.walk[1 + report.start:1 + until],
+                 others, opening)
+
+
+def patch_between(old: Held, new: Held) -> Patch:
+    """What one walk has otherwise than another, if no report says it: all but equal ends."""
+    pairs = zip(old.walk[1:], new.walk[1:])
+    start = sum(1 for _ in itertools.takewhile(lambda it: it[0] == it[1], pairs))
+    opening = None if new.walk[0] == old.walk[0] else new.walk[0]
+    return Patch(start, new.count, old.count, 0, new.walk[1 + start:], [], opening)
+
+
+def otherwise(old: list[str], new: list[str]) -> tuple[list[str], list[str]]:
+    """The facts that are no longer so, and those that are so now."""
+    before, after = {*old}, {*new}
+    return [it for it in old if it not in after], [it for it in new if it not in before]

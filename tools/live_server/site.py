@@ -1,0 +1,147 @@
+"""What pages ask for, and what they are answered: a page, its log, changes, saving, the end."""
+
+from __future__ import annotations
+
+import json
+import threading
+from collections.abc import Callable
+from dataclasses import dataclass, field
+
+from .held import Log, Nothing, Stale, event_text
+from .program import Refused
+from .saving import Changed, Home
+from .scripts import Malformed, edits_of, script_of
+
+SECONDS = 20  # that a page waits for news
+TEXT, JSON_LINES = "text/plain; charset=utf-8", "application/jsonl"
+
+
+@dataclass(frozen=True)
+class Answer:
+    """An answer: its status, its content and the kind of it, and the file that it is saved as."""
+
+    content: bytes
+    kind: str = JSON_LINES
+    status: int = 200
+    file: str | None = None
+
+
+def told(status: int, kind: str, message: str = "") -> Answer:
+    """A short answer: what kind it is of, and what is said."""
+    return Answer(event_text({"kind": kind, "message": message}, []), status=status)
+
+
+def number_of(said: dict[str, object], name: str) -> int:
+    number = said.get(name)
+    if not isinstance(number, int) or isinstance(number, bool) or number < 0:
+        raise Malformed(f"{name} is a number")
+    return number
+
+
+@dataclass
+class Site:
+    """What a server answers. Its calls may come at once: each waits for the log."""
+
+    log: Log
+    home: Home
+    page: Callable[[], bytes]
+    ending: threading.Event = field(default_factory=threading.Event)
+
+    # ---- what is only looked at
+
+    def get(self, name: str, asked: dict[str, str]) -> Answer | None:
+        """What is found by a name; None if nothing is."""
+        found = {"": self.get_page, "walk": self.get_walk, "news": self.get_news,
+                 "log": self.get_log, "script": self.get_script, "undo": self.get_undo,
+                 "change": self.get_change}.get(name)
+        return found(asked) if found else None
+
+    def get_page(self, _: dict[str, str]) -> Answer:
+        return Answer(self.page(), "text/html; charset=utf-8")
+
+    def get_walk(self, _: dict[str, str]) -> Answer:
+        with self.log.lock:
+            return Answer(self.log.whole())
+
+    def get_news(self, asked: dict[str, str]) -> Answer:
+        known = asked.get("after", "")
+        if not known.isdecimal() or len(known) > 9:
+            raise Malformed("after is a number")
+        with self.log.lock:
+            return Answer(self.log.after(int(known), SECONDS))
+
+    def get_log(self, _: dict[str, str]) -> Answer:
+        with self.log.lock:
+            return Answer(self.log.held.log, TEXT, file=self.home.name)
+
+    def get_script(self, _: dict[str, str]) -> Answer:
+        with self.log.lock:
+            return Answer(self.log.script(), TEXT, file=f"{self.home.name}.script")
+
+    def get_undo(self, _: dict[str, str]) -> Answer:
+        with self.log.lock:
+            return Answer(self.log.undo_script(), TEXT, file=f"{self.home.name}.undo")
+
+    def get_change(self, asked: dict[str, str]) -> Answer | None:
+        number = asked.get("number", "")
+        with self.log.lock:
+            script = self.log.script_of_change(int(number)) if number.isdecimal() else None
+        return None if script is None else Answer(script, TEXT)
+
+    # ---- what changes something
+
+    def post(self, name: str, said: dict[str, object]) -> Answer | None:
+        """What comes of what a page sends; None if there is no such thing."""
+        done = {"change": self.change, "go": self.go, "save": self.save, "end": self.end}.get(name)
+        if not done:
+            return None
+        try:
+            return done(said)
+        except Stale:
+            return told(409, "stale")
+        except Nothing:
+            return told(409, "nothing")
+        except Changed:
+            return told(409, "changed", self.home.to)
+        except Refused as refused:
+            return told(422, "refused", refused.message)
+
+    def change(self, said: dict[str, object]) -> Answer:
+        """Makes a change of the log."""
+        script, known = script_of(edits_of(said.get("edits"))), number_of(said, "number")
+        with self.log.lock:
+            self.log.demand_fresh(known)
+            return Answer(self.log.change(script).text)
+
+    def go(self, said: dict[str, object]) -> Answer:
+        """Takes changes back, or makes them again."""
+        count, known = number_of(said, "count"), number_of(said, "number")
+        with self.log.lock:
+            self.log.demand_fresh(known)
+            return Answer(self.log.go_to(count).text)
+
+    def save(self, said: dict[str, object]) -> Answer:
+        """Puts the log into its file."""
+        with self.log.lock:
+            held = self.log.held
+            self.home.save(self.log.game, held.log, held.seed, said.get("told") is True)
+            self.log.saved = held.log
+            return Answer(self.log.tell({"kind": "saved", "file": self.home.to}).text)
+
+    def end(self, _: dict[str, object]) -> Answer:
+        """Ends the server."""
+        with self.log.lock:
+            event = self.log.tell({"kind": "ended"})
+        self.ending.set()
+        return Answer(event.text)
+
+
+def object_of(content: bytes) -> dict[str, object]:
+    """What a page sends: one object of JSON."""
+    try:
+        said = json.loads(content)
+    except (ValueError, RecursionError):
+        raise Malformed("a page sends JSON") from None
+    if not isinstance(said, dict):
+        raise Malformed("a page sends an object")
+    return said

@@ -1,0 +1,70 @@
+"""What the program prints, as far as the server has to read it."""
+
+from __future__ import annotations
+
+import re
+from dataclasses import dataclass
+
+REPORT = re.compile(
+    r"^line \d+: ok, from (?P<start>\d+), met (?P<met>\d+|none), played (?P<played>\d+) of"
+    r" (?P<count>\d+), score (?P<score>-?\d+) of (?P<most>\d+), turns (?P<turns>\d+), at \d+"
+    r"(?:, ended: (?P<ended>[a-z ]+))?", re.MULTILINE)
+PLACE, TURNS = re.compile(rb'\{"place":\d+,'), re.compile(rb',"turns":(\d+),')
+
+
+class Unread(Exception):
+    """What the program printed in another form than the manual says."""
+
+
+@dataclass(frozen=True)
+class Report:
+    """What became of a change: the line of the program, and what it says."""
+
+    line: str
+    start: int
+    met: int | None
+    played: int
+    count: int
+    score: int
+    most: int
+    turns: int
+    ended: str
+
+
+def report_of(said: bytes) -> Report:
+    """The report on a script that has one edit or one group."""
+    text = said.decode(errors="replace")
+    found = REPORT.search(text)
+    if not found:
+        raise Unread(f"no report: {text[:200]}")
+    numbers = {name: int(found[name])
+               for name in ("start", "played", "count", "score", "most", "turns")}
+    met = None if found["met"] == "none" else int(found["met"])
+    return Report(line=text[found.start():].partition("\n")[0], met=met,
+                  ended=found["ended"] or "", **numbers)
+
+
+def walk_of(said: bytes) -> list[bytes]:
+    """The lines of `--print walk`: that of the opening, and one for each line of the log."""
+    lines = said.split(b"\n")
+    if lines.pop() or not lines or not lines[0].startswith(b'{"place":null,'):
+        raise Unread("a walk has an opening, and ends with a line")
+    return lines
+
+
+def turns_of(line: bytes) -> int:
+    """How many turns were taken, as a line of a walk says."""
+    found = TURNS.search(line)
+    if not found:
+        raise Unread("a line of a walk says how many turns were taken")
+    return int(found[1])
+
+
+def beside_its_numbers(line: bytes) -> bytes:
+    """A line of a walk without its place and its turns."""
+    return TURNS.sub(b"", PLACE.sub(b"", line, count=1), count=1)
+
+
+def facts_of(said: bytes) -> list[str]:
+    """The facts of a last state, a line each."""
+    return said.decode("latin-1").splitlines()
