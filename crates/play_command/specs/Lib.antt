@@ -1,5 +1,7 @@
 pub mod App
 pub mod BelowZero
+pub mod Found
 pub mod Line
+pub mod Source
 pub mod Stray
 pub mod Views

@@ -1,11 +1,11 @@
 -- Which run the words ask for, and why they are refused.
 use Rattle.std.specs.Prelude.{◌≡◌, ◌≢◌, ◌⊎◌, ◌&&◌, ◌||◌, ℕ, Bool, true, false, bytes_eq, is_some}
 use Rattle.std.specs.Prelude.{List, [], Option, Some, None, option_map, unwrap_or, map, codes}
-use Rattle.std.specs.Prelude.{Result, MatchResult, nat_lt, nat_le, length, string_bytes}
+use Rattle.std.specs.Prelude.{Result, MatchResult, nat_lt, nat_le, length}
 use Rattle.std.specs.Prelude.{if◌then◌else◌}
 use Rattle.std.specs.Option.{option_map_or}
 use Rattle.std.specs.List.{list_all}
-use Rattle.clap.specs.Words.{IsAmong, Kinds, Row, all_of, first_of, found_of, kind_of, rows_of}
+use Rattle.clap.specs.Words.{IsAmong, Kinds, Row, all_of, first_of, kind_of}
 use Rattle.clap.specs.Words.{HasKind, fault_of, subcommand_of, subcommand_rows_of}
 use Rattle.clap.specs.declared.error.Error.{Error}
 use Rattle.clap.specs.declared.error.kind.ErrorKind.{ErrorKind}
@@ -20,9 +20,9 @@ use Rattle.play_command.specs.declared.line.Files.{Files}
 use Rattle.play_command.specs.declared.line.Line.{Line}
 use Rattle.play_command.specs.declared.line.Line.TheVariants.{Check, Doubts, Play, Edit, Cover, Map}
 use Rattle.play_command.specs.declared.line.Line.TheVariants.{Text}
-use Rattle.play_command.specs.declared.line.ScriptSource.{ScriptSource}
-use Rattle.play_command.specs.declared.line.ScriptSource.TheVariants.{File, Typed}
 use Rattle.play_command.specs.App.{cave_app}
+use Rattle.play_command.specs.Found.{is_set}
+use Rattle.play_command.specs.Source.{IsBadScript, IsScriptSource}
 use Rattle.play_command.specs.Views.{edit_view_named, check_view_named, cover_view_named}
 use Rattle.play_command.specs.Stray.{stray_command}
 use Rattle.play_command.specs.Views.{play_view_named}
@@ -36,7 +36,6 @@ use Rattle.play_command.specs.declared.editing.EditView.{EditView}
 use Rattle.play_command.specs.declared.editing.EditView.TheVariants.{Transcript}
 use Rattle.play_command.specs.declared.views.PlayView.{PlayView}
 use Rattle.play_command.specs.declared.views.PlayView.TheVariants as play
-use Rattle.replay_scripts.specs.ScriptText.{text_of_lines}
 use Rattle.base_lines.specs.Limits.{MAX_SEED, MAX_EVERY, MAX_DIGITS}
 use Rattle.base_lines.specs.Bytes.{is_digit, number_of}
 
@@ -72,10 +71,6 @@ IsNumberGiven least most absent (Some text) number = number_in_range least most 
 -- a command that was met, with what was found for its arguments
 abbrev pub MetCommand : Type 0
 MetCommand = Option (List ℕ × List Row)
-
--- what was found for the arguments of a command
-abbrev pub rows_in : ArgMatches → List Row
-rows_in found = rows_of (found_of found)
 
 -- the files of a cave and of the output are what was found for them
 pub record IsFiles (rows : List Row) (files : Files) : Type 0 where
@@ -116,14 +111,6 @@ IsEditViewGiven (Some name) view = edit_view_named name ≡ Some view
 abbrev pub IsView : List Row → EditView → Type 0
 IsView rows view = IsEditViewGiven (first_of (codes "print") rows) view
 
--- whether a run is strict is what was found for it, or it isn't
-abbrev pub is_strict : List Row → Bool
-is_strict rows = option_map_or (bytes_eq (codes "true")) (first_of (codes "strict") rows) false
-
--- whether a script may have guards is what was found for it, or it may not
-abbrev pub is_guarded : List Row → Bool
-is_guarded rows = option_map_or (bytes_eq (codes "true")) (first_of (codes "guarded") rows) false
-
 -- what a play prints, where this was found for it, or else the transcript
 abbrev pub IsPlayViewGiven : Option (List ℕ) → PlayView → Type 0
 IsPlayViewGiven None view = view ≡ play.Transcript
@@ -138,23 +125,15 @@ pub record IsEditing (rows : List Row) (editing : Editing) : Type 0 where
   pub seed : IsSeed rows editing.seed
   pub every : IsEveryGiven rows editing.every
   pub view : IsView rows editing.view
-  pub strict : editing.strict ≡ is_strict rows
-  pub guarded : editing.guarded ≡ is_guarded rows
-
--- the script is the file that was found for it, or else has the lines that were
-abbrev pub IsScriptSource : List Row → ScriptSource → Type 0
-IsScriptSource rows (File file) =
-    (first_of (codes "script") rows ≡ Some file.now) × (all_of (codes "edit") rows ≡ None)
-IsScriptSource rows (Typed text) =
-    (first_of (codes "script") rows ≡ None)
-    × ((lines : List (List ℕ)) × (all_of (codes "edit") rows ≡ Some lines)
-    × (string_bytes text ≡ text_of_lines lines))
+  pub strict : editing.strict ≡ is_set (codes "strict") rows
+  pub guarded : editing.guarded ≡ is_set (codes "guarded") rows
 
 -- what a check prints was found to be the list of doubts; a strict check prints it unless another
 -- is asked for
 abbrev pub are_doubts_asked : List Row → Bool
 are_doubts_asked rows =
-    option_map_or (bytes_eq (codes "doubts")) (first_of (codes "print") rows) (is_strict rows)
+    option_map_or (bytes_eq (codes "doubts")) (first_of (codes "print") rows)
+    (is_set (codes "strict") rows)
 
 -- the run is what was found for the command of this name
 abbrev pub IsRunOf : List ℕ → List Row → Line → Type 0
@@ -162,7 +141,7 @@ IsRunOf name rows (Check files view) =
     (name ≡ codes "check") × IsFiles rows files × IsCheckView rows view
 IsRunOf name rows (Doubts files strict) =
     (name ≡ codes "check") × IsFiles rows files × (are_doubts_asked rows ≡ true)
-    × (strict ≡ is_strict rows)
+    × (strict ≡ is_set (codes "strict") rows)
 IsRunOf name rows (Play files log seed view) =
     (name ≡ codes "play") × IsFiles rows files × (first_of (codes "log") rows ≡ Some log.now)
     × IsSeed rows seed × IsPlayView rows view
@@ -244,15 +223,6 @@ abbrev pub IsBadPlayView : List Row → CommandFault → Type 0
 IsBadPlayView rows (fault_is.BadPlayView name) = (first_of (codes "print") rows ≡ Some name.now)
     × (play_view_named name.now ≡ None)
 IsBadPlayView rows _ = ⊥
-
--- neither the file of a script was found nor lines of one, or both were
-abbrev pub IsBadScript : List Row → CommandFault → Type 0
-IsBadScript rows fault_is.NoScript =
-    (first_of (codes "script") rows ≡ None) × (all_of (codes "edit") rows ≡ None)
-IsBadScript rows fault_is.TwoScripts =
-    (is_some (first_of (codes "script") rows) ≡ true)
-    × (is_some (all_of (codes "edit") rows) ≡ true)
-IsBadScript rows _ = ⊥
 
 -- what is wrong with the options of a command: each prints what it alone may print
 abbrev pub IsBadOption : List ℕ → List Row → CommandFault → Type 0

@@ -1,6 +1,8 @@
 ghost use Rattle.std.specs.Prelude.{◌≡◌};
 ghost use Rattle.play_command.specs.Views.{edit_view_named};
 
+use crate::by_name::named;
+
 /// What an edit of a log prints.
 #[derive(Clone, Copy, Debug, PartialEq, Eq)]
 pub enum EditView {
@@ -40,24 +42,26 @@ pub(crate) const EDIT_VIEWS: [&str; 10] = [
     "state",
 ];
 
+/// What an edit may print, in the order of the names.
+const EACH_EDIT_VIEW: [EditView; 10] = [
+    EditView::Transcript,
+    EditView::Play,
+    EditView::Log,
+    EditView::Undo,
+    EditView::Reports,
+    EditView::Table,
+    EditView::Steps,
+    EditView::Walk,
+    EditView::Score,
+    EditView::FinalState,
+];
+
 impl EditView {
     /// The view of a name, if it is the name of one.
     pub fn named(name: &str) -> Option<EditView>
         ensures { result ≡ edit_view_named name.now }
     {
-        match name {
-            "transcript" => Some(EditView::Transcript),
-            "play" => Some(EditView::Play),
-            "log" => Some(EditView::Log),
-            "undo" => Some(EditView::Undo),
-            "reports" => Some(EditView::Reports),
-            "table" => Some(EditView::Table),
-            "steps" => Some(EditView::Steps),
-            "walk" => Some(EditView::Walk),
-            "score" => Some(EditView::Score),
-            "state" => Some(EditView::FinalState),
-            _ => None,
-        }
+        named(&EDIT_VIEWS, &EACH_EDIT_VIEW, name)
     }
 }
 

@@ -4,11 +4,14 @@
 pub mod app;
 mod arguments;
 mod below_zero;
+mod by_name;
 pub mod editing;
 pub mod fault;
+mod found;
 pub mod line;
 mod number;
 mod read;
+mod script_source;
 mod stray;
 pub mod views;
 mod wanted;

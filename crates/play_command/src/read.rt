@@ -1,33 +1,33 @@
 //! Which run the words ask for.
 
-ghost use Rattle.std.specs.Prelude.{◌≡◌, ◌⊎◌, IfOk, IfErr, MatchOption, MatchResult, None, Some, codes};
-ghost use Rattle.std.specs.Prelude.{false, map, option_map, string_bytes};
-ghost use Rattle.clap.specs.Words.{all_of, fault_of, first_of, kind_of, subcommand_of};
-ghost use Rattle.clap.specs.Words.{subcommand_rows_of};
+ghost use Rattle.std.specs.Prelude.{◌≡◌, IfOk, IfErr, MatchOption, MatchResult, None, Some, codes};
+ghost use Rattle.std.specs.Prelude.{false, map};
+ghost use Rattle.clap.specs.Words.{fault_of, first_of, kind_of, subcommand_of, subcommand_rows_of};
 ghost use Rattle.clap.specs.declared.error.kind.ErrorKind.TheVariants.{InvalidSubcommand};
 ghost use Rattle.clap.specs.declared.error.kind.ErrorKind.TheVariants.{UnknownArgument};
-ghost use Rattle.replay_scripts.specs.ScriptText.{text_of_lines};
 ghost use Rattle.play_command.specs.App.{cave_app};
+ghost use Rattle.play_command.specs.Found.{rows_in};
 ghost use Rattle.play_command.specs.Line.{IsParse, IsAsked, IsBadCheckView, IsBadCoverView};
 ghost use Rattle.play_command.specs.Line.{IsBadEvery, IsBadOption, IsBadSeed, IsBadView};
 ghost use Rattle.play_command.specs.Line.{IsCheckView, IsCoverView, IsEditing, IsEveryGiven};
 ghost use Rattle.play_command.specs.Line.{IsFiles, IsRun, IsRunMet, IsRunOf, IsRefusal, IsRefused};
-ghost use Rattle.play_command.specs.Line.{IsRequest, IsSeed, IsUnmade, IsView, is_strict, rows_in};
-ghost use Rattle.play_command.specs.Line.{IsBadPlayView, IsPlayView, are_doubts_asked, is_guarded};
-ghost use Rattle.play_command.specs.Line.{IsBadScript, IsScriptSource};
+ghost use Rattle.play_command.specs.Line.{IsRequest, IsSeed, IsUnmade, IsView};
+ghost use Rattle.play_command.specs.Line.{IsBadPlayView, IsPlayView, are_doubts_asked};
 
 use crate::app::cave_app;
 use crate::below_zero::seed_below_zero;
 use crate::editing::{EditView, Editing};
 use crate::fault::CommandFault;
-use crate::line::{Files, Line, ScriptSource};
+use crate::found::{is_set, value_in, values_in};
+use crate::line::{Files, Line};
 use crate::number::number_in;
+use crate::script_source::script_in;
 use crate::stray::stray_command;
 use crate::views::{CheckView, CoverView, PlayView, TextView};
 use base_lines::limits::{MAX_EVERY, MAX_SEED, USUAL_EVERY};
 use clap::error::ErrorKind;
 use clap::{ArgMatches, Error};
-use std::alloc::{AllocError, Global};
+use std::alloc::Global;
 use std::convert::AsStr;
 
 /// The seed where none is given.
@@ -148,7 +148,7 @@ fn check_of<'a>(files: Files<'a>, found: &ArgMatches<'a>) -> Result<Line<'a>, Co
         (IsUnmade (Some (codes "check", rows_in found.now))) }
 {
     if are_doubts_asked(found) {
-        let strict = strict_in(found);
+        let strict = is_set(found, "strict");
         return Ok(Line::Doubts { files, strict });
     }
     let view = check_view_in(found)?;
@@ -161,7 +161,7 @@ fn are_doubts_asked(found: &ArgMatches<'_>) -> bool
 {
     match value_in(found, "print") {
         Some(name) => name == "doubts",
-        None => strict_in(found),
+        None => is_set(found, "strict"),
     }
 }
 
@@ -208,35 +208,6 @@ fn edit_of<'a>(
     })
 }
 
-/// Where the script of an edit is.
-fn script_in<'a>(
-    alloc: Global,
-    found: &ArgMatches<'a>,
-) -> Result<ScriptSource<'a>, CommandFault<'a>>
-    ensures { MatchResult result (IsScriptSource (rows_in found.now))
-        (λ fault. (fault ≡ CommandFault.Memory) ⊎ IsBadScript (rows_in found.now) fault) }
-{
-    match (value_in(found, "script"), values_in(found, "edit")) {
-        (Some(file), None) => Ok(ScriptSource::File(file)),
-        (None, Some(lines)) => Ok(ScriptSource::Typed(text_of_lines(alloc, lines)?)),
-        (None, None) => Err(CommandFault::NoScript),
-        (Some(_), Some(_)) => Err(CommandFault::TwoScripts),
-    }
-}
-
-/// The text that has these lines.
-fn text_of_lines(alloc: Global, lines: &[&str]) -> Result<String, AllocError>
-    ensures { IfOk result (λ text.
-        string_bytes text ≡ text_of_lines (map (λ line. line.now) lines.now)) }
-{
-    let mut text = String::new(alloc);
-    for line in lines {
-        text.push_str(line)?;
-        text.push_str("\n")?;
-    }
-    Ok(text)
-}
-
 /// The run of `cover`, whose cave has these files.
 fn cover_of<'a>(
     alloc: Global,
@@ -275,24 +246,6 @@ fn map_of<'a>(
     let seed = seed_in(found)?;
     let logs = Vec::from_slice(alloc, logs)?;
     Ok(Line::Map { files, logs, seed })
-}
-
-/// All that was found for an argument.
-#[tactic(auto, using(crate::proofs::Values::values))]
-fn values_in<'a, 'm>(found: &'m ArgMatches<'a>, id: &str) -> Option<&'m [&'a str]>
-    ensures { option_map (λ texts. map (λ text. text.now) texts.now) result
-        ≡ all_of id.now (rows_in found.now) }
-{
-    found.get_strs(id)
-}
-
-/// What was found for an argument.
-#[tactic(auto, using(crate::proofs::Values::values))]
-fn value_in<'a>(found: &ArgMatches<'a>, id: &str) -> Option<&'a str>
-    ensures { MatchOption result (first_of id.now (rows_in found.now) ≡ None)
-        (λ text. first_of id.now (rows_in found.now) ≡ Some text.now) }
-{
-    found.get_str(id)
 }
 
 fn files_in<'a>(found: &ArgMatches<'a>) -> Option<Files<'a>>
@@ -367,26 +320,6 @@ fn cover_view_in<'a>(found: &ArgMatches<'a>) -> Result<CoverView, CommandFault<'
     }
 }
 
-/// Whether a refused edit, or a doubt, ends the run.
-fn strict_in(found: &ArgMatches<'_>) -> bool
-    ensures { result ≡ is_strict (rows_in found.now) }
-{
-    match value_in(found, "strict") {
-        Some(text) => text == "true",
-        None => false,
-    }
-}
-
-/// Whether a script may have guards.
-fn guarded_in(found: &ArgMatches<'_>) -> bool
-    ensures { result ≡ is_guarded (rows_in found.now) }
-{
-    match value_in(found, "guarded") {
-        Some(text) => text == "true",
-        None => false,
-    }
-}
-
 /// How a log is to be edited.
 fn editing_in<'a>(found: &ArgMatches<'a>) -> Result<Editing, CommandFault<'a>>
     ensures { MatchResult result (IsEditing (rows_in found.now))
@@ -396,7 +329,7 @@ fn editing_in<'a>(found: &ArgMatches<'a>) -> Result<Editing, CommandFault<'a>>
         seed: seed_in(found)?,
         every: every_in(found)?,
         view: edit_view_in(found)?,
-        strict: strict_in(found),
-        guarded: guarded_in(found),
+        strict: is_set(found, "strict"),
+        guarded: is_set(found, "guarded"),
     })
 }

@@ -3,6 +3,8 @@
 ghost use Rattle.std.specs.Prelude.{◌≡◌};
 ghost use Rattle.play_command.specs.Views.{check_view_named, cover_view_named, play_view_named};
 
+use crate::by_name::named;
+
 /// What a check of a cave prints.
 #[derive(Clone, Copy, Debug, PartialEq, Eq)]
 pub enum CheckView {
@@ -19,18 +21,20 @@ pub enum CheckView {
 /// The names of what a check may print, the doubts among them.
 pub(crate) const CHECK_VIEWS: [&str; 5] = ["maximum", "bindings", "names", "unused", "doubts"];
 
+/// What a check may print, in the order of the names. The doubts come last, and are no view.
+const EACH_CHECK_VIEW: [CheckView; 4] = [
+    CheckView::Maximum,
+    CheckView::Bindings,
+    CheckView::Names,
+    CheckView::Unused,
+];
+
 impl CheckView {
     /// The view of a name, if it is the name of one.
     pub fn named(name: &str) -> Option<CheckView>
         ensures { result ≡ check_view_named name.now }
     {
-        match name {
-            "maximum" => Some(CheckView::Maximum),
-            "bindings" => Some(CheckView::Bindings),
-            "names" => Some(CheckView::Names),
-            "unused" => Some(CheckView::Unused),
-            _ => None,
-        }
+        named(&CHECK_VIEWS, &EACH_CHECK_VIEW, name)
     }
 }
 
@@ -52,19 +56,21 @@ pub enum PlayView {
 /// The names of what a play may print.
 pub(crate) const PLAY_VIEWS: [&str; 5] = ["transcript", "steps", "walk", "score", "state"];
 
+/// What a play may print, in the order of the names.
+const EACH_PLAY_VIEW: [PlayView; 5] = [
+    PlayView::Transcript,
+    PlayView::Steps,
+    PlayView::Walk,
+    PlayView::Score,
+    PlayView::FinalState,
+];
+
 impl PlayView {
     /// The view of a name, if it is the name of one.
     pub fn named(name: &str) -> Option<PlayView>
         ensures { result ≡ play_view_named name.now }
     {
-        match name {
-            "transcript" => Some(PlayView::Transcript),
-            "steps" => Some(PlayView::Steps),
-            "walk" => Some(PlayView::Walk),
-            "score" => Some(PlayView::Score),
-            "state" => Some(PlayView::FinalState),
-            _ => None,
-        }
+        named(&PLAY_VIEWS, &EACH_PLAY_VIEW, name)
     }
 }
 
@@ -89,16 +95,18 @@ pub enum TextView {
 /// The names of what the coverage of logs may print.
 pub(crate) const COVER_VIEWS: [&str; 3] = ["counts", "texts", "rules"];
 
+/// What the coverage of logs may print, in the order of the names.
+const EACH_COVER_VIEW: [CoverView; 3] = [
+    CoverView::Said(TextView::Counts),
+    CoverView::Said(TextView::Texts),
+    CoverView::Rules,
+];
+
 impl CoverView {
     /// The view of a name, if it is the name of one.
     pub fn named(name: &str) -> Option<CoverView>
         ensures { result ≡ cover_view_named name.now }
     {
-        match name {
-            "counts" => Some(CoverView::Said(TextView::Counts)),
-            "texts" => Some(CoverView::Said(TextView::Texts)),
-            "rules" => Some(CoverView::Rules),
-            _ => None,
-        }
+        named(&COVER_VIEWS, &EACH_COVER_VIEW, name)
     }
 }

@@ -1,0 +1,41 @@
+//! Where the script of an edit is, by what the parser found.
+
+ghost use Rattle.std.specs.Prelude.{◌≡◌, ◌⊎◌, IfOk, MatchResult, map, string_bytes};
+ghost use Rattle.replay_scripts.specs.ScriptText.{text_of_lines};
+ghost use Rattle.play_command.specs.Found.{rows_in};
+ghost use Rattle.play_command.specs.Source.{IsBadScript, IsScriptSource};
+
+use crate::fault::CommandFault;
+use crate::found::{value_in, values_in};
+use crate::line::ScriptSource;
+use clap::ArgMatches;
+use std::alloc::{AllocError, Global};
+
+/// Where the script of an edit is.
+pub(crate) fn script_in<'a>(
+    alloc: Global,
+    found: &ArgMatches<'a>,
+) -> Result<ScriptSource<'a>, CommandFault<'a>>
+    ensures { MatchResult result (IsScriptSource (rows_in found.now))
+        (λ fault. (fault ≡ CommandFault.Memory) ⊎ IsBadScript (rows_in found.now) fault) }
+{
+    match (value_in(found, "script"), values_in(found, "edit")) {
+        (Some(file), None) => Ok(ScriptSource::File(file)),
+        (None, Some(lines)) => Ok(ScriptSource::Typed(text_of_lines(alloc, lines)?)),
+        (None, None) => Err(CommandFault::NoScript),
+        (Some(_), Some(_)) => Err(CommandFault::TwoScripts),
+    }
+}
+
+/// The text that has these lines.
+fn text_of_lines(alloc: Global, lines: &[&str]) -> Result<String, AllocError>
+    ensures { IfOk result (λ text.
+        string_bytes text ≡ text_of_lines (map (λ line. line.now) lines.now)) }
+{
+    let mut text = String::new(alloc);
+    for line in lines {
+        text.push_str(line)?;
+        text.push_str("\n")?;
+    }
+    Ok(text)
+}
