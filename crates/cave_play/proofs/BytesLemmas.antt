@@ -74,7 +74,7 @@ none_bad (line ∷ log) number good =
 
 -- ---- an edited log
 
-lines_printed : (cave : CaveView) (every : ℕ) (log script edited : List ℕ) (seed played : ℕ)
+pub lines_printed : (cave : CaveView) (every : ℕ) (log script edited : List ℕ) (seed played : ℕ)
     (guarded : Bool) → IsGame (game_of seed (lines log))
     → (edit : IsEndedEdit asked.Log cave every log seed guarded script played edited)
     → lines edited ≡ (game_after_items edit.edit.items (game_of seed (lines log))).log

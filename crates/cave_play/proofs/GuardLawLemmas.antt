@@ -1,26 +1,33 @@
--- Where no line of a script is a guard, it is read alike whether or not lines may be guards.
+-- Where no line of a script is a guard, it is read alike whether or not lines may be guards; where
+-- all guards are met, it edits alike.
 use Rattle.std.proofs.Common.{◌≡◌, ℕ, ◌+◌, Bool, true, false, List, [], ◌∷◌, All, None, Option, Ok, Err}
-use Rattle.std.proofs.Common.{sym, ap, ◌∙◌, refl}
+use Rattle.std.proofs.Common.{sym, ap, subst, ◌∙◌, refl}
 use Rattle.std.specs.Prelude.{Result}
 use Rattle.std.specs.Str.Lines.{lines}
 use Rattle.std.proofs.lemmas.List.Elements.{All-head, All-tail}
 use Rattle.cave_data.specs.CaveView.{CaveView}
 use Rattle.play_command.specs.declared.editing.EditView.{EditView}
 use Rattle.play_command.specs.declared.editing.EditView.TheVariants as asked
+use Rattle.play_edits.specs.Items.{game_after_item, game_after_items}
 use Rattle.play_edits.specs.Outcome.{ItemOutcome}
+use Rattle.play_edits.proofs.GuardLemmas.{guards_refuse_alone}
 use Rattle.replay_edits.specs.Edit.{Game, game_of}
-use Rattle.replay_scripts.specs.Guards.{read_guarded_from, script_by, unguarded_line}
+use Rattle.replay_scripts.specs.Guards.{IsScriptBy, read_guarded_from, script_by, unguarded_items}
+use Rattle.replay_scripts.specs.Guards.{unguarded_line}
 use Rattle.replay_scripts.specs.Guards.{with_expected}
 use Rattle.replay_scripts.specs.Line.{expected_in, kind_of_script_line}
-use Rattle.replay_scripts.specs.Script.{Applied, Expectation, ScriptReading, onward, read_from}
+use Rattle.replay_scripts.specs.Script.{Applied, Expectation, IsScript, ScriptReading, onward}
+use Rattle.replay_scripts.specs.Script.{read_from}
 use Rattle.replay_scripts.specs.Script.{reading_after_line}
 use Rattle.replay_scripts.specs.declared.fault.ScriptRefusal.{ScriptRefusal}
 use Rattle.replay_scripts.proofs.GuardedGrammar.{IsScriptBy-script_by}
 use Rattle.cave_play.specs.Ended.{IsEndedEdit}
-use Rattle.cave_play.specs.GuardLaws.{NoGuardsNoOtherOutput, NoGuardsNoOtherScript}
-use Rattle.cave_play.specs.GuardLaws.{PrintsNoGuards}
+use Rattle.cave_play.specs.GuardLaws.{AreMet, MetGuardsNoOtherLog, NoGuardsNoOtherOutput}
+use Rattle.cave_play.specs.GuardLaws.{NoGuardsNoOtherScript, PrintsNoGuards}
 use Rattle.cave_play.specs.Views.{IsEditOf, IsViewOf}
-use Rattle.cave_play.proofs.OneOutputLemmas.{script_by-spelled}
+use Rattle.cave_play.proofs.BytesLemmas.{lines_printed}
+use Rattle.cave_play.proofs.OneOutputLemmas.{same_items, script_by-spelled}
+use Rattle.cave_play.proofs.RefusalLemmas.{IsGame-accepted}
 
 abbrev IsUnguarded : List ℕ → Type 0
 IsUnguarded line = expected_in line ≡ None
@@ -93,3 +100,29 @@ no_guards_no_other_output view cave every log script output seed played free non
       other_edit view cave every log script output seed played true false free same,
       other_edit view cave every log script output seed played false true free (sym same),
     )
+
+-- ---- guards that are met
+
+met_alike : (items : List Applied) (game : Game) → AreMet items game
+    → game_after_items items game ≡ game_after_items (unguarded_items items) game
+met_alike [] game met = refl
+met_alike (item ∷ items) game (here, later) =
+    let same = (guards_refuse_alone item game).0 here in
+    met_alike items (game_after_item item game) later
+    ∙ ap (game_after_items (unguarded_items items)) same
+
+pub met_guards_no_other_log : MetGuardsNoOtherLog
+met_guards_no_other_log cave every log script blanked one other seed played again free fits blank edit
+    met second =
+    let game = game_of seed (lines log) in
+    let good = IsGame-accepted log seed free fits in
+    let spelled : IsScriptBy false blanked (unguarded_items edit.edit.items) =
+    subst (λ found. IsScript 1 found (unguarded_items edit.edit.items)) (sym blank)
+    edit.edit.spelled.1 in
+    let same =
+    same_items false blanked (unguarded_items edit.edit.items) second.edit.items spelled
+    second.edit.spelled in
+    lines_printed cave every log script one seed played true good edit
+    ∙ ap (λ (g : Game). g.log)
+    (met_alike edit.edit.items game met ∙ ap (λ items. game_after_items items game) same)
+    ∙ sym (lines_printed cave every log blanked other seed again false good second)

@@ -1,12 +1,18 @@
--- Where no line of a script is a guard, `--guarded` changes nothing of a run.
-use Rattle.std.specs.Prelude.{◌≡◌, ◌↔◌, ℕ, true, false, List, All, None, ⊤}
+-- Where no line of a script is a guard, or all guards are met, `--guarded` changes nothing of a run.
+use Rattle.std.specs.Prelude.{◌≡◌, ◌↔◌, ℕ, true, false, List, [], ◌∷◌, All, None, ⊤}
+use Rattle.std.specs.List.{AllByRecursion}
 use Rattle.std.specs.Str.Lines.{lines}
 use Rattle.cave_data.specs.CaveView.{CaveView}
 use Rattle.play_command.specs.declared.editing.EditView.{EditView}
 use Rattle.play_command.specs.declared.editing.EditView.TheVariants as asked
-use Rattle.replay_scripts.specs.Guards.{script_by}
+use Rattle.play_edits.specs.Items.{game_after_item}
+use Rattle.play_edits.specs.Laws.{IsMet}
+use Rattle.replay_edits.specs.Edit.{Game, game_of}
+use Rattle.replay_scripts.specs.Guards.{script_by, unguarded}
 use Rattle.replay_scripts.specs.Line.{expected_in}
+use Rattle.replay_scripts.specs.Script.{Applied}
 use Rattle.cave_play.specs.Ended.{IsEndedEdit}
+use Rattle.cave_play.specs.Judge.{large_seed, log_fault}
 
 -- no line of a script is spelled as a guard
 abbrev pub HasNoGuard : List ℕ → Type 0
@@ -37,3 +43,21 @@ NoGuardsNoOtherOutput =
     → PrintsNoGuards view → HasNoGuard script
     → IsEndedEdit view cave every log seed true script played output
     ↔ IsEndedEdit view cave every log seed false script played output
+
+-- each item's guards are met by the log as the items before it left it
+abbrev pub AreMet : List Applied → Game → Type 0
+AreMet [] game = ⊤
+AreMet (item ∷ items) game =
+    AllByRecursion (IsMet item.changes game.log) item.guards
+    × AreMet items (game_after_item item game)
+
+-- where all guards of a script are met, the edited log has the lines that it has by the script with
+-- blank lines in the place of its guards
+abbrev pub MetGuardsNoOtherLog : Type 0
+MetGuardsNoOtherLog =
+    (cave : CaveView) (every : ℕ) (log script blanked one other : List ℕ) (seed played again : ℕ)
+    → log_fault log ≡ None → large_seed seed ≡ None → lines blanked ≡ unguarded (lines script)
+    → (edit : IsEndedEdit asked.Log cave every log seed true script played one)
+    → AreMet edit.edit.items (game_of seed (lines log))
+    → IsEndedEdit asked.Log cave every log seed false blanked again other
+    → lines one ≡ lines other

@@ -1,10 +1,11 @@
 //! Laws of runs: in which order faults are found, what edits are refused for, that the inputs
 //! determine the output, that what edits print is read again, and that `--guarded` changes nothing
-//! where there are no guards. Each is the contract of a function that does nothing.
+//! where there are no guards, or all are met. Each is the contract of a function that does nothing.
 
 ghost use Rattle.cave_play.specs.Bytes.{EditedLogsAreAccepted, UndoGivesTheBytes};
 ghost use Rattle.cave_play.specs.Bytes.{UndoScriptsTakeBack};
-ghost use Rattle.cave_play.specs.GuardLaws.{NoGuardsNoOtherOutput, NoGuardsNoOtherScript};
+ghost use Rattle.cave_play.specs.GuardLaws.{MetGuardsNoOtherLog, NoGuardsNoOtherOutput};
+ghost use Rattle.cave_play.specs.GuardLaws.{NoGuardsNoOtherScript};
 ghost use Rattle.cave_play.specs.Laws.{CavesAreJudgedWhole, FirstIsFound, RefusalsAreOfChanges};
 ghost use Rattle.cave_play.specs.Laws.{OneCheckedOutput, OneEditedOutput, OnePlayedOutput};
 
@@ -65,4 +66,9 @@ pub fn no_guards_no_other_script()
 /// The same is printed of it then, except by a script that takes the edits back.
 pub fn no_guards_no_other_output()
     ensures { NoGuardsNoOtherOutput }
+{}
+
+/// Where all guards are met, the edited log has the lines that it has without them.
+pub fn met_guards_no_other_log()
+    ensures { MetGuardsNoOtherLog }
 {}
