@@ -1,12 +1,36 @@
 -- What a program asks of its system.
 use Rattle.std.specs.Prelude.{ℕ, List, ◌++◌, Option, option_map}
+use Rattle.std.specs.declared.io.Error.{Error}
+use Rattle.cave_play.specs.declared.fault.PlayFault.{PlayFault}
 use Rattle.play_program.specs.declared.message.Message.{Message}
+use Rattle.play_program.specs.declared.message.Message.TheVariants as message
 
--- one call of the system: a file is opened, bytes are put into a file, or a message is told
+-- what is told: a fault and the file that it is of; a file that can't be opened or written, and an
+-- output that can't be written, with the system's reason; what the parser says of the words, in two
+-- parts, or why they can't be read
+pub data Told : Type 0 where
+  faulty : PlayFault → Option (List ℕ) → Told
+  unopened : List ℕ → Error → Told
+  unwritten : List ℕ → Error → Told
+  unprinted : Error → Told
+  misused : List ℕ → List ℕ → Told
+  unread : Error → Told
+
+-- what a message tells, whatever its names are borrowed from
+abbrev pub told_of : Message → Told
+told_of (message.Fault complaint) =
+    faulty complaint.fault (option_map (λ s. s.now) complaint.file)
+told_of (message.Unopened file reason) = unopened file.now reason
+told_of (message.Unwritten file reason) = unwritten file.now reason
+told_of (message.Unprinted reason) = unprinted reason
+told_of (message.Usage before after) = misused before.now after.now
+told_of (message.Unread reason) = unread reason
+
+-- one call of the system: a file is opened, bytes are put into a file, or something is told
 pub data Call : Type 0 where
   Opens : List ℕ → Call
   Puts : List ℕ → List ℕ → Call
-  Tells : Message → Call
+  Tells : Told → Call
 
 -- the calls that are known, and then these
 abbrev pub and_then : Option (List Call) → List Call → Option (List Call)

@@ -1,22 +1,23 @@
 -- What a run over files leaves, and what the program tells of it.
 use Rattle.std.specs.Prelude.{◌≡◌, ◌⊎◌, ℕ, List, [], ◌∷◌, map, Option, None, Some, Result, Ok, Err}
-use Rattle.std.specs.Prelude.{IfErr}
+use Rattle.std.specs.Prelude.{Bool, true, false, IfErr}
 use Rattle.std.specs.List.{AllZip}
+use Rattle.std.specs.declared.io.Error.{Error}
 use Rattle.cave_play.specs.Input.{InputTexts, Says}
 use Rattle.cave_play.specs.declared.fault.PlayFault.{PlayFault}
 use Rattle.cave_play.specs.declared.fault.PlayFault.TheVariants as fault
 use Rattle.play_command.specs.declared.line.Line.{Line}
 use Rattle.play_logs.specs.Faults.{at_none}
 use Rattle.play_logs.specs.declared.fault.LogsFault.{LogsFault}
-use Rattle.play_program.specs.Calls.{Call, and_then}
+use Rattle.play_program.specs.Calls.{Call, Told, and_then}
 use Rattle.play_program.specs.Calls.Call.{Puts, Tells}
-use Rattle.play_program.specs.Failures.{IsMessageOfFailure, failure_status}
+use Rattle.play_program.specs.Failures.{failure_status, is_silent, message_of}
 use Rattle.play_program.specs.Names.{FileNames, files_in}
 use Rattle.play_program.specs.Opening.{Stops, bytes_named, opening, script_bytes}
 use Rattle.play_program.specs.Runs.{RunsLine}
 use Rattle.play_program.specs.declared.failure.Failure.{Failure}
 use Rattle.play_program.specs.declared.failure.Failure.TheVariants.{Unopened, Run, Unwritten}
-use Rattle.play_program.specs.declared.message.Message.{Message}
+use Rattle.play_program.specs.declared.failure.Failure.TheVariants.{Unprinted}
 
 -- the inputs are the bytes of the files of these names, where they are known
 pub record AreTextsIn (bytes_of : List ℕ → Option (List ℕ)) (names : FileNames)
@@ -61,6 +62,7 @@ abbrev pub IsUnput : List ℕ → Failure → Type 0
 IsUnput file (Unwritten name reason) = file ≡ name.now
 IsUnput file (Run found) = found ≡ at_none fault.Memory
 IsUnput file (Unopened from name reason) = ⊥
+IsUnput file (Unprinted reason) = ⊥
 
 -- a list of bytes takes each write, unless memory runs out
 abbrev pub list_fault : LogsFault → PlayFault → LogsFault
@@ -96,18 +98,42 @@ RunsTo None bytes_of asked names calls called old new ended =
 RunsTo (Some file) bytes_of asked names calls called old new ended =
     (new ≡ old) × RunsIntoFile bytes_of asked names file calls called ended
 
--- a failure is told once, by its message, and its status is the program's; else nothing is told
+-- the output couldn't be written for this reason, if that is what failed
+abbrev pub write_failure : LogsFault → PlayFault → Error → Failure
+write_failure found fault.Write reason = Unprinted reason
+write_failure found other reason = Run found
+
+abbrev pub failure_by : Failure → Error → Failure
+failure_by (Run found) reason = write_failure found found.fault reason
+failure_by failure reason = failure
+
+-- the failure with the reason that the writer of the output gave, if it gave one
+abbrev pub with_reason : Failure → Option Error → Failure
+with_reason failure None = failure
+with_reason failure (Some reason) = failure_by failure reason
+
+-- a failure is told, unless nothing is said of it
+abbrev pub TellsUnless : Bool → Told → Option (List Call) → Option (List Call) → Type 0
+TellsUnless true what calls called = called ≡ calls
+TellsUnless false what calls called = called ≡ and_then calls (Tells what ∷ [])
+
+-- a failure is told once, and its status is the program's; else nothing is told
 abbrev pub TellsEnd : FileNames → Option (List Call) → Option (List Call)
     → Result (Unit {0}) Failure → ℕ → Type 0
 TellsEnd names calls called (Ok done) status = (called ≡ calls) × (status ≡ 0)
 TellsEnd names calls called (Err failure) status =
-    ((message : Message) × IsMessageOfFailure names failure message
-    × (called ≡ and_then calls (Tells message ∷ []))) × (status ≡ failure_status failure)
+    TellsUnless (is_silent failure) (message_of names failure) calls called
+    × (status ≡ failure_status failure)
+
+-- how a run ended, with the reason of a writer that failed
+abbrev pub ended_with : Result (Unit {0}) Failure → Option Error → Result (Unit {0}) Failure
+ended_with (Ok done) reason = Ok done
+ended_with (Err failure) reason = Err (with_reason failure reason)
 
 -- what the run of a line leaves, with what the program tells of it
 abbrev pub EndsRun : (List ℕ → Option (List ℕ)) → Line → FileNames
     → Option (List Call) → Option (List Call) → Option (List ℕ) → Option (List ℕ) → ℕ → Type 0
 EndsRun bytes_of asked names calls called old new status =
-    (ran : Option (List Call)) × (ended : Result (Unit {0}) Failure)
+    (ran : Option (List Call)) × (ended : Result (Unit {0}) Failure) × (reason : Option Error)
     × RunsTo names.output bytes_of asked names calls ran old new ended
-    × TellsEnd names ran called ended status
+    × TellsEnd names ran called (ended_with ended reason) status

@@ -1,19 +1,34 @@
 -- Why a run isn't done, the status that the program then ends with, and what it says.
-use Rattle.std.specs.Prelude.{◌≡◌, ℕ, List, Option, None, Some, option_map}
+use Rattle.std.specs.Prelude.{ℕ, Bool, true, false, List, Option, None, Some}
+use Rattle.std.specs.IoError.{error_kind}
+use Rattle.std.specs.declared.io.ErrorKind.{ErrorKind}
+use Rattle.std.specs.declared.io.ErrorKind.TheVariants as kind
 use Rattle.cave_play.specs.Fault.{input_of, status_of}
 use Rattle.cave_play.specs.declared.fault.Input.{Input}
 use Rattle.cave_play.specs.declared.fault.PlayFault.TheVariants as fault
 use Rattle.play_logs.specs.declared.fault.LogsFault.{LogsFault}
+use Rattle.play_program.specs.Calls.{Told}
+use Rattle.play_program.specs.Calls.Told.{faulty, unopened, unprinted, unwritten}
 use Rattle.play_program.specs.Names.{FileNames, file_at}
 use Rattle.play_program.specs.declared.failure.Failure.{Failure}
 use Rattle.play_program.specs.declared.failure.Failure.TheVariants.{Unopened, Run, Unwritten}
-use Rattle.play_program.specs.declared.message.Message.{Message}
-use Rattle.play_program.specs.declared.message.Message.TheVariants as message
+use Rattle.play_program.specs.declared.failure.Failure.TheVariants.{Unprinted}
 
 abbrev pub failure_status : Failure → ℕ
 failure_status (Unopened from name reason) = status_of (fault.Read from)
 failure_status (Run found) = status_of found.fault
 failure_status (Unwritten name reason) = status_of fault.Write
+failure_status (Unprinted reason) = status_of fault.Write
+
+-- nobody reads any more what is written
+abbrev pub is_closed_pipe : ErrorKind → Bool
+is_closed_pipe kind.BrokenPipe = true
+is_closed_pipe _ = false
+
+-- nothing is said of an output that nobody reads any more
+abbrev pub is_silent : Failure → Bool
+is_silent (Unprinted reason) = is_closed_pipe (error_kind reason)
+is_silent failure = false
 
 -- the file of an input, if it is one
 abbrev pub file_of_input : FileNames → Option Input → Option ℕ → Option (List ℕ)
@@ -24,14 +39,10 @@ file_of_input names (Some from) place = file_at names from place
 abbrev pub file_of_fault : FileNames → LogsFault → Option (List ℕ)
 file_of_fault names found = file_of_input names (input_of found.fault) found.log
 
--- the message says the fault with the file that it is of, or which file can't be opened or written,
--- and the system's reason
-abbrev pub IsMessageOfFailure : FileNames → Failure → Message → Type 0
-IsMessageOfFailure names (Run found) (message.Fault complaint) =
-    (complaint.fault ≡ found.fault)
-    × (option_map (λ s. s.now) complaint.file ≡ file_of_fault names found)
-IsMessageOfFailure names (Unopened from name reason) (message.Unopened file why) =
-    (file.now ≡ name.now) × (why ≡ reason)
-IsMessageOfFailure names (Unwritten name reason) (message.Unwritten file why) =
-    (file.now ≡ name.now) × (why ≡ reason)
-IsMessageOfFailure names _ _ = ⊥
+-- what is told of it: the fault with the file that it is of, or which file can't be opened or
+-- written, or that the output can't be, with the system's reason
+abbrev pub message_of : FileNames → Failure → Told
+message_of names (Run found) = faulty found.fault (file_of_fault names found)
+message_of names (Unopened from name reason) = unopened name.now reason
+message_of names (Unwritten name reason) = unwritten name.now reason
+message_of names (Unprinted reason) = unprinted reason

@@ -1,6 +1,8 @@
 -- What the program asks of its system for its words, and with which status it ends.
-use Rattle.std.specs.Prelude.{◌≡◌, ◌⊎◌, ⊤, ℕ, List, [], ◌∷◌, Option, None, Some, Result, Ok, Err}
+use Rattle.std.specs.Prelude.{◌≡◌, ◌⊎◌, ℕ, List, [], ◌∷◌, Option, None, Some, Result, Ok, Err}
 use Rattle.std.specs.Prelude.{IfErr, IfOk}
+use Rattle.std.specs.IoError.{error_kind}
+use Rattle.std.specs.declared.io.Error.{Error}
 use Rattle.clap.specs.Words.{fault_of, subcommand_of}
 use Rattle.cave_play.specs.Fault.{status_of}
 use Rattle.cave_play.specs.declared.fault.PlayFault.{PlayFault}
@@ -9,49 +11,39 @@ use Rattle.play_command.specs.App.{cave_app}
 use Rattle.play_command.specs.Line.{IsAsked, IsRefused, IsRun, status_of_command}
 use Rattle.play_command.specs.declared.fault.CommandFault.{CommandFault}
 use Rattle.play_command.specs.declared.line.Line.{Line}
-use Rattle.play_program.specs.Calls.{Call, and_then}
+use Rattle.play_program.specs.Calls.{Call, Told, and_then}
 use Rattle.play_program.specs.Calls.Call.{Tells}
-use Rattle.play_program.specs.Ends.{EndsRun}
+use Rattle.play_program.specs.Calls.Told.{faulty, misused, unprinted, unread}
+use Rattle.play_program.specs.Ends.{EndsRun, TellsUnless}
+use Rattle.play_program.specs.Failures.{is_closed_pipe}
 use Rattle.play_program.specs.Names.{FileNames, names_of}
-use Rattle.play_program.specs.declared.message.Message.{Message}
-use Rattle.play_program.specs.declared.message.Message.TheVariants as message
 
--- one message is told, and nothing else is asked of the system
-abbrev pub TellsOne : (Message → Type 0) → Option (List Call) → Option (List Call) → Type 0
-TellsOne Is calls called =
-    (told : Message) × Is told × (called ≡ and_then calls (Tells told ∷ []))
-
--- the message says the fault, and names no file
-abbrev pub IsOfNoFile : PlayFault → Message → Type 0
-IsOfNoFile found (message.Fault complaint) =
-    (complaint.fault ≡ found) × (complaint.file ≡ None)
-IsOfNoFile found _ = ⊥
+-- this is told, and nothing else is asked of the system
+abbrev pub TellsOne : Told → Option (List Call) → Option (List Call) → Type 0
+TellsOne what calls called = called ≡ and_then calls (Tells what ∷ [])
 
 -- a fault that is of no file is told, with its status
 abbrev pub TellsFault : PlayFault → Option (List Call) → Option (List Call) → ℕ → Type 0
 TellsFault found calls called status =
-    TellsOne (IsOfNoFile found) calls called × (status ≡ status_of found)
+    TellsOne (faulty found None) calls called × (status ≡ status_of found)
 
--- the message is the parser's, in two parts
-abbrev pub IsUsage : Message → Type 0
-IsUsage (message.Usage before after) = ⊤
-IsUsage _ = ⊥
-
--- the message says that the words can't be read
-abbrev pub IsUnread : Message → Type 0
-IsUnread (message.Unread reason) = ⊤
-IsUnread _ = ⊥
+-- the output can't be written for this reason, which is told unless nobody reads it any more
+abbrev pub TellsUnprinted : Error → Option (List Call) → Option (List Call) → ℕ → Type 0
+TellsUnprinted reason calls called status =
+    TellsUnless (is_closed_pipe (error_kind reason)) (unprinted reason) calls called
+    × (status ≡ status_of fault.Write)
 
 -- help or the version was printed, and nothing is asked of the system; or the writer failed
 abbrev pub EndsText : Option (List Call) → Option (List Call) → ℕ → Type 0
-EndsText calls called status =
-    ((called ≡ calls) × (status ≡ 0)) ⊎ TellsFault fault.Write calls called status
+EndsText calls called status = ((called ≡ calls) × (status ≡ 0))
+    ⊎ ((reason : Error) × TellsUnprinted reason calls called status)
 
 -- what a line leaves that is refused: it is told why, unless memory runs out, and nothing else is
 -- asked of the system
 abbrev pub EndsRefused : CommandFault → Option (List Call) → Option (List Call) → ℕ → Type 0
 EndsRefused found calls called status =
-    (TellsOne IsUsage calls called × (status ≡ status_of_command found))
+    ((before : List ℕ) × (after : List ℕ) × TellsOne (misused before after) calls called
+    × (status ≡ status_of_command found))
     ⊎ TellsFault fault.Memory calls called status
 
 -- what a line leaves that names these files, or asks for no run
@@ -85,4 +77,5 @@ EndsWords words bytes_of calls called old new status = (line : Result Line Comma
 -- the words can't be read, which is told with status 2, or memory ran out
 abbrev pub EndsUnread : Option (List Call) → Option (List Call) → ℕ → Type 0
 EndsUnread calls called status =
-    (TellsOne IsUnread calls called × (status ≡ 2)) ⊎ TellsFault fault.Memory calls called status
+    ((reason : Error) × TellsOne (unread reason) calls called × (status ≡ 2))
+    ⊎ TellsFault fault.Memory calls called status

@@ -1,9 +1,12 @@
 //! Why a run wasn't done, and what the program says of it.
 
 ghost use Rattle.std.specs.Prelude.{◌≡◌};
+ghost use Rattle.std.specs.IoError.{error_kind};
 ghost use Rattle.play_logs.specs.Faults.{at_none};
 ghost use Rattle.cave_play.specs.declared.fault.PlayFault.TheVariants.{Memory};
-ghost use Rattle.play_program.specs.Failures.{IsMessageOfFailure, failure_status};
+ghost use Rattle.play_program.specs.Calls.{told_of};
+ghost use Rattle.play_program.specs.Failures.{failure_status, is_closed_pipe, is_silent};
+ghost use Rattle.play_program.specs.Failures.{message_of};
 ghost use Rattle.play_program.specs.Names.{names_in};
 
 use crate::message::Message;
@@ -11,6 +14,7 @@ use crate::names::Names;
 use cave_play::{Complaint, Input, PlayFault};
 use play_logs::fault::LogsFault;
 use std::io;
+use std::io::ErrorKind;
 
 /// Why a run wasn't done.
 #[derive(Drop)]
@@ -20,6 +24,15 @@ pub enum Failure<'a> {
     Run(LogsFault),
     /// The system can't write the file of the output, for this reason.
     Unwritten(&'a str, io::Error),
+    /// The system can't write the output, for this reason.
+    Unprinted(io::Error),
+}
+
+/// Whether nobody reads any more what is written.
+pub fn is_closed_pipe(reason: &io::Error) -> bool
+    ensures { result ≡ is_closed_pipe (error_kind reason.now) }
+{
+    matches!(reason.kind(), ErrorKind::BrokenPipe)
 }
 
 impl<'a> Failure<'a> {
@@ -37,13 +50,23 @@ impl<'a> Failure<'a> {
         match self {
             Failure::Run(found) => found.fault.status(),
             Failure::Unopened(input, _, _) => PlayFault::Read(*input).status(),
-            Failure::Unwritten(_, _) => PlayFault::Write.status(),
+            Failure::Unwritten(_, _) | Failure::Unprinted(_) => PlayFault::Write.status(),
+        }
+    }
+
+    /// Whether the program says nothing of it.
+    pub fn is_silent(&self) -> bool
+        ensures { result ≡ is_silent self.now }
+    {
+        match self {
+            Failure::Unprinted(reason) => is_closed_pipe(reason),
+            _ => false,
         }
     }
 
     /// What the program says of it, where the run has these files.
     pub fn message(self, names: Names<'a>) -> Message<'a>
-        ensures { IsMessageOfFailure (names_in names.entry) self.entry result }
+        ensures { told_of result ≡ message_of (names_in names.entry) self.entry }
     {
         match self {
             Failure::Run(LogsFault { fault, log }) => {
@@ -55,6 +78,7 @@ impl<'a> Failure<'a> {
             }
             Failure::Unopened(_, file, reason) => Message::Unopened(file, reason),
             Failure::Unwritten(file, reason) => Message::Unwritten(file, reason),
+            Failure::Unprinted(reason) => Message::Unprinted(reason),
         }
     }
 }

@@ -6,6 +6,7 @@ pub mod command;
 pub mod failure;
 pub mod message;
 pub mod names;
+pub mod output;
 pub mod program;
 pub mod readers;
 pub mod run;
@@ -14,6 +15,7 @@ pub mod target;
 pub mod whole;
 
 pub use message::Message;
+pub use output::Output;
 pub use program::run_program;
 pub use system::System;
 pub use target::Target;

@@ -12,6 +12,8 @@ pub enum Message<'a> {
     Unopened(&'a str, io::Error),
     /// The file of the output can't be written, for this reason.
     Unwritten(&'a str, io::Error),
+    /// The output can't be written, for this reason.
+    Unprinted(io::Error),
     /// What the parser says of the words, in two parts.
     Usage(&'a str, &'a str),
     /// The words can't be read, for this reason.
@@ -33,6 +35,7 @@ impl fmt::Display for Message<'_> {
             Message::Unwritten(file, reason) => {
                 writeln!(f, "cave: {file}: {}: {reason}", PlayFault::Write)
             }
+            Message::Unprinted(reason) => writeln!(f, "cave: {}: {reason}", PlayFault::Write),
             Message::Usage(before, after) => write!(f, "{before}{after}"),
             Message::Unread(reason) => {
                 writeln!(f, "cave: the command line can't be read: {reason}")

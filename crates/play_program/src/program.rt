@@ -1,13 +1,16 @@
 //! The program, from its words to its status.
 
-ghost use Rattle.std.specs.Prelude.{◌≡◌, IfErr, IfOk, map, string_bytes};
+ghost use Rattle.std.specs.Prelude.{◌≡◌, IfErr, IfOk, None, map, string_bytes};
 ghost use Rattle.cave_play.specs.Fault.{status_of};
+ghost use Rattle.play_program.specs.Calls.Told.{faulty};
 ghost use Rattle.play_program.specs.Names.{names_of};
 ghost use Rattle.play_program.specs.Program.{EndsNamed, EndsRefused, EndsText, EndsUnread};
-ghost use Rattle.play_program.specs.Program.{EndsWords, IsOfNoFile, TellsOne};
+ghost use Rattle.play_program.specs.Program.{EndsWords, TellsOne, TellsUnprinted};
 
+use crate::failure::is_closed_pipe;
 use crate::message::Message;
 use crate::names::Names;
+use crate::output::Output;
 use crate::run::run;
 use crate::system::System;
 use cave_play::{Complaint, PlayFault};
@@ -24,21 +27,33 @@ const WRONG_WORDS: u8 = 2;
 
 /// Says a fault that is of no file, and returns the status that goes with it.
 fn fail<S: System>(system: &mut S, fault: PlayFault) -> u8
-    ensures told { TellsOne (IsOfNoFile fault) (S.calls system.old) (S.calls system.new) }
+    ensures told { TellsOne (faulty fault None) (S.calls system.old) (S.calls system.new) }
     ensures status { result ≡ status_of fault }
 {
     system.tell(Message::Fault(Complaint { fault, file: None }));
     fault.status()
 }
 
+/// Says why the output can't be written, unless nobody reads it any more, and returns the status.
+fn fail_output<S: System>(system: &mut S, reason: io::Error) -> u8
+    ensures { TellsUnprinted reason (S.calls system.old) (S.calls system.new) result }
+{
+    let status = PlayFault::Write.status();
+    if is_closed_pipe(&reason) {
+        return status;
+    }
+    system.tell(Message::Unprinted(reason));
+    status
+}
+
 /// Prints help or the version, where a command line asks for it.
-fn print<S: System, W: Write>(system: &mut S, asked: &Line<'_>, output: &mut W) -> u8
+fn print<S: System, W: Write>(system: &mut S, asked: &Line<'_>, output: &mut Output<W>) -> u8
     ensures ends { EndsText (S.calls system.old) (S.calls system.new) result }
 {
     match asked {
         Line::Text(text) => match write!(output, "{text}") {
             Ok(()) => DONE,
-            Err(_) => fail(system, PlayFault::Write),
+            Err(reason) => fail_output(system, reason),
         },
         _ => DONE,
     }
@@ -49,11 +64,11 @@ fn answer<S: System, W: Write>(
     alloc: Global,
     system: &mut S,
     asked: &Line<'_>,
-    output: &mut W,
+    output: &mut Output<W>,
 ) -> u8
     ensures ends { EndsNamed (names_of asked.now) (S.bytes_of system.old) asked.now
-        (S.calls system.old) (S.calls system.new) (W.contents output.old) (W.contents output.new)
-        result }
+        (S.calls system.old) (S.calls system.new) (W.contents output.old.writer)
+        (W.contents output.new.writer) result }
 {
     match Names::in_run(asked) {
         Some(names) => run(alloc, system, asked, names, output),
@@ -88,10 +103,15 @@ fn refuse<S: System>(alloc: Global, system: &mut S, fault: &CommandFault<'_>) ->
 }
 
 /// Does what words ask for.
-fn begin<S: System, W: Write>(alloc: Global, system: &mut S, words: &[String], output: &mut W) -> u8
+fn begin<S: System, W: Write>(
+    alloc: Global,
+    system: &mut S,
+    words: &[String],
+    output: &mut Output<W>,
+) -> u8
     ensures ends { EndsWords (map string_bytes words.now) (S.bytes_of system.old)
-        (S.calls system.old) (S.calls system.new) (W.contents output.old) (W.contents output.new)
-        result }
+        (S.calls system.old) (S.calls system.new) (W.contents output.old.writer)
+        (W.contents output.new.writer) result }
 {
     match command_line(alloc, words) {
         Ok(asked) => answer(alloc, system, &asked, output),
@@ -104,12 +124,12 @@ pub fn run_program<S: System, W: Write>(
     alloc: Global,
     system: &mut S,
     words: io::Result<Vec<String>>,
-    output: &mut W,
+    output: &mut Output<W>,
 ) -> u8
     ensures words { IfOk words (λ given. EndsWords (map string_bytes given.items)
-        (S.bytes_of system.old) (S.calls system.old) (S.calls system.new) (W.contents output.old)
-        (W.contents output.new) result) }
-    ensures unread { IfErr words (λ reason. (W.contents output.new ≡ W.contents output.old)
+        (S.bytes_of system.old) (S.calls system.old) (S.calls system.new) (W.contents output.old.writer)
+        (W.contents output.new.writer) result) }
+    ensures unread { IfErr words (λ reason. (W.contents output.new.writer ≡ W.contents output.old.writer)
         × EndsUnread (S.calls system.old) (S.calls system.new) result) }
 {
     match words {

@@ -4,18 +4,21 @@ ghost use Rattle.std.specs.Prelude.{◌≡◌, [], ◌∷◌, IfErr, option_map}
 ghost use Rattle.play_program.specs.Calls.{and_then};
 ghost use Rattle.play_program.specs.Calls.Call.{Puts};
 ghost use Rattle.play_program.specs.Ends.{EndsRun, IsUnput, RunsFiles, RunsIntoFile, RunsTo};
-ghost use Rattle.play_program.specs.Ends.{ended_run, in_list};
+ghost use Rattle.play_program.specs.Ends.{TellsUnless, ended_run, failure_by, in_list, with_reason};
+ghost use Rattle.play_program.specs.Failures.{failure_status, is_silent, message_of};
 ghost use Rattle.play_program.specs.Names.{names_in};
 
 use crate::command::run_command;
 use crate::failure::Failure;
 use crate::names::Names;
+use crate::output::Output;
 use crate::readers::open_files;
 use crate::system::System;
 use cave_play::PlayFault;
 use play_command::Line;
 use play_logs::fault::LogsFault;
 use std::alloc::Global;
+use std::io;
 use std::io::{ErrorKind, Write};
 
 /// The status of a run that is done.
@@ -119,24 +122,60 @@ fn run_to<'a, S: System, W: Write>(
     }
 }
 
+/// The failure for the reason that the writer of the output gave, if that is what failed.
+fn failure_by<'a>(failure: Failure<'a>, reason: io::Error) -> Failure<'a>
+    ensures { result ≡ failure_by failure.entry reason }
+{
+    match failure {
+        Failure::Run(
+            LogsFault {
+                fault: PlayFault::Write,
+                ..
+            },
+        ) => Failure::Unprinted(reason),
+        failure => failure,
+    }
+}
+
+/// The failure with the reason that the writer of the output gave, if it gave one.
+fn with_reason<'a>(failure: Failure<'a>, reason: Option<io::Error>) -> Failure<'a>
+    ensures { result ≡ with_reason failure.entry reason }
+{
+    match reason {
+        Some(reason) => failure_by(failure, reason),
+        None => failure,
+    }
+}
+
+/// Says why a run wasn't done, unless nobody reads its output any more, and returns the status.
+fn tell_failure<S: System>(system: &mut S, failure: Failure<'_>, names: Names<'_>) -> u8
+    ensures told { TellsUnless (is_silent failure.entry)
+        (message_of (names_in names.entry) failure.entry) (S.calls system.old)
+        (S.calls system.new) }
+    ensures status { result ≡ failure_status failure.entry }
+{
+    let status = failure.status();
+    if failure.is_silent() {
+        return status;
+    }
+    system.tell(failure.message(names));
+    status
+}
+
 /// Does a run, says why it wasn't done where that is so, and returns the status.
 pub fn run<S: System, W: Write>(
     alloc: Global,
     system: &mut S,
     asked: &Line<'_>,
     names: Names<'_>,
-    output: &mut W,
+    output: &mut Output<W>,
 ) -> u8
     ensures ends { EndsRun (S.bytes_of system.old) asked.now (names_in names.entry)
-        (S.calls system.old) (S.calls system.new) (W.contents output.old) (W.contents output.new)
-        result }
+        (S.calls system.old) (S.calls system.new) (W.contents output.old.writer)
+        (W.contents output.new.writer) result }
 {
     match run_to(alloc, system, asked, names, names.files.output, output) {
         Ok(()) => DONE,
-        Err(failure) => {
-            let status = failure.status();
-            system.tell(failure.message(names));
-            status
-        }
+        Err(failure) => tell_failure(system, with_reason(failure, output.reason), names),
     }
 }

@@ -1,7 +1,7 @@
 //! What a system gives a program.
 
 ghost use Rattle.std.specs.Prelude.{◌≡◌, ℕ, List, [], ◌∷◌, Option, IfOk};
-ghost use Rattle.play_program.specs.Calls.{Call, and_then};
+ghost use Rattle.play_program.specs.Calls.{Call, and_then, told_of};
 ghost use Rattle.play_program.specs.Calls.Call.{Opens, Puts, Tells};
 
 use crate::message::Message;
@@ -32,5 +32,5 @@ pub trait System {
 
     /// Tells the user a message, beside the output.
     fn tell(&mut self, message: Message<'_>)
-        ensures call { calls self.new ≡ and_then (calls self.old) (Tells message.entry ∷ []) };
+        ensures call { calls self.new ≡ and_then (calls self.old) (Tells (told_of message.entry) ∷ []) };
 }

@@ -5,4 +5,4 @@ pub returns-in-Ok : goal.returns-in-Ok
 returns-in-Ok g c = record { ends = inl (refl, refl) }
 
 pub returns-in-Err : goal.returns-in-Err
-returns-in-Err g c = record { ends = inr (c.fail.ensures.told, c.fail.ensures.status) }
+returns-in-Err g c = record { ends = inr (c.in-Err.reason, c.fail_output.ensures) }

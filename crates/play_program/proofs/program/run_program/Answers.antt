@@ -1,6 +1,5 @@
 use Rattle.std.proofs.Common.{inl, inr, map, refl, string_bytes, subst}
 use Rattle.play_program.specs.Program.{EndsWords}
-use Rattle.play_program.specs.declared.message.Message.TheVariants as message
 use Rattle.play_program.proofs.program.run_program.Goals as goal
 
 pub returns-in-Ok : goal.returns-in-Ok
@@ -10,7 +9,8 @@ returns-in-Ok g c =
     subst
     (λ given. EndsWords (map string_bytes given) (g.S.System.bytes_of system)
     (g.S.System.calls system) (g.S.System.calls c.begin.new.system)
-    (g.W.Write.contents c.args.output.now) (g.W.Write.contents c.begin.new.output) c.begin.result)
+    (g.W.Write.contents c.args.output.now.writer) (g.W.Write.contents c.begin.new.output.writer)
+    c.begin.result)
     c.as_slice.ensures.value c.begin.ensures.ends in
     rw c.in-Ok.is (record { words = words; unread = tt })
 
@@ -24,5 +24,5 @@ returns-in-Err-2 g c =
     rw c.in-Err-2.is
     (record {
       words = tt;
-      unread = (refl, inl ((message.Unread c.in-Err-2.reason, tt, c.tell.ensures.call), refl));
+      unread = (refl, inl (c.in-Err-2.reason, c.tell.ensures.call, refl));
     })

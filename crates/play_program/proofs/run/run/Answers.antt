@@ -1,17 +1,32 @@
-use Rattle.std.proofs.Common.{Err, Ok, refl}
+use Rattle.std.proofs.Common.{Err, None, Ok, refl, subst}
+use Rattle.play_program.specs.Ends.{TellsEnd}
+use Rattle.play_program.specs.Names.{names_in}
+use Rattle.play_program.specs.declared.failure.Failure.{Failure}
 use Rattle.play_program.proofs.run.run.Goals as goal
 
 pub returns-in-Ok : goal.returns-in-Ok
 returns-in-Ok g c = record {
-  ends = (g.S.System.calls c.run_to.new.system, Ok tt, c.in-Ok.ensures.runs, (refl, refl));
+  ends = (
+    g.S.System.calls c.run_to.new.system,
+    Ok tt,
+    None,
+    c.in-Ok.ensures.runs,
+    (refl, refl),
+  );
 }
 
 pub returns-in-Err : goal.returns-in-Err
-returns-in-Err g c = record {
-  ends = (
-    g.S.System.calls c.run_to.new.system,
-    Err c.in-Err.failure,
-    c.in-Err.ensures.runs,
-    ((c.message.result, c.message.ensures, c.tell.ensures.call), c.status-status.ensures),
-  );
-}
+returns-in-Err g c =
+    let ran = g.S.System.calls c.run_to.new.system in
+    record {
+      ends = (
+        ran,
+        Err c.in-Err.failure,
+        c.run_to.new.output.reason,
+        c.in-Err.ensures.runs,
+        subst
+            (λ (failure : Failure). TellsEnd (names_in c.args.names) ran
+            (g.S.System.calls c.tell_failure.new.system) (Err failure) c.tell_failure.result)
+            c.with_reason.ensures (c.tell_failure.ensures.told, c.tell_failure.ensures.status),
+      );
+    }

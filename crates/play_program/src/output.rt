@@ -1,0 +1,45 @@
+//! Where the output goes.
+
+ghost use Rattle.std.specs.Prelude.{◌≡◌, None};
+
+use std::io;
+use std::io::Write;
+
+/// A writer of the output, which keeps why it failed.
+#[derive(Drop)]
+pub struct Output<W> {
+    pub writer: W,
+    /// The reason of its last failure, if it failed.
+    pub reason: Option<io::Error>,
+}
+
+impl<W> Output<W> {
+    /// The output of a writer, which hasn't failed.
+    pub fn of(writer: W) -> Output<W>
+        ensures writer { result.writer ≡ writer }
+        ensures reason { result.reason ≡ None }
+    {
+        Output {
+            writer,
+            reason: None,
+        }
+    }
+}
+
+impl<W: Write> Write for Output<W> {
+    ghost contents = { λ output. W.contents output.writer };
+
+    fn write(&mut self, buf: &[u8]) -> io::Result<usize> {
+        match self.writer.write(buf) {
+            Ok(count) => Ok(count),
+            Err(reason) => {
+                self.reason = Some(reason);
+                Err(reason)
+            }
+        }
+    }
+
+    fn flush(&mut self) -> io::Result<()> {
+        self.writer.flush()
+    }
+}
