@@ -87,3 +87,16 @@ length-rows_from first count (line ∷ log) (piece ∷ pieces) [] p t = absurd (
 length-rows_from first count (line ∷ log) (piece ∷ pieces) (ticked ∷ ticks) p t =
     ap suc (length-rows_from (first + 1) (count + (if ticked then 1 else 0)) log pieces ticks
     (omega arith) (omega arith))
+
+-- without pieces there are no rows, and without ticks
+pub no_pieces : {Piece : Type 0} (first count : ℕ) (log : List (List ℕ)) (ticks : List Bool)
+    → rows_from {Piece = Piece} first count log [] ticks ≡ []
+no_pieces first count [] ticks = refl
+no_pieces first count (line ∷ log) ticks = refl
+
+pub no_ticks : {Piece : Type 0} (first count : ℕ) (log : List (List ℕ)) (pieces : List Piece)
+    (ticks : List Bool) → length ticks ≡ 0 → rows_from first count log pieces ticks ≡ []
+no_ticks first count [] pieces ticks none = refl
+no_ticks first count (line ∷ log) [] ticks none = refl
+no_ticks first count (line ∷ log) (piece ∷ pieces) [] none = refl
+no_ticks first count (line ∷ log) (piece ∷ pieces) (tick ∷ ticks) none = absurd (omega arith)

@@ -3,7 +3,7 @@ use Rattle.std.specs.Prelude.{◌≡◌, ℕ, ◌<◌, ◌≤◌, Bool, List, le
 use Rattle.replay_checkpoints.specs.Marks.{CheckpointsView}
 use Rattle.cave_replay.specs.declared.playthrough.Playthrough.{Playthrough}
 use Rattle.cave_replay.specs.Play.{MachineRules, IsPlay}
-use Rattle.replay_edits.specs.Edit.{Game, game_in, log_of, IsGame}
+use Rattle.replay_edits.specs.Edit.{Game, game_of, log_of, IsGame}
 use Rattle.cave_replay.specs.Agreement.{state_at}
 use Rattle.cave_replay.specs.Replay.{AreStates}
 use Rattle.base_lines.specs.Limits.{MAX_EVERY}
@@ -27,7 +27,7 @@ pub record IsPlaythrough {State S T : Type 0} (meaning : State → S) (is_state 
 
 abbrev pub kept_game : {Machine State Kept Piece Meter Scratch : Type 0}
     → Playthrough Machine State Kept Piece Meter Scratch → Game
-kept_game kept = game_in kept.seed kept.log
+kept_game kept = game_of kept.seed (log_of kept.log.items)
 
 -- What is kept is the play of the game that is kept, with the states at its checkpoints; the game
 -- and their distance are valid.

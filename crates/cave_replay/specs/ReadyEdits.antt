@@ -29,10 +29,10 @@ abbrev pub ready_revision : {Kept State S T : Type 0} → MachineRules S T → O
     → Revision S T
 ready_revision rules old ready = record {
   rules = rules;
-  old = game_of old.seed (log_of old.log.now);
-  new = new_game ready (log_of old.log.now);
+  old = game_of old.seed (log_of old.log.now.items);
+  new = new_game ready (log_of old.log.now.items);
   head = ready.head;
-  tail = length old.log.now - ready.rest;
+  tail = length old.log.now.items - ready.rest;
 }
 
 abbrev pub MayReplay : {Kept State S T : Type 0} → (State → S) → (State → Type 0) → MachineRules S T

@@ -2,6 +2,7 @@
 use Rattle.std.specs.Prelude.{◌≡◌, ℕ, ◌+◌, ◌-◌, ◌<◌, ◌≤◌, List, ◌++◌, length, take, slice_index}
 use Rattle.std.specs.Prelude.{Option, Some, None, MatchOption, vec_len, vec_capacity}
 use Rattle.std.specs.List.{splice}
+use Rattle.replay_checkpoints.specs.Blocks.{IsOpenAt}
 use Rattle.replay_checkpoints.specs.Marks.{MarksView, CheckpointsView, IsBegunAt, places_met, states_met}
 use Rattle.cave_replay.specs.declared.playthrough.Playthrough.{Playthrough}
 use Rattle.cave_replay.specs.declared.replay.Rerun.{Rerun}
@@ -49,9 +50,9 @@ FitsMarks checkpoints marks at count =
 -- each line that is kept has a piece, and ticked or not, and the checkpoints are of all the lines
 pub record IsWhole {Machine State Kept Piece Meter Scratch : Type 0}
     (kept : Playthrough Machine State Kept Piece Meter Scratch) : Type 0 where
-  pub pieces : vec_len kept.pieces ≡ vec_len kept.log
-  pub ticked : vec_len kept.ticked.each ≡ vec_len kept.log
-  pub lines : kept.checkpoints.lines ≡ vec_len kept.log
+  pub pieces : length kept.pieces.items ≡ length kept.log.items
+  pub ticked : vec_len kept.ticked.each ≡ length kept.log.items
+  pub lines : kept.checkpoints.lines ≡ length kept.log.items
 
 -- There is room for the lines of the edits of a rerun, and for what it played, where the lines and
 -- the checkpoints go that it passed.
@@ -59,10 +60,9 @@ pub record HasRoomFor {Machine State Kept Piece Meter Scratch : Type 0}
     (kept : Playthrough Machine State Kept Piece Meter Scratch)
     (rerun : Rerun Machine State Kept Piece Meter Scratch) :
     Type 0 where
-  pub log : vec_len kept.log + vec_len rerun.ready.middle
-      ≤ vec_capacity kept.log + (rerun.ready.rest - rerun.ready.head)
-  pub pieces : vec_len kept.pieces + vec_len rerun.played.pieces
-      ≤ vec_capacity kept.pieces + lines_gone kept.checkpoints rerun.at rerun.played.met
+  pub log : IsOpenAt kept.log rerun.ready.head rerun.ready.rest (vec_len rerun.ready.middle)
+  pub pieces : IsOpenAt kept.pieces (slice_index kept.checkpoints.places rerun.at)
+      (end_of_stretch kept.checkpoints rerun.played.met) (vec_len rerun.played.pieces)
   pub ticked : vec_len kept.ticked.each + vec_len rerun.played.ticked
       ≤ vec_capacity kept.ticked.each + lines_gone kept.checkpoints rerun.at rerun.played.met
   pub marks : FitsMarks kept.checkpoints rerun.played.marks rerun.at

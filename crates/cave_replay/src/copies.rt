@@ -4,6 +4,7 @@ ghost use Rattle.cave_replay.specs.Playthrough.{IsCopyOf};
 
 use crate::machine::Machine;
 use crate::playthrough::Playthrough;
+use replay_checkpoints::Blocks;
 use replay_edits::LineText;
 use std::alloc::{AllocError, Global};
 
@@ -31,26 +32,26 @@ pub(crate) fn copy_kept<M: Machine>(
     })
 }
 
-fn copy_lines(alloc: Global, lines: &[LineText]) -> Result<Vec<LineText>, AllocError>
-    ensures { IfOk result (λ copy. log_of copy.items ≡ log_of lines.now) }
+fn copy_lines(alloc: Global, lines: &Blocks<LineText>) -> Result<Blocks<LineText>, AllocError>
+    ensures { IfOk result (λ copy. log_of copy.items ≡ log_of lines.now.items) }
 {
     let mut copy = Vec::with_capacity(alloc, lines.len())?;
-    for line in lines {
-        copy.push(LineText::from_slice(alloc, line)?)?;
+    for place in 0..lines.len() {
+        copy.push(LineText::from_slice(alloc, lines.at(place))?)?;
     }
-    Ok(copy)
+    Blocks::of(alloc, copy)
 }
 
 fn copy_pieces<M: Machine>(
     alloc: Global,
     machine: &M,
-    pieces: &[M::Piece],
-) -> Result<Vec<M::Piece>, AllocError>
-    ensures { IfOk result (λ copy. map M.text copy.items ≡ map M.text pieces.now) }
+    pieces: &Blocks<M::Piece>,
+) -> Result<Blocks<M::Piece>, AllocError>
+    ensures { IfOk result (λ copy. map M.text copy.items ≡ map M.text pieces.now.items) }
 {
     let mut copy = Vec::with_capacity(alloc, pieces.len())?;
-    for piece in pieces {
-        copy.push(machine.copy_piece(alloc, piece)?)?;
+    for place in 0..pieces.len() {
+        copy.push(machine.copy_piece(alloc, pieces.at(place))?)?;
     }
-    Ok(copy)
+    Blocks::of(alloc, copy)
 }

@@ -23,7 +23,7 @@ pub use base_lines::{LineFault, LineFlaw, Meter, Steps, check_line};
 pub use fault::OpenFault;
 pub use machine::{Machine, Started, Stepped};
 pub use played_lines::{PlayedLine, PlayedLines};
-pub use replay_checkpoints::{KeptState, Whole};
+pub use replay_checkpoints::{Blocks, Items, KeptState, Whole};
 pub use replay_edits::{Edit, EditFault, GroupFault, LineText};
 pub use report::{Done, Report};
 pub use session::Session;

@@ -8,6 +8,7 @@ ghost use Rattle.cave_replay.specs.Opening.{first_bad_line, open_fault, IsAnswer
 use crate::fault::OpenFault;
 use base_lines::limits::{is_bad_every, is_large_seed, is_long_log};
 use base_lines::{LineFlaw, split_log_line};
+use replay_checkpoints::Blocks;
 use replay_edits::LineText;
 use std::alloc::{AllocError, Global};
 
@@ -76,11 +77,11 @@ fn with_copy(alloc: Global, copies: Copies, line: &[u8]) -> Copies
 }
 
 /// Appends lines, each with a line feed after it.
-pub(crate) fn push_lines(lines: &[LineText], text: &mut Vec<u8>) -> Result<(), AllocError>
-    ensures { OnOk result (text.new.items ≡ text.old.items ++ log_text (log_of lines.now)) }
+pub(crate) fn push_lines(lines: &Blocks<LineText>, text: &mut Vec<u8>) -> Result<(), AllocError>
+    ensures { OnOk result (text.new.items ≡ text.old.items ++ log_text (log_of lines.now.items)) }
 {
-    for line in lines {
-        text.extend_from_slice(line)?;
+    for place in 0..lines.len() {
+        text.extend_from_slice(lines.at(place))?;
         text.extend_from_slice(b"\n")?;
     }
     Ok(())

@@ -2,6 +2,7 @@ ghost use Rattle.std.specs.Prelude.{◌≡◌, ℕ, ◌<◌, ◌^◌, length, sl
 ghost use Rattle.replay_edits.specs.Edit.{log_of};
 ghost use Rattle.cave_replay.specs.PlayedRow.{IsRowAt};
 
+use replay_checkpoints::Items;
 use replay_edits::LineText;
 use std::marker::Model;
 
@@ -21,8 +22,8 @@ pub struct PlayedLine<'a, P> {
 /// The lines of a log as they were played, one after another.
 #[derive(Drop)]
 pub struct PlayedLines<'a, P> {
-    log: &'a [LineText],
-    pieces: &'a [P],
+    log: Items<'a, LineText>,
+    pieces: Items<'a, P>,
     ticked: &'a [bool],
     place: u32,
     ticks: u32,
@@ -35,23 +36,23 @@ impl<'a, P> Model for PlayedLines<'a, P> {
 
     ghost Value = { List (PlayedRow P) };
 
-    ghost view = { λ l. rows_from l.place l.ticks (log_of l.log.now) l.pieces.now l.ticked.now };
+    ghost view = { λ l. rows_from l.place l.ticks (log_of l.log) l.pieces l.ticked.now };
 
     ghost invariant = { λ l. record {
-      places : l.place + length l.log.now < 2 ^ 32;
+      places : l.place + length l.log < 2 ^ 32;
       ticks : l.ticks + length l.ticked.now < 2 ^ 32;
     } };
 }
 
 impl<'a, P> PlayedLines<'a, P> {
     /// Lines, of which these pieces were said, and of which each ticked or not.
-    pub(crate) fn of(log: &'a [LineText], pieces: &'a [P], ticked: &'a [bool]) -> Self
-        requires few { length log.now < 2 ^ 32 }
-        requires pieces { length pieces.now ≡ length log.now }
-        requires ticked { length ticked.now ≡ length log.now }
-        ensures each_line { length result ≡ length log.now }
-        ensures rows { (place : ℕ) → place < length log.now → IfSome (slice_get result place)
-            (IsRowAt (log_of log.now) pieces.now ticked.now place) }
+    pub(crate) fn of(log: Items<'a, LineText>, pieces: Items<'a, P>, ticked: &'a [bool]) -> Self
+        requires few { length log < 2 ^ 32 }
+        requires pieces { length pieces ≡ length log }
+        requires ticked { length ticked.now ≡ length log }
+        ensures each_line { length result ≡ length log.entry }
+        ensures rows { (place : ℕ) → place < length log.entry → IfSome (slice_get result place)
+            (IsRowAt (log_of log.entry) pieces.entry ticked.now place) }
     {
         PlayedLines {
             log,
@@ -74,12 +75,10 @@ impl<'a, P> Iterator for PlayedLines<'a, P> {
     ghost remaining = { item_count (λ rows. rows) };
 
     fn next(&mut self) -> Option<PlayedLine<'a, P>> {
-        let (line, log) = self.log.split_first()?;
-        let (piece, pieces) = self.pieces.split_first()?;
+        let line = self.log.next()?;
+        let piece = self.pieces.next()?;
         let (ticked, rest) = self.ticked.split_first()?;
         let place = self.place;
-        self.log = log;
-        self.pieces = pieces;
         self.ticked = rest;
         self.place += 1;
         self.ticks += u32::from(*ticked);

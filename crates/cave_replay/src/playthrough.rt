@@ -8,7 +8,7 @@ use crate::machine::Machine;
 use crate::segment::{Segment, play_line};
 use crate::ticked_lines::TickedLines;
 use crate::workspace::Workspace;
-use replay_checkpoints::{Checkpoints, Marks};
+use replay_checkpoints::{Blocks, Checkpoints, Marks};
 use replay_edits::LineText;
 use std::alloc::AllocError;
 
@@ -16,9 +16,9 @@ use std::alloc::AllocError;
 #[derive(Drop)]
 pub(crate) struct Playthrough<M: Machine> {
     pub(crate) seed: u32,
-    pub(crate) log: Vec<LineText>,
+    pub(crate) log: Blocks<LineText>,
     pub(crate) opening: M::Piece,
-    pub(crate) pieces: Vec<M::Piece>,
+    pub(crate) pieces: Blocks<M::Piece>,
     pub(crate) ticked: TickedLines,
     pub(crate) checkpoints: Checkpoints<M::Kept>,
     pub(crate) state: M::State,
@@ -67,9 +67,9 @@ pub(crate) fn play_game<M: Machine>(
     let state = *marks.state();
     Ok(Playthrough {
         seed,
-        log,
+        log: Blocks::of(alloc, log)?,
         opening,
-        pieces,
+        pieces: Blocks::of(alloc, pieces)?,
         ticked: TickedLines::of(ticked),
         checkpoints: Checkpoints::of(marks),
         state,

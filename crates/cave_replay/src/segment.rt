@@ -12,7 +12,7 @@ ghost use Rattle.base_lines.specs.Limits.{MAX_LOG_LINES};
 use crate::machine::Machine;
 use crate::ready_edits::ReadyEdits;
 use crate::workspace::Workspace;
-use replay_checkpoints::{Checkpoints, KeptState, Marks, first_from};
+use replay_checkpoints::{Blocks, Checkpoints, KeptState, Marks, first_from};
 use replay_edits::LineText;
 use std::alloc::AllocError;
 
@@ -31,7 +31,7 @@ pub(crate) struct Segment<M: Machine> {
 #[derive(Drop)]
 pub(crate) struct OldPlay<'a, K: KeptState> {
     pub(crate) seed: u32,
-    pub(crate) log: &'a [LineText],
+    pub(crate) log: &'a Blocks<LineText>,
     pub(crate) checkpoints: &'a Checkpoints<K>,
 }
 
@@ -45,10 +45,10 @@ pub(crate) fn play_changed<M: Machine>(
     marks: Marks<M::Kept>,
     meter: &mut M::Meter,
 ) -> Result<Segment<M>, AllocError>
-    requires ready { IsReady old.now.seed old.now.log.now ready.now }
-    requires few { length old.now.log.now ≤ MAX_LOG_LINES }
+    requires ready { IsReady old.now.seed old.now.log.now.items ready.now }
+    requires few { length old.now.log.now.items ≤ MAX_LOG_LINES }
     requires begun { MayReplay M.meaning M.is_state (M.rules machine.now) old.now ready.now marks }
-    requires room { let new = log_after_edits ready.now (log_of old.now.log.now) in
+    requires room { let new = log_after_edits ready.now (log_of old.now.log.now.items) in
         M.Meter.count meter.old + length new < 2 ^ 64 }
     ensures played { let rules = M.rules machine.now in
         IfOk result (IsReplayed M.meaning M.is_state M.text rules old.now ready.now marks) }

@@ -26,6 +26,7 @@ use crate::report::{Done, Report};
 use crate::tick_counts::TickCounts;
 use crate::workspace::Workspace;
 use base_lines::Steps;
+use replay_checkpoints::Blocks;
 use replay_edits::{Edit, EditFault, GroupFault, LineText};
 use std::alloc::{AllocError, Global};
 use std::marker::Model;
@@ -227,12 +228,12 @@ impl<M: Machine> Session<M> {
         ensures line { result.now ≡ line_at self.now.game.log place }
         ensures valid { IsTrue (is_line result.now) }
     {
-        &self.kept.log[place as usize]
+        self.kept.log.at(place as usize)
     }
 
     /// The held log.
-    pub fn log(&self) -> &[LineText]
-        ensures { log_of result.now ≡ self.now.game.log }
+    pub fn log(&self) -> &Blocks<LineText>
+        ensures { log_of result.now.items ≡ self.now.game.log }
     {
         &self.kept.log
     }
@@ -267,9 +268,9 @@ impl<M: Machine> Session<M> {
     }
 
     /// What the machine said at each line.
-    pub fn pieces(&self) -> &[M::Piece]
-        ensures pieces { result.now ≡ self.now.pieces }
-        ensures each { length result.now ≡ length self.now.game.log }
+    pub fn pieces(&self) -> &Blocks<M::Piece>
+        ensures pieces { result.now.items ≡ self.now.pieces }
+        ensures each { length result.now.items ≡ length self.now.game.log }
     {
         &self.kept.pieces
     }
@@ -316,6 +317,7 @@ impl<M: Machine> Session<M> {
         ensures rows { (place : ℕ) → place < length self.now.game.log
             → IfSome (slice_get result place) (IsRowOf self.now place) }
     {
-        PlayedLines::of(&self.kept.log, &self.kept.pieces, &self.kept.ticked.each)
+        let kept = &self.kept;
+        PlayedLines::of(kept.log.items(), kept.pieces.items(), &kept.ticked.each)
     }
 }

@@ -1,10 +1,10 @@
-ghost use Rattle.std.specs.Prelude.{◌≡◌, ◌<◌, ◌≤◌, length, MatchOption, OnOk, vec_len};
+ghost use Rattle.std.specs.Prelude.{◌≡◌, ◌<◌, ◌≤◌, length, slice_index, MatchOption, OnOk};
 ghost use Rattle.std.specs.Option.{ForSome};
 ghost use Rattle.replay_checkpoints.specs.Marks.{IsBegunAt};
 ghost use Rattle.cave_replay.specs.Playthrough.{KeepsAll};
 ghost use Rattle.replay_edits.specs.Edit.{changes_of};
 ghost use Rattle.cave_replay.specs.ReadyEdits.{MayMove};
-ghost use Rattle.cave_replay.specs.Takeover.{end_of_stretch, lines_gone, checkpoints_passed};
+ghost use Rattle.cave_replay.specs.Takeover.{end_of_stretch, checkpoints_passed};
 ghost use Rattle.cave_replay.specs.Takeover.{FitsMarks, HasRoomFor, IsStretch, IsTakenOver};
 ghost use Rattle.cave_replay.specs.Takeover.{IsWhole, MarksEnd, new_places, new_states, new_state};
 
@@ -12,7 +12,7 @@ use crate::machine::Machine;
 use crate::playthrough::Playthrough;
 use crate::replay::Rerun;
 use crate::segment::Segment;
-use replay_checkpoints::{Checkpoints, KeptState, Marks, splice};
+use replay_checkpoints::{Checkpoints, KeptState, Marks};
 use replay_edits::Edit;
 use std::alloc::AllocError;
 
@@ -26,18 +26,21 @@ pub(crate) fn make_room<M: Machine>(
         ≤ checkpoints_passed kept.old.checkpoints rerun.now.played.met }
     requires met { let places = kept.old.checkpoints.places in
         ForSome rerun.now.played.met (λ index. index < length places) }
+    requires ordered { rerun.now.ready.head ≤ rerun.now.ready.rest }
+    requires within { rerun.now.ready.rest ≤ length kept.old.log.items }
+    requires whole { IsWhole kept.old }
+    requires forward { slice_index kept.old.checkpoints.places rerun.now.at
+        ≤ end_of_stretch kept.old.checkpoints rerun.now.played.met }
     ensures same { KeepsAll kept.old kept.new }
     ensures room { OnOk result (HasRoomFor kept.new rerun.now) }
 {
     let met = rerun.played.met;
     let ready = &rerun.ready;
-    let moving = ready.rest.saturating_sub(ready.head);
-    let more = ready.middle.len().saturating_sub(moving);
-    kept.log.reserve(more)?;
-    let gone = lines_gone(&kept.checkpoints, rerun.at, met);
-    let pieces = rerun.played.pieces.len().saturating_sub(gone);
-    kept.pieces.reserve(pieces)?;
-    let ticks = rerun.played.ticked.len().saturating_sub(gone);
+    kept.log.open(ready.head, ready.rest, ready.middle.len())?;
+    let from = kept.checkpoints.places()[rerun.at] as usize;
+    let to = end_of_stretch(&kept.checkpoints, met);
+    kept.pieces.open(from, to, rerun.played.pieces.len())?;
+    let ticks = rerun.played.ticked.len().saturating_sub(to - from);
     kept.ticked.reserve(ticks)?;
     let going = checkpoints_passed(&kept.checkpoints, met) - rerun.at.saturating_sub(1);
     kept.checkpoints
@@ -55,7 +58,7 @@ pub(crate) fn take_over<M: Machine>(
     requires state { M.Kept.state_of state ≡ rerun.played.marks.state }
     requires moves { MayMove rerun.ready }
     requires ordered { rerun.ready.head ≤ rerun.ready.rest }
-    requires within { rerun.ready.rest ≤ vec_len kept.old.log }
+    requires within { rerun.ready.rest ≤ length kept.old.log.items }
     requires whole { IsWhole kept.old }
     requires stretch { let met = rerun.played.met in
         IsStretch kept.old.checkpoints rerun.played.marks rerun.at met }
@@ -72,7 +75,7 @@ pub(crate) fn take_over<M: Machine>(
     let from = kept.checkpoints.places()[rerun.at] as usize;
     let to = end_of_stretch(&kept.checkpoints, met);
     let inverse = rerun.ready.make(&mut kept.log, &mut kept.seed);
-    splice(&mut kept.pieces, from, to, &mut pieces);
+    kept.pieces.replace(from, to, &mut pieces);
     kept.ticked.replace(from, to, &mut ticked);
     replace_piece(&mut kept.opening, rerun.opening);
     let last = &mut kept.state;
@@ -142,15 +145,4 @@ fn end_of_stretch<K: KeptState>(checkpoints: &Checkpoints<K>, met: Option<usize>
         Some(index) => checkpoints.places()[index] as usize,
         None => checkpoints.lines() as usize,
     }
-}
-
-/// How many lines of the old play go where a replay from the checkpoint of the index `at` is taken
-/// over.
-fn lines_gone<K: KeptState>(checkpoints: &Checkpoints<K>, at: usize, met: Option<usize>) -> usize
-    requires among { at < length checkpoints.now.places }
-    requires met { ForSome met (λ index. index < length checkpoints.now.places) }
-    ensures { result ≡ lines_gone checkpoints.now at met }
-{
-    let from = checkpoints.places()[at] as usize;
-    end_of_stretch(checkpoints, met).saturating_sub(from)
 }

@@ -11,6 +11,7 @@ ghost use Rattle.play_edits.specs.Refusal.{IsFreeCount, first_unmet, other_line}
 use crate::refusal::{KeptLine, Refusal};
 use cave_replay::Session;
 use play_machine::CaveMachine;
+use replay_checkpoints::Blocks;
 use replay_edits::plan::plan_edits;
 use replay_edits::{Draft, Edit, LineText};
 use replay_scripts::{Guard, Item};
@@ -35,12 +36,12 @@ pub(crate) fn unmet_guard(
 /// The refusal for the first of the guards among edits that a log doesn't meet.
 fn first_unmet(
     alloc: Global,
-    log: &[LineText],
+    log: &Blocks<LineText>,
     edits: &[Edit],
     guards: &[Guard],
 ) -> Result<Option<Refusal>, AllocError>
-    ensures { IfOk result (λ refused. refused
-        ≡ first_unmet (changes_of edits.now) (map expectation_in guards.now) (log_of log.now)) }
+    ensures { let log = log_of log.now.items in IfOk result (λ refused. refused
+        ≡ first_unmet (changes_of edits.now) (map expectation_in guards.now) log) }
 {
     let free = &edits[..free_count(edits, log.len())];
     let mut draft = Draft::new(alloc, free, log)?;
@@ -71,14 +72,14 @@ fn free_count(edits: &[Edit], lines: usize) -> usize
 fn move_to<'a>(
     alloc: Global,
     edits: &'a [Edit],
-    log: &'a [LineText],
+    log: &'a Blocks<LineText>,
     draft: &mut Draft<'a>,
     after: usize,
 ) -> Result<(), AllocError>
-    requires free { fault_of_all (changes_of edits.now) (log_of log.now) 0 ≡ None }
-    requires draft { IsDraft edits.now log.now (made_in draft.old) draft.old }
+    requires free { fault_of_all (changes_of edits.now) (log_of log.now.items) 0 ≡ None }
+    requires draft { IsDraft edits.now log.now.items (made_in draft.old) draft.old }
     requires within { after ≤ length edits.now }
-    ensures { OnOk result (IsDraft edits.now log.now after draft.new) }
+    ensures { OnOk result (IsDraft edits.now log.now.items after draft.new) }
 {
     if after < draft.made() {
         *draft = Draft::new(alloc, edits, log)?;

@@ -8,6 +8,7 @@ ghost use Rattle.replay_scripts.specs.ScriptText.{backs_in};
 ghost use Rattle.play_edits.specs.Undo.{backs_by, expected_at, expected_lines, expecting};
 ghost use Rattle.play_edits.specs.Undo.{lines_in, without_guard};
 
+use replay_checkpoints::Blocks;
 use replay_edits::{Draft, Edit, LineText};
 use replay_scripts::BackEdit;
 use std::alloc::{AllocError, Global};
@@ -16,12 +17,12 @@ use std::alloc::{AllocError, Global};
 pub(crate) fn backs_of(
     alloc: Global,
     edits: Vec<Edit>,
-    log: &[LineText],
+    log: &Blocks<LineText>,
     guarded: bool,
 ) -> Result<Vec<BackEdit>, AllocError>
-    requires { fault_of_all (changes_of edits.items) (log_of log.now) 0 ≡ None }
+    requires { fault_of_all (changes_of edits.items) (log_of log.now.items) 0 ≡ None }
     ensures { IfOk result (λ backs. backs_in backs.items
-        ≡ backs_by guarded (changes_of edits.items) (log_of log.now)) }
+        ≡ backs_by guarded (changes_of edits.items) (log_of log.now.items)) }
 {
     if guarded {
         let lines = expected_lines(alloc, &edits, log)?;
@@ -64,11 +65,11 @@ fn expecting(
 fn expected_lines(
     alloc: Global,
     edits: &[Edit],
-    log: &[LineText],
+    log: &Blocks<LineText>,
 ) -> Result<Vec<Option<LineText>>, AllocError>
-    requires { fault_of_all (changes_of edits.now) (log_of log.now) 0 ≡ None }
+    requires { fault_of_all (changes_of edits.now) (log_of log.now.items) 0 ≡ None }
     ensures { IfOk result (λ lines. lines_in lines.items
-        ≡ expected_lines (changes_of edits.now) (log_of log.now)) }
+        ≡ expected_lines (changes_of edits.now) (log_of log.now.items)) }
 {
     let mut lines = Vec::with_capacity(alloc, edits.len())?;
     let mut draft = Draft::new(alloc, edits, log)?;

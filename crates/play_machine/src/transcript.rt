@@ -35,7 +35,7 @@ pub fn push_play(
     render(cave, session.opening(), 0, text)?;
     for (place, turns) in session.tick_counts().enumerate() {
         let line = session.line(place as u32);
-        push_line(cave, text, line, &pieces[place], turns)?;
+        push_line(cave, text, line, pieces.at(place), turns)?;
     }
     let score = machine.score(session.state());
     push_last_line(

@@ -1,3 +1,4 @@
+pub mod BlockLemmas
 pub mod Contents
 pub mod Counts
 pub mod JoinLemmas

@@ -17,6 +17,8 @@
 //! - [`Checkpoints::meet`] and [`Checkpoints::replace_from`] take marks over. The checkpoints
 //!   before stay where they are, and those after move with the one that was met.
 //! - [`splice`] puts a stretch into a list in the place of another.
+//! - [`Blocks`] is a list that lies in blocks, so that a splice moves the items of one of them.
+//!   [`Items`] goes over its items.
 //!
 //! What an edit costs here, beside one `advance` for each place that is played:
 //!
@@ -29,16 +31,22 @@
 //! | `Marks::keep_open` | one state kept |
 //! | `meet`, `replace_from` | a `splice` of those passed; a pass over later ones that move |
 //! | `splice` | the stretch item by item; a turn with the items after it that move |
+//! | `Blocks::at` | a look at a block, and at those beside it until the item's one is found |
+//! | `Blocks::open` | two such searches; the blocks of the stretch joined, and a long one cut |
+//! | `Blocks::replace` | a `splice` in one block; an addition for each block after it |
 //!
 //! A turn is a block move where either side of it is one item or has at most 4,096 bytes; else it
 //! exchanges items. A state that is kept in a Box stays where it is until its checkpoint goes: what
 //! moves is the Box, of 8 bytes.
 //!
 //! None of these takes memory but `Marks::open`, `Checkpoints::marks`, `advance`, `keep_open`,
-//! `reserve`, and what makes or copies a list.
+//! `reserve`, `Blocks::open`, and what makes or copies a list.
 #![tactic(auto)]
 
+mod block;
+mod blocks;
 mod checkpoints;
+mod items;
 mod kept_state;
 mod marks;
 mod placed_states;
@@ -46,7 +54,9 @@ mod search;
 mod shift;
 mod stretch;
 
+pub use blocks::Blocks;
 pub use checkpoints::Checkpoints;
+pub use items::Items;
 pub use kept_state::{KeptState, Whole};
 pub use marks::Marks;
 pub use search::{first_from, last_to};

@@ -23,7 +23,7 @@ use Rattle.replay_edits.proofs.OutcomeLemmas.{StaysIn, before_of, length-log_by}
 
 module _ (stock : Stock) (numbers : List ℕ) (place : ℕ) (stays : StaysIn stock) where
   abbrev own : List (List ℕ)
-  own = log_of stock.log.now
+  own = log_of stock.log.now.items
 
   abbrev before : List (List ℕ)
   before = take stock.head own
@@ -34,10 +34,10 @@ module _ (stock : Stock) (numbers : List ℕ) (place : ℕ) (stays : StaysIn sto
   abbrev after : List (List ℕ)
   after = drop stock.rest own
 
-  old_line : (number : ℕ) → number < length stock.log.now
+  old_line : (number : ℕ) → number < length stock.log.now.items
       → line_at own number ≡ line_at (lines_of stock) number
   old_line number inside =
-      let m = length-log_of stock.log.now in
+      let m = length-log_of stock.log.now.items in
       sym (get_or_append_left own (map own_line (changes_of stock.edits.now)) [] number
       (omega arith))
 
@@ -65,7 +65,7 @@ module _ (stock : Stock) (numbers : List ℕ) (place : ℕ) (stays : StaysIn sto
       inside)
 
   pub line_past : (past : ℕ) → stock.head ≤ place → past + length numbers ≡ place - stock.head
-      → past < length stock.log.now - stock.rest
+      → past < length stock.log.now.items - stock.rest
       → slice_get (log_by stock numbers) place ≡ Some (line_at (lines_of stock) (stock.rest + past))
   line_past past late here inside =
       let n = length-log_by stock numbers stays in
@@ -80,7 +80,8 @@ module _ (stock : Stock) (numbers : List ℕ) (place : ℕ) (stays : StaysIn sto
       ∙ old_line (stock.rest + past) (omega arith))
 
   pub no_line : (past : ℕ) → stock.head ≤ place → past + length numbers ≡ place - stock.head
-      → length stock.log.now - stock.rest ≤ past → slice_get (log_by stock numbers) place ≡ None
+      → length stock.log.now.items - stock.rest ≤ past
+      → slice_get (log_by stock numbers) place ≡ None
   no_line past late here outside =
       let n = length-log_by stock numbers stays in
       slice_get_past (log_by stock numbers) place (omega arith)

@@ -34,27 +34,27 @@ map-remove f xs i =
 -- lines of a log stay around others
 pub record StaysIn (stock : Stock) : Type 0 where
   pub ordered : stock.head ≤ stock.rest
-  pub within : stock.rest ≤ length stock.log.now
+  pub within : stock.rest ≤ length stock.log.now.items
 
 abbrev tail_of : Stock → ℕ
-tail_of stock = length stock.log.now - stock.rest
+tail_of stock = length stock.log.now.items - stock.rest
 
 abbrev line_by : Stock → ℕ → List ℕ
 line_by stock = line_at (lines_of stock)
 
 pub before_of : (stock : Stock) → StaysIn stock
-    → length (take stock.head (log_of stock.log.now)) ≡ stock.head
+    → length (take stock.head (log_of stock.log.now.items)) ≡ stock.head
 before_of stock stays =
-    let n = length-log_of stock.log.now in
+    let n = length-log_of stock.log.now.items in
     let ordered = stays.ordered in
     let within = stays.within in
-    length-take-le stock.head (log_of stock.log.now) (omega arith)
+    length-take-le stock.head (log_of stock.log.now.items) (omega arith)
 
 pub length-log_by : (stock : Stock) (numbers : List ℕ) → StaysIn stock
     → length (log_by stock numbers) ≡ stock.head + length numbers + tail_of stock
 length-log_by stock numbers stays =
-    let log = log_of stock.log.now in
-    let n = length-log_of stock.log.now in
+    let log = log_of stock.log.now.items in
+    let n = length-log_of stock.log.now.items in
     let a = before_of stock stays in
     let b = length-append (take stock.head log) (lines_by stock numbers ++ drop stock.rest log) in
     let c = length-append (lines_by stock numbers) (drop stock.rest log) in
@@ -74,7 +74,7 @@ pub log_by-insert : (stock : Stock) (numbers : List ℕ) (place own : ℕ) (line
     → log_by stock (insert numbers (place - stock.head) own)
     ≡ insert (log_by stock numbers) place line
 log_by-insert stock numbers place own line stays after before named =
-    let log = log_of stock.log.now in
+    let log = log_of stock.log.now.items in
     let a = before_of stock stays in
     let d = length-map numbers (line_by stock) in
     let fits = place_among stock numbers place stays after before in
@@ -89,7 +89,7 @@ pub log_by-remove : (stock : Stock) (numbers : List ℕ) (place : ℕ) → Stays
     → stock.head ≤ place → place + 1 + tail_of stock ≤ length (log_by stock numbers)
     → log_by stock (remove numbers (place - stock.head)) ≡ remove (log_by stock numbers) place
 log_by-remove stock numbers place stays after before =
-    let log = log_of stock.log.now in
+    let log = log_of stock.log.now.items in
     let a = before_of stock stays in
     let d = length-map numbers (line_by stock) in
     let n = length-log_by stock numbers stays in
@@ -103,7 +103,7 @@ pub log_by-replace : (stock : Stock) (numbers : List ℕ) (place own : ℕ) (lin
     → place + 1 + tail_of stock ≤ length (log_by stock numbers) → line_by stock own ≡ line
     → log_by stock (set numbers (place - stock.head) own) ≡ set (log_by stock numbers) place line
 log_by-replace stock numbers place own line stays after before named =
-    let log = log_of stock.log.now in
+    let log = log_of stock.log.now.items in
     let a = before_of stock stays in
     let d = length-map numbers (line_by stock) in
     let n = length-log_by stock numbers stays in
@@ -120,7 +120,7 @@ pub line_at-log_by : (stock : Stock) (numbers : List ℕ) (place : ℕ) → Stay
     → line_at (log_by stock numbers) place
     ≡ line_by stock (slice_index numbers (place - stock.head))
 line_at-log_by stock numbers place stays after before =
-    let log = log_of stock.log.now in
+    let log = log_of stock.log.now.items in
     let a = before_of stock stays in
     let d = length-map numbers (line_by stock) in
     let n = length-log_by stock numbers stays in
@@ -131,10 +131,10 @@ line_at-log_by stock numbers place stays after before =
 -- ---- the numbers of lines
 
 pub AreNumbers-insert : (stock : Stock) (numbers : List ℕ) (place number : ℕ)
-    → AreNumbers stock numbers → number < length stock.log.now + length stock.edits.now
+    → AreNumbers stock numbers → number < length stock.log.now.items + length stock.edits.now
     → AreNumbers stock (insert numbers place number)
 AreNumbers-insert stock numbers place number known new =
-    let P : ℕ → Type 0 = λ k. k < length stock.log.now + length stock.edits.now in
+    let P : ℕ → Type 0 = λ k. k < length stock.log.now.items + length stock.edits.now in
     All-append P (take place numbers) (number ∷ drop place numbers)
     (All-take P place numbers known)
     (All-cons P number (drop place numbers) new (All-drop P place numbers known))
@@ -142,32 +142,35 @@ AreNumbers-insert stock numbers place number known new =
 pub AreNumbers-remove : (stock : Stock) (numbers : List ℕ) (place : ℕ)
     → AreNumbers stock numbers → AreNumbers stock (remove numbers place)
 AreNumbers-remove stock numbers place known =
-    let P : ℕ → Type 0 = λ k. k < length stock.log.now + length stock.edits.now in
+    let P : ℕ → Type 0 = λ k. k < length stock.log.now.items + length stock.edits.now in
     All-append P (take place numbers) (drop (suc place) numbers)
     (All-take P place numbers known) (All-drop P (suc place) numbers known)
 
 pub AreNumbers-replace : (stock : Stock) (numbers : List ℕ) (place number : ℕ)
-    → AreNumbers stock numbers → number < length stock.log.now + length stock.edits.now
+    → AreNumbers stock numbers → number < length stock.log.now.items + length stock.edits.now
     → AreNumbers stock (set numbers place number)
 AreNumbers-replace stock numbers place number known new =
-    All-set (λ k. k < length stock.log.now + length stock.edits.now) numbers place number new known
+    All-set (λ k. k < length stock.log.now.items + length stock.edits.now) numbers place number new
+    known
 
 -- ---- the numbers that a stock begins with
 
 pub numbered_start : (stock : Stock)
-    → lines_by stock [] ≡ take (stock.head - stock.head) (drop stock.head (log_of stock.log.now))
+    → lines_by stock []
+    ≡ take (stock.head - stock.head) (drop stock.head (log_of stock.log.now.items))
 numbered_start stock =
     let e : 0 ≡ stock.head - stock.head = omega arith in
-    ap (λ k. take k (drop stock.head (log_of stock.log.now))) e
+    ap (λ k. take k (drop stock.head (log_of stock.log.now.items))) e
 
 pub numbered_more : (stock : Stock) (numbers : List ℕ) (number : ℕ) → StaysIn stock
     → stock.head ≤ number → number < stock.rest
-    → lines_by stock numbers ≡ take (number - stock.head) (drop stock.head (log_of stock.log.now))
+    → lines_by stock numbers
+    ≡ take (number - stock.head) (drop stock.head (log_of stock.log.now.items))
     → lines_by stock (numbers ++ number ∷ [])
-    ≡ take (number + 1 - stock.head) (drop stock.head (log_of stock.log.now))
+    ≡ take (number + 1 - stock.head) (drop stock.head (log_of stock.log.now.items))
 numbered_more stock numbers number stays after before so_far =
-    let log = log_of stock.log.now in
-    let n = length-log_of stock.log.now in
+    let log = log_of stock.log.now.items in
+    let n = length-log_of stock.log.now.items in
     let within = stays.within in
     let d = length-drop stock.head log in
     let e : stock.head + (number - stock.head) ≡ number = omega arith in
@@ -183,10 +186,10 @@ numbered_more stock numbers number stays after before so_far =
 
 pub numbered_end : (stock : Stock) (numbers : List ℕ) → StaysIn stock
     → lines_by stock numbers
-    ≡ take (stock.rest - stock.head) (drop stock.head (log_of stock.log.now))
-    → log_by stock numbers ≡ log_of stock.log.now
+    ≡ take (stock.rest - stock.head) (drop stock.head (log_of stock.log.now.items))
+    → log_by stock numbers ≡ log_of stock.log.now.items
 numbered_end stock numbers stays all =
-    let log = log_of stock.log.now in
+    let log = log_of stock.log.now.items in
     let ordered = stays.ordered in
     let e : stock.head + (stock.rest - stock.head) ≡ stock.rest = omega arith in
     let rest : drop stock.rest log ≡ drop (stock.rest - stock.head) (drop stock.head log) =
@@ -206,24 +209,24 @@ below_more numbers number below =
     (omega arith)
 
 pub below_all : (stock : Stock) (numbers : List ℕ) (number : ℕ) → All (λ k. k < number) numbers
-    → number ≤ length stock.log.now + length stock.edits.now → AreNumbers stock numbers
+    → number ≤ length stock.log.now.items + length stock.edits.now → AreNumbers stock numbers
 below_all stock numbers number below within =
-    All-weaker (λ k. k < number) (λ k. k < length stock.log.now + length stock.edits.now)
+    All-weaker (λ k. k < number) (λ k. k < length stock.log.now.items + length stock.edits.now)
     (λ k less. omega arith) numbers below
 
 -- ---- the own line of an edit
 
 pub line_of-own : (stock : Stock) (number index : ℕ) (edit : Edit)
-    → number ≡ length stock.log.now + index → index < length stock.edits.now
+    → number ≡ length stock.log.now.items + index → index < length stock.edits.now
     → edit ≡ get_or stock.edits.now index edit
     → line_at (lines_of stock) number ≡ own_line (change_of edit)
 line_of-own stock number index edit own below read =
     let edits = stock.edits.now in
-    let n = length-log_of stock.log.now in
+    let n = length-log_of stock.log.now.items in
     let m = length-map edits change_of in
-    let e : number - length stock.log.now ≡ index = omega arith in
-    get_or-append_right (log_of stock.log.now) (map own_line (changes_of edits))
-    (length stock.log.now) number [] n (omega arith)
+    let e : number - length stock.log.now.items ≡ index = omega arith in
+    get_or-append_right (log_of stock.log.now.items) (map own_line (changes_of edits))
+    (length stock.log.now.items) number [] n (omega arith)
     ∙ ap (λ k. get_or (map own_line (changes_of edits)) k []) e
     ∙ get_or-map own_line (changes_of edits) index (change_of edit) [] (omega arith)
     ∙ ap own_line (get_or-map change_of edits index edit (change_of edit) below)

@@ -12,14 +12,14 @@ use Rattle.replay_edits.specs.declared.stock.Stock.{Stock}
 
 -- the lines that stay, at the start and at the end
 abbrev pub staying_lines : Stock → Margins
-staying_lines stock = record { head = stock.head; tail = length stock.log.now - stock.rest }
+staying_lines stock = record { head = stock.head; tail = length stock.log.now.items - stock.rest }
 
 -- the edits that are made in a draft, the log before them, and how many are made
 abbrev pub edits_in : Draft → List Edit
 edits_in draft = draft.stock.edits.now
 
 abbrev pub log_before : Draft → List LineText
-log_before draft = draft.stock.log.now
+log_before draft = draft.stock.log.now.items
 
 abbrev pub made_in : Draft → ℕ
 made_in draft = draft.made

@@ -51,20 +51,20 @@ pub record IsOutcome (changes : List Change) (seed : ℕ) (log : List (List ℕ)
 
 -- the lines that have numbers: those of the log, and then the own line of each edit
 abbrev pub lines_of : Stock → List (List ℕ)
-lines_of stock = log_of stock.log.now ++ map own_line (changes_of stock.edits.now)
+lines_of stock = log_of stock.log.now.items ++ map own_line (changes_of stock.edits.now)
 
 -- the numbers are numbers of lines
 abbrev pub AreNumbers : Stock → List ℕ → Type 0
 AreNumbers stock numbers =
-    All (λ number. number < length stock.log.now + length stock.edits.now) numbers
+    All (λ number. number < length stock.log.now.items + length stock.edits.now) numbers
 
 abbrev pub lines_by : Stock → List ℕ → List (List ℕ)
 lines_by stock numbers = map (line_at (lines_of stock)) numbers
 
 -- the log in which the lines of these numbers come between those that stay
 abbrev pub log_by : Stock → List ℕ → List (List ℕ)
-log_by stock numbers = take stock.head (log_of stock.log.now)
-    ++ (lines_by stock numbers ++ drop stock.rest (log_of stock.log.now))
+log_by stock numbers = take stock.head (log_of stock.log.now.items)
+    ++ (lines_by stock numbers ++ drop stock.rest (log_of stock.log.now.items))
 
 abbrev pub game_by : Stock → NumberedGame → Game
 game_by stock game = game_of game.seed (log_by stock game.numbers)

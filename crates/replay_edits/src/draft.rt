@@ -8,6 +8,7 @@ use crate::edit::Edit;
 use crate::line_text::LineText;
 use crate::plan::plan_edits;
 use crate::stock::{NumberedGame, Stock};
+use replay_checkpoints::Blocks;
 use std::alloc::{AllocError, Global};
 
 /// A log as the first of edits leave it, which are made in it one after another. No line is moved
@@ -24,10 +25,10 @@ impl<'a> Draft<'a> {
     pub fn new(
         alloc: Global,
         edits: &'a [Edit],
-        log: &'a [LineText],
+        log: &'a Blocks<LineText>,
     ) -> Result<Draft<'a>, AllocError>
-        requires { fault_of_all (changes_of edits.now) (log_of log.now) 0 ≡ None }
-        ensures { IfOk result (IsDraft edits.now log.now 0) }
+        requires { fault_of_all (changes_of edits.now) (log_of log.now.items) 0 ≡ None }
+        ensures { IfOk result (IsDraft edits.now log.now.items 0) }
     {
         let Ok(plan) = plan_edits(edits, log.len()) else {
             unreachable!();

@@ -5,6 +5,7 @@ ghost use Rattle.replay_edits.specs.Outcome.{text_of, new_texts, log_without, Ar
 ghost use Rattle.replay_edits.specs.Outcome.{IsOldWithin};
 
 use crate::line_text::LineText;
+use replay_checkpoints::Blocks;
 use std::mem;
 
 /// A line of a log after edits, where these don't leave it alone.
@@ -18,12 +19,12 @@ pub enum NewLine {
 
 impl NewLine {
     /// The bytes of the line, where this is the log before the edits.
-    pub fn text<'a>(&'a self, log: &'a [LineText]) -> &'a [u8]
-        requires { IsOldWithin (length log.now) self.now }
-        ensures { result.now ≡ text_of (log_of log.now) self.now }
+    pub fn text<'a>(&'a self, log: &'a Blocks<LineText>) -> &'a [u8]
+        requires { IsOldWithin (length log.now.items) self.now }
+        ensures { result.now ≡ text_of (log_of log.now.items) self.now }
     {
         match self {
-            NewLine::Old(place) => &log[*place],
+            NewLine::Old(place) => log.at(*place),
             NewLine::Own(line) => line,
         }
     }
@@ -33,19 +34,20 @@ impl NewLine {
 /// lines in their places then.
 pub fn take_lines(
     lines: &mut [NewLine],
-    log: &mut [LineText],
+    log: &mut Blocks<LineText>,
     taken: &mut Vec<LineText>,
     head: usize,
     rest: usize,
 )
     requires rising { AreRising head rest lines.old }
-    requires within { rest ≤ length log.old }
+    requires within { rest ≤ length log.old.items }
     requires empty { taken.old.items ≡ [] }
     requires room { length lines.old ≤ vec_capacity taken.old }
-    ensures taken { log_of taken.new.items ≡ new_texts (log_of log.old) lines.old }
-    ensures before { take head (log_of log.new) ≡ take head (log_of log.old) }
-    ensures after { drop rest (log_of log.new) ≡ drop rest (log_of log.old) }
-    ensures len { length log.new ≡ length log.old }
+    ensures taken { log_of taken.new.items ≡ new_texts (log_of log.old.items) lines.old }
+    ensures before { take head (log_of log.new.items) ≡ take head (log_of log.old.items) }
+    ensures after { drop rest (log_of log.new.items) ≡ drop rest (log_of log.old.items) }
+    ensures len { length log.new.items ≡ length log.old.items }
+    ensures stretch { log.new.stretch ≡ log.old.stretch }
 {
     for line in lines.iter_mut() {
         let next = mem::replace(line, NewLine::Old(0));
@@ -57,14 +59,15 @@ pub fn take_lines(
 }
 
 /// A new line. An old one is taken out of the log, which has an empty line in its place then.
-fn take_line(line: NewLine, log: &mut [LineText]) -> LineText
-    requires { IsOldWithin (length log.old) line }
-    ensures line { result.items ≡ text_of (log_of log.old) line }
-    ensures log { log_of log.new ≡ log_without (log_of log.old) line }
-    ensures len { length log.new ≡ length log.old }
+fn take_line(line: NewLine, log: &mut Blocks<LineText>) -> LineText
+    requires { IsOldWithin (length log.old.items) line }
+    ensures line { result.items ≡ text_of (log_of log.old.items) line }
+    ensures log { log_of log.new.items ≡ log_without (log_of log.old.items) line }
+    ensures len { length log.new.items ≡ length log.old.items }
+    ensures stretch { log.new.stretch ≡ log.old.stretch }
 {
     match line {
-        NewLine::Old(place) => mem::replace(&mut log[place], LineText::empty()),
+        NewLine::Old(place) => log.put(place, LineText::empty()),
         NewLine::Own(line) => line,
     }
 }

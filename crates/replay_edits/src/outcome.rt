@@ -8,6 +8,7 @@ use crate::line_text::LineText;
 use crate::margins::Margins;
 use crate::new_line::NewLine;
 use crate::stock::{NumberedGame, Stock};
+use replay_checkpoints::Blocks;
 use std::alloc::{AllocError, Global};
 
 /// What edits make of a game: its seed, the lines between those that the edits leave alone, and the
@@ -24,15 +25,16 @@ pub struct EditOutcome {
 pub fn find_outcome(
     alloc: Global,
     edits: &[Edit],
-    log: &[LineText],
+    log: &Blocks<LineText>,
     seed: u32,
     margins: Margins,
 ) -> Result<EditOutcome, AllocError>
     requires some { 0 < length edits.now }
-    requires free { fault_of_all (changes_of edits.now) (log_of log.now) 0 ≡ None }
-    requires margins { margins ≡ margins_of (changes_of edits.now) (log_of log.now) }
-    ensures { let rest = length log.now - margins.tail in
-        IfOk result (IsOutcome (changes_of edits.now) seed (log_of log.now) margins.head rest) }
+    requires free { fault_of_all (changes_of edits.now) (log_of log.now.items) 0 ≡ None }
+    requires margins { margins ≡ margins_of (changes_of edits.now) (log_of log.now.items) }
+    ensures { let lines = log.now.items in
+        let rest = length lines - margins.tail in
+        IfOk result (IsOutcome (changes_of edits.now) seed (log_of lines) margins.head rest) }
 {
     let stock = Stock {
         log,

@@ -11,6 +11,7 @@ use crate::edit::Edit;
 use crate::line_text::LineText;
 use crate::new_line::NewLine;
 use crate::numbers::Numbers;
+use replay_checkpoints::Blocks;
 use std::alloc::{AllocError, Global};
 use std::mem;
 
@@ -18,7 +19,7 @@ use std::mem;
 /// each edit. Of its own lines those before `head`, and those from `rest` on, stay.
 #[derive(Drop)]
 pub(crate) struct Stock<'a> {
-    pub(crate) log: &'a [LineText],
+    pub(crate) log: &'a Blocks<LineText>,
     pub(crate) edits: &'a [Edit],
     pub(crate) head: usize,
     pub(crate) rest: usize,
@@ -34,12 +35,12 @@ pub(crate) struct NumberedGame {
 impl<'a> Stock<'a> {
     /// The line of a number.
     pub(crate) fn line(&self, number: usize) -> &[u8]
-        requires { number < length self.now.log.now + length self.now.edits.now }
+        requires { number < length self.now.log.now.items + length self.now.edits.now }
         ensures { result.now ≡ line_at (lines_of self.now) number }
     {
         let lines = self.log.len();
         if number < lines {
-            return &self.log[number];
+            return self.log.at(number);
         }
         own_line(&self.edits[number - lines])
     }
@@ -47,12 +48,12 @@ impl<'a> Stock<'a> {
     /// The number of the line at a place of the log by numbers, if there is one.
     pub(crate) fn number_by(&self, numbers: &Numbers, place: usize) -> Option<usize>
         requires ordered { self.now.head ≤ self.now.rest }
-        requires within { self.now.rest ≤ length self.now.log.now }
+        requires within { self.now.rest ≤ length self.now.log.now.items }
         requires numbers { AreNumbers self.now numbers.now }
         ensures line { option_map (line_at (lines_of self.now)) result
             ≡ slice_get (log_by self.now numbers.now) place }
         ensures number { IfSome result (λ number.
-            number < length self.now.log.now + length self.now.edits.now) }
+            number < length self.now.log.now.items + length self.now.edits.now) }
     {
         if place < self.head {
             return Some(place);
@@ -72,9 +73,9 @@ impl<'a> Stock<'a> {
     /// The numbers of the lines that may not stay.
     pub(crate) fn numbers(&self, alloc: Global) -> Result<Numbers, AllocError>
         requires ordered { self.now.head ≤ self.now.rest }
-        requires within { self.now.rest ≤ length self.now.log.now }
+        requires within { self.now.rest ≤ length self.now.log.now.items }
         ensures log { IfOk result (λ numbers.
-            log_by self.now numbers ≡ log_of self.now.log.now) }
+            log_by self.now numbers ≡ log_of self.now.log.now.items) }
         ensures numbers { IfOk result (AreNumbers self.now) }
     {
         let mut numbers = Numbers::none(alloc)?;
@@ -92,14 +93,14 @@ impl<'a> Stock<'a> {
         own: usize,
         game: &mut NumberedGame,
     ) -> Result<Edit, AllocError>
-        requires own { own < length self.now.log.now + length self.now.edits.now }
+        requires own { own < length self.now.log.now.items + length self.now.edits.now }
         requires line { line_at (lines_of self.now) own ≡ own_line (change_of edit.now) }
-        requires within { self.now.rest ≤ length self.now.log.now }
+        requires within { self.now.rest ≤ length self.now.log.now.items }
         requires ordered { self.now.head ≤ self.now.rest }
         requires numbers { AreNumbers self.now game.old.numbers }
         requires free { fault_of (change_of edit.now) (game_by self.now game.old).log ≡ None }
         requires leaves { LeavesAlone (change_of edit.now) (length (game_by self.now game.old).log)
-            self.now.head (length self.now.log.now - self.now.rest) }
+            self.now.head (length self.now.log.now.items - self.now.rest) }
         ensures game { OnOk result (game_by self.now game.new
             ≡ apply (change_of edit.now) (game_by self.now game.old)) }
         ensures inverse { IfOk result (λ back. change_of back
@@ -137,8 +138,8 @@ impl<'a> Stock<'a> {
     ) -> Result<Vec<NewLine>, AllocError>
         requires numbers { AreNumbers self.now numbers.now }
         requires ordered { self.now.head ≤ self.now.rest }
-        requires within { self.now.rest ≤ length self.now.log.now }
-        ensures lines { IfOk result (λ lines. new_texts (log_of self.now.log.now) lines.items
+        requires within { self.now.rest ≤ length self.now.log.now.items }
+        ensures lines { IfOk result (λ lines. new_texts (log_of self.now.log.now.items) lines.items
             ≡ lines_by self.now numbers.now) }
         ensures rising { IfOk result (λ lines.
             AreRising self.now.head self.now.rest lines.items) }
@@ -161,12 +162,12 @@ impl<'a> Stock<'a> {
         from: usize,
         lines: &mut Vec<NewLine>,
     ) -> Result<usize, AllocError>
-        requires number { number < length self.now.log.now + length self.now.edits.now }
+        requires number { number < length self.now.log.now.items + length self.now.edits.now }
         requires from { from ≤ self.now.rest }
-        requires within { self.now.rest ≤ length self.now.log.now }
+        requires within { self.now.rest ≤ length self.now.log.now.items }
         requires rising { AreRising self.now.head from lines.old.items }
-        ensures line { OnOk result (new_texts (log_of self.now.log.now) lines.new.items
-            ≡ new_texts (log_of self.now.log.now) lines.old.items
+        ensures line { OnOk result (new_texts (log_of self.now.log.now.items) lines.new.items
+            ≡ new_texts (log_of self.now.log.now.items) lines.old.items
             ++ line_at (lines_of self.now) number ∷ []) }
         ensures rising { IfOk result (λ next. AreRising self.now.head next lines.new.items) }
         ensures within { IfOk result (λ next. next ≤ self.now.rest) }

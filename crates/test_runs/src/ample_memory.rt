@@ -2,10 +2,11 @@
 //! named `out_of_memory` holds whatever is refused.
 
 use crate::caves::LONG_LOG;
-use crate::games::TestCave;
+use crate::games::{TestCave, is_same_piece};
 use base_lines::Meter;
 use cave_replay::{OpenFault, Session};
 use play_machine::{CaveMachine, Piece};
+use replay_checkpoints::Blocks;
 use std::alloc::{AllocError, Global};
 use std::process::Abort;
 use std::test::Fail;
@@ -44,7 +45,8 @@ impl<'a> HeldGame<'a> {
     /// The text of what was said at the last line.
     fn last_text(&self, alloc: Global) -> Result<Vec<u8>, AllocError> {
         let mut text = Vec::new(alloc);
-        if let Some(piece) = self.session.pieces().last() {
+        let pieces = self.session.pieces();
+        if let Some(piece) = pieces.get(pieces.len().saturating_sub(1)) {
             let turns = self.session.ticks(self.session.lines());
             render(self.session.machine().cave(), piece, turns, &mut text)?;
         }
@@ -52,7 +54,7 @@ impl<'a> HeldGame<'a> {
     }
 
     /// What was said at the start, and at each line.
-    fn said(&self) -> (&Piece, &[Piece]) {
+    fn said(&self) -> (&Piece, &Blocks<Piece>) {
         (self.session.opening(), self.session.pieces())
     }
 }
@@ -80,8 +82,8 @@ fn expect_same(rt: &impl Abort, game: &HeldGame<'_>, copy: &HeldGame<'_>) {
     assert!(rt; opening.as_slice() == other.as_slice());
     assert_eq!(rt; pieces.len(), 5);
     assert_eq!(rt; others.len(), 5);
-    for (piece, other) in pieces.iter().zip(others) {
-        assert!(rt; piece.as_slice() == other.as_slice());
+    for place in 0..5 {
+        assert!(rt; is_same_piece(pieces.get(place), others.get(place)));
     }
 }
 

@@ -8,6 +8,7 @@ use cave_data::Cave;
 use cave_replay::{Machine, OpenFault, Report, Session};
 use cave_words::Lexicon;
 use play_machine::{CaveMachine, Piece};
+use replay_checkpoints::Blocks;
 use replay_edits::{Edit, EditFault};
 use std::alloc::Global;
 use std::process::Abort;
@@ -123,7 +124,7 @@ impl<M: Machine> TestSession<M> {
     }
 
     /// What was said at each line.
-    pub fn pieces(&self) -> &[M::Piece] {
+    pub fn pieces(&self) -> &Blocks<M::Piece> {
         self.session.pieces()
     }
 
@@ -155,12 +156,21 @@ impl<M: Machine> TestSession<M> {
 }
 
 /// Whether two lists of pieces are the same.
-fn are_same(pieces: &[Piece], others: &[Piece]) -> bool {
+fn are_same(pieces: &Blocks<Piece>, others: &Blocks<Piece>) -> bool {
+    for place in 0..pieces.len() {
+        if !is_same_piece(pieces.get(place), others.get(place)) {
+            return false;
+        }
+    }
     pieces.len() == others.len()
-        && pieces
-            .iter()
-            .zip(others)
-            .all(|(piece, other)| piece.as_slice() == other.as_slice())
+}
+
+/// Whether there are two pieces, which are the same.
+pub fn is_same_piece(piece: Option<&Piece>, other: Option<&Piece>) -> bool {
+    match (piece, other) {
+        (Some(piece), Some(other)) => piece.as_slice() == other.as_slice(),
+        _ => false,
+    }
 }
 
 /// Whether two sessions show the same.

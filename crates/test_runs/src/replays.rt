@@ -24,7 +24,8 @@ fn last_text(
     session: &TestSession<CaveMachine<'_>>,
 ) -> Result<Vec<u8>, AllocError> {
     let mut text = Vec::new(alloc);
-    if let Some(piece) = session.pieces().last() {
+    let pieces = session.pieces();
+    if let Some(piece) = pieces.get(pieces.len().saturating_sub(1)) {
         render(cave, piece, session.ticks(), &mut text)?;
     }
     Ok(text)

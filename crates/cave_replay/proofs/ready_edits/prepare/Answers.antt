@@ -1,15 +1,17 @@
 use Rattle.std.proofs.Common.{◌≡◌, ℕ, ◌+◌, ◌-◌, ◌<◌, ◌≤◌, List, length, ap, ◌∙◌, refl, sym, arith}
-use Rattle.std.proofs.Common.{Option}
+use Rattle.std.proofs.Common.{Option, subst}
 use Rattle.std.specs.Prelude.{vec_len, vec_capacity}
 use Rattle.std.proofs.lemmas.List.{length-map}
 use Rattle.replay_edits.specs.LineText.{LineText}
 use Rattle.replay_edits.specs.declared.edit.Edit.{Edit}
 use Rattle.replay_edits.specs.declared.fault.GroupFault.{GroupFault}
 use Rattle.replay_edits.specs.declared.margins.Margins.{Margins}
+use Rattle.replay_edits.specs.declared.outcome.EditOutcome.{EditOutcome}
 use Rattle.replay_edits.specs.declared.plan.Plan.{Plan}
 use Rattle.cave_replay.specs.declared.ready_edits.ReadyEdits.{ReadyEdits}
 use Rattle.replay_edits.specs.Edit.{Game, log_of, game_of, IsGame, Change, change_of, changes_of}
 use Rattle.replay_edits.specs.Edit.{apply_all, inverses_of}
+use Rattle.replay_edits.specs.Outcome.{IsOutcome}
 use Rattle.replay_edits.specs.Faults.{group_fault, log_after_all, IsPlan}
 use Rattle.cave_replay.specs.ReadyEdits.{new_game, log_after_edits, MayMove, AreEditsOf, IsReady}
 use Rattle.replay_edits.proofs.Inverses.{IsFree-from_none, log-apply_all, group_free, group_some}
@@ -91,16 +93,27 @@ fits_of {changes} log seed left ready planned edits =
 some_edits : (edits : List Edit) → 0 < length (changes_of edits) → 0 < length edits
 some_edits edits some = let n = length-map edits change_of in omega arith
 
+-- an outcome, by the number of lines
+outcome_at : (changes : List Change) (seed : ℕ) (log : List (List ℕ)) (head tail : ℕ)
+    (outcome : EditOutcome) {count lines : ℕ} → count ≡ lines
+    → IsOutcome changes seed log head (lines - tail) outcome
+    → IsOutcome changes seed log head (count - tail) outcome
+outcome_at changes seed log head tail outcome same made =
+    subst (λ n. IsOutcome changes seed log head (n - tail) outcome) (sym same) made
+
 pub overflow_sub-result : goal.overflow_sub-result
 overflow_sub-result c =
-    let planned = c.in_ok-plan.ensures (log_of c.args.log.now) (length-log_of c.args.log.now) in
-    tail_within c.args.log.now planned
+    let log = c.args.log.now.items in
+    let planned =
+    c.in_ok-plan.ensures (log_of log) (length-log_of log ∙ sym c.len-lines.ensures.len) in
+    omega (arith, tail_within c.args.log.now.items planned, c.len-lines.ensures.len)
 
 pub find_outcome-requires : goal.find_outcome-requires
 find_outcome-requires c =
-    let log = log_of c.args.log.now in
+    let log = log_of c.args.log.now.items in
     let changes = changes_of c.args.edits.now in
-    let planned = c.in_ok-plan.ensures log (length-log_of c.args.log.now) in
+    let planned =
+    c.in_ok-plan.ensures log (length-log_of c.args.log.now.items ∙ sym c.len-lines.ensures.len) in
     record {
       some = some_edits c.args.edits.now (group_some changes log c.args.left planned.free);
       free = (group_free changes log c.args.left planned.free).0;
@@ -109,46 +122,62 @@ find_outcome-requires c =
 
 pub returns-clause-none : goal.returns-clause-none
 returns-clause-none c =
-    (c.in_ok-plan.ensures (log_of c.args.log.now) (length-log_of c.args.log.now)).free
+    let log = c.args.log.now.items in
+    (c.in_ok-plan.ensures (log_of log) (length-log_of log ∙ sym c.len-lines.ensures.len)).free
 
 pub returns-clause-edits : goal.returns-clause-edits
 returns-clause-edits c =
-    let planned = c.in_ok-plan.ensures (log_of c.args.log.now) (length-log_of c.args.log.now) in
-    let outcome = c.in_ok-outcome.ensures in
+    let log = c.args.log.now.items in
+    let planned =
+    c.in_ok-plan.ensures (log_of log) (length-log_of log ∙ sym c.len-lines.ensures.len) in
+    let outcome = outcome_at (changes_of c.args.edits.now) c.args.seed (log_of c.args.log.now.items)
+    c.in_ok-plan.plan.margins.head c.in_ok-plan.plan.margins.tail c.in_ok-outcome.outcome
+    c.len-lines.ensures.len c.in_ok-outcome.ensures in
     let room : vec_len c.in_ok-outcome.outcome.lines ≤ vec_capacity c.in_ok-room.room =
     omega (arith, c.in_ok-room.ensures.exact, c.in_ok-room.ensures.capacity) in
-    edits_of c.args.log.now c.args.seed c.args.left _ planned
+    edits_of c.args.log.now.items c.args.seed c.args.left _ planned
     (record { rising = outcome.rising; empty = c.in_ok-room.ensures.items; room = room })
-    outcome.game outcome.inverse refl refl
+    outcome.game outcome.inverse refl
+    (ap (λ n. n - c.in_ok-plan.plan.margins.tail) c.len-lines.ensures.len)
 
 pub returns-clause-ready : goal.returns-clause-ready
 returns-clause-ready c =
-    let planned = c.in_ok-plan.ensures (log_of c.args.log.now) (length-log_of c.args.log.now) in
-    let outcome = c.in_ok-outcome.ensures in
+    let log = c.args.log.now.items in
+    let planned =
+    c.in_ok-plan.ensures (log_of log) (length-log_of log ∙ sym c.len-lines.ensures.len) in
+    let outcome = outcome_at (changes_of c.args.edits.now) c.args.seed (log_of c.args.log.now.items)
+    c.in_ok-plan.plan.margins.head c.in_ok-plan.plan.margins.tail c.in_ok-outcome.outcome
+    c.len-lines.ensures.len c.in_ok-outcome.ensures in
     let room : vec_len c.in_ok-outcome.outcome.lines ≤ vec_capacity c.in_ok-room.room =
     omega (arith, c.in_ok-room.ensures.exact, c.in_ok-room.ensures.capacity) in
-    ready_of c.args.log.now c.args.seed _ planned
-    (edits_of c.args.log.now c.args.seed c.args.left _ planned
+    ready_of c.args.log.now.items c.args.seed _ planned
+    (edits_of c.args.log.now.items c.args.seed c.args.left _ planned
     (record { rising = outcome.rising; empty = c.in_ok-room.ensures.items; room = room })
-    outcome.game outcome.inverse refl refl)
+    outcome.game outcome.inverse refl
+    (ap (λ n. n - c.in_ok-plan.plan.margins.tail) c.len-lines.ensures.len))
     refl c.requires.game
 
 pub returns-clause-room : goal.returns-clause-room
 returns-clause-room c =
-    let planned = c.in_ok-plan.ensures (log_of c.args.log.now) (length-log_of c.args.log.now) in
-    let outcome = c.in_ok-outcome.ensures in
+    let log = c.args.log.now.items in
+    let planned =
+    c.in_ok-plan.ensures (log_of log) (length-log_of log ∙ sym c.len-lines.ensures.len) in
+    let outcome = outcome_at (changes_of c.args.edits.now) c.args.seed (log_of c.args.log.now.items)
+    c.in_ok-plan.plan.margins.head c.in_ok-plan.plan.margins.tail c.in_ok-outcome.outcome
+    c.len-lines.ensures.len c.in_ok-outcome.ensures in
     let room : vec_len c.in_ok-outcome.outcome.lines ≤ vec_capacity c.in_ok-room.room =
     omega (arith, c.in_ok-room.ensures.exact, c.in_ok-room.ensures.capacity) in
     let ready : ReadyEdits = record {
       seed = c.in_ok-outcome.outcome.seed;
       lines = c.in_ok-plan.plan.lines;
       head = c.in_ok-plan.plan.margins.head;
-      rest = length c.args.log.now - c.in_ok-plan.plan.margins.tail;
+      rest = c.len-lines.result - c.in_ok-plan.plan.margins.tail;
       middle = c.in_ok-outcome.outcome.lines;
       room = c.in_ok-room.room;
       inverse = c.in_ok-outcome.outcome.inverse;
     } in
-    fits_of c.args.log.now c.args.seed c.args.left ready planned
-    (edits_of c.args.log.now c.args.seed c.args.left ready planned
+    fits_of c.args.log.now.items c.args.seed c.args.left ready planned
+    (edits_of c.args.log.now.items c.args.seed c.args.left ready planned
     (record { rising = outcome.rising; empty = c.in_ok-room.ensures.items; room = room })
-    outcome.game outcome.inverse refl refl)
+    outcome.game outcome.inverse refl
+    (ap (λ n. n - c.in_ok-plan.plan.margins.tail) c.len-lines.ensures.len))

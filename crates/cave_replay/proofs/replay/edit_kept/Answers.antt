@@ -6,7 +6,9 @@ use Rattle.cave_replay.specs.declared.playthrough.Playthrough.{Playthrough}
 use Rattle.cave_replay.specs.declared.ready_edits.ReadyEdits.{ReadyEdits}
 use Rattle.replay_edits.specs.Edit.{Game, Change, changes_of, apply_all, inverses_of, log_of}
 use Rattle.replay_edits.specs.Faults.{log_after_all}
-use Rattle.cave_replay.specs.Playthrough.{kept_game, KeepsAll}
+use Rattle.cave_replay.specs.Play.{MachineRules}
+use Rattle.cave_replay.specs.Playthrough.{kept_game, KeepsAll, KeepsPlay}
+use Rattle.cave_replay.specs.Takeover.{IsWhole}
 use Rattle.cave_replay.specs.ReadyEdits.{AreEditsOf, new_game}
 use Rattle.replay_edits.proofs.Inverses.{IsFree-from_none, none_from_IsFree, log-apply_all}
 use Rattle.replay_edits.proofs.Inverses.{apply_all-inverses_of, IsFree-inverses_of}
@@ -29,10 +31,23 @@ made_same {ready} edits log_is seed_is same =
     ap (λ l. new_game ready (log_of l)) (same.log ∙ sym log_is) ∙ edits.game
     ∙ rw (log_is, seed_is) refl
 
+-- what is kept has a piece for each line, and ticks
+whole_of : {Machine State Kept Piece Meter Scratch S T : Type 0} {meaning : State → S}
+    {is_state : State → Type 0} {rules : MachineRules S T} (text : Piece → T)
+    (kept : Playthrough Machine State Kept Piece Meter Scratch)
+    → KeepsPlay meaning is_state text rules kept → IsWhole kept
+whole_of text kept keeps =
+    let n = length-log_of kept.log.items in
+    let m = length-map kept.pieces.items text in
+    let pieces = length-pieces keeps.plays in
+    let ticks = length-ticks keeps.plays in
+    let lines = keeps.lines in
+    let count = kept.ticked.each.ok.0 in
+    record { pieces = omega arith; ticked = omega arith; lines = omega arith }
+
 pub take_over-inverse-requires-clause-whole : goal.take_over-inverse-requires-clause-whole
 take_over-inverse-requires-clause-whole g c =
     let kept = c.args.kept.now in
-    let roomy = c.make_room.new.kept in
     let same = c.make_room.ensures.same in
     let n = length-log_of kept.log.items in
     let m = length-map kept.pieces.items g.M.Machine.text in
@@ -44,9 +59,9 @@ take_over-inverse-requires-clause-whole g c =
     let lines = ap length same.log in
     let all = c.requires.kept.lines in
     record {
-      pieces = omega (arith, roomy.pieces.ok, roomy.log.ok);
-      ticked = omega (arith, roomy.log.ok);
-      lines = omega (arith, same.lines, roomy.log.ok);
+      pieces = omega arith;
+      ticked = omega arith;
+      lines = omega (arith, same.lines);
     }
 
 pub take_over-inverse-requires-clause-stretch : goal.take_over-inverse-requires-clause-stretch
@@ -105,7 +120,17 @@ make_room-requires g c =
     replay_of c.requires.kept c.in_ok-rerun.ensures.edits c.places.ensures.spaced
     c.in_ok-rerun.ensures.rerun in
     let inside = met_inside replay in
-    record { among = replay.new_play.begun.among; passed = inside.0; met = inside.1 }
+    let kept = c.args.kept.now in
+    let edits = c.in_ok-rerun.ensures.edits in
+    record {
+      among = replay.new_play.begun.among;
+      passed = inside.0;
+      met = inside.1;
+      ordered = edits.ordered;
+      within = omega (arith, edits.tail);
+      whole = whole_of g.M.Machine.text kept c.requires.kept;
+      forward = (stretch_ready replay kept.checkpoints refl refl refl).forward;
+    }
 
 pub returns-clause-game : goal.returns-clause-game
 returns-clause-game g c =
@@ -135,4 +160,4 @@ pub take_over-inverse-requires-clause-within : goal.take_over-inverse-requires-c
 take_over-inverse-requires-clause-within g c =
     let tail = c.in_ok-rerun.ensures.edits.tail in
     let lines = ap length c.make_room.ensures.same.log in
-    omega (arith, c.make_room.new.kept.log.ok)
+    omega arith

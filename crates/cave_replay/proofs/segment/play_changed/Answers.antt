@@ -13,7 +13,7 @@ use Rattle.cave_replay.proofs.segment.play_changed.Goals as goal
 
 pub lines-init : goal.lines-init
 lines-init g c =
-    let n = length-log_of c.args.old.now.log.now in
+    let n = length-log_of c.args.old.now.log.now.items in
     let before = c.requires.begun.before in
     let rules = g.M.Machine.rules c.args.machine.now in
     let checkpoints =
@@ -22,7 +22,7 @@ lines-init g c =
     let places = c.places.ensures.places in
     record {
       checkpoints = rw before.every_is checkpoints;
-      ends = end_of rules c.requires.ready c.rest_after-new.ensures;
+      ends = end_of rules c.requires.ready c.rest_after-new.ensures.rest;
       underway =
           underway_start checkpoints c.first_from-index.result c.args.marks.next
           (λ k below. let early = rw places at (c.first_from-index.ensures.before k below) in
@@ -73,7 +73,7 @@ returns-then-place-end-clause-played g c =
     underway_further so_far.checkpoints so_far.ends so_far.underway c.in-Some.further
     (c.in-Some.ensures _ _ c.requires.begun.old_states so_far.marking) in
     let place = c.next-place.ensures.next in
-    let new = new_game c.args.ready.now (log_of c.args.old.now.log.now) in
+    let new = new_game c.args.ready.now (log_of c.args.old.now.log.now.items) in
     let end : c.lines.played.marks.next ≡ length new.log =
     omega (arith, c.if-place-end.true, c.requires.ready.lines) in
     record {
@@ -144,7 +144,7 @@ returns-in_err-play_line-clause-bounded g c =
     underway_further so_far.checkpoints so_far.ends so_far.underway c.in-Some.further
     (c.in-Some.ensures _ _ c.requires.begun.old_states so_far.marking) in
     let place = c.next-place.ensures.next in
-    let new = new_game c.args.ready.now (log_of c.args.old.now.log.now) in
+    let new = new_game c.args.ready.now (log_of c.args.old.now.log.now.items) in
     let below : c.lines.played.marks.next < length new.log =
     omega (arith, c.if-place-end.false, c.requires.ready.lines, so_far.within, before.end) in
     let risen = c.in_err-play_line.ensures.risen in

@@ -13,24 +13,29 @@ use Rattle.play_edits.proofs.guards.first_unmet.Goals.{then-after-free+in_ok-mov
 pub slice_bounds-free-end : goal.slice_bounds-free-end
 slice_bounds-free-end c =
     let edits = c.args.edits.now in
-    let counted = c.free_count.ensures (log_of c.args.log.now) (length-log_of c.args.log.now) in
+    let kept = c.args.log.now.items in
+    let counted =
+    c.free_count.ensures (log_of kept) (length-log_of kept ∙ sym c.len.ensures.len) in
     sym (length-take-le c.free_count.result edits
-    (within_edits edits (log_of c.args.log.now) c.free_count.result counted))
+    (within_edits edits (log_of c.args.log.now.items) c.free_count.result counted))
 
 pub new-requires : goal.new-requires
 new-requires c =
-    let counted = c.free_count.ensures (log_of c.args.log.now) (length-log_of c.args.log.now) in
-    free_changes c.args.edits.now (log_of c.args.log.now) c.free_count.result counted
+    let kept = c.args.log.now.items in
+    let counted =
+    c.free_count.ensures (log_of kept) (length-log_of kept ∙ sym c.len.ensures.len) in
+    free_changes c.args.edits.now (log_of c.args.log.now.items) c.free_count.result counted
 
 pub returns-in-Some : goal.returns-in-Some
 returns-in-Some c =
     let edits = c.args.edits.now in
-    let log = log_of c.args.log.now in
-    let counted = c.free_count.ensures log (length-log_of c.args.log.now) in
+    let log = log_of c.args.log.now.items in
+    let counted =
+    c.free_count.ensures log (length-log_of c.args.log.now.items ∙ sym c.len.ensures.len) in
     let guard = expectation_in c.guard-item.result in
     let free = length-take-le c.free_count.result edits
     (within_edits edits log c.free_count.result counted) in
-    let there = line_reached edits c.args.log.now c.free_count.result c.min-after.result
+    let there = line_reached edits c.args.log.now.items c.free_count.result c.min-after.result
     guard.place c.move_to.new.draft c.in_ok-move_to.ensures in
     let is = unmet-reached edits log c.free_count.result counted guard c.min-after.result
     c.min-after.ensures (omega (arith, c.if-after-free.true, free)) _
@@ -43,8 +48,9 @@ returns-in-Some c =
 pub loop-guard-preserved : goal.loop-guard-preserved
 loop-guard-preserved c =
     let edits = c.args.edits.now in
-    let log = log_of c.args.log.now in
-    let counted = c.free_count.ensures log (length-log_of c.args.log.now) in
+    let log = log_of c.args.log.now.items in
+    let counted =
+    c.free_count.ensures log (length-log_of c.args.log.now.items ∙ sym c.len.ensures.len) in
     let guard = expectation_in c.guard-item.result in
     let free = length-take-le c.free_count.result edits
     (within_edits edits log c.free_count.result counted) in
@@ -53,14 +59,14 @@ loop-guard-preserved c =
     c.loop-guard.guard-index c.guard-item.result c.loop-guard-test.true c.guard-item.is in
     elim c.if-after-free.branch [
       | then-after-free+in_ok-move_to+in_default w ↦
-          let there = line_reached edits c.args.log.now c.free_count.result c.min-after.result
+          let there = line_reached edits c.args.log.now.items c.free_count.result c.min-after.result
           guard.place w.move_to.new.draft w.in_ok-move_to.ensures in
           let is = unmet-reached edits log c.free_count.result counted guard c.min-after.result
           c.min-after.ensures (omega (arith, w.if-after-free.true, free)) _
           (w.line.ensures ∙ there) in
           record {
             met = more (is ∙ sym w.other_line.ensures ∙ w.in_default.is) ∙ before.met;
-            draft = rw w.draft-is (draft_own (take c.free_count.result edits) c.args.log.now
+            draft = rw w.draft-is (draft_own (take c.free_count.result edits) c.args.log.now.items
                 c.min-after.result w.move_to.new.draft w.in_ok-move_to.ensures);
           }
       | else-after-free w ↦

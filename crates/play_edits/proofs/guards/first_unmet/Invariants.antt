@@ -9,7 +9,7 @@ use Rattle.play_edits.proofs.guards.first_unmet.Given as goal
 abbrev pub invariant-loop-guard : goal.invariant-loop-guard
 invariant-loop-guard l = record {
   met : first_unmet (changes_of l.edits) (map expectation_in (drop l.guard-index l.guards))
-      (log_of l.log)
-      ≡ first_unmet (changes_of l.edits) (map expectation_in l.guards) (log_of l.log);
-  draft : IsDraft l.free l.log (made_in l.draft) l.draft;
+      (log_of l.log.items)
+      ≡ first_unmet (changes_of l.edits) (map expectation_in l.guards) (log_of l.log.items);
+  draft : IsDraft l.free l.log.items (made_in l.draft) l.draft;
 }

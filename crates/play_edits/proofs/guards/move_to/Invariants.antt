@@ -4,7 +4,7 @@ use Rattle.play_edits.proofs.guards.move_to.Given as goal
 
 abbrev pub invariant-loop-alloc : goal.invariant-loop-alloc
 invariant-loop-alloc l = record {
-  draft : IsDraft l.edits l.log (made_in l.draft) l.draft;
+  draft : IsDraft l.edits l.log.items (made_in l.draft) l.draft;
   within : made_in l.draft ≤ l.after;
 }
 

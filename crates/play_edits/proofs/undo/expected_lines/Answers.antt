@@ -12,7 +12,7 @@ use Rattle.play_edits.proofs.undo.expected_lines.Goals as goal
 pub loop-edit-preserved : goal.loop-edit-preserved
 loop-edit-preserved c =
     let edits = c.args.edits.now in
-    let log = log_of c.args.log.now in
+    let log = log_of c.args.log.now.items in
     let at = c.loop-edit.edit-index in
     let edit = c.edit-item.result in
     let before = c.loop-edit.invariant in

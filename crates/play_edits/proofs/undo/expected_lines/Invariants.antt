@@ -9,7 +9,7 @@ use Rattle.play_edits.proofs.undo.expected_lines.Given as goal
 abbrev pub invariant-loop-edit : goal.invariant-loop-edit
 invariant-loop-edit l = record {
   expected : lines_in l.lines.items ++ expected_lines (changes_of (drop l.edit-index l.edits))
-      (log_after_all (take l.edit-index (changes_of l.edits)) (log_of l.fn.log))
-      ≡ expected_lines (changes_of l.edits) (log_of l.fn.log);
-  draft : IsDraft l.edits l.fn.log l.edit-index l.draft;
+      (log_after_all (take l.edit-index (changes_of l.edits)) (log_of l.fn.log.items))
+      ≡ expected_lines (changes_of l.edits) (log_of l.fn.log.items);
+  draft : IsDraft l.edits l.fn.log.items l.edit-index l.draft;
 }

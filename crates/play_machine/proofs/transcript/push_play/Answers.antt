@@ -24,7 +24,7 @@ loop-place-preserved c =
     let place = enumerate_count c.loop-place.place-iterator in
     let counts = enumerate_source c.loop-place.place-iterator in
     let here = c.loop-place.invariant in
-    let piece = c.index-pieces-place.result in
+    let piece = c.at.result.now in
     let pieces = c.pieces-pieces.ensures in
     let some = ap length step.0 in
     let left : enumerate_count c.next.new.self + length (enumerate_source c.next.new.self)
@@ -46,7 +46,7 @@ loop-place-preserved c =
           (max_score_of c.cave-cave.result.now) (ticks held.ticks (length held.game.log)))
           _ (omega (arith, some, here.left)) (ap length (sym pieces.pieces) ∙ pieces.each)
           (c.line-line.ensures.line ∙ ap (λ p. get_or held.game.log p []) step.1)
-          (c.index-pieces-place.is ∙ ap (λ ps. get_or ps c.in-Some.place piece) pieces.pieces
+          (c.at.ensures ∙ ap (λ ps. get_or ps c.in-Some.place piece) pieces.pieces
           ∙ ap (λ p. get_or held.pieces p piece) step.1) turns
           here.told (search rules));
     }

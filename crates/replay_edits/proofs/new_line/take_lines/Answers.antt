@@ -15,7 +15,8 @@ take_line-requires c =
     c.replace-next.ensures.value in
     let taking = rw more at c.loop-line.invariant.taking in
     let len = c.loop-line.invariant.len in
-    taking_within line (drop (index + 1) lines) taking.from c.args.rest (length c.loop-line.log)
+    taking_within line (drop (index + 1) lines) taking.from c.args.rest
+    (length c.loop-line.log.items)
     taking.rising (omega (arith, c.requires.within))
 
 pub loop-line-preserved : goal.loop-line-preserved
@@ -42,11 +43,13 @@ loop-line-preserved c =
     record {
       taking =
           rw (left, taken)
-          (IsTaking-more c.args.head c.args.rest (log_of c.args.log.now) (log_of c.loop-line.log)
-          (log_of c.take_line.new.log) c.args.lines.now (drop (index + 1) lines) line
+          (IsTaking-more c.args.head c.args.rest (log_of c.args.log.now.items)
+          (log_of c.loop-line.log.items)
+          (log_of c.take_line.new.log.items) c.args.lines.now (drop (index + 1) lines) line
           c.take_line.result.items (log_of c.loop-line.taken.items) taking
           c.take_line.ensures.line c.take_line.ensures.log);
       len = c.take_line.ensures.len ∙ c.loop-line.invariant.len;
+      stretch = c.take_line.ensures.stretch ∙ c.loop-line.invariant.stretch;
       room = omega (arith, c.loop-line.invariant.room);
     }
 

@@ -6,8 +6,9 @@ use Rattle.replay_edits.proofs.new_line.take_lines.Given as goal
 
 abbrev pub invariant-loop-line : goal.invariant-loop-line
 invariant-loop-line l = record {
-  taking : IsTaking l.head l.rest (log_of l.fn.log) l.fn.lines (log_of l.log)
+  taking : IsTaking l.head l.rest (log_of l.fn.log.items) l.fn.lines (log_of l.log.items)
       (drop l.line-index l.lines) (log_of l.taken.items);
-  len : length l.log ≡ length l.fn.log;
+  len : length l.log.items ≡ length l.fn.log.items;
+  stretch : l.log.stretch ≡ l.fn.log.stretch;
   room : vec_len l.taken + length (drop l.line-index l.lines) ≤ vec_capacity l.taken;
 }

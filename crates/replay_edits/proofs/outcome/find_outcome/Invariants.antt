@@ -9,7 +9,7 @@ use Rattle.replay_edits.proofs.outcome.find_outcome.Given as goal
 abbrev pub invariant-loop-index : goal.invariant-loop-index
 invariant-loop-index l = record {
   making : IsMaking (changes_of l.fn.edits) (changes_of (drop l.index l.fn.edits))
-      (game_of l.fn.seed (log_of l.fn.log)) (game_by l.stock l.game)
+      (game_of l.fn.seed (log_of l.fn.log.items)) (game_by l.stock l.game)
       (changes_of l.inverse.items);
   alone : LeaveAlone (changes_of (drop l.index l.fn.edits)) (log_by l.stock l.game.numbers)
       l.fn.margins;

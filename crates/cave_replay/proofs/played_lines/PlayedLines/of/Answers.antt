@@ -6,12 +6,12 @@ use Rattle.cave_replay.proofs.played_lines.PlayedLines.of.Goals as goal
 
 pub returns-clause-each_line : goal.returns-clause-each_line
 returns-clause-each_line g c =
-    let lines = length-log_of c.args.log.now in
-    length-rows_from 0 0 (log_of c.args.log.now) c.args.pieces.now c.args.ticked.now
+    let lines = length-log_of c.args.log in
+    length-rows_from 0 0 (log_of c.args.log) c.args.pieces c.args.ticked.now
     (omega (arith, c.requires.pieces)) (omega (arith, c.requires.ticked)) ∙ lines
 
 pub returns-clause-rows : goal.returns-clause-rows
 returns-clause-rows g c = λ place below.
-    let lines = length-log_of c.args.log.now in
-    rows-at (log_of c.args.log.now) c.args.pieces.now c.args.ticked.now
+    let lines = length-log_of c.args.log in
+    rows-at (log_of c.args.log) c.args.pieces c.args.ticked.now
     (omega (arith, c.requires.pieces)) (omega (arith, c.requires.ticked)) place (omega arith)

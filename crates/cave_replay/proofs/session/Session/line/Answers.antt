@@ -6,5 +6,5 @@ returns-clause-valid g c =
     let log = c.self.inside.kept.log.items in
     let below = rw (← c.self.view_is, length-log_of log) at c.requires in
     rw c.deref.ensures
-    (is_line-read log c.args.place c.index.result.now below c.index.ensures
+    (is_line-read log c.args.place c.at.result.now below c.at.ensures
     c.self.invariant.game_is.lines)

@@ -7,6 +7,6 @@ pub returns-clause-each : goal.returns-clause-each
 returns-clause-each g c =
     let text = g.M.Machine.text in
     let k = c.self.inside.kept in
-    rw (c.deref.ensures.value, ← c.self.view_is)
+    rw (← c.self.view_is)
     (sym (length-map k.pieces.items text)
     ∙ length-pieces c.self.invariant.plays)

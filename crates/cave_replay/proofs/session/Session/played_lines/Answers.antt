@@ -8,13 +8,13 @@ pub of-requires-clause-few : goal.of-requires-clause-few
 of-requires-clause-few g c =
     let n = length-log_of c.self.inside.kept.log.items in
     let few = c.self.invariant.game_is.few in
-    rw c.deref.ensures.value (omega arith)
+    rw c.items.ensures (omega arith)
 
 pub of-requires-clause-pieces : goal.of-requires-clause-pieces
 of-requires-clause-pieces g c =
     let text = g.M.Machine.text in
     let k = c.self.inside.kept in
-    rw (c.deref-2.ensures.value, c.deref.ensures.value)
+    rw (c.items-2.ensures, c.items.ensures)
     (sym (length-map k.pieces.items text)
     ∙ length-pieces c.self.invariant.plays
     ∙ length-log_of k.log.items)
@@ -22,7 +22,7 @@ of-requires-clause-pieces g c =
 pub of-requires-clause-ticked : goal.of-requires-clause-ticked
 of-requires-clause-ticked g c =
     let k = c.self.inside.kept in
-    rw (c.deref-3.ensures.value, c.deref.ensures.value)
+    rw (c.deref.ensures.value, c.items.ensures)
     (length-ticks c.self.invariant.plays
     ∙ length-log_of k.log.items)
 
@@ -30,12 +30,12 @@ pub returns-clause-each_line : goal.returns-clause-each_line
 returns-clause-each_line g c =
     let log = c.self.inside.kept.log.items in
     rw (← c.self.view_is)
-    (c.of.ensures.each_line ∙ ap length c.deref.ensures.value ∙ sym (length-log_of log))
+    (c.of.ensures.each_line ∙ ap length c.items.ensures ∙ sym (length-log_of log))
 
 pub returns-clause-rows : goal.returns-clause-rows
 returns-clause-rows g c =
     let n = length-log_of c.self.inside.kept.log.items in
     rw (← c.self.view_is)
     (λ place below.
-    rw (← c.deref.ensures.value, ← c.deref-2.ensures.value, ← c.deref-3.ensures.value)
-    (c.of.ensures.rows place (rw c.deref.ensures.value (omega arith))))
+    rw (← c.items.ensures, ← c.items-2.ensures, ← c.deref.ensures.value)
+    (c.of.ensures.rows place (rw c.items.ensures (omega arith))))

@@ -1,4 +1,4 @@
-use Rattle.std.proofs.Common.{◌≡◌, ◌+◌, length, refl, sym, ap, ◌∙◌}
+use Rattle.std.proofs.Common.{◌≡◌, ◌+◌, refl, sym, ap, ◌∙◌}
 use Rattle.replay_edits.specs.Edit.{Game, change_of, log_after, log_of, own_line}
 use Rattle.replay_edits.specs.Outcome.{log_by}
 use Rattle.replay_edits.proofs.DraftLemmas.{alone_more, free_more, made_more}
@@ -8,8 +8,8 @@ use Rattle.replay_edits.proofs.draft.Draft.make_next.Goals as goal
 pub make-requires-clause-line : goal.make-requires-clause-line
 make-requires-clause-line c =
     let draft = c.args.self.now in
-    line_of-own draft.stock (length draft.stock.log.now + draft.made) draft.made
-    c.index-self-self.result refl c.requires.left c.index-self-self.is
+    line_of-own draft.stock (c.len.result + draft.made) draft.made c.index-self-self.result
+    (ap (λ n. n + draft.made) c.len.ensures.len) c.requires.left c.index-self-self.is
     ∙ ap (λ e. own_line (change_of e)) c.index-self-self.is
 
 pub returns : goal.returns
@@ -29,7 +29,7 @@ returns c =
       log_is = refl;
       made_is = refl;
       now = next ∙ ap (log_after (change_of edit)) draft.now
-          ∙ made_more edits old.made edit (log_of old.stock.log.now) c.requires.left read;
+          ∙ made_more edits old.made edit (log_of old.stock.log.now.items) c.requires.left read;
       ordered = draft.ordered;
       within = draft.within;
       free = rw next (free_more edits old.made edit before c.requires.left read draft.free).1;

@@ -5,7 +5,7 @@ use Rattle.replay_edits.proofs.stock.Stock.new_lines.Given as goal
 
 abbrev pub invariant-loop-number : goal.invariant-loop-number
 invariant-loop-number l = record {
-  lines : new_texts (log_of l.self.log.now) l.lines.items
+  lines : new_texts (log_of l.self.log.now.items) l.lines.items
       ≡ lines_by l.self (take l.number-index l.numbers);
   rising : AreRising l.self.head l.from l.lines.items;
   within : l.from ≤ l.self.rest;
