@@ -4,3 +4,4 @@ mod FirstFaults
 mod KeyLemmas
 mod WayCounts
 mod WayLines
+mod WaysOnLines

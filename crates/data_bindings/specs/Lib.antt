@@ -1,4 +1,5 @@
 pub mod BindingCauses
 pub mod Listing
 pub mod Marks
+pub mod WayLaws
 pub mod WayLines

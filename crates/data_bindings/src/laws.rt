@@ -1,5 +1,7 @@
-//! Laws of what is wrong with bindings. Each is the contract of a function that does nothing.
+//! Laws of what is wrong with bindings, and of the lines of ways. Each is the contract of a function
+//! that does nothing.
 ghost use Rattle.data_bindings.specs.BindingCauses.{CausesAreExact, FaultsAreFirst};
+ghost use Rattle.data_bindings.specs.WayLaws.{WaysStandOnTheirLines};
 
 /// A cause is reported of a line of bindings exactly where it is there, by the grammar, and none
 /// before it is.
@@ -11,4 +13,10 @@ pub fn causes_are_exact()
 /// bindings, and its cause is that of the line that comes after them.
 pub fn faults_are_first()
     ensures { FaultsAreFirst }
+{}
+
+/// Each way that is listed with a line is that line's row, and the way of its place that has its
+/// index.
+pub fn ways_stand_on_their_lines()
+    ensures { WaysStandOnTheirLines }
 {}

@@ -1,0 +1,361 @@
+-- Each way that is listed stands on its line.
+use Rattle.std.proofs.Common.{◌≡◌, ◌∙◌, ◌+◌, ◌++◌, ◌∷◌, ℕ, suc, Bool, true, false, List, []}
+use Rattle.std.proofs.Common.{Option, Some, None, length, map, refl, sym, ap, subst, arith}
+use Rattle.std.specs.Prelude.{◌==◌, if◌then◌else◌, filter, is_some, slice_get, unwrap_or, IsTrue}
+use Rattle.std.specs.List.{All, filter_map}
+use Rattle.std.specs.Str.Lines.{lines}
+use Rattle.std.proofs.lemmas.Bool.{true≢false, false≢true}
+use Rattle.std.proofs.lemmas.List.{append_assoc, length-append, map-append}
+use Rattle.std.proofs.lemmas.List.Elements.{All-nil, All-cons, All-weaker}
+use Rattle.std.proofs.lemmas.List.Elements.{filter-append, filter_map-append}
+use Rattle.base_lines.specs.Bytes.{is_all_blank}
+use Rattle.cave_data.specs.CaveView.{CaveView, ways_from}
+use Rattle.cave_data.specs.Reads.{Reads}
+use Rattle.cave_data.specs.Texts.{names_object, nonempty}
+use Rattle.data_rows.specs.DatabaseGrammar.{HasRows, blank_line, database_ends, row_line}
+use Rattle.data_rows.specs.DatabaseGrammar.{IsLineOfNumber, section_ends, section_number}
+use Rattle.data_rows.specs.DatabaseGrammar.{section_opens}
+use Rattle.data_rows.specs.Grammar.{position_after_line}
+use Rattle.data_rows.specs.RowGrammar.{IsRow, in_3}
+use Rattle.data_rows.specs.Rows.{Entry, Going, TextLine, Way, ObjectLine}
+use Rattle.data_rows.specs.SectionRows.{way_of}
+use Rattle.data_rows.specs.declared.error.Section.{Section}
+use Rattle.data_rows.specs.declared.error.Section.TheVariants as section
+use Rattle.data_rows.specs.declared.number.Number.TheVariants.{Natural, Negative}
+use Rattle.data_rows.specs.declared.position.Position.{Position}
+use Rattle.data_rows.specs.declared.position.Position.TheVariants.{Outside, Inside, After}
+use Rattle.data_rows.proofs.LineLemmas.{begins-row, closes-minus_one, closes-natural, heading-end}
+use Rattle.data_rows.proofs.LineLemmas.{heading-section, nonblank_line}
+use Rattle.data_rows.proofs.RowLemmas.{entry-read}
+use Rattle.data_bindings.specs.Marks.{is_way_from, leads_from, mark_at, mark_of, marked_rows}
+use Rattle.data_bindings.specs.WayLaws.{StandsOn, WaysStandOnTheirLines}
+use Rattle.data_bindings.specs.WayLines.{way_index, way_line, way_lines, way_lines_from}
+use Rattle.data_bindings.specs.declared.by_line.WayLine.{WayLine}
+use Rattle.data_bindings.specs.declared.mark.MarkedRow.{MarkedRow}
+use Rattle.data_bindings.specs.declared.mark.RowMark.{RowMark}
+use Rattle.data_bindings.specs.declared.mark.RowMark.TheVariants as mark
+
+-- ---- the ways of rows
+
+-- the ways out of a place among rows
+abbrev goings_of : ℕ → List Entry → List Going
+goings_of place rows = map (λ way. way.1) (filter (λ way. way.0 == place) (filter_map way_of rows))
+
+goings_append : (place : ℕ) (xs ys : List Entry)
+    → goings_of place (xs ++ ys) ≡ goings_of place xs ++ goings_of place ys
+goings_append place xs ys =
+    rw (filter_map-append way_of xs ys,
+    filter-append (λ way. way.0 == place) (filter_map way_of xs) (filter_map way_of ys))
+    (map-append (λ way. way.1) (filter (λ way. way.0 == place) (filter_map way_of xs))
+    (filter (λ way. way.0 == place) (filter_map way_of ys)))
+
+-- the ways are those of a cave that holds the rows
+ways_of_cave : (xs : List Going) → unwrap_or (nonempty xs) [] ≡ xs
+ways_of_cave [] = refl
+ways_of_cave (x ∷ xs) = refl
+
+at_end : {X : Type 0} (xs : List X) (x : X) (ys : List X)
+    → slice_get (xs ++ x ∷ ys) (length xs) ≡ Some x
+at_end [] x ys = refl
+at_end (y ∷ xs) x ys = at_end xs x ys
+
+-- ---- rows before, and the ways that are counted among them
+
+-- as many ways of each place were counted as the rows have
+abbrev Alike : List MarkedRow → List Entry → Type 0
+Alike before rows = (place : ℕ) → way_index place before ≡ length (goings_of place rows)
+
+more_ways : (place : ℕ) (before : List MarkedRow) (row : MarkedRow) (n : ℕ)
+    → length (filter (is_way_from place) (row ∷ [])) ≡ n
+    → way_index place (before ++ row ∷ []) ≡ way_index place before + n
+more_ways place before row n is =
+    ap length (filter-append (is_way_from place) before (row ∷ []))
+    ∙ length-append (filter (is_way_from place) before) (filter (is_way_from place) (row ∷ []))
+    ∙ ap (λ k. way_index place before + k) is
+
+more_goings : (place : ℕ) (rows : List Entry) (row : Entry) (n : ℕ)
+    → length (goings_of place (row ∷ [])) ≡ n
+    → length (goings_of place (rows ++ row ∷ [])) ≡ length (goings_of place rows) + n
+more_goings place rows row n is =
+    ap length (goings_append place rows (row ∷ []))
+    ∙ length-append (goings_of place rows) (goings_of place (row ∷ []))
+    ∙ ap (λ k. length (goings_of place rows) + k) is
+
+-- a way is counted for its own place, and for no other
+way_alike : (before : List MarkedRow) (rows : List Entry) (line place : ℕ) (going : Going)
+    → Alike before rows
+    → Alike (before ++ record { line = line; mark = mark.Way place } ∷ [])
+    (rows ++ Way place going ∷ [])
+way_alike before rows line place going alike other = by_test (place == other) refl
+  where
+    row : MarkedRow
+    row = record { line = line; mark = mark.Way place }
+    by_test : (b : Bool) → (place == other) ≡ b
+        → way_index other (before ++ row ∷ [])
+        ≡ length (goings_of other (rows ++ Way place going ∷ []))
+    by_test true same =
+        more_ways other before row 1 (rw same refl) ∙ ap (λ k. k + 1) (alike other)
+        ∙ sym (more_goings other rows (Way place going) 1 (rw same refl))
+    by_test false differs =
+        more_ways other before row 0 (rw differs refl) ∙ ap (λ k. k + 0) (alike other)
+        ∙ sym (more_goings other rows (Way place going) 0 (rw differs refl))
+
+-- ---- rows that are no ways
+
+abbrev IsNoWay : Option RowMark → Type 0
+IsNoWay None = Unit {0}
+IsNoWay (Some (mark.Way place)) = ⊥
+IsNoWay (Some other) = Unit {0}
+
+abbrev NamesNoWay : Bool → TextLine → Type 0
+NamesNoWay names line = IsNoWay (if names then Some (mark.Name line.number) else None)
+
+object_is_no_way : (line : TextLine) (names : Bool) → NamesNoWay names line
+object_is_no_way line true = tt
+object_is_no_way line false = tt
+
+marked_as_no_way : (row : Entry) → is_some (way_of row) ≡ false → IsNoWay (mark_of row)
+marked_as_no_way (Way place going) none = absurd (true≢false none)
+marked_as_no_way (ObjectLine line) none = object_is_no_way line (names_object line)
+marked_as_no_way other none = tt
+
+no_line : (m : RowMark) (before : List MarkedRow) (number : ℕ) → IsNoWay (Some m)
+    → way_line before number m ≡ []
+no_line (mark.Way place) before number no = absurd no
+no_line other before number no = refl
+
+leads_nowhere : (m : RowMark) (place : ℕ) → IsNoWay (Some m) → leads_from place m ≡ false
+leads_nowhere (mark.Way other) place no = absurd no
+leads_nowhere other place no = refl
+
+no_goings : (row : Entry) (place : ℕ) → is_some (way_of row) ≡ false
+    → length (goings_of place (row ∷ [])) ≡ 0
+no_goings row place none = by (way_of row) refl none
+  where
+    by : (o : Option (ℕ × Going)) → way_of row ≡ o → is_some o ≡ false
+        → length (goings_of place (row ∷ [])) ≡ 0
+    by None is not = rw is refl
+    by (Some way) is not = absurd (true≢false not)
+
+-- ---- lines
+
+-- Of all the lines and of all their rows, this way is on its line, and among those of its place.
+record StandsAmong (ls : List (List ℕ)) (rows : List Entry) (way : WayLine) : Type 0 where
+  pub before : ℕ
+  pub counted : way.line ≡ before + 1
+  pub line : List ℕ
+  pub there : slice_get ls before ≡ Some line
+  pub going : Going
+  pub is_row : IsRow section.Travel line (Way way.place going)
+  pub is_way : slice_get (goings_of way.place rows) way.index ≡ Some going
+
+-- after these lines with these rows, the ways of the lines that follow stand on theirs
+abbrev Stand : List (List ℕ) → List Entry → Position → List (List ℕ) → List Entry → Type 0
+Stand passed earlier position ls rows = (before : List MarkedRow) → Alike before earlier
+    → All (StandsAmong (passed ++ ls) (earlier ++ rows))
+    (way_lines_from before (marked_rows (suc (length passed)) position ls))
+
+-- what is so after one line more is so of the lines from it on
+one_passed : (passed : List (List ℕ)) (line : List ℕ) (later : List (List ℕ)) (rows : List Entry)
+    (position : Position) (before : List MarkedRow)
+    → All (StandsAmong ((passed ++ line ∷ []) ++ later) rows)
+    (way_lines_from before (marked_rows (suc (length (passed ++ line ∷ []))) position later))
+    → All (StandsAmong (passed ++ line ∷ later) rows)
+    (way_lines_from before (marked_rows (suc (suc (length passed))) position later))
+one_passed passed line later rows position before stand =
+    let counted : length (passed ++ line ∷ []) ≡ suc (length passed) =
+        length-append passed (line ∷ []) ∙ omega arith in
+    subst (λ n. All (StandsAmong (passed ++ line ∷ later) rows)
+    (way_lines_from before (marked_rows (suc n) position later))) counted
+    (subst (λ ls. All (StandsAmong ls rows)
+    (way_lines_from before (marked_rows (suc (length (passed ++ line ∷ []))) position later)))
+    (append_assoc passed (line ∷ []) later) stand)
+
+-- a line that has no row
+unmarked : (passed : List (List ℕ)) (earlier : List Entry) (position next : Position)
+    (line : List ℕ) (later : List (List ℕ)) (rows : List Entry)
+    → mark_at position line ≡ None → position_after_line position line ≡ next
+    → Stand (passed ++ line ∷ []) earlier next later rows
+    → Stand passed earlier position (line ∷ later) rows
+unmarked passed earlier position next line later rows none leads stand before alike =
+    rw (none, leads)
+    (one_passed passed line later (earlier ++ rows) next before (stand before alike))
+
+-- a row is what the reading of its line marks, and its section goes on
+row_marked : (s : Section) (line : List ℕ) (row : Entry) → IsRow s line row
+    → mark_at (Inside s) line ≡ mark_of row
+row_marked s line row is =
+    let begins = begins-row s line row is in
+    let some = nonblank_line (Natural begins.0) line begins.1 in
+    let open_still = closes-natural begins.0 line begins.1 in
+    let read = entry-read s line row is in
+    rw (some, open_still, read) refl
+
+row_leads : (s : Section) (line : List ℕ) (row : Entry) → IsRow s line row
+    → position_after_line (Inside s) line ≡ Inside s
+unfolding position_after_line
+row_leads s line row is =
+    let begins = begins-row s line row is in
+    let some = nonblank_line (Natural begins.0) line begins.1 in
+    let open_still = closes-natural begins.0 line begins.1 in
+    rw (some, open_still) refl
+
+-- a row that is no way
+other_row : (passed : List (List ℕ)) (earlier : List Entry) (s : Section) (line : List ℕ)
+    (row : Entry) (later : List (List ℕ)) (rest : List Entry) → IsRow s line row
+    → is_some (way_of row) ≡ false
+    → Stand (passed ++ line ∷ []) (earlier ++ row ∷ []) (Inside s) later rest
+    → Stand passed earlier (Inside s) (line ∷ later) (row ∷ rest)
+other_row passed earlier s line row later rest is none stand before alike =
+    by_mark (mark_of row) refl (marked_as_no_way row none)
+  where
+    leads : position_after_line (Inside s) line ≡ Inside s
+    leads = row_leads s line row is
+    later_stand : (marks : List MarkedRow) → Alike marks (earlier ++ row ∷ [])
+        → All (StandsAmong (passed ++ line ∷ later) (earlier ++ row ∷ rest))
+        (way_lines_from marks (marked_rows (suc (suc (length passed))) (Inside s) later))
+    later_stand marks counted =
+        one_passed passed line later (earlier ++ row ∷ rest) (Inside s) marks
+        (subst (λ rows. All (StandsAmong ((passed ++ line ∷ []) ++ later) rows)
+        (way_lines_from marks
+        (marked_rows (suc (length (passed ++ line ∷ []))) (Inside s) later)))
+        (append_assoc earlier (row ∷ []) rest) (stand marks counted))
+    same_goings : (place : ℕ)
+        → length (goings_of place (earlier ++ row ∷ [])) ≡ length (goings_of place earlier)
+    same_goings place = more_goings place earlier row 0 (no_goings row place none) ∙ omega arith
+    by_mark : (m : Option RowMark) → mark_of row ≡ m → IsNoWay m
+        → All (StandsAmong (passed ++ line ∷ later) (earlier ++ row ∷ rest))
+        (way_lines_from before
+        (marked_rows (suc (length passed)) (Inside s) (line ∷ later)))
+    by_mark None has no =
+        rw (row_marked s line row is ∙ has, leads)
+        (later_stand before (λ place. alike place ∙ sym (same_goings place)))
+    by_mark (Some m) has no =
+        let marked : MarkedRow = record { line = suc (length passed); mark = m } in
+        rw (row_marked s line row is ∙ has, leads, no_line m before (suc (length passed)) no)
+        (later_stand (before ++ marked ∷ [])
+        (λ place. more_ways place before marked 0 (rw (leads_nowhere m place no) refl)
+        ∙ omega arith ∙ alike place ∙ sym (same_goings place)))
+
+-- a way
+way_row_stands : (passed : List (List ℕ)) (earlier : List Entry) (line : List ℕ) (place : ℕ)
+    (going : Going) (later : List (List ℕ)) (rest : List Entry)
+    → IsRow section.Travel line (Way place going)
+    → Stand (passed ++ line ∷ []) (earlier ++ Way place going ∷ []) (Inside section.Travel) later
+    rest
+    → Stand passed earlier (Inside section.Travel) (line ∷ later) (Way place going ∷ rest)
+way_row_stands passed earlier line place going later rest is stand before alike =
+    rw (row_marked section.Travel line row is, row_leads section.Travel line row is)
+    (All-cons (StandsAmong (passed ++ line ∷ later) (earlier ++ row ∷ rest)) way
+    (way_lines_from (before ++ marked ∷ [])
+    (marked_rows (suc (suc (length passed))) (Inside section.Travel) later)) stands
+    (one_passed passed line later (earlier ++ row ∷ rest) (Inside section.Travel)
+    (before ++ marked ∷ [])
+    (subst (λ rows. All (StandsAmong ((passed ++ line ∷ []) ++ later) rows)
+    (way_lines_from (before ++ marked ∷ [])
+    (marked_rows (suc (length (passed ++ line ∷ []))) (Inside section.Travel) later)))
+    (append_assoc earlier (row ∷ []) rest)
+    (stand (before ++ marked ∷ [])
+    (way_alike before earlier (suc (length passed)) place going alike)))))
+  where
+    row : Entry
+    row = Way place going
+    marked : MarkedRow
+    marked = record { line = suc (length passed); mark = mark.Way place }
+    way : WayLine
+    way = record {
+      line = suc (length passed); place = place; index = way_index place before
+    }
+    own : (place == place) ≡ true
+    own = grind (arith)
+    among : goings_of place (earlier ++ row ∷ rest)
+        ≡ goings_of place earlier ++ going ∷ goings_of place rest
+    among = goings_append place earlier (row ∷ rest)
+        ∙ rw own refl
+    stands : StandsAmong (passed ++ line ∷ later) (earlier ++ row ∷ rest) way
+    stands = record {
+      before = length passed;
+      counted = omega arith;
+      line = line;
+      there = at_end passed line later;
+      going = going;
+      is_row = is;
+      is_way = subst (λ i. slice_get (goings_of place (earlier ++ row ∷ rest)) i ≡ Some going)
+          (sym (alike place))
+          (subst (λ ways. slice_get ways (length (goings_of place earlier)) ≡ Some going)
+          (sym among) (at_end (goings_of place earlier) going (goings_of place rest)));
+    }
+
+-- after the end no line has a row
+none_after_end : (number : ℕ) (ls : List (List ℕ)) → marked_rows number After ls ≡ []
+unfolding position_after_line
+none_after_end number [] = refl
+none_after_end number (line ∷ ls) = by (is_all_blank line) refl
+  where
+    by : (b : Bool) → is_all_blank line ≡ b → marked_rows number After (line ∷ ls) ≡ []
+    by true blank = rw blank (none_after_end (suc number) ls)
+    by false some = rw some (none_after_end (suc number) ls)
+
+-- ---- lines that have rows
+
+ways_stand : {position : Position} {ls : List (List ℕ)} {rows : List Entry}
+    → HasRows position ls rows → (passed : List (List ℕ)) (earlier : List Entry)
+    → Stand passed earlier position ls rows
+unfolding position_after_line
+ways_stand (blank_line {position = position} {line = line} {lines = later} {rows = rows} blank has)
+    passed earlier =
+    unmarked passed earlier position position line later rows (rw blank refl) (rw blank refl)
+    (ways_stand has (passed ++ line ∷ []) earlier)
+ways_stand (section_opens {s = s} {line = line} {lines = later} {rows = rows} is has) passed
+    earlier =
+    let some = nonblank_line (Natural (section_number s)) line is in
+    let opens = heading-section s line is in
+    unmarked passed earlier Outside (Inside s) line later rows (rw some refl)
+    (rw (some, opens) refl) (ways_stand has (passed ++ line ∷ []) earlier)
+ways_stand (section_ends {s = s} {line = line} {lines = later} {rows = rows} is has) passed
+    earlier =
+    let some = nonblank_line (Negative 1) line is in
+    let closed = closes-minus_one line is in
+    unmarked passed earlier (Inside s) Outside line later rows (rw (some, closed) refl)
+    (rw (some, closed) refl) (ways_stand has (passed ++ line ∷ []) earlier)
+ways_stand (database_ends {line = line} {lines = later} is) passed earlier =
+    let some = nonblank_line (Natural 0) line is in
+    let ends = heading-end line is in
+    unmarked passed earlier Outside After line later [] (rw some refl) (rw (some, ends) refl)
+    (λ before alike.
+    rw (none_after_end (suc (length (passed ++ line ∷ []))) later)
+    (All-nil (StandsAmong ((passed ++ line ∷ []) ++ later) (earlier ++ []))))
+ways_stand
+    (row_line {line = line} {lines = later} {rows = rest}
+    (in_3 {place = place} {going = going} is few) has) passed earlier =
+    way_row_stands passed earlier line place going later rest (in_3 is few)
+    (ways_stand has (passed ++ line ∷ []) (earlier ++ Way place going ∷ []))
+ways_stand (row_line {s = s} {line = line} {row = row} {lines = later} {rows = rest} is has)
+    passed earlier =
+    other_row passed earlier s line row later rest is refl
+    (ways_stand has (passed ++ line ∷ []) (earlier ++ row ∷ []))
+
+pub ways_stand_on_their_lines : WaysStandOnTheirLines
+unfolding way_lines
+ways_stand_on_their_lines database bindings c reads =
+    All-weaker (StandsAmong (lines database) rows) (StandsOn (lines database) c) in_cave
+    (way_lines database) (ways_stand reads.right.is_database.has_rows [] [] [] (λ place. refl))
+  where
+    rows : List Entry
+    rows = reads.right.is_database.rows
+    same : (place : ℕ) → ways_from c place ≡ goings_of place rows
+    same place =
+        ap (λ o. unwrap_or o []) (reads.described.holds.travel place)
+        ∙ ways_of_cave (goings_of place rows)
+    in_cave : (way : WayLine) → StandsAmong (lines database) rows way
+        → StandsOn (lines database) c way
+    in_cave way stands = record {
+      before = stands.before;
+      counted = stands.counted;
+      line = stands.line;
+      there = stands.there;
+      going = stands.going;
+      is_row = stands.is_row;
+      is_way = subst (λ ways. slice_get ways way.index ≡ Some stands.going)
+          (sym (same way.place)) stands.is_way;
+    }
