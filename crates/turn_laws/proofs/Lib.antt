@@ -17,3 +17,4 @@ pub mod Reaching
 pub mod OneList
 pub mod Missing
 pub mod WordLines
+pub mod LineLemmas

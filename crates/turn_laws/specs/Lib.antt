@@ -6,3 +6,4 @@ pub mod Reachable
 pub mod OneList
 pub mod Missing
 pub mod Unmet
+pub mod LineLaws

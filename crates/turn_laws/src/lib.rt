@@ -4,6 +4,7 @@
 pub mod carrying;
 pub mod courses;
 pub mod dwarf_laws;
+pub mod line_laws;
 pub mod list_laws;
 pub mod object_laws;
 pub mod reachable;
