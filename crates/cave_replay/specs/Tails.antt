@@ -1,5 +1,5 @@
--- What is played from equal states.
-use Rattle.std.specs.Prelude.{◌≡◌, ℕ, List}
+-- What is played from equal states, and by lines with more lines after them.
+use Rattle.std.specs.Prelude.{◌≡◌, ◌++◌, ℕ, List}
 use Rattle.replay_edits.specs.Edit.{Game}
 use Rattle.cave_replay.specs.Agreement.{AgreesAt, state_at, image}
 use Rattle.cave_replay.specs.Play.{MachineRules, state_after, texts_of, ticks_of}
@@ -16,3 +16,15 @@ AgreedTails S T =
     (rules : MachineRules S T) (old new : Game) (tail place : ℕ)
     → AgreesAt rules old new tail place
     → HaveEqualTails rules (state_at rules new (image old new place)) (state_at rules old place)
+
+-- lines are played alike, whatever lines come after them: those go on from the state that these lead
+-- to
+abbrev pub PrefixesPlayAlike : Type 0 → Type 0 → Type 0
+PrefixesPlayAlike S T =
+    (rules : MachineRules S T) (state : S) (lines more : List (List ℕ))
+    → (state_after rules state (lines ++ more)
+    ≡ state_after rules (state_after rules state lines) more)
+    × (texts_of rules state (lines ++ more)
+    ≡ texts_of rules state lines ++ texts_of rules (state_after rules state lines) more)
+    × (ticks_of rules state (lines ++ more)
+    ≡ ticks_of rules state lines ++ ticks_of rules (state_after rules state lines) more)

@@ -3,7 +3,7 @@
 ghost use Rattle.std.specs.Prelude.{◌≡◌, ◌↔◌, IsTrue};
 ghost use Rattle.cave_replay.specs.Agreement.{BoundedByFirst};
 ghost use Rattle.cave_replay.specs.Table.{ByTable};
-ghost use Rattle.cave_replay.specs.Tails.{AgreedTails, HaveEqualTails};
+ghost use Rattle.cave_replay.specs.Tails.{AgreedTails, HaveEqualTails, PrefixesPlayAlike};
 
 use crate::machine::Machine;
 
@@ -38,4 +38,9 @@ pub fn equal_states_have_equal_tails<M: Machine>(
 /// each.
 pub fn agreed_tails<S, T>()
     ensures { AgreedTails S T }
+{}
+
+/// Lines are played alike, whatever lines come after them, and those go on from where these lead.
+pub fn prefixes_play_alike<S, T>()
+    ensures { PrefixesPlayAlike S T }
 {}

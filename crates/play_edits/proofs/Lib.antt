@@ -10,3 +10,4 @@ pub mod TableLemmas
 pub mod EndBytes
 pub mod EndedLines
 pub mod AlikeEnds
+mod TurnLemmas

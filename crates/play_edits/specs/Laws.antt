@@ -1,10 +1,10 @@
--- A law of what guards do to an item.
-use Rattle.std.specs.Prelude.{◌≡◌, List, ℕ, [], None, Some, take, slice_get}
+-- Laws of items: what guards do to one, and what scripts do in turn.
+use Rattle.std.specs.Prelude.{◌≡◌, ◌++◌, List, ℕ, [], None, Some, take, slice_get}
 use Rattle.std.specs.List.{AllByRecursion}
 use Rattle.replay_scripts.specs.Script.{Applied, Expectation, guarded_by}
 use Rattle.replay_edits.specs.Edit.{Change, Game}
 use Rattle.replay_edits.specs.Faults.{fault_of_all, log_after_all}
-use Rattle.play_edits.specs.Items.{game_after_item}
+use Rattle.play_edits.specs.Items.{game_after_item, game_after_items, reports}
 
 -- A log meets a guard among changes: where none of those before it is refused, the log that they
 -- leave has the guard's text at its place.
@@ -22,3 +22,13 @@ GuardsRefuseAlone =
     → game_after_item item game ≡ game_after_item (guarded_by [] item) game)
     × (¬ AllByRecursion (IsMet item.changes game.log) item.guards
     → game_after_item item game ≡ game)
+
+-- the items of one script and then of another do what the one does, and then the other, and each is
+-- reported so
+abbrev pub ScriptsRunInTurn : Type 0
+ScriptsRunInTurn =
+    (first second : List Applied) (game : Game)
+    → (game_after_items (first ++ second) game
+    ≡ game_after_items second (game_after_items first game))
+    × (reports (first ++ second) game
+    ≡ reports first game ++ reports second (game_after_items first game))

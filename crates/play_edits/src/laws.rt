@@ -1,8 +1,13 @@
-//! A law of items. It is the contract of a function that does nothing.
+//! Laws of items. Each is the contract of a function that does nothing.
 
-ghost use Rattle.play_edits.specs.Laws.{GuardsRefuseAlone};
+ghost use Rattle.play_edits.specs.Laws.{GuardsRefuseAlone, ScriptsRunInTurn};
 
-/// Guards can but refuse: where they are met, an item does what it does without them.
+/// Guards can only refuse: if they are met, an item does what it does without them.
 pub fn guards_refuse_alone()
     ensures { GuardsRefuseAlone }
+{}
+
+/// A script and then another one, as one script, do what the one does and then the other.
+pub fn scripts_run_in_turn()
+    ensures { ScriptsRunInTurn }
 {}
