@@ -1,19 +1,18 @@
 -- Each way that is listed stands on its line.
 use Rattle.std.proofs.Common.{◌≡◌, ◌∙◌, ◌+◌, ◌++◌, ◌∷◌, ℕ, suc, Bool, true, false, List, []}
 use Rattle.std.proofs.Common.{Option, Some, None, length, map, refl, sym, ap, subst, arith}
-use Rattle.std.specs.Prelude.{◌==◌, if◌then◌else◌, filter, is_some, slice_get, unwrap_or, IsTrue}
+use Rattle.std.specs.Prelude.{◌==◌, if◌then◌else◌, filter, is_some, slice_get, unwrap_or}
 use Rattle.std.specs.List.{All, filter_map}
 use Rattle.std.specs.Str.Lines.{lines}
-use Rattle.std.proofs.lemmas.Bool.{true≢false, false≢true}
+use Rattle.std.proofs.lemmas.Bool.{true≢false}
 use Rattle.std.proofs.lemmas.List.{append_assoc, length-append, map-append}
 use Rattle.std.proofs.lemmas.List.Elements.{All-nil, All-cons, All-weaker}
 use Rattle.std.proofs.lemmas.List.Elements.{filter-append, filter_map-append}
 use Rattle.base_lines.specs.Bytes.{is_all_blank}
-use Rattle.cave_data.specs.CaveView.{CaveView, ways_from}
-use Rattle.cave_data.specs.Reads.{Reads}
+use Rattle.cave_data.specs.CaveView.{ways_from}
 use Rattle.cave_data.specs.Texts.{names_object, nonempty}
 use Rattle.data_rows.specs.DatabaseGrammar.{HasRows, blank_line, database_ends, row_line}
-use Rattle.data_rows.specs.DatabaseGrammar.{IsLineOfNumber, section_ends, section_number}
+use Rattle.data_rows.specs.DatabaseGrammar.{section_ends, section_number}
 use Rattle.data_rows.specs.DatabaseGrammar.{section_opens}
 use Rattle.data_rows.specs.Grammar.{position_after_line}
 use Rattle.data_rows.specs.RowGrammar.{IsRow, in_3}
@@ -28,6 +27,7 @@ use Rattle.data_rows.proofs.LineLemmas.{begins-row, closes-minus_one, closes-nat
 use Rattle.data_rows.proofs.LineLemmas.{heading-section, nonblank_line}
 use Rattle.data_rows.proofs.RowLemmas.{entry-read}
 use Rattle.data_bindings.specs.Marks.{is_way_from, leads_from, mark_at, mark_of, marked_rows}
+use Rattle.data_bindings.specs.Marks.{with_marked_row}
 use Rattle.data_bindings.specs.WayLaws.{StandsOn, WaysStandOnTheirLines}
 use Rattle.data_bindings.specs.WayLines.{way_index, way_line, way_lines, way_lines_from}
 use Rattle.data_bindings.specs.declared.by_line.WayLine.{WayLine}
@@ -44,8 +44,10 @@ goings_of place rows = map (λ way. way.1) (filter (λ way. way.0 == place) (fil
 goings_append : (place : ℕ) (xs ys : List Entry)
     → goings_of place (xs ++ ys) ≡ goings_of place xs ++ goings_of place ys
 goings_append place xs ys =
-    rw (filter_map-append way_of xs ys,
-    filter-append (λ way. way.0 == place) (filter_map way_of xs) (filter_map way_of ys))
+    rw (
+      filter_map-append way_of xs ys,
+      filter-append (λ way. way.0 == place) (filter_map way_of xs) (filter_map way_of ys),
+    )
     (map-append (λ way. way.1) (filter (λ way. way.0 == place) (filter_map way_of xs))
     (filter (λ way. way.0 == place) (filter_map way_of ys)))
 
@@ -90,6 +92,7 @@ way_alike before rows line place going alike other = by_test (place == other) re
   where
     row : MarkedRow
     row = record { line = line; mark = mark.Way place }
+
     by_test : (b : Bool) → (place == other) ≡ b
         → way_index other (before ++ row ∷ [])
         ≡ length (goings_of other (rows ++ Way place going ∷ []))
@@ -121,12 +124,12 @@ marked_as_no_way other none = tt
 
 no_line : (m : RowMark) (before : List MarkedRow) (number : ℕ) → IsNoWay (Some m)
     → way_line before number m ≡ []
-no_line (mark.Way place) before number no = absurd no
-no_line other before number no = refl
+no_line (mark.Way place) before number plain = absurd plain
+no_line other before number plain = refl
 
 leads_nowhere : (m : RowMark) (place : ℕ) → IsNoWay (Some m) → leads_from place m ≡ false
-leads_nowhere (mark.Way other) place no = absurd no
-leads_nowhere other place no = refl
+leads_nowhere (mark.Way other) place plain = absurd plain
+leads_nowhere other place plain = refl
 
 no_goings : (row : Entry) (place : ℕ) → is_some (way_of row) ≡ false
     → length (goings_of place (row ∷ [])) ≡ 0
@@ -164,12 +167,20 @@ one_passed : (passed : List (List ℕ)) (line : List ℕ) (later : List (List �
     (way_lines_from before (marked_rows (suc (suc (length passed))) position later))
 one_passed passed line later rows position before stand =
     let counted : length (passed ++ line ∷ []) ≡ suc (length passed) =
-        length-append passed (line ∷ []) ∙ omega arith in
+    length-append passed (line ∷ []) ∙ omega arith in
     subst (λ n. All (StandsAmong (passed ++ line ∷ later) rows)
     (way_lines_from before (marked_rows (suc n) position later))) counted
     (subst (λ ls. All (StandsAmong ls rows)
     (way_lines_from before (marked_rows (suc (length (passed ++ line ∷ []))) position later)))
     (append_assoc passed (line ∷ []) later) stand)
+
+-- the marks of a line and of those after it
+marks_then : (position next : Position) (line : List ℕ) (later : List (List ℕ)) (number : ℕ)
+    (marked : Option RowMark) → mark_at position line ≡ marked
+    → position_after_line position line ≡ next
+    → with_marked_row number marked (marked_rows (suc number) next later)
+    ≡ marked_rows number position (line ∷ later)
+marks_then position next line later number marked is leads = rw (is, leads) refl
 
 -- a line that has no row
 unmarked : (passed : List (List ℕ)) (earlier : List Entry) (position next : Position)
@@ -178,7 +189,9 @@ unmarked : (passed : List (List ℕ)) (earlier : List Entry) (position next : Po
     → Stand (passed ++ line ∷ []) earlier next later rows
     → Stand passed earlier position (line ∷ later) rows
 unmarked passed earlier position next line later rows none leads stand before alike =
-    rw (none, leads)
+    subst (λ marks. All (StandsAmong (passed ++ line ∷ later) (earlier ++ rows))
+    (way_lines_from before marks))
+    (marks_then position next line later (suc (length passed)) None none leads)
     (one_passed passed line later (earlier ++ rows) next before (stand before alike))
 
 -- a row is what the reading of its line marks, and its section goes on
@@ -211,6 +224,7 @@ other_row passed earlier s line row later rest is none stand before alike =
   where
     leads : position_after_line (Inside s) line ≡ Inside s
     leads = row_leads s line row is
+
     later_stand : (marks : List MarkedRow) → Alike marks (earlier ++ row ∷ [])
         → All (StandsAmong (passed ++ line ∷ later) (earlier ++ row ∷ rest))
         (way_lines_from marks (marked_rows (suc (suc (length passed))) (Inside s) later))
@@ -220,22 +234,34 @@ other_row passed earlier s line row later rest is none stand before alike =
         (way_lines_from marks
         (marked_rows (suc (length (passed ++ line ∷ []))) (Inside s) later)))
         (append_assoc earlier (row ∷ []) rest) (stand marks counted))
+
     same_goings : (place : ℕ)
         → length (goings_of place (earlier ++ row ∷ [])) ≡ length (goings_of place earlier)
     same_goings place = more_goings place earlier row 0 (no_goings row place none) ∙ omega arith
+
     by_mark : (m : Option RowMark) → mark_of row ≡ m → IsNoWay m
         → All (StandsAmong (passed ++ line ∷ later) (earlier ++ row ∷ rest))
         (way_lines_from before
         (marked_rows (suc (length passed)) (Inside s) (line ∷ later)))
-    by_mark None has no =
-        rw (row_marked s line row is ∙ has, leads)
+    by_mark None has plain =
+        subst (λ marks. All (StandsAmong (passed ++ line ∷ later) (earlier ++ row ∷ rest))
+        (way_lines_from before marks))
+        (marks_then (Inside s) (Inside s) line later (suc (length passed)) None
+        (row_marked s line row is ∙ has) leads)
         (later_stand before (λ place. alike place ∙ sym (same_goings place)))
-    by_mark (Some m) has no =
+    by_mark (Some m) has plain =
         let marked : MarkedRow = record { line = suc (length passed); mark = m } in
-        rw (row_marked s line row is ∙ has, leads, no_line m before (suc (length passed)) no)
+        subst (λ marks. All (StandsAmong (passed ++ line ∷ later) (earlier ++ row ∷ rest))
+        (way_lines_from before marks))
+        (marks_then (Inside s) (Inside s) line later (suc (length passed)) (Some m)
+        (row_marked s line row is ∙ has) leads)
+        (subst (λ ways. All (StandsAmong (passed ++ line ∷ later) (earlier ++ row ∷ rest))
+        (ways ++ way_lines_from (before ++ marked ∷ [])
+        (marked_rows (suc (suc (length passed))) (Inside s) later)))
+        (sym (no_line m before (suc (length passed)) plain))
         (later_stand (before ++ marked ∷ [])
-        (λ place. more_ways place before marked 0 (rw (leads_nowhere m place no) refl)
-        ∙ omega arith ∙ alike place ∙ sym (same_goings place)))
+        (λ place. more_ways place before marked 0 (rw (leads_nowhere m place plain) refl)
+        ∙ omega arith ∙ alike place ∙ sym (same_goings place))))
 
 -- a way
 way_row_stands : (passed : List (List ℕ)) (earlier : List Entry) (line : List ℕ) (place : ℕ)
@@ -245,7 +271,11 @@ way_row_stands : (passed : List (List ℕ)) (earlier : List Entry) (line : List 
     rest
     → Stand passed earlier (Inside section.Travel) (line ∷ later) (Way place going ∷ rest)
 way_row_stands passed earlier line place going later rest is stand before alike =
-    rw (row_marked section.Travel line row is, row_leads section.Travel line row is)
+    subst (λ marks. All (StandsAmong (passed ++ line ∷ later) (earlier ++ row ∷ rest))
+    (way_lines_from before marks))
+    (marks_then (Inside section.Travel) (Inside section.Travel) line later (suc (length passed))
+    (Some (mark.Way place)) (row_marked section.Travel line row is)
+    (row_leads section.Travel line row is))
     (All-cons (StandsAmong (passed ++ line ∷ later) (earlier ++ row ∷ rest)) way
     (way_lines_from (before ++ marked ∷ [])
     (marked_rows (suc (suc (length passed))) (Inside section.Travel) later)) stands
@@ -260,18 +290,25 @@ way_row_stands passed earlier line place going later rest is stand before alike 
   where
     row : Entry
     row = Way place going
+
     marked : MarkedRow
     marked = record { line = suc (length passed); mark = mark.Way place }
+
     way : WayLine
     way = record {
-      line = suc (length passed); place = place; index = way_index place before
+      line = suc (length passed);
+      place = place;
+      index = way_index place before;
     }
+
     own : (place == place) ≡ true
     own = grind (arith)
+
     among : goings_of place (earlier ++ row ∷ rest)
         ≡ goings_of place earlier ++ going ∷ goings_of place rest
     among = goings_append place earlier (row ∷ rest)
         ∙ rw own refl
+
     stands : StandsAmong (passed ++ line ∷ later) (earlier ++ row ∷ rest) way
     stands = record {
       before = length passed;
@@ -287,14 +324,17 @@ way_row_stands passed earlier line place going later rest is stand before alike 
     }
 
 -- after the end no line has a row
-none_after_end : (number : ℕ) (ls : List (List ℕ)) → marked_rows number After ls ≡ []
+none_after_line : (number : ℕ) (line : List ℕ) (ls : List (List ℕ)) (blank : Bool)
+    → is_all_blank line ≡ blank → marked_rows (suc number) After ls ≡ []
+    → marked_rows number After (line ∷ ls) ≡ []
 unfolding position_after_line
+none_after_line number line ls true blank later = rw blank later
+none_after_line number line ls false some later = rw some later
+
+none_after_end : (number : ℕ) (ls : List (List ℕ)) → marked_rows number After ls ≡ []
 none_after_end number [] = refl
-none_after_end number (line ∷ ls) = by (is_all_blank line) refl
-  where
-    by : (b : Bool) → is_all_blank line ≡ b → marked_rows number After (line ∷ ls) ≡ []
-    by true blank = rw blank (none_after_end (suc number) ls)
-    by false some = rw some (none_after_end (suc number) ls)
+none_after_end number (line ∷ ls) =
+    none_after_line number line ls (is_all_blank line) refl (none_after_end (suc number) ls)
 
 -- ---- lines that have rows
 
@@ -343,10 +383,12 @@ ways_stand_on_their_lines database bindings c reads =
   where
     rows : List Entry
     rows = reads.right.is_database.rows
+
     same : (place : ℕ) → ways_from c place ≡ goings_of place rows
     same place =
         ap (λ o. unwrap_or o []) (reads.described.holds.travel place)
         ∙ ways_of_cave (goings_of place rows)
+
     in_cave : (way : WayLine) → StandsAmong (lines database) rows way
         → StandsOn (lines database) c way
     in_cave way stands = record {
