@@ -1,9 +1,9 @@
 -- What a line makes of a state depends on its kind and on its words.
 use Rattle.base_lines.proofs.LogLines.{log_line-only}
 use Rattle.std.proofs.Common.{◌≡◌, ◌∙◌, ◌∷◌, ℕ, List, [], Option, Some, None, ap, refl, sym, inl, inr}
-use Rattle.std.specs.Prelude.{◌%◌, ◌||◌, ◌⊎◌, Bool, true, false, if◌then◌else◌, not, option_map}
+use Rattle.std.specs.Prelude.{◌%◌, ◌||◌, ◌⊎◌, true, false, if◌then◌else◌, not, option_map}
 use Rattle.std.specs.Prelude.{unwrap_or}
-use Rattle.base_lines.specs.LogLine.{IsLogLine, log_line}
+use Rattle.base_lines.specs.LogLine.{IsLogLine}
 use Rattle.base_lines.specs.declared.log_line.LogLine.TheVariants as kind
 use Rattle.data_rows.specs.declared.role.Role.TheVariants as role
 use Rattle.cave_data.specs.CaveView.{CaveView}

@@ -15,7 +15,6 @@ use Rattle.turn_scene.specs.Scene.{after_look_at}
 use Rattle.turn_scene.specs.Places.{building_place}
 use Rattle.cave_verbs.specs.declared.next.Next.{Next}
 use Rattle.cave_verbs.specs.declared.verb.Verb.{Verb}
-use Rattle.cave_words.specs.Stream.{next}
 use Rattle.cave_turn.specs.Commands.{Done, after_clocks, after_unknown_word, after_travel}
 use Rattle.cave_turn.specs.Commands.{begin_command}
 use Rattle.cave_turn.specs.Commands.{after_timed_words, after_command, done, do_action}

@@ -17,7 +17,6 @@ pub fn equal_words_play_alike()
 {}
 
 /// Two seeds that leave the same remainder begin the same game, and do the same in a seed line.
-#[tactic(auto, using(crate::proofs::LineLemmas::equal_seeds_play_alike))]
 pub fn equal_seeds_play_alike()
     ensures { EqualSeedsPlayAlike }
 {}
