@@ -38,6 +38,8 @@ ticks_go_on rules state (line ∷ lines) more =
     (ticks_go_on rules (rules.after state line) lines more)
 
 pub prefixes_play_alike : {S T : Type 0} → PrefixesPlayAlike S T
-prefixes_play_alike rules state lines more =
-    (states_go_on rules state lines more, texts_go_on rules state lines more,
-    ticks_go_on rules state lines more)
+prefixes_play_alike rules state lines more = (
+  states_go_on rules state lines more,
+  texts_go_on rules state lines more,
+  ticks_go_on rules state lines more,
+)

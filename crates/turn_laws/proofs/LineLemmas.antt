@@ -78,6 +78,7 @@ pub equal_seeds_play_alike : (cave : CaveView) (s : State) (a b : ℕ)
     → a % 1048576 ≡ b % 1048576
     → (start_of_game cave a ≡ start_of_game cave b) × (with_seed s a ≡ with_seed s b)
 unfolding start_of_game
-equal_seeds_play_alike cave s a b same =
-    (ap (λ x. record { state = begun_state cave x; parts = part.Role role.Welcome ∷ [] }) same,
-    ap (λ x. record s { stream = x }) same)
+equal_seeds_play_alike cave s a b same = (
+  ap (λ x. record { state = begun_state cave x; parts = part.Role role.Welcome ∷ [] }) same,
+  ap (λ x. record s { stream = x }) same,
+)
