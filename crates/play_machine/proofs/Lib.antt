@@ -2,3 +2,4 @@ mod FinalStateLemmas
 mod Shown
 mod TranscriptLemmas
 mod WatchLemmas
+mod Visits

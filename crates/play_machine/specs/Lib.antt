@@ -2,6 +2,7 @@ pub mod FinalState
 pub mod HeldGame
 pub mod Machine
 pub mod Moments
+pub mod Packed
 pub mod Piece
 pub mod PieceParts
 pub mod Score

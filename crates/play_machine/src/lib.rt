@@ -5,10 +5,12 @@
 pub mod course;
 pub mod final_state;
 pub mod machine;
+pub mod packed_state;
 pub mod piece;
 pub mod score;
 pub mod steps;
 pub mod transcript;
+mod visited;
 pub mod walk;
 pub mod watch;
 

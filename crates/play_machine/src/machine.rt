@@ -7,6 +7,7 @@ ghost use Rattle.turn_scene.specs.Scene.{cave_of};
 ghost use Rattle.turn_ends.specs.Score.{score_of, max_score_of};
 ghost use Rattle.play_machine.specs.Machine.{cave_rules};
 
+use crate::packed_state::PackedState;
 use crate::piece::Piece;
 use base_lines::Meter;
 use cave_data::Cave;
@@ -18,7 +19,6 @@ use std::alloc::{AllocError, Global};
 use turn_ends::max_score;
 use turn_ends::scores::score;
 use turn_scene::Rules;
-use world_packed::PackedState;
 
 /// What plays a log in a cave, with the words of that cave.
 #[derive(Clone, Copy)]

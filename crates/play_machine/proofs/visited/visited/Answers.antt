@@ -1,6 +1,6 @@
 use Rattle.std.proofs.Common.{rules, arith}
-use Rattle.world_packed.proofs.Visits.{without_block}
-use Rattle.world_packed.proofs.visited.visited.Goals as goal
+use Rattle.play_machine.proofs.Visits.{without_block}
+use Rattle.play_machine.proofs.visited.visited.Goals as goal
 
 pub blocks-2-preserved : goal.blocks-2-preserved
 blocks-2-preserved c =

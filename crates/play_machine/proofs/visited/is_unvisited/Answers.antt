@@ -1,7 +1,7 @@
 use Rattle.std.specs.Cmp.{unsigned_Decides}
 use Rattle.std.specs.Cmp.Lexicographic.{pointwise_decides}
-use Rattle.world_packed.specs.Packed.{unvisited_block}
-use Rattle.world_packed.proofs.visited.is_unvisited.Goals as goal
+use Rattle.play_machine.specs.Packed.{unvisited_block}
+use Rattle.play_machine.proofs.visited.is_unvisited.Goals as goal
 
 pub returns : goal.returns
 returns c =

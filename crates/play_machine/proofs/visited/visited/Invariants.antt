@@ -1,6 +1,6 @@
 use Rattle.std.proofs.Common.{◌≤◌, length}
-use Rattle.world_packed.specs.Packed.{IsUnvisitedAfter}
-use Rattle.world_packed.proofs.visited.visited.Given as goal
+use Rattle.play_machine.specs.Packed.{IsUnvisitedAfter}
+use Rattle.play_machine.proofs.visited.visited.Given as goal
 
 abbrev pub invariant-blocks-2 : goal.invariant-blocks-2
 invariant-blocks-2 l = IsUnvisitedAfter l.visits l.first × (length l.first ≤ length l.visits)

@@ -1,7 +1,7 @@
 use Rattle.std.proofs.Common.{ap, ◌∙◌, ◌++◌, drop, length}
 use Rattle.std.specs.Prelude.{replicate}
 use Rattle.std.proofs.lemmas.List.{drop-replicate}
-use Rattle.world_packed.proofs.visited.all_visits.Goals as goal
+use Rattle.play_machine.proofs.visited.all_visits.Goals as goal
 
 pub returns : goal.returns
 returns c =

@@ -2,7 +2,7 @@
 use Rattle.std.specs.Prelude.{◌≡◌, ℕ, ◌-◌, List, ◌++◌, length, replicate}
 use Rattle.base_lines.specs.Numbers.{LAST_PLACE}
 use Rattle.cave_world.specs.declared.state.State.{State}
-use Rattle.world_packed.specs.declared.packed_state.Fields.{Fields}
+use Rattle.play_machine.specs.declared.packed_state.Fields.{Fields}
 
 -- the visits of so many places, of which those after the first ones were never described
 abbrev pub visits_from : List ℕ → ℕ → List ℕ
