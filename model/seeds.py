@@ -4,7 +4,7 @@ from itertools import chain
 
 
 def seed_before(x, draws):
-    """A seed from which the stream comes to x after so many draws."""
+    """A seed from which the stream comes to x after this many draws."""
     inverse = pow(1093, -1, 1 << 20)
     for _ in range(draws):
         x = (x - 221_587) * inverse % (1 << 20)

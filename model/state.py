@@ -217,7 +217,7 @@ class Game:
             self.say(ASKED_BY_ROLE.get(question) or f"die{self.deaths + 1}")
 
     def light(self, turns):
-        """The lamp burns so many turns more."""
+        """The lamp burns this many turns more."""
         self.lamp = min(self.lamp + turns, 100_000)
 
     def panic(self):

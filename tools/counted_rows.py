@@ -118,7 +118,7 @@ def files(tables, texts):
 
 
 def is_unfoldable(name, texts):
-    """Whether a definition unfolds only where a proof says so."""
+    """Whether a definition unfolds only if a proof says so."""
     if name in OWN:
         return True
     return any(f"\nunfoldable pub {name} :" in text for text in texts.values())

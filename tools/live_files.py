@@ -128,7 +128,7 @@ def largest(window: Window, program: str) -> Checks:
 
 
 def quick(window: Window, program: str, count: int, most: float) -> Checks:
-    """How many milliseconds pass from a key to what it leads to, in a log of so many lines."""
+    """How many milliseconds pass from a key to what it leads to, in a log of this many lines."""
     lines = ["no", *(MOVES[at % 7] if at % 3 else f"word{at}" for at in range(1, count))]
     log = "".join(f"{it}\n" for it in lines).encode()
     with Served(program, [*SHOAL], log=log, name=f"{count}.log") as server:

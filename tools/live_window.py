@@ -109,7 +109,7 @@ class Window:
     # ---- what is done
 
     def press(self, *keys: str) -> None:
-        """Presses keys, one after another, and waits for what comes of them."""
+        """Presses keys, one after another, and waits for what they lead to."""
         ActionChains(self.driver).send_keys(*keys).perform()
         self.settle()
 

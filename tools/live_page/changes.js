@@ -6,7 +6,7 @@ function noteChange(head) {
   if (head.kind === "change") changes.list = [...changes.list.slice(0, head.done - 1), head.last];
 }
 
-// Takes changes back, or makes them again, until so many are made as a call says.
+// Takes changes back, or makes them again, until as many are made as a call says.
 async function goToChange(countOf) {
   const head = await askForChange("go", () => ({ count: Math.max(countOf(), 0) }));
   if (isWrong(head) && head.kind !== "nothing") sayWrong(wrongOf(head));

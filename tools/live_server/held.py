@@ -90,7 +90,7 @@ class Log:
         return self.put(played, "change")
 
     def go_to(self, count: int) -> Event:
-        """Takes changes back, or makes them again, until so many of them are made."""
+        """Takes changes back, or makes them again, until this many of them are made."""
         changes = [*self.done, *reversed(self.undone)]
         if not 0 <= count <= len(changes) or count == len(self.done):
             raise Nothing

@@ -93,7 +93,7 @@ class Game:
 
 
 def every_of(count: int) -> int:
-    """The most lines between two checkpoints, in a log of so many."""
+    """The most lines between two checkpoints, in a log of this many."""
     return min(1 + count // CHECKPOINTS, MOST_EVERY)
 
 

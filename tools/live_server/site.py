@@ -91,7 +91,7 @@ class Site:
     # ---- what changes something
 
     def post(self, name: str, said: dict[str, object]) -> Answer | None:
-        """What comes of what a page sends; None if there is no such thing."""
+        """What a page's request leads to; None if there is no such thing."""
         done = {"change": self.change, "go": self.go, "save": self.save, "end": self.end}.get(name)
         if not done:
             return None
