@@ -6,7 +6,7 @@ use Rattle.std.proofs.Common.{ap}
 use Rattle.ledger.specs.declared.account.Account.{Account}
 use Rattle.ledger.specs.contracts.account.AccountPartialEq.TheImpl as account_eq
 
--- `==` holds of two accounts exactly where balance and mark are equal
+-- `==` holds of two accounts exactly if balance and mark are equal
 pub same_accounts : (a b : Account) → IsTrue (account_eq.eq-value.it a b) ↔ (a ≡ b)
 same_accounts a b =
     Decides-like _ (λ h i. record { balance = h.0 i; refused = h.1 i })
