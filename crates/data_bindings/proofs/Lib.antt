@@ -4,4 +4,5 @@ mod FirstFaults
 mod KeyLemmas
 mod WayCounts
 mod WayLines
+mod WaysOfRows
 mod WaysOnLines

@@ -1,22 +1,19 @@
 -- Each way that is listed stands on its line.
-use Rattle.std.proofs.Common.{◌≡◌, ◌∙◌, ◌+◌, ◌++◌, ◌∷◌, ℕ, suc, Bool, true, false, List, []}
-use Rattle.std.proofs.Common.{Option, Some, None, length, map, refl, sym, ap, subst, arith}
-use Rattle.std.specs.Prelude.{◌==◌, if◌then◌else◌, filter, is_some, slice_get, unwrap_or}
-use Rattle.std.specs.List.{All, filter_map}
+use Rattle.std.proofs.Common.{◌≡◌, ◌∙◌, ◌++◌, ◌∷◌, ℕ, suc, Bool, true, false, List, []}
+use Rattle.std.proofs.Common.{Option, Some, None, length, refl, sym, ap, subst, arith}
+use Rattle.std.specs.Prelude.{◌==◌, is_some, slice_get, unwrap_or}
+use Rattle.std.specs.List.{All}
 use Rattle.std.specs.Str.Lines.{lines}
-use Rattle.std.proofs.lemmas.Bool.{true≢false}
-use Rattle.std.proofs.lemmas.List.{append_assoc, length-append, map-append}
+use Rattle.std.proofs.lemmas.List.{append_assoc, length-append}
 use Rattle.std.proofs.lemmas.List.Elements.{All-nil, All-cons, All-weaker}
-use Rattle.std.proofs.lemmas.List.Elements.{filter-append, filter_map-append}
 use Rattle.base_lines.specs.Bytes.{is_all_blank}
 use Rattle.cave_data.specs.CaveView.{ways_from}
-use Rattle.cave_data.specs.Texts.{names_object, nonempty}
 use Rattle.data_rows.specs.DatabaseGrammar.{HasRows, blank_line, database_ends, row_line}
 use Rattle.data_rows.specs.DatabaseGrammar.{section_ends, section_number}
 use Rattle.data_rows.specs.DatabaseGrammar.{section_opens}
 use Rattle.data_rows.specs.Grammar.{position_after_line}
 use Rattle.data_rows.specs.RowGrammar.{IsRow, in_3}
-use Rattle.data_rows.specs.Rows.{Entry, Going, TextLine, Way, ObjectLine}
+use Rattle.data_rows.specs.Rows.{Entry, Going, Way}
 use Rattle.data_rows.specs.SectionRows.{way_of}
 use Rattle.data_rows.specs.declared.error.Section.{Section}
 use Rattle.data_rows.specs.declared.error.Section.TheVariants as section
@@ -26,131 +23,22 @@ use Rattle.data_rows.specs.declared.position.Position.TheVariants.{Outside, Insi
 use Rattle.data_rows.proofs.LineLemmas.{begins-row, closes-minus_one, closes-natural, heading-end}
 use Rattle.data_rows.proofs.LineLemmas.{heading-section, nonblank_line}
 use Rattle.data_rows.proofs.RowLemmas.{entry-read}
-use Rattle.data_bindings.specs.Marks.{is_way_from, leads_from, mark_at, mark_of, marked_rows}
+use Rattle.data_bindings.specs.Marks.{mark_at, mark_of, marked_rows}
 use Rattle.data_bindings.specs.Marks.{with_marked_row}
 use Rattle.data_bindings.specs.WayLaws.{StandsOn, WaysStandOnTheirLines}
-use Rattle.data_bindings.specs.WayLines.{way_index, way_line, way_lines, way_lines_from}
+use Rattle.data_bindings.specs.WayLines.{way_index, way_lines, way_lines_from}
 use Rattle.data_bindings.specs.declared.by_line.WayLine.{WayLine}
 use Rattle.data_bindings.specs.declared.mark.MarkedRow.{MarkedRow}
 use Rattle.data_bindings.specs.declared.mark.RowMark.{RowMark}
 use Rattle.data_bindings.specs.declared.mark.RowMark.TheVariants as mark
-
--- ---- the ways of rows
-
--- the ways out of a place among rows
-abbrev goings_of : ℕ → List Entry → List Going
-goings_of place rows = map (λ way. way.1) (filter (λ way. way.0 == place) (filter_map way_of rows))
-
-goings_append : (place : ℕ) (xs ys : List Entry)
-    → goings_of place (xs ++ ys) ≡ goings_of place xs ++ goings_of place ys
-goings_append place xs ys =
-    rw (
-      filter_map-append way_of xs ys,
-      filter-append (λ way. way.0 == place) (filter_map way_of xs) (filter_map way_of ys),
-    )
-    (map-append (λ way. way.1) (filter (λ way. way.0 == place) (filter_map way_of xs))
-    (filter (λ way. way.0 == place) (filter_map way_of ys)))
-
--- the ways are those of a cave that holds the rows
-ways_of_cave : (xs : List Going) → unwrap_or (nonempty xs) [] ≡ xs
-ways_of_cave [] = refl
-ways_of_cave (x ∷ xs) = refl
-
-at_end : {X : Type 0} (xs : List X) (x : X) (ys : List X)
-    → slice_get (xs ++ x ∷ ys) (length xs) ≡ Some x
-at_end [] x ys = refl
-at_end (y ∷ xs) x ys = at_end xs x ys
-
--- ---- rows before, and the ways that are counted among them
-
--- as many ways of each place were counted as the rows have
-abbrev Alike : List MarkedRow → List Entry → Type 0
-Alike before rows = (place : ℕ) → way_index place before ≡ length (goings_of place rows)
-
-more_ways : (place : ℕ) (before : List MarkedRow) (row : MarkedRow) (n : ℕ)
-    → length (filter (is_way_from place) (row ∷ [])) ≡ n
-    → way_index place (before ++ row ∷ []) ≡ way_index place before + n
-more_ways place before row n is =
-    ap length (filter-append (is_way_from place) before (row ∷ []))
-    ∙ length-append (filter (is_way_from place) before) (filter (is_way_from place) (row ∷ []))
-    ∙ ap (λ k. way_index place before + k) is
-
-more_goings : (place : ℕ) (rows : List Entry) (row : Entry) (n : ℕ)
-    → length (goings_of place (row ∷ [])) ≡ n
-    → length (goings_of place (rows ++ row ∷ [])) ≡ length (goings_of place rows) + n
-more_goings place rows row n is =
-    ap length (goings_append place rows (row ∷ []))
-    ∙ length-append (goings_of place rows) (goings_of place (row ∷ []))
-    ∙ ap (λ k. length (goings_of place rows) + k) is
-
--- a way is counted for its own place, and for no other
-way_alike : (before : List MarkedRow) (rows : List Entry) (line place : ℕ) (going : Going)
-    → Alike before rows
-    → Alike (before ++ record { line = line; mark = mark.Way place } ∷ [])
-    (rows ++ Way place going ∷ [])
-way_alike before rows line place going alike other = by_test (place == other) refl
-  where
-    row : MarkedRow
-    row = record { line = line; mark = mark.Way place }
-
-    by_test : (b : Bool) → (place == other) ≡ b
-        → way_index other (before ++ row ∷ [])
-        ≡ length (goings_of other (rows ++ Way place going ∷ []))
-    by_test true same =
-        more_ways other before row 1 (rw same refl) ∙ ap (λ k. k + 1) (alike other)
-        ∙ sym (more_goings other rows (Way place going) 1 (rw same refl))
-    by_test false differs =
-        more_ways other before row 0 (rw differs refl) ∙ ap (λ k. k + 0) (alike other)
-        ∙ sym (more_goings other rows (Way place going) 0 (rw differs refl))
-
--- ---- rows that are no ways
-
-abbrev IsNoWay : Option RowMark → Type 0
-IsNoWay None = Unit {0}
-IsNoWay (Some (mark.Way place)) = ⊥
-IsNoWay (Some other) = Unit {0}
-
-abbrev NamesNoWay : Bool → TextLine → Type 0
-NamesNoWay names line = IsNoWay (if names then Some (mark.Name line.number) else None)
-
-object_is_no_way : (line : TextLine) (names : Bool) → NamesNoWay names line
-object_is_no_way line true = tt
-object_is_no_way line false = tt
-
-marked_as_no_way : (row : Entry) → is_some (way_of row) ≡ false → IsNoWay (mark_of row)
-marked_as_no_way (Way place going) none = absurd (true≢false none)
-marked_as_no_way (ObjectLine line) none = object_is_no_way line (names_object line)
-marked_as_no_way other none = tt
-
-no_line : (m : RowMark) (before : List MarkedRow) (number : ℕ) → IsNoWay (Some m)
-    → way_line before number m ≡ []
-no_line (mark.Way place) before number plain = absurd plain
-no_line other before number plain = refl
-
-leads_nowhere : (m : RowMark) (place : ℕ) → IsNoWay (Some m) → leads_from place m ≡ false
-leads_nowhere (mark.Way other) place plain = absurd plain
-leads_nowhere other place plain = refl
-
-no_goings : (row : Entry) (place : ℕ) → is_some (way_of row) ≡ false
-    → length (goings_of place (row ∷ [])) ≡ 0
-no_goings row place none = by (way_of row) refl none
-  where
-    by : (o : Option (ℕ × Going)) → way_of row ≡ o → is_some o ≡ false
-        → length (goings_of place (row ∷ [])) ≡ 0
-    by None is not = rw is refl
-    by (Some way) is not = absurd (true≢false not)
+use Rattle.data_bindings.proofs.WaysOfRows.{Alike, IsNoWay, at_end, goings_append, goings_of, leads_nowhere, marked_as_no_way}
+use Rattle.data_bindings.proofs.WaysOfRows.{more_goings, more_ways, no_goings, no_line, way_alike, ways_of_cave}
 
 -- ---- lines
 
--- Of all the lines and of all their rows, this way is on its line, and among those of its place.
-record StandsAmong (ls : List (List ℕ)) (rows : List Entry) (way : WayLine) : Type 0 where
-  pub before : ℕ
-  pub counted : way.line ≡ before + 1
-  pub line : List ℕ
-  pub there : slice_get ls before ≡ Some line
-  pub going : Going
-  pub is_row : IsRow section.Travel line (Way way.place going)
-  pub is_way : slice_get (goings_of way.place rows) way.index ≡ Some going
+-- the way is on its line, and among the ways of its place that the rows have
+abbrev StandsAmong : List (List ℕ) → List Entry → WayLine → Type 0
+StandsAmong ls rows = StandsOn ls (λ place. goings_of place rows)
 
 -- after these lines with these rows, the ways of the lines that follow stand on theirs
 abbrev Stand : List (List ℕ) → List Entry → Position → List (List ℕ) → List Entry → Type 0
@@ -378,7 +266,7 @@ ways_stand (row_line {s = s} {line = line} {row = row} {lines = later} {rows = r
 pub ways_stand_on_their_lines : WaysStandOnTheirLines
 unfolding way_lines
 ways_stand_on_their_lines database bindings c reads =
-    All-weaker (StandsAmong (lines database) rows) (StandsOn (lines database) c) in_cave
+    All-weaker (StandsAmong (lines database) rows) (StandsOn (lines database) (ways_from c)) in_cave
     (way_lines database) (ways_stand reads.right.is_database.has_rows [] [] [] (λ place. refl))
   where
     rows : List Entry
@@ -390,7 +278,7 @@ ways_stand_on_their_lines database bindings c reads =
         ∙ ways_of_cave (goings_of place rows)
 
     in_cave : (way : WayLine) → StandsAmong (lines database) rows way
-        → StandsOn (lines database) c way
+        → StandsOn (lines database) (ways_from c) way
     in_cave way stands = record {
       before = stands.before;
       counted = stands.counted;

@@ -11,17 +11,17 @@ use Rattle.data_bindings.specs.WayLines.{way_lines}
 use Rattle.data_bindings.specs.declared.by_line.WayLine.{WayLine}
 
 -- The line with this number, from 1, is a row of travel by the grammar, and of the ways out of its
--- place, as the cave gives them, the one with this index is its own.
-pub record StandsOn (ls : List (List ℕ)) (c : CaveView) (way : WayLine) : Type 0 where
+-- place the one with this index is its own.
+pub record StandsOn (ls : List (List ℕ)) (ways : ℕ → List Going) (way : WayLine) : Type 0 where
   pub before : ℕ
   pub counted : way.line ≡ before + 1
   pub line : List ℕ
   pub there : slice_get ls before ≡ Some line
   pub going : Going
   pub is_row : IsRow section.Travel line (Way way.place going)
-  pub is_way : slice_get (ways_from c way.place) way.index ≡ Some going
+  pub is_way : slice_get (ways way.place) way.index ≡ Some going
 
 -- in a cave that a database was read as, each way that is listed stands on its line
 abbrev pub WaysStandOnTheirLines : Type 0
 WaysStandOnTheirLines = (database bindings : List ℕ) (c : CaveView) → Reads database bindings c
-    → All (StandsOn (lines database) c) (way_lines database)
+    → All (StandsOn (lines database) (ways_from c)) (way_lines database)

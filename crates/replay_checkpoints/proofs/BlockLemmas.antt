@@ -1,103 +1,21 @@
 -- Items that lie in blocks.
 use Rattle.std.proofs.Common.{◌≡◌, ℕ, ◌+◌, ◌-◌, ◌<◌, ◌≤◌, List, [], ◌∷◌, ◌++◌, length, get_or, take}
-use Rattle.std.proofs.Common.{drop, insert, remove, set, map, suc, zero, refl, sym, ap, ◌∙◌, arith}
+use Rattle.std.proofs.Common.{drop, insert, remove, set, map, suc, refl, sym, ap, ◌∙◌, arith}
 use Rattle.std.proofs.Common.{subst, zero-add, add-zero, add-one, inl, inr}
-use Rattle.std.proofs.Math.Seq.{get_or-append_seam, set-append_seam, take-set-lt, take-append-add}
-use Rattle.std.proofs.Math.Seq.{drop-append-add}
+use Rattle.std.proofs.Math.Seq.{get_or-append_seam}
 use Rattle.std.specs.List.{splice}
-use Rattle.std.specs.Prelude.{Option, None, Some, IfSome}
 use Rattle.std.proofs.lemmas.List.{append-nil, append_assoc, length-append, drop_more}
-use Rattle.std.proofs.lemmas.List.{take_more, take_more_set, drop-set-lt, take-append-drop}
-use Rattle.std.proofs.lemmas.List.{length-take-le, length-map, length-set, get_or-append_right}
-use Rattle.std.proofs.lemmas.List.{get_or-drop, get_or-take, get_or_append_left, set-append_left}
-use Rattle.std.proofs.lemmas.List.{set-append_right, take-append-le, drop-append-le, take_all}
-use Rattle.std.proofs.lemmas.List.{take-take}
+use Rattle.std.proofs.lemmas.List.{take_more, drop-set-lt}
+use Rattle.std.proofs.lemmas.List.{length-take-le, length-set, get_or-append_right}
+use Rattle.std.proofs.lemmas.List.{get_or_append_left, set-append_left}
+use Rattle.std.proofs.lemmas.List.{set-append_right, take_all}
 use Rattle.std.proofs.lemmas.Bool.{cases_lt}
 use Rattle.std.proofs.lemmas.List.Concat.{flat_map-append}
 use Rattle.replay_checkpoints.specs.declared.block.Block.{Block}
-use Rattle.replay_checkpoints.specs.declared.blocks.Stretch.{Stretch}
-use Rattle.replay_checkpoints.specs.Blocks.{items_in, start_at, AreLaid, IsBlockOf, HasRoom}
-use Rattle.replay_checkpoints.specs.Blocks.{HoldsStretch, moved_block}
-
--- ---- an item of a list and those around it
-
-module _ {X : Type 0} (xs : List X) (i : ℕ) where
-  -- the list around what is read in it
-  pub read_form : (x : X) → i < length xs → x ≡ get_or xs i x
-      → xs ≡ take i xs ++ (x ∷ drop (i + 1) xs)
-  read_form x below read =
-      sym (take-append-drop i xs)
-      ∙ ap (λ t. take i xs ++ t)
-      (drop_more xs i x below ∙ ap (λ e. e ∷ drop (i + 1) xs) (sym read))
-
-  pub set_form : (y : X) → i < length xs → set xs i y ≡ take i xs ++ (y ∷ drop (i + 1) xs)
-  set_form y below =
-      sym (take-append-drop (i + 1) (set xs i y))
-      ∙ ap (λ t. t ++ drop (i + 1) (set xs i y)) (take_more_set xs i y below)
-      ∙ append_assoc (take i xs) (y ∷ []) (drop (i + 1) (set xs i y))
-      ∙ ap (λ d. take i xs ++ (y ∷ d)) (drop-set-lt (i + 1) xs i y (omega arith))
-
-  -- another item, and one more after it
-  pub insert_form : (y z : X) → i < length xs
-      → insert (set xs i y) (i + 1) z ≡ take i xs ++ (y ∷ (z ∷ drop (i + 1) xs))
-  insert_form y z below =
-      ap (λ t. t ++ (z ∷ drop (i + 1) (set xs i y))) (take_more_set xs i y below)
-      ∙ append_assoc (take i xs) (y ∷ []) (z ∷ drop (i + 1) (set xs i y))
-      ∙ ap (λ d. take i xs ++ (y ∷ (z ∷ d))) (drop-set-lt (i + 1) xs i y (omega arith))
-
-  -- another item, and then the one after it is taken out
-  pub remove_form : (y : X) → i < length xs
-      → remove (set xs i y) (i + 1) ≡ take i xs ++ (y ∷ drop (suc (i + 1)) xs)
-  remove_form y below =
-      ap (λ t. t ++ drop (suc (i + 1)) (set xs i y)) (take_more_set xs i y below)
-      ∙ append_assoc (take i xs) (y ∷ []) (drop (suc (i + 1)) (set xs i y))
-      ∙ ap (λ d. take i xs ++ (y ∷ d)) (drop-set-lt (suc (i + 1)) xs i y (omega arith))
-
-  -- and the first is changed once more
-  pub reset_form : (y z : X) → i < length xs
-      → set (remove (set xs i y) (i + 1)) i z ≡ take i xs ++ (z ∷ drop (suc (i + 1)) xs)
-  reset_form y z below =
-      let count = length-take-le i xs (omega arith) in
-      ap (λ l. set l i z) (remove_form y below)
-      ∙ ap (λ n. set (take i xs ++ (y ∷ drop (suc (i + 1)) xs)) n z) (sym count)
-      ∙ set-append_seam (take i xs) y (drop (suc (i + 1)) xs) z
-
--- the items from `i + 1` on are others
-module _ {X : Type 0} (xs ys : List X) (i : ℕ) (below : i < length xs) where
-  first_items : length (take (i + 1) xs) ≡ i + 1
-  first_items = length-take-le (i + 1) xs (omega arith)
-
-  pub first_same : (other : X) → get_or (take (i + 1) xs ++ ys) i other ≡ get_or xs i other
-  first_same other =
-      get_or_append_left (take (i + 1) xs) ys other i (omega (arith, first_items))
-      ∙ get_or-take (i + 1) xs i other (omega arith)
-
-  pub later_form : (y : X) → set (take (i + 1) xs ++ ys) i y ≡ take i xs ++ (y ∷ ys)
-  later_form y =
-      set-append_left (take (i + 1) xs) ys i y (omega (arith, first_items))
-      ∙ ap (λ t. t ++ ys)
-      (sym (take-set-lt (i + 1) xs i y (omega arith)) ∙ take_more_set xs i y below)
-      ∙ append_assoc (take i xs) (y ∷ []) ys
-
--- a stretch of a list that is between two others
-pub splice_between : {X : Type 0} (xs ys zs middle : List X) (a b from to : ℕ)
-    → length xs + a ≡ from → length xs + b ≡ to → a ≤ length ys → b ≤ length ys
-    → splice (xs ++ (ys ++ zs)) from to middle ≡ xs ++ (splice ys a b middle ++ zs)
-splice_between xs ys zs middle a b from to start end fits fits' =
-    let front : take from (xs ++ (ys ++ zs)) ≡ xs ++ take a ys =
-    ap (λ n. take n (xs ++ (ys ++ zs))) (sym start) ∙ take-append-add xs (ys ++ zs) a
-    ∙ ap (λ l. xs ++ l) (take-append-le a ys zs fits) in
-    let back : drop to (xs ++ (ys ++ zs)) ≡ drop b ys ++ zs =
-    ap (λ n. drop n (xs ++ (ys ++ zs))) (sym end) ∙ drop-append-add xs (ys ++ zs) b
-    ∙ drop-append-le b ys zs fits' in
-    ap (λ l. l ++ (middle ++ drop to (xs ++ (ys ++ zs)))) front
-    ∙ ap (λ l. (xs ++ take a ys) ++ (middle ++ l)) back
-    ∙ append_assoc xs (take a ys) (middle ++ (drop b ys ++ zs))
-    ∙ ap (λ l. xs ++ l)
-    (sym (append_assoc (take a ys) (middle ++ drop b ys) zs
-    ∙ ap (λ l. take a ys ++ l) (append_assoc middle (drop b ys) zs)))
-
--- ---- where blocks begin
+use Rattle.replay_checkpoints.specs.Blocks.{items_in, start_at, AreLaid, IsBlockOf}
+use Rattle.replay_checkpoints.specs.Blocks.{moved_block}
+use Rattle.replay_checkpoints.proofs.AroundLemmas.{insert_form, later_form, read_form, remove_form}
+use Rattle.replay_checkpoints.proofs.AroundLemmas.{reset_form, set_form, splice_between}
 
 module _ {T : Type 0} where
   abbrev pub block_items : Block T → List T
@@ -402,99 +320,3 @@ module _ {T : Type 0} where
           subst (AreLaid 0) (sym (reset_form blocks index wide joined below))
           (laid_join 0 (take index blocks) (joined ∷ after) before
           (start ∙ here.0, subst (λ n. AreLaid n after) end others.1))
-
-  -- the blocks begin where they began
-  pub set_starts : (blocks : List (Block T)) (index : ℕ) (old new : Block T) → index < length blocks
-      → old ≡ get_or blocks index old → block_items new ≡ block_items old
-      → (k : ℕ) → items_in (take k (set blocks index new)) ≡ items_in (take k blocks)
-  set_starts [] index old new below read same k = absurd (omega arith)
-  set_starts (block ∷ blocks) index old new below read same zero = refl
-  set_starts (block ∷ blocks) zero old new below read same (suc k) =
-      ap (λ l. l ++ items_in (take k blocks)) (same ∙ ap block_items read)
-  set_starts (block ∷ blocks) (suc index) old new below read same (suc k) =
-      ap (λ l. block_items block ++ l)
-      (set_starts blocks index old new (omega arith) read same k)
-
-  -- a block that isn't moved yet
-  pub unmoved : (gone come i : ℕ) (blocks now : List (Block T)) (other : Block T)
-      → i < length blocks
-      → now ≡ map (moved_block gone come) (take i blocks) ++ drop i blocks
-      → get_or now i other ≡ get_or blocks i other
-  unmoved gone come i blocks now other below so_far =
-      let count = length-map (take i blocks) (moved_block gone come)
-      ∙ length-take-le i blocks (omega arith) in
-      let none : i - i ≡ 0 = omega arith in
-      ap (λ l. get_or l i other) so_far
-      ∙ get_or-append_right (map (moved_block gone come) (take i blocks)) (drop i blocks) i i other
-      count (omega arith)
-      ∙ ap (λ n. get_or (drop i blocks) n other) none
-      ∙ get_or-drop i blocks 0 other ∙ ap (λ n. get_or blocks n other) (add-zero i)
-
-  -- and where they have as many items
-  pub set_lengths : (blocks : List (Block T)) (index : ℕ) (old new : Block T)
-      → index < length blocks → old ≡ get_or blocks index old
-      → length (block_items new) ≡ length (block_items old)
-      → (k : ℕ) → start_at (set blocks index new) k ≡ start_at blocks k
-  set_lengths [] index old new below read same k = absurd (omega arith)
-  set_lengths (block ∷ blocks) index old new below read same zero = refl
-  set_lengths (block ∷ blocks) zero old new below read same (suc k) =
-      let items = same ∙ ap (λ b. length (block_items b)) read in
-      length-append (block_items new) (items_in (take k blocks))
-      ∙ ap (λ n. n + start_at blocks k) items
-      ∙ sym (length-append (block_items block) (items_in (take k blocks)))
-  set_lengths (block ∷ blocks) (suc index) old new below read same (suc k) =
-      length-append (block_items block) (items_in (take k (set blocks index new)))
-      ∙ ap (λ n. length (block_items block) + n)
-      (set_lengths blocks index old new (omega arith) read same k)
-      ∙ sym (length-append (block_items block) (items_in (take k blocks)))
-
-  -- the blocks begin one after another, and all of them before the end
-  pub start-within : (blocks : List (Block T)) (k : ℕ)
-      → start_at blocks k ≤ length (items_in blocks)
-  start-within blocks k =
-      let whole = ap (λ l. length (items_in l)) (sym (take-append-drop k blocks))
-      ∙ ap length (items_in-append (take k blocks) (drop k blocks))
-      ∙ length-append (items_in (take k blocks)) (items_in (drop k blocks)) in
-      omega arith
-
-  pub start-later : (blocks : List (Block T)) (i k : ℕ) → i ≤ k
-      → start_at blocks i ≤ start_at blocks k
-  start-later blocks i k later =
-      let first : take i (take k blocks) ≡ take i blocks =
-      take-take i k blocks later in
-      rw (← first) (start-within (take k blocks) i)
-
-  -- what is known of a block, where another one comes in the place of one
-  pub known_after : (P : Block T → Type 0) (blocks : List (Block T)) (index k : ℕ)
-      (old new : Block T) → index < length blocks → old ≡ get_or blocks index old → (P old → P new)
-      → ((other : Block T) → P (get_or blocks k other))
-      → (other : Block T) → P (get_or (set blocks index new) k other)
-  known_after P [] index k old new below read same known other = absurd (omega arith)
-  known_after P (block ∷ blocks) zero zero old new below read same known other =
-      same (subst P (sym read) (known other))
-  known_after P (block ∷ blocks) zero (suc k) old new below read same known other = known other
-  known_after P (block ∷ blocks) (suc index) zero old new below read same known other = known other
-  known_after P (block ∷ blocks) (suc index) (suc k) old new below read same known other =
-      known_after P blocks index k old new (omega arith) read same known other
-
-  -- a stretch lies in its block as before where one has another item
-  pub holds_after : (blocks : List (Block T)) (index : ℕ) (old new : Block T)
-      → index < length blocks → old ≡ get_or blocks index old
-      → length (block_items new) ≡ length (block_items old)
-      → ((gone come : ℕ) → HasRoom old.items gone come → HasRoom new.items gone come)
-      → (from to count k : ℕ) → HoldsStretch blocks from to count k
-      → HoldsStretch (set blocks index new) from to count k
-  holds_after blocks index old new below read same room from to count k held = record {
-    ordered = held.ordered;
-    inside = rw (length-set blocks index new) held.inside;
-    begun = rw (set_lengths blocks index old new below read same k) held.begun;
-    ended = rw (set_lengths blocks index old new below read same (k + 1)) held.ended;
-    room = known_after (λ block. HasRoom block.items (to - from) count) blocks index k old new below
-        read (room (to - from) count) held.room;
-  }
-
--- what is known of a stretch, if one is open
-pub still_held : {P Q : Stretch → Type 0} (stretch : Option Stretch) → IfSome stretch P
-    → ((s : Stretch) → P s → Q s) → IfSome stretch Q
-still_held None held more = held
-still_held (Some s) held more = more s held

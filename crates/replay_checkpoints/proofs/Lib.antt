@@ -1,4 +1,6 @@
+pub mod AroundLemmas
 pub mod BlockLemmas
+pub mod BlockStarts
 pub mod Contents
 pub mod Counts
 pub mod JoinLemmas

@@ -7,6 +7,7 @@ use Rattle.base_lines.specs.LogLine.{IsLogLine}
 use Rattle.base_lines.specs.declared.log_line.LogLine.TheVariants as kind
 use Rattle.data_rows.specs.declared.role.Role.TheVariants as role
 use Rattle.cave_data.specs.CaveView.{CaveView}
+use Rattle.cave_words.specs.Stream.{STREAM_SIZE}
 use Rattle.cave_words.specs.Words.{words_of}
 use Rattle.cave_words.specs.declared.words.Words.{Words}
 use Rattle.cave_world.specs.declared.ending.Ending.{Ending}
@@ -75,7 +76,7 @@ equal_words_play_alike cave s a b input other same =
     ∙ sym (line_by_words cave s b other)
 
 pub equal_seeds_play_alike : (cave : CaveView) (s : State) (a b : ℕ)
-    → a % 1048576 ≡ b % 1048576
+    → a % STREAM_SIZE ≡ b % STREAM_SIZE
     → (start_of_game cave a ≡ start_of_game cave b) × (with_seed s a ≡ with_seed s b)
 unfolding start_of_game
 equal_seeds_play_alike cave s a b same = (

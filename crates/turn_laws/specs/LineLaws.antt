@@ -3,6 +3,7 @@ use Rattle.std.specs.Prelude.{◌≡◌, ◌⊎◌, ℕ, ◌%◌, List}
 use Rattle.base_lines.specs.LogLine.{IsLogLine}
 use Rattle.base_lines.specs.declared.log_line.LogLine.TheVariants as kind
 use Rattle.cave_data.specs.CaveView.{CaveView}
+use Rattle.cave_words.specs.Stream.{STREAM_SIZE}
 use Rattle.cave_words.specs.Words.{words_of}
 use Rattle.cave_world.specs.declared.state.State.{State}
 use Rattle.cave_turn.specs.Turns.{silent_turn, start_of_game, turn_on_line, with_seed}
@@ -24,5 +25,5 @@ EqualWordsPlayAlike =
 -- two seeds that leave the same remainder begin the same game, and do the same in a seed line
 abbrev pub EqualSeedsPlayAlike : Type 0
 EqualSeedsPlayAlike =
-    (cave : CaveView) (s : State) (a b : ℕ) → a % 1048576 ≡ b % 1048576
+    (cave : CaveView) (s : State) (a b : ℕ) → a % STREAM_SIZE ≡ b % STREAM_SIZE
     → (start_of_game cave a ≡ start_of_game cave b) × (with_seed s a ≡ with_seed s b)

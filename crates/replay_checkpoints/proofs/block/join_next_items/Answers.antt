@@ -1,4 +1,4 @@
-use Rattle.std.proofs.Common.{◌+◌, ◌<◌, ◌++◌, length, set, get_or, subst, sym, ap, refl, ◌∙◌, arith}
+use Rattle.std.proofs.Common.{◌<◌, ◌++◌, length, set, get_or, subst, sym, ap, refl, ◌∙◌, arith}
 use Rattle.replay_checkpoints.specs.Blocks.{AreLaid, items_in}
 use Rattle.replay_checkpoints.specs.declared.block.Block.{Block}
 use Rattle.replay_checkpoints.proofs.BlockLemmas.{join_items, join_laid, read_again, set_items}

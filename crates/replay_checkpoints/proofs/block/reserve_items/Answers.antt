@@ -1,5 +1,6 @@
 use Rattle.std.proofs.Common.{length, ap, refl}
-use Rattle.replay_checkpoints.proofs.BlockLemmas.{set_items, set_laid, set_starts}
+use Rattle.replay_checkpoints.proofs.BlockLemmas.{set_items, set_laid}
+use Rattle.replay_checkpoints.proofs.BlockStarts.{set_starts}
 use Rattle.replay_checkpoints.proofs.block.reserve_items.Goals as goal
 
 pub returns-clause-laid : goal.returns-clause-laid

@@ -1,6 +1,6 @@
 use Rattle.std.proofs.Common.{ap, length, sym, ◌∙◌, arith}
 use Rattle.std.proofs.lemmas.List.{length-set}
-use Rattle.replay_checkpoints.proofs.BlockLemmas.{still_held}
+use Rattle.replay_checkpoints.proofs.BlockStarts.{still_held}
 use Rattle.replay_checkpoints.proofs.blocks.Blocks.put.Goals as goal
 
 pub invariant_of-self : goal.invariant_of-self

@@ -2,7 +2,7 @@ use Rattle.std.proofs.Common.{◌+◌, ◌<◌, ◌^◌, ◌++◌, length, take,
 use Rattle.std.specs.Prelude.{IfSome}
 use Rattle.std.proofs.lemmas.List.{length-append, length-drop, length-take-le}
 use Rattle.replay_checkpoints.specs.Blocks.{BlocksView, HoldsStretch, items_in}
-use Rattle.replay_checkpoints.proofs.BlockLemmas.{start-within}
+use Rattle.replay_checkpoints.proofs.BlockStarts.{start-within}
 use Rattle.replay_checkpoints.proofs.blocks.Blocks.replace.Goals as goal
 
 pub overflow_sub-self-in-Some : goal.overflow_sub-self-in-Some
