@@ -17,7 +17,7 @@ grown p from digit small =
       mul-le-mul_right p (let h : 10 * from + digit + 1 ≤ 10 * from + 10 = omega arith in h),
     )
 
--- digits that follow a number make it at most so much larger
+-- how large a number can be once these digits have followed it
 number_from-lt : (digits : List ℕ) (from : ℕ) → IsTrue (list_all is_digit digits)
     → fold (λ number digit. 10 * number + (digit - 48)) from digits
     < (from + 1) * 10 ^ length digits

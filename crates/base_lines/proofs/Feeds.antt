@@ -6,7 +6,7 @@ use Rattle.std.proofs.lemmas.Bool.{false_from_ne_true}
 use Rattle.std.proofs.lemmas.List.Sums.{position_or_len_is}
 use Rattle.memchr.specs.Find.{IsFirstByte, is_byte}
 
--- where the search finds none, all bytes come before it
+-- if the search finds none, all bytes come before it
 pub feed_found : (text : List ℕ) (found : Option ℕ) → IsFirstByte (is_byte 10) text found
     → unwrap_or found (length text) ≡ position_or_len (λ b. b == 10) text
 feed_found text None none =

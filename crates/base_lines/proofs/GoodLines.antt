@@ -1,4 +1,4 @@
--- A first line all of whose bytes may stand in a log, up to the line feed that ends it.
+-- A first line whose bytes may all stand in a log, up to the line feed that ends it.
 use Rattle.std.proofs.Common.{◌≡◌, ℕ, suc, ◌+◌, ◌-◌, ◌<◌, Bool, true, false, cond, ◌==◌, List, []}
 use Rattle.std.proofs.Common.{◌∷◌, Some, length, take, drop, get_or, slice_index, refl, sym, ap}
 use Rattle.std.proofs.Common.{◌∙◌, arith, IsTrue, nat_lt}
@@ -87,7 +87,7 @@ good_line text len is short =
     ap (λ n. length (take n text)) is ∙ length-prefix_len is_line_byte text ∙ sym is in
     rw size (rw short (rw good refl))
 
--- printable bytes up to a line feed are all the leading good ones
+-- printable bytes up to a line feed are exactly the leading good ones
 printable_up_to_feed : (text : List ℕ)
     → slice_get text (prefix_len is_printable text) ≡ Some 10
     → prefix_len is_printable text ≡ prefix_len is_line_byte text

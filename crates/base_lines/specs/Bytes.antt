@@ -10,7 +10,7 @@ is_blank byte = byte == 32 || byte == 9
 abbrev pub is_nonblank : ℕ → Bool
 is_nonblank byte = not (is_blank byte)
 
--- blanks alone, or nothing
+-- only blanks, or nothing
 abbrev pub is_all_blank : List ℕ → Bool
 is_all_blank bytes = list_all is_blank bytes
 

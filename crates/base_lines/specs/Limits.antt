@@ -1,4 +1,4 @@
--- The limits of what users hand in. Each number is here and in no other definition.
+-- The limits of what users hand in. Each number stands here, and in no other definition.
 use Rattle.std.specs.Prelude.{ℕ}
 
 -- the most bytes of an input: a database, its bindings, a log, a script of edits
@@ -25,6 +25,6 @@ MAX_EVERY = 10000
 abbrev pub MAX_DIGITS : ℕ
 MAX_DIGITS = 10
 
--- the number that one in a script counts as where its digits write a greater one
+-- what a number in a script counts as if its digits write a greater one
 abbrev pub max_script_number : ℕ
 max_script_number = 4294967295

@@ -28,8 +28,8 @@ line_fault line =
 unfoldable pub is_line : List ℕ → Bool
 is_line line = is_none (line_fault line)
 
--- what is wrong with a line that isn't allowed in a log: how many bytes it has where they are too
--- many, else the first byte that isn't allowed
+-- what is wrong with a line that isn't allowed in a log: how many bytes it has if there are too
+-- many, otherwise the first byte that isn't allowed
 unfoldable pub flaw_of : List ℕ → LineFlaw
 flaw_of line =
     if nat_lt MAX_LINE_BYTES (length line) then Long (length line)
@@ -41,7 +41,7 @@ pub record StartsWithLine (text line rest : List ℕ) : Type 0 where
   pub good : IsTrue (is_line line)
   pub shorter : length rest < length text
 
--- the first line of a text is none that a log may have, for this reason
+-- a log may not have the first line of a text, for this reason
 abbrev pub StartsWithFlaw : List ℕ → LineFlaw → Type 0
 StartsWithFlaw text flaw =
     (line : List ℕ) × (rest : List (List ℕ)) × (lines text ≡ line ∷ rest) × (is_line line ≡ false)

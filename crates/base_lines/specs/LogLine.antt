@@ -14,7 +14,7 @@ abbrev pub is_comment : List ℕ → Bool
 is_comment [] = false
 is_comment (byte ∷ bytes) = byte == 35
 
--- a comment, or blanks alone: what scripts and bindings pass over
+-- a comment or only blanks: scripts and bindings pass over such a line
 unfoldable pub is_skipped : List ℕ → Bool
 is_skipped line = is_comment line || is_all_blank line
 
@@ -54,7 +54,7 @@ seed_of line =
     then seed_in (prefix_while is_digit (drop 5 rest)) (after_prefix is_digit (drop 5 rest))
     else None
 
--- a line that is no comment and not blank names a seed or is input
+-- a line that is neither a comment nor blank names a seed or is input
 abbrev pub seed_or_input : Option ℕ → LogLine
 seed_or_input (Some seed) = Seed seed
 seed_or_input None = Input

@@ -1,4 +1,4 @@
--- The last numbers of what a cave numbers. Each number is here and in no other definition.
+-- The last numbers of what a cave numbers. Each stands here, and in no other definition.
 use Rattle.std.specs.Prelude.{ℕ}
 
 -- the last place

@@ -13,7 +13,7 @@ pub fn is_blank(byte: u8) -> bool
     byte == b' ' || byte == b'\t'
 }
 
-/// Whether the bytes are blanks alone.
+/// Whether the bytes are all blanks.
 pub fn is_all_blank(bytes: &[u8]) -> bool
     ensures { result ≡ is_all_blank bytes.now }
 {

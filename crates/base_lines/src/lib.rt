@@ -1,5 +1,5 @@
-//! What users hand in, before anybody asks what it means: limits, the numbers of things, and the lines
-//! and words of any text.
+//! What users hand in, before anyone asks what it means: limits, the numbers of things, and the
+//! lines and words of any text.
 #![tactic(auto)]
 
 pub mod bytes;

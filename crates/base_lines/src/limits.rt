@@ -1,4 +1,4 @@
-//! How large inputs, logs and numbers may be: each limit of what users hand in, once.
+//! How large inputs, logs and numbers may be: each limit of what users hand in stands here once.
 
 ghost use Rattle.std.specs.Prelude.{◌≡◌, ◌==◌, ◌||◌, ◌+◌, ◌-◌, ◌*◌, min, nat_le, nat_lt};
 ghost use Rattle.base_lines.specs.Limits as defined;
@@ -19,34 +19,34 @@ pub const MAX_SEED: u32 = 2_147_483_647;
 /// The greatest distance of checkpoints, in lines.
 pub const MAX_EVERY: u32 = 10_000;
 
-/// The distance of checkpoints where none is asked for, in lines.
+/// The distance of checkpoints in lines, if none is asked for.
 pub const USUAL_EVERY: u32 = 50;
 
 /// The most digits of a number in a log, in a script and on the command line.
 const MAX_DIGITS: usize = 10;
 
-/// Whether an input of so many bytes is too large.
+/// Whether an input with this many bytes is too large.
 pub fn is_large_input(bytes: usize) -> bool
     ensures { result ≡ nat_lt defined.MAX_INPUT_BYTES bytes }
 {
     bytes > MAX_INPUT_BYTES
 }
 
-/// Whether a line of so many bytes is too long for a log.
+/// Whether a line with this many bytes is too long for a log.
 pub fn is_long_line(bytes: usize) -> bool
     ensures { result ≡ nat_lt defined.MAX_LINE_BYTES bytes }
 {
     bytes > MAX_LINE_BYTES
 }
 
-/// Whether a log of so many lines is too long.
+/// Whether a log with this many lines is too long.
 pub fn is_long_log(lines: usize) -> bool
     ensures { result ≡ nat_lt defined.MAX_LOG_LINES lines }
 {
     lines > MAX_LOG_LINES as usize
 }
 
-/// Whether a log of so many lines has no room for one more.
+/// Whether a log with this many lines has no room for one more.
 pub fn is_full_log(lines: usize) -> bool
     ensures { result ≡ nat_le defined.MAX_LOG_LINES lines }
 {
@@ -67,15 +67,15 @@ pub fn is_bad_every(lines: u32) -> bool
     lines == 0 || lines > MAX_EVERY
 }
 
-/// Whether a number of so many digits is too long.
+/// Whether a number with this many digits is too long.
 pub fn is_long_number(digits: usize) -> bool
     ensures { result ≡ nat_lt defined.MAX_DIGITS digits }
 {
     digits > MAX_DIGITS
 }
 
-/// A number of a script with one more digit, the byte of which is given, as long as it doesn't pass
-/// the greatest.
+/// A number of a script with one more digit, whose byte is given, or the greatest number if it
+/// would pass that.
 pub fn with_digit(number: u32, digit: u8) -> u32
     ensures { result ≡ min (10 * number + (digit - 48)) max_script_number }
 {

@@ -14,7 +14,7 @@ use thiserror::Error;
 /// Why a line isn't allowed in a log.
 #[derive(Clone, Copy, Debug, PartialEq, Eq, Error)]
 pub enum LineFlaw {
-    /// It has so many bytes.
+    /// Its length in bytes.
     #[error("the line has {0} bytes, and a line of a log has at most 255")]
     Long(usize),
     /// It has this byte in this column, from 1.
@@ -38,8 +38,8 @@ fn printable_len(line: &[u8]) -> usize
     line.iter().take_while(|byte| is_printable(**byte)).count()
 }
 
-/// The first line of a text, where it has no tab, a line feed alone ends it and a log may have it,
-/// and what follows it.
+/// The first line of a text and what follows it, if a log may have the line, it has no tab, and
+/// just a line feed ends it.
 #[tactic(auto, using(crate::proofs::GoodLines::good_lines))]
 fn split_good_line(text: &[u8]) -> Option<(&[u8], &[u8])>
     ensures { IfSome result (λ found. StartsWithLine text.now found.0.now found.1.now) }
@@ -52,8 +52,8 @@ fn split_good_line(text: &[u8]) -> Option<(&[u8], &[u8])>
     }
 }
 
-/// The first line of a text, without its end, and the text that follows it; or else what is wrong
-/// with the line, where a log may not have it.
+/// The first line of a text, without its end, and the text that follows it; or what is wrong with
+/// the line, if a log may not have it.
 pub fn split_log_line(text: &[u8]) -> Option<Result<(&[u8], &[u8]), LineFlaw>>
     ensures { MatchOption result (lines text.now ≡ []) (λ found. MatchResult found
         (λ good. StartsWithLine text.now good.0.now good.1.now)
@@ -70,8 +70,8 @@ pub fn split_log_line(text: &[u8]) -> Option<Result<(&[u8], &[u8]), LineFlaw>>
     Some(Ok((line, rest)))
 }
 
-/// What is wrong with a line that isn't allowed in a log. Of a line that is, the byte after its
-/// last is returned, as 0.
+/// What is wrong with a line that isn't allowed in a log. If the line is allowed, this is the byte
+/// after its last, as 0.
 #[tactic(auto, unfolding(crate::specs::Line::flaw_of))]
 fn flaw_of(line: &[u8]) -> LineFlaw
     ensures { result ≡ flaw_of line.now }

@@ -15,7 +15,7 @@ const COMMENT_MARK: u8 = b'#';
 pub enum LogLine {
     /// A line that begins with `#`.
     Comment,
-    /// A line of blanks alone, or of nothing.
+    /// A line of blanks, or an empty one.
     Blank,
     /// A line `seed N`.
     Seed(u32),
@@ -65,7 +65,7 @@ fn is_comment(line: &[u8]) -> bool
     line.first() == Some(&COMMENT_MARK)
 }
 
-/// The seed that a line names, or `None` where it is no seed line.
+/// The seed that a line names, or `None` if it is no seed line.
 #[tactic(auto, unfolding(crate::specs::LogLine::seed_of))]
 fn seed_of(line: &[u8]) -> Option<u32>
     ensures { result ≡ seed_of line.now }
@@ -75,7 +75,7 @@ fn seed_of(line: &[u8]) -> Option<u32>
     seed_in(digits, after)
 }
 
-/// The seed that digits write, where blanks alone follow them.
+/// The seed that digits write, if only blanks follow them.
 #[tactic(auto, unfolding(crate::specs::LogLine::seed_in))]
 fn seed_in(digits: &[u8], after: &[u8]) -> Option<u32>
     requires { IsTrue (list_all is_digit digits.now) }

@@ -2,12 +2,12 @@ ghost use Rattle.std.specs.Prelude.{◌≡◌, ℕ, ◌+◌, ◌-◌, ◌^◌, �
 
 use std::marker::Model;
 
-/// What counts the steps that a machine takes. It can be read here, and neither made, copied nor
-/// changed.
+/// What counts the steps that a machine takes. A machine can read it, but can't make, copy or
+/// change one.
 pub trait Steps {
     ghost count: { Self → ℕ };
 
-    /// How many steps were taken.
+    /// How many steps have been taken.
     fn used(&self) -> u64
         ensures { result ≡ count self.now };
 
@@ -34,14 +34,14 @@ impl Model for Meter {
 }
 
 impl Meter {
-    /// A meter on which no step was taken.
+    /// A meter on which no step has been taken.
     pub fn new() -> Meter
         ensures { result ≡ 0 }
     {
         Meter { used: 0 }
     }
 
-    /// A meter on which `used` steps were taken before.
+    /// A meter on which `used` steps have been taken.
     pub fn starting(used: u64) -> Meter
         ensures { result ≡ used }
     {

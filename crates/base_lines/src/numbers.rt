@@ -1,4 +1,4 @@
-//! The last numbers of what a cave numbers: each is here and in no other crate's code.
+//! The last numbers of what a cave numbers. Each stands here, and in the code of no other crate.
 
 /// The last place. Places count from 1; 0 is nowhere.
 pub const LAST_PLACE: u16 = 300;

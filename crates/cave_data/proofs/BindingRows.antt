@@ -1,4 +1,4 @@
--- Lines have bindings of which none repeats a key exactly where no line of them has a cause.
+-- Lines have bindings that repeat no key exactly if no line has a cause.
 use Rattle.std.proofs.Common.{◌≡◌, ℕ, Bool, true, false, cond, List, [], ◌∷◌, ◌++◌, Option, Some}
 use Rattle.std.proofs.Common.{None, is_some, option_map, option_to_list, Result, Ok, Err, IsTrue}
 use Rattle.std.proofs.Common.{refl, sym, ap, subst, ◌∙◌}

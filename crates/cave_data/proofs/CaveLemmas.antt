@@ -1,4 +1,4 @@
--- What the texts of a cave show, and the places that have a role where bindings say nothing.
+-- What the texts of a cave show, and the places that have a role if bindings don't say.
 use Rattle.std.proofs.Common.{◌≡◌, ◌⊎◌, inl, inr, ℕ, Bool, true, false, cond, eqb, List, [], ◌∷◌}
 use Rattle.std.proofs.Common.{map, Option, Some, None, option_map, is_some, refl, sym, ap, ◌∙◌}
 use Rattle.std.specs.Option.{option_or}

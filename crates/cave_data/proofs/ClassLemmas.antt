@@ -80,7 +80,7 @@ class_row bytes rows n score d h =
     (Some (rated_row bytes (get_or rows n d) n k))
     (class_from (n + 1 + 1) score (drop (n + 1) (shown_in bytes rows)))) long
 
--- where the bound of a row is not below the score, its class is that of the score
+-- if the bound of a row is not below the score, its class is that of the score
 pub class_found : (bytes text : List ℕ) (items rows : List NumberedSpan) (n score count : ℕ)
     (d : NumberedSpan) → items ≡ rows → n < length items → score ≤ (get_or items n d).number
     → text ≡ printed_text (text_of_span bytes (get_or items n d).span) → count ≡ length items

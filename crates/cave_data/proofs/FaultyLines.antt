@@ -1,4 +1,4 @@
--- The first fault of lines is of the first line that goes on from those of a database to nothing.
+-- The first fault of lines is that of the first line after which they can't become a database.
 use Rattle.std.proofs.Common.{◌≡◌, ℕ, cond, List, [], ◌∷◌, ◌++◌, Option, Some, None}
 use Rattle.std.proofs.Common.{option_map, refl, sym, ap, subst, ◌∙◌}
 use Rattle.std.specs.Option.{option_or}

@@ -1,4 +1,4 @@
--- Folds: from the last item back, and what becomes of one part of a state.
+-- Folds: from the last item back, and what happens to one part of a state.
 use Rattle.std.proofs.Common.{◌≡◌, List, [], ◌∷◌, ◌++◌, reverse, fold, Option, Some, None, refl}
 use Rattle.std.proofs.Common.{sym, ap, ◌∙◌}
 use Rattle.std.specs.List.{filter_map, cons_option}
@@ -32,8 +32,8 @@ picked : {A R : Type 0} (add : A → R → A) (a : A) (o : Option R) (rs : List 
 picked add a None rs = refl
 picked add a (Some r) rs = refl
 
--- where each item changes a part of the state by what is picked of it, all items change it by all
--- that is picked
+-- if each item changes a part of the state by what is picked of it, all items together change it by
+-- all that is picked
 pub fold-part : {T A E R : Type 0} (put : T → E → T) (part : T → A) (pick : E → Option R) (add : A
     → R → A)
     → ((t : T) (e : E) → part (put t e) ≡ added add (part t) (pick e)) → (t : T) (es : List E)

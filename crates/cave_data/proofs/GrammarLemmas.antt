@@ -1,4 +1,4 @@
--- Lines have rows, or bindings, exactly where no line of them has a cause.
+-- Lines have rows, or bindings, exactly if no line has a cause.
 use Rattle.std.proofs.Common.{◌≡◌, ℕ, Bool, true, false, cond, List, [], ◌∷◌, ◌++◌, Option}
 use Rattle.std.proofs.Common.{Some, None, is_some, option_map, Result, Ok, suc, length}
 use Rattle.std.proofs.Common.{Err, IsTrue, refl, sym, ap, subst, ◌∙◌}
@@ -210,9 +210,9 @@ rows_faultless position lines rows (database_ends {line = line} {lines = later} 
     line_then before line later Outside After [] [] (end_does line is) here may
     (λ leads more. faultless_after (before ++ line ∷ []) later leads more)
 
--- ---- lines of which none is at fault
+-- ---- lines without a fault
 
--- the rows of lines from a position on; after the end there are none
+-- the rows of lines from a position on; lines after the end have no rows
 abbrev pub RowsFrom : Position → List (List ℕ) → List Entry → Type 0
 RowsFrom Outside lines rows = HasRows Outside lines rows
 RowsFrom (Inside s) lines rows = HasRows (Inside s) lines rows

@@ -1,5 +1,5 @@
--- The texts of a cave are last runs, its ways those of the rows, and an object is known where it
--- has a row.
+-- The texts of a cave are last runs, its ways those of the rows, and an object is known if it has a
+-- row.
 use Rattle.std.proofs.Common.{◌≡◌, ℕ, ◌+◌, ◌*◌, ◌/◌, ◌<◌, ◌≤◌, Bool, true, false, cond, eqb, leb}
 use Rattle.std.proofs.Common.{ltb, ◌||◌, ◌&&◌, List, [], ◌∷◌, ◌++◌, length, reverse, Option, Some}
 use Rattle.std.proofs.Common.{None, option_map, unwrap_or, is_some, refl, sym, ap, ◌∙◌, arith}
@@ -155,7 +155,7 @@ text_there n lines =
     mapped (λ run. printed_text (run_text run)) (nonempty (first_lines_of n (reverse lines)))
     ∙ run_there n (reverse lines) ∙ any_reversed n lines
 
--- a line after an object is under an object's number exactly where it has that number
+-- a line after an object is under an object's number exactly if it has that number
 same_key : (object n : ℕ) (line : TextLine) → 1 ≤ n → n ≤ 99 → 1 ≤ object_after object line
     → eqb (object_key object line) n ≡ eqb line.number n
 same_key object n line low high some = at (names_object line) refl some where

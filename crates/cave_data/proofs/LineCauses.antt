@@ -1,4 +1,4 @@
--- The cause that a line has is there, and none below it is.
+-- The cause that a line has applies, and no lower cause does.
 use Rattle.std.proofs.Common.{◌≡◌, inl, inr, ℕ, ◌≤◌, Bool, true, false, cond, leb, ltb, eqb}
 use Rattle.std.proofs.Common.{List, [], ◌∷◌, length, fold, Some, None, Result, Ok, Err, refl}
 use Rattle.std.proofs.Common.{zero, suc, sym, ap, subst, ◌∙◌, arith, IsTrue}
@@ -44,7 +44,7 @@ use Rattle.cave_data.proofs.RightLemmas.{stays_object, stay_object}
 abbrev made : Entry → Result Entry Cause
 made row = Ok row
 
--- what is in its ranges, and is no row, has too long a list
+-- a line that is in its ranges, and isn't a row, has a list that is too long
 too_long : (s : Section) (line : List ℕ) (cause : Cause) → entry_in s line ≡ Err cause
     → IsInRange s line → HasLongList s line
 too_long section.Travel line cause e (place, going, is) = at (leb (length going.motions) 40) refl
@@ -80,7 +80,7 @@ unread_lowest before s line TooManyRows e is =
     (parts_found s line is.0, range, inl (too_long s line TooManyRows e range))
 unread_lowest before s line cause e is = is
 
--- ---- rows that are one too many, or of a prop of no object
+-- ---- rows beyond the limit, or with a prop of no object
 
 names : (line : TextLine) → IsOfObject line.number → names_object line ≡ true
 names line is =
@@ -92,7 +92,7 @@ first_named : (object : ℕ) (line : TextLine) → IsOfObject line.number
     → 1 ≤ object_after object line
 first_named object line is = rw (names line is) is.0
 
--- where there is no object after lines, none of them is of an object
+-- if there is no object after lines, none of them is an object's
 none_named : (object : ℕ) (lines : List TextLine) → fold object_after object lines ≡ 0
     → All (λ line. ¬ IsOfObject line.number) lines
 none_named object [] e = All-nil (λ (line : TextLine). ¬ IsOfObject line.number)

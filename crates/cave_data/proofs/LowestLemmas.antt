@@ -1,4 +1,4 @@
--- The cause that a row has by reading is its lowest.
+-- The cause that reading gives for a row is its lowest.
 use Rattle.std.proofs.Common.{◌≡◌, ◌⊎◌, inl, inr, ℕ, Bool, true, false, cond, List, [], ◌∷◌, length}
 use Rattle.std.proofs.Common.{Option, Some, None, Result, Ok, Err, refl, sym, subst}
 use Rattle.std.specs.Prelude.{nat_lt, IfErr}
@@ -31,7 +31,7 @@ Simple (Ok x) parts = parts ≡ true
 Simple (Err cause) parts = ((cause ≡ BadNumber) × (parts ≡ false))
     ⊎ ((cause ≡ OutOfRange) × (parts ≡ true))
 
--- A step fails by one cause only.
+-- A step fails with one cause only.
 
 abbrev OnlyErr : {X : Type 0} → Cause → Result X Cause → Type 0
 OnlyErr only r = IfErr r (λ cause. cause ≡ only)
@@ -108,7 +108,7 @@ ranged : {A B : Type 0} (r : Result A Cause) (f : A → Result B Cause) → Only
 ranged (Ok a) f h more = more a
 ranged (Err cause) f h more = inr (h, refl)
 
--- the same where the ranges of what follows are judged too
+-- the same if the ranges of what follows are judged too
 listed : {A B C D : Type 0} (r : Result A Cause) (f : A → Result B Cause) (g : A → Result C Cause)
     (k : A → Result D Cause) → OnlyErr BadNumber r
     → ((a : A) → Judged (f a) (is_ok (g a)) (is_ok (k a)))

@@ -26,7 +26,7 @@ use Rattle.cave_data.proofs.TextLemmas.{texts_after}
 use Rattle.cave_data.proofs.RowLemmas.{insert_row, rows_after, with_way_row, ways_after}
 use Rattle.cave_data.proofs.RowLemmas.{count_after, with_marks, marks_after}
 
--- What a row changes of each table.
+-- What a row changes in each table.
 
 long_each : (t : Tables) (e : Entry)
     → (with_entry t e).long ≡ added with_line t.long (long_line_of e)
@@ -89,7 +89,7 @@ object_each : (t : Tables) (e : Entry)
 object_each t (ObjectLine line) = refl
 object_each t e = refl
 
--- the texts of objects, and the object whose texts come
+-- the texts of objects, and the object whose texts follow
 with_object_line : (TextsSoFar × ℕ) → TextLine → TextsSoFar × ℕ
 with_object_line p line = (with_line p.0 (with_key p.1 line), object_after p.1 line)
 
@@ -210,7 +210,7 @@ module _ (rows : List Entry) where
   object_now =
       fold-part with_entry (λ t. t.object) object_line_of object_after object_each no_tables rows
 
--- what the tables refuse is what the rows before it make wrong
+-- the tables refuse exactly what the rows before make wrong
 length-map_classes : (lines : List TextLine) → length (map class_of_line lines) ≡ length lines
 length-map_classes [] = refl
 length-map_classes (line ∷ lines) = ap suc (length-map_classes lines)

@@ -1,4 +1,4 @@
--- The parts of a row are there, and in their ranges, exactly where they are read.
+-- The parts of a row are there, and in their ranges, exactly if they are read.
 use Rattle.std.proofs.Common.{◌≡◌, ℕ, ◌≤◌, Bool, true, false, List, [], ◌∷◌, length, map, Result}
 use Rattle.std.proofs.Common.{Ok, Err, refl, sym, ap, subst, ◌∙◌, arith}
 use Rattle.std.proofs.lemmas.Bool.{false≢true}
@@ -55,7 +55,7 @@ reads_in_range section.Conditions line =
     >>= λ number. all_within 1 LAST_PLACE places)
 reads_in_range s line = is_ok (entry_in s line)
 
--- by what is read, a row has this cause and no lower one
+-- what is read gives a row this cause, and no lower one
 abbrev pub IsLowestRead : Cause → Bool → Bool → Type 0
 IsLowestRead BadNumber parts ranges = parts ≡ false
 IsLowestRead OutOfRange parts ranges = (parts ≡ true) × (ranges ≡ false)

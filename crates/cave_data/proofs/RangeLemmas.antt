@@ -1,5 +1,5 @@
--- What is bound, and the places of objects, are in range: each row is, and so is what is made of
--- rows.
+-- What is bound is in range, and so are the places of objects: each row is, and so is what rows
+-- make.
 use Rattle.std.proofs.Common.{◌≡◌, ℕ, ◌≤◌, Bool, true, false, cond, eqb, leb, ◌&&◌, List, [], ◌∷◌}
 use Rattle.std.proofs.Common.{◌++◌, drop, fold, Some, Result, Ok, Err, refl, sym, subst, arith}
 use Rattle.std.specs.Prelude.{ℤ, pos, negsuc, ◌≤ℤ◌, codes, nat_eq, IfOk, IfSome, option_to_list}
@@ -61,7 +61,7 @@ each-read : {X : Type 0} (P : X → Type 0) (r : Result X Cause) → IfOk r P
 each-read P (Ok x) h = (h, tt)
 each-read P (Err cause) h = tt
 
--- what each item keeps is kept by all
+-- what each item preserves, all items together preserve
 kept : {X Y : Type 0} (P : X → Type 0) (Q : Y → Type 0) (f : Y → X → Y)
     → ((y : Y) (x : X) → P x → Q y → Q (f y x)) → (y : Y) (xs : List X) → Each P xs → Q y
     → Q (fold f y xs)

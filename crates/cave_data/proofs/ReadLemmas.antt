@@ -1,4 +1,5 @@
--- A cave that was made of tables and bindings is the one that the inputs describe, and no other is.
+-- The cave that tables and bindings make is the one that the inputs describe, and they describe no
+-- other.
 use Rattle.std.proofs.Common.{◌≡◌, inl, inr, ℕ, Bool, true, false, cond, ltb, List, [], ◌∷◌}
 use Rattle.std.proofs.Common.{◌++◌, length, map, Option, Some, None, Result, Ok, Err}
 use Rattle.std.proofs.Common.{unwrap_or, refl, sym, ap, subst, ◌∙◌}
@@ -44,7 +45,7 @@ use Rattle.cave_data.proofs.GrammarLemmas.{rows_known, rows_faultless, no_cause,
 use Rattle.cave_data.proofs.BindingRows.{bindings_known, bindings_without_fault, faultless_bindings}
 use Rattle.data_rows.specs.declared.binding.Binding.{Binding}
 
--- rows that are valid together stay so with lines after them that have no cause
+-- rows that are valid together stay valid if lines without a cause follow
 together_after : (before ls : List (List ℕ)) → first_fault before ls ≡ None
     → AreValidTogether (entries before) → AreValidTogether (entries (before ++ ls))
 together_after before [] e may =
@@ -125,7 +126,7 @@ made_reads database bindings t b c small bindings_small right tables bindings_ar
       };
     }
 
--- One cave at most is described.
+-- At most one cave is described.
 
 same : {X : Type 0} (m n : fin.FinMap nat_cmp X) → ((q : ℕ) → fin.get m q ≡ fin.get n q) → m ≡ n
 same m n alike = fin.same_map nat_cmp_total fin.nat_cmp-IsAntisymmetric m n alike
@@ -187,7 +188,7 @@ same_cave database bindings c d rc rd =
 
 -- Faults.
 
--- the first fault of lines, where both inputs are small enough
+-- the first fault of lines, if both inputs are small enough
 abbrev fault_of_lines : List ℕ → List ℕ → Option CaveError
 fault_of_lines database bindings =
     option_or (first_fault [] (lines database)) (first_binding_fault [] (lines bindings))
@@ -274,21 +275,21 @@ faultless_right database bindings e =
             are_bindings = bindings_right (lines bindings) parts.1;
           }
 
--- the inputs are right exactly where no line of theirs, and no size, is at fault
+-- the inputs are right exactly if no size and no line of theirs is at fault
 pub right_exactly : (database bindings : List ℕ)
     → (AreValidInputs database bindings → fault database bindings ≡ None)
     × (fault database bindings ≡ None → AreValidInputs database bindings)
 right_exactly database bindings =
     (right_faultless database bindings, faultless_right database bindings)
 
--- where a cave is described, nothing can fail but memory
+-- if the inputs describe a cave, only memory can fail
 pub only_memory : (database bindings : List ℕ) (c : CaveView) (e : CaveError)
     → Reads database bindings c → FaultIs e (fault database bindings) → e ≡ no_memory
 only_memory database bindings c e reads (inl h) = h
 only_memory database bindings c e reads (inr h) =
     let none = right_faultless database bindings reads.right in cc
 
--- what reading reports is what the relation asks
+-- what reading reports is what the relation requires
 pub read_decides : (database bindings : List ℕ) (r : Result CaveView CaveError) (c : CaveView)
     → IfOk r (λ d. Reads database bindings d) → IfErr r (λ e. FaultIs e (fault database bindings))
     → Reads database bindings c

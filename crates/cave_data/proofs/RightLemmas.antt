@@ -1,4 +1,4 @@
--- Rows are valid together exactly where none of them has a cause.
+-- Rows are valid together exactly if none of them has a cause.
 use Rattle.std.proofs.Common.{◌≡◌, ℕ, ◌+◌, ◌<◌, ◌≤◌, Bool, true, false, cond, leb}
 use Rattle.std.proofs.Common.{ltb, eqb, List, [], ◌∷◌, ◌++◌, length, fold, Option, Some, None}
 use Rattle.std.proofs.Common.{option_to_list, Result, Ok, Err, refl, sym, ap, subst, ◌∙◌}
@@ -23,12 +23,12 @@ use Rattle.cave_data.specs.FirstFault.{line_cause}
 use Rattle.cave_data.specs.Database.{BeginWithObject, AreValidTogether}
 use Rattle.cave_data.proofs.StepLemmas.{entries_push}
 
--- neither is there where their choice isn't
+-- if their choice isn't there, neither of them is
 pub neither : {X : Type 0} (a b : Option X) → option_or a b ≡ None → (a ≡ None) × (b ≡ None)
 neither None b e = (refl, e)
 neither (Some x) b e = cc
 
--- A row more.
+-- One more row.
 
 count : {R : Type 0} → (Entry → Option R) → List Entry → ℕ
 count pick rows = length (filter_map pick rows)
@@ -72,7 +72,7 @@ classes_more rows (ClassLine line) none few =
     omega (arith, count-append class_line_of rows (ClassLine line ∷ []))
 classes_more rows e none few = omega (arith, count-append class_line_of rows (e ∷ []), few)
 
--- the first line that comes after no object is an object's
+-- the first line, which comes after no object, is an object's
 names_first : (line : TextLine) → cond (eqb (object_after 0 line) 0) (Some OutOfRange) None ≡ None
     → names_object line ≡ true
 names_first line e = at (names_object line) refl e where
@@ -133,7 +133,7 @@ some_less rows more may = record {
 pub is_object : (line : TextLine) → names_object line ≡ true → 1 ≤ line.number
 is_object line e = ltb-true 0 line.number (and_parts (ltb 0 line.number) (leb line.number 99) e).0
 
--- after an object there is one
+-- after the row of an object there is an object
 pub stays_object : (object : ℕ) (line : TextLine) → 1 ≤ object → 1 ≤ object_after object line
 stays_object object line h = at (names_object line) refl where
   at : (b : Bool) → names_object line ≡ b → 1 ≤ cond b line.number object
@@ -180,7 +180,7 @@ fine_row rows (ObjectLine line) may =
     may.objects)
 fine_row rows e may = refl
 
--- A line has one row or none.
+-- A line has one row, or none.
 
 one_or_none : (r : Result Entry Cause) (rows : List Entry)
     → first_limit rows (option_to_list (result_ok r)) ≡ None → AreValidTogether rows
@@ -213,7 +213,7 @@ row_at position line rows none may = at (is_all_blank line) none where
   at true none = no_row rows may
   at false none = row_here position line rows none may
 
--- the first of more rows has no fault where all are valid together
+-- the first of the rows has no fault if all are valid together
 pub first_fine : (rows more : List Entry) → AreValidTogether (rows ++ more)
     → first_limit rows more ≡ None
 first_fine rows [] may = refl

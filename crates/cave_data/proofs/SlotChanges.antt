@@ -1,4 +1,4 @@
--- What becomes of the finite map of a table of slots where one slot changes.
+-- How the finite map of a table of slots changes as one slot changes.
 use Rattle.std.proofs.Common.{◌≡◌, ◌⊎◌, inl, inr, ℕ, true, false, cond, List, [], Option, Some}
 use Rattle.std.proofs.Common.{None, option_map, sym, ap, ◌∙◌, arith}
 use Rattle.std.proofs.lemmas.Bool.{cases_eq}

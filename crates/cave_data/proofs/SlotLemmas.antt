@@ -1,4 +1,4 @@
--- What a finite map made of a table of slots has at a number: what is in the slot.
+-- The finite map of a table of slots has at a number what is in that slot.
 use Rattle.std.proofs.Common.{◌≡◌, ℕ, ◌+◌, ◌<◌, ◌≤◌, length, option_and_then, suc, zero, true}
 use Rattle.std.proofs.Common.{false, cond, List, [], ◌∷◌, Option, Some, None, option_map, refl, ap}
 use Rattle.std.proofs.Common.{◌∙◌, arith}

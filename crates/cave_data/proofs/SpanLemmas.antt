@@ -72,7 +72,7 @@ words_kept bytes more (row ∷ rows) h =
     ∷ map (word_of_span (bytes ++ more)) rows) here
     ∙ ap (λ (ws : List WordEntry). word_of_span bytes row ∷ ws) later
 
--- a word is added where its bytes and its row are
+-- a word is added once its bytes and its row are
 pub word_added : (bytes word new : List ℕ) (rows : List NumberedSpan) (number : ℕ) (span : TextSpan)
     → All (RowWithin bytes) rows → new ≡ bytes ++ word → IsFrom new (length bytes) span
     → map (word_of_span new) (rows ++ record { number = number; span = span } ∷ [])
@@ -101,7 +101,7 @@ classes_kept bytes more (row ∷ rows) h =
     ∷ map (class_of_span (bytes ++ more)) rows) here
     ∙ ap (λ (cs : List ClassEntry). class_of_span bytes row ∷ cs) later
 
--- a class is added where its bytes and its row are
+-- a class is added once its bytes and its row are
 pub class_added : (bytes text new : List ℕ) (rows : List NumberedSpan) (bound : ℕ) (span : TextSpan)
     → All (RowWithin bytes) rows → new ≡ bytes ++ text → IsFrom new (length bytes) span
     → map (class_of_span new) (rows ++ record { number = bound; span = span } ∷ [])

@@ -1,4 +1,4 @@
--- A line makes of the tables of the lines before it those of the lines up to it, or is at fault.
+-- A line changes the tables of the lines before it to those of the lines up to it, or is at fault.
 use Rattle.std.proofs.Common.{◌≡◌, ℕ, Bool, true, false, cond, List, [], ◌∷◌, ◌++◌, fold, Option}
 use Rattle.std.proofs.Common.{Some, None, option_to_list, is_some, unwrap_or, Result, Ok, Err, refl}
 use Rattle.std.proofs.Common.{sym, ap, ◌∙◌}

@@ -1,4 +1,4 @@
--- Texts by number in a store: what they become when a line is added.
+-- Texts by number in a store: how they change when a line is added.
 use Rattle.std.proofs.Common.{◌≡◌, ◌⊎◌, inl, inr, ℕ, ◌≤◌, Bool, true, false, cond, List, [], ◌∷◌}
 use Rattle.std.proofs.Common.{◌++◌, length, drop, Option, Some, None, IfSome, option_map, unwrap_or}
 use Rattle.std.proofs.Common.{refl, sym, ap, subst, ◌∙◌, arith}
@@ -56,7 +56,7 @@ last_ends bytes spans (Some m) number h e =
     let same : m ≡ number = grind (arith, nat_tests) in
     subst (λ n. IfSome (slot spans n) (IsLast bytes)) same h
 
--- where a text is continued, what it is continued from is the end of the store
+-- a text that is continued is the one at the end of the store
 record Starts (bytes : List ℕ) (start : ℕ) (text : List ℕ) : Type 0 where
   within : start ≤ length bytes
   shows : drop start bytes ≡ text
@@ -81,7 +81,7 @@ kept : (bytes more : List ℕ) (o : Option TextSpan) → IfSome o (IsSpanWithin 
 kept bytes more None h = refl
 kept bytes more (Some span) h = ap Some (text_of_span-append bytes more span h)
 
--- a line is added where its bytes are, and the span of the text that it continues goes to the end
+-- a line is added once its bytes are, and the span of the text that it continues goes to the end
 pub line_added : (bytes new line : List ℕ) (spans put : List (Option TextSpan)) (last : Option ℕ)
     (number start : ℕ) (span : TextSpan) → AreWithin bytes spans → LastEnds bytes spans last
     → start ≡ cond (is_same_number last number)

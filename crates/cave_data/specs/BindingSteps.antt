@@ -1,4 +1,4 @@
--- Reading bindings line by line: what each line makes of the tables.
+-- Reading bindings line by line: what each line does to the tables.
 use Rattle.std.specs.Prelude.{ℕ, is_some, if◌then◌else◌, List, fold, Option, Some, None, Result, Ok}
 use Rattle.std.specs.Prelude.{Err}
 use Rattle.std.specs.FinMap as map

@@ -37,27 +37,27 @@ value_of (RoleKey number) bindings = last_of number (filter_map role_value bindi
 value_of (PlaceKey number) bindings = last_of number (filter_map place_value bindings)
 value_of LettersKey bindings = fold latest None (filter_map letters_value bindings)
 
--- the place where a game begins, where bindings say nothing
+-- the place where a game begins, if bindings don't say
 abbrev pub DEFAULT_START : ℕ
 DEFAULT_START = 1
 
--- the place where treasures are to be brought, where bindings say nothing
+-- the place where treasures are to be brought, if bindings don't say
 abbrev pub DEFAULT_BUILDING : ℕ
 DEFAULT_BUILDING = 3
 
--- the last place outside the cave, where bindings say nothing
+-- the last place outside the cave, if bindings don't say
 abbrev pub DEFAULT_OUTSIDE : ℕ
 DEFAULT_OUTSIDE = 8
 
--- the first place of the cave's depths, where bindings say nothing
+-- the first place of the cave's depths, if bindings don't say
 abbrev pub DEFAULT_DEEP : ℕ
 DEFAULT_DEEP = 15
 
--- how many letters of a word count, where bindings say nothing
+-- how many letters of a word count, if bindings don't say
 abbrev pub DEFAULT_LETTERS : ℕ
 DEFAULT_LETTERS = 5
 
--- the places that have a role where bindings say nothing: start, building, outside and deep
+-- the places that have a role if bindings don't say: start, building, outside and deep
 abbrev pub default_place : ℕ → Option ℕ
 default_place n = if n == 0 then Some DEFAULT_START
     else (if n == 1 then Some DEFAULT_BUILDING

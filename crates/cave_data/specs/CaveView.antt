@@ -135,12 +135,12 @@ first_word words number =
 abbrev pub cond_of : CaveView → ℕ → ℕ
 cond_of c place = unwrap_or (map.get c.conditions place) 0
 
--- where both halves of an object are at first: nowhere, where no row says so
+-- where both halves of an object are at first: nowhere, if no row says
 abbrev pub placement_of : CaveView → ℕ → Placement
 placement_of c object =
     unwrap_or (map.get c.placements object) (record { first = 0; second = pos 0 })
 
--- the message that an action prints where no rule says more, or 0
+-- the message that an action prints if no rule says more, or 0
 abbrev pub default_message : CaveView → ℕ → ℕ
 default_message c action = unwrap_or (map.get c.defaults action) 0
 
@@ -161,7 +161,7 @@ rating_at_row row class classes =
       is_followed = nat_lt 0 (length classes);
     }
 
--- the first row from this one on whose bound is not below the score
+-- the first row from this one on whose bound isn't below the score
 abbrev pub class_from : ℕ → ℕ → List ClassEntry → Option Rated
 class_from row score [] = None
 class_from row score (class ∷ classes) = if nat_le score class.bound

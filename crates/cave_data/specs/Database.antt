@@ -1,4 +1,4 @@
--- The relation of a database and a cave.
+-- The relation between a database and a cave.
 use Rattle.std.specs.Prelude.{◌≡◌, ℕ, ◌^◌, ◌≤◌, Bool, true, ◌==◌, List, [], ◌∷◌, length, map}
 use Rattle.std.specs.Prelude.{reverse, fold, filter, Option, option_map, bit_or}
 use Rattle.std.specs.List.{filter_map, find, list_any}
@@ -38,7 +38,7 @@ bits_of place rows = option_map (fold with_bit_of 0) (nonempty (filter (lists_pl
 abbrev pub printed_class_of_line : TextLine → ClassEntry
 printed_class_of_line line = record { bound = line.number; text = printed_text (line_text line) }
 
--- each prop of section 5 has an object before it: the first row is an object's
+-- each prop of section 5 has an object before it, as the first row is an object's
 abbrev pub BeginWithObject : List TextLine → Type 0
 BeginWithObject [] = Unit {0}
 BeginWithObject (line ∷ lines) = names_object line ≡ true

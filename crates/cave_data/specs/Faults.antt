@@ -6,7 +6,7 @@ use Rattle.data_rows.specs.declared.error.FaultSite.{FaultSite}
 use Rattle.data_rows.specs.declared.error.FaultSite.TheVariants as site
 use Rattle.data_rows.specs.declared.error.CaveError.{CaveError}
 
--- out of memory, which is no line's fault
+-- out of memory, for which no line is at fault
 abbrev pub no_memory : CaveError
 no_memory = record { cause = Memory; line = 0; site = site.Database }
 

@@ -1,4 +1,4 @@
--- The first faulty line of a database, said by the grammar.
+-- The first faulty line of a database, as the grammar defines it.
 use Rattle.std.specs.Prelude.{◌≡◌, ℕ, suc, List, [], ◌∷◌, ◌++◌, length}
 use Rattle.data_rows.specs.declared.error.Cause.{Cause}
 use Rattle.data_rows.specs.declared.error.Cause.TheVariants.{NoEnd}
@@ -11,21 +11,21 @@ use Rattle.cave_data.specs.Database.{AreValidTogether}
 use Rattle.cave_data.specs.FirstFault.{site_of_fault}
 use Rattle.cave_data.specs.LowestCause.{IsLowestAt}
 
--- The lines begin a database and have these rows: whatever goes on from this position makes one
--- with them.
+-- The lines begin a database and have these rows: lines that go on from this position to a database
+-- make one with them.
 pub record BeginDatabase (ls : List (List ℕ)) (position : Position) (rows : List Entry)
     : Type 0 where
   pub go_on : (later : List (List ℕ)) (more : List Entry) → HasRows position later more
       → HasRows Outside (ls ++ later) (rows ++ more)
   pub together : AreValidTogether rows
 
--- the cause is that of the next line, or the end is missing where there is none
+-- the cause is that of the next line, or the end is missing, if there is no next line
 abbrev pub IsNextCause : List Entry → Position → List (List ℕ) → Cause → Type 0
 IsNextCause rows After [] cause = ⊥
 IsNextCause rows position [] cause = cause ≡ NoEnd
 IsNextCause rows position (line ∷ later) cause = IsLowestAt rows position line cause
 
--- The lines before begin a database, and the fault is of the line after them.
+-- The lines before begin a database, and the line after them has the fault.
 pub record IsFirstFault (ls : List (List ℕ)) (fault : CaveError) : Type 0 where
   pub before : List (List ℕ)
   pub rest : List (List ℕ)

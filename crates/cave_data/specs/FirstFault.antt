@@ -32,7 +32,7 @@ shape_cause position line = if is_all_blank line then None else shape_here posit
 abbrev pub at_most : ℕ → ℕ → Option Cause
 at_most limit before = if nat_lt before limit then None else Some TooManyRows
 
--- what is wrong with a row after these rows: one too many, or a prop of no object
+-- what is wrong with a row after these rows: there are too many, or it has a prop of no object
 abbrev pub limit_cause : List Entry → Entry → Option Cause
 limit_cause before (Way place going) = at_most MAX_WAYS (length (filter_map way_of before))
 limit_cause before (Word word) = at_most MAX_WORDS (length (filter_map word_entry_of before))
@@ -57,7 +57,7 @@ site_of_fault Outside = site.Database
 site_of_fault (Inside s) = site.Section s
 site_of_fault After = site.Database
 
--- a fault of the line after these
+-- a fault of the line after these lines
 abbrev pub fault_after : List (List ℕ) → Cause → CaveError
 fault_after before cause =
     record {

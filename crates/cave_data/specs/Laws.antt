@@ -27,7 +27,7 @@ pub record IsLastRun (n : ℕ) (lines before run later : List TextLine) : Type 0
   pub apart : (front : List TextLine) (line : TextLine) → before ≡ front ++ line ∷ []
       → has_number n line ≡ false
 
--- The text of a number is its last run; without a line there is none.
+-- The text of a number is its last run; a number without a line has no text.
 pub record AreLastRuns (texts : Texts) (lines : List TextLine) : Type 0 where
   pub run : (n : ℕ) (before run later : List TextLine) → IsLastRun n lines before run later
       → get texts n ≡ Some (printed_text (flat_map line_text run))
@@ -42,7 +42,7 @@ pub record Laws (rows : List Entry) (c : CaveView) : Type 0 where
   pub travel : (place : ℕ)
       → ways_from c place
       ≡ map (λ row. row.1) (filter (λ row. row.0 == place) (filter_map way_of rows))
-  -- an object, and so a treasure, is known exactly where a row of section 5 has its number
+  -- an object, and so a treasure, is known exactly if a row of section 5 has its number
   pub known : (object : ℕ) → 1 ≤ object → object ≤ LAST_NAMED
       → is_some (name_of c object)
       ≡ list_any (has_number object) (filter_map object_line_of rows)

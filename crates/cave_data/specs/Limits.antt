@@ -1,4 +1,4 @@
--- How many rows a section of a database may have at most.
+-- The most rows that a section of a database may have.
 use Rattle.std.specs.Prelude.{ℕ}
 
 -- the most ways out of places

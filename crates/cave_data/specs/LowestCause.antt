@@ -1,4 +1,4 @@
--- Of several faults of one line the lowest is reported: what is missing, then what is out of its
+-- If a line has several faults, the lowest is reported: first what is missing, then what is out of
 -- range, then what is too much.
 use Rattle.std.specs.Prelude.{◌≡◌, ◌⊎◌, ℕ, ◌<◌, ◌≤◌, List, [], ◌∷◌, length, Some, IsTrue}
 use Rattle.std.specs.List.{All, filter_map}
@@ -23,7 +23,7 @@ use Rattle.data_rows.specs.Grammar.{position_after, entries}
 use Rattle.cave_data.specs.Limits.{MAX_WAYS, MAX_WORDS, MAX_CLASSES}
 use Rattle.cave_data.specs.FirstFault.{line_cause}
 
--- the numbers and words of a row of the section are there, whatever their ranges
+-- the numbers and words of a row of the section are there, in range or not
 abbrev pub HasParts : Section → List ℕ → Type 0
 HasParts section.Travel line =
     (place : Number) × (target : Number) × (rest : List ℕ) × (motions : List Number)
@@ -48,21 +48,21 @@ HasParts section.Hints line =
     × (length numbers ≡ 5)
 HasParts s line = (number : Number) × (rest : List ℕ) × BeginsWithNumber line number rest
 
--- the line is a row of the section, however long a list of it is
+-- the line is a row of the section, however long its lists are
 abbrev pub IsInRange : Section → List ℕ → Type 0
 IsInRange section.Travel line = (place : ℕ) × (going : Going) × IsWayRow line place going
 IsInRange section.Conditions line =
     (bit : ℕ) × (places : List ℕ) × IsConditionRow line bit places
 IsInRange s line = (row : Entry) × IsRow s line row
 
--- the line is of a prop, and none before it is of an object
+-- the line is a prop's, and no line before it is an object's
 abbrev pub LacksObject : List Entry → Section → List ℕ → Type 0
 LacksObject before section.Objects line =
     (row : TextLine) × IsTextRow IsOfProp line row
     × All (λ earlier. ¬ IsOfObject earlier.number) (filter_map object_line_of before)
 LacksObject before s line = ⊥
 
--- more than 40 motions or places are in the line
+-- the line has more than 40 motions or places
 abbrev pub HasLongList : Section → List ℕ → Type 0
 HasLongList section.Travel line =
     (place : ℕ) × (going : Going) × IsWayRow line place going × (40 < length going.motions)
@@ -70,14 +70,14 @@ HasLongList section.Conditions line =
     (bit : ℕ) × (places : List ℕ) × IsConditionRow line bit places × (40 < length places)
 HasLongList s line = ⊥
 
--- the rows before are as many of the section as there may be
+-- the rows before are already all that the section may have
 abbrev pub IsFull : List Entry → Section → Type 0
 IsFull before section.Travel = MAX_WAYS ≤ length (filter_map way_of before)
 IsFull before section.Words = MAX_WORDS ≤ length (filter_map word_entry_of before)
 IsFull before section.Classes = MAX_CLASSES ≤ length (filter_map class_line_of before)
 IsFull before s = ⊥
 
--- this is wrong with the line inside the section after these rows, and no lower cause is
+-- this is wrong with the line inside the section after these rows, and no lower cause applies
 abbrev pub IsLowest : List Entry → Section → List ℕ → Cause → Type 0
 IsLowest before s line BadNumber = ¬ HasParts s line
 IsLowest before s line OutOfRange =
@@ -91,7 +91,7 @@ abbrev pub OpensNothing : List ℕ → Type 0
 OpensNothing line = ((s : Section) → ¬ IsLineOfNumber (Natural (section_number s)) line)
     × (¬ IsLineOfNumber (Natural 0) line)
 
--- this is wrong with the line at that place after these rows, and no lower cause is
+-- this is wrong with the line at that place after these rows, and no lower cause applies
 abbrev pub IsLowestAt : List Entry → Position → List ℕ → Cause → Type 0
 IsLowestAt before Outside line BadSection = (¬ IsTrue (is_all_blank line)) × OpensNothing line
 IsLowestAt before (Inside s) line cause =

@@ -1,4 +1,4 @@
--- The ranges of what bindings bind and of the places of objects.
+-- The ranges of what bindings bind, and of the places of objects.
 use Rattle.std.specs.Prelude.{ℕ, ◌≤◌, pos, negsuc, ◌≤ℤ◌, IfSome}
 use Rattle.std.specs.Ordering.{nat_cmp}
 use Rattle.std.specs.FinMap as map
@@ -12,7 +12,7 @@ IsPlace n = (1 ≤ n) × (n ≤ LAST_PLACE)
 abbrev pub IsMessage : ℕ → Type 0
 IsMessage n = (1 ≤ n) × (n ≤ LAST_MESSAGE)
 
--- so many letters of a word may count
+-- this many letters of a word may count
 abbrev pub IsLetters : ℕ → Type 0
 IsLetters n = (5 ≤ n) × (n ≤ 8)
 
@@ -22,7 +22,7 @@ pub record IsPlacementInRange (p : Placement) : Type 0 where
   pub low : negsuc 0 ≤ℤ p.second
   pub high : p.second ≤ℤ pos LAST_PLACE
 
--- all values of a map are such values
+-- all values of a map have the property
 abbrev pub HasOnly : {X : Type 0} → (X → Type 0) → map.FinMap nat_cmp X → Type 0
 HasOnly IsSuch m = (n : ℕ) → IfSome (map.get m n) IsSuch
 

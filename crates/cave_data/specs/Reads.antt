@@ -1,4 +1,4 @@
--- The relation of a database and bindings to the cave that they describe, and their first fault.
+-- How a database and bindings relate to the cave that they describe, and to their first fault.
 use Rattle.std.specs.Prelude.{◌≡◌, ◌≤◌, ℕ, nat_lt, if◌then◌else◌, List, [], ◌∷◌, ◌++◌}
 use Rattle.std.specs.Prelude.{length, Option, Some, None, unwrap_or}
 use Rattle.std.specs.Option.{option_or}
@@ -54,14 +54,15 @@ pub record Reads (database bindings : List ℕ) (c : CaveView) : Type 0 where
 abbrev pub too_large_input : FaultSite → CaveError
 too_large_input site = record { cause = TooLarge; line = 0; site = site }
 
--- the fault of a size, which is decided before memory is asked for
+-- the fault of a size, which is found before any memory is requested
 abbrev pub size_fault : List ℕ → List ℕ → Option CaveError
 size_fault database bindings =
     if nat_lt MAX_INPUT_BYTES (length database) then Some (too_large_input site.Database)
     else (if nat_lt MAX_INPUT_BYTES (length bindings) then Some (too_large_input site.Bindings)
     else None)
 
--- the first fault: a size, else a line of the database, else a line of the bindings
+-- the first fault: that of a size, otherwise of a line of the database, otherwise of a line of the
+-- bindings
 unfoldable pub fault : List ℕ → List ℕ → Option CaveError
 fault database bindings =
     option_or (size_fault database bindings)

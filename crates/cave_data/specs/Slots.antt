@@ -1,4 +1,4 @@
--- Tables with a slot for each number: what is at a number, and the finite map that this is.
+-- Tables with a slot for each number: what is at a number, and the finite map that such a table is.
 use Rattle.std.specs.Prelude.{◌≡◌, ◌≢◌, ℕ, suc, List, [], ◌∷◌, Option, Some, None, option_and_then}
 use Rattle.std.specs.Prelude.{slice_get}
 use Rattle.std.specs.Ordering.{nat_cmp}
@@ -18,7 +18,7 @@ numbered_items view n (Some x ∷ xs) = (n, view x) ∷ numbered_items view (suc
 unfoldable pub by_number : {X Y : Type 0} → (X → Y) → List (Option X) → map.FinMap nat_cmp Y
 by_number view xs = map.from_entries (numbered_items view 0 xs)
 
--- no slot shows anything else than before
+-- each slot shows what it showed before
 abbrev pub SameSlots : {X : Type 0} → List (Option X) → List (Option X) → Type 0
 SameSlots old new = (n : ℕ) → slot new n ≡ slot old n
 

@@ -1,4 +1,4 @@
--- Reading a database line by line: what each line makes of the tables.
+-- Reading a database line by line: what each line does to the tables.
 use Rattle.std.specs.Prelude.{ℕ, ◌==◌, if◌then◌else◌, List, [], ◌∷◌, ◌++◌, length, fold, Option}
 use Rattle.std.specs.Prelude.{Some, None, Result, Ok, Err}
 use Rattle.std.specs.FinMap as map
@@ -45,7 +45,7 @@ with_entry t (ClassLine line) = record t { classes = t.classes ++ class_of_line 
 with_entry t (HintRow number hint) = record t { hints = map.insert t.hints number hint }
 with_entry t (MagicLine line) = t
 
--- what is wrong with a row after those that the tables have
+-- what is wrong with a row that comes after those of the tables
 abbrev pub table_limit : Tables → Entry → Option Cause
 table_limit t (Way place going) = at_most MAX_WAYS t.ways.count
 table_limit t (Word word) = at_most MAX_WORDS (length t.words)
@@ -81,7 +81,7 @@ advance r line = if is_all_blank line then Ok r else advance_in r r.position lin
 abbrev pub no_texts : TextsSoFar
 no_texts = record { texts = map.empty; last = None }
 
--- the tables of no rows
+-- the tables of a database without rows
 abbrev pub no_tables : Tables
 no_tables = record {
   long = no_texts;

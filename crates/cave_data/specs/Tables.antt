@@ -33,7 +33,7 @@ abbrev pub is_same_number : Option ℕ → ℕ → Bool
 is_same_number None n = false
 is_same_number (Some m) n = m == n
 
--- what a line of this number is added to
+-- the text to which a line with this number is added
 abbrev pub text_to_extend : TextsSoFar → ℕ → List ℕ
 text_to_extend t number =
     if is_same_number t.last number then unwrap_or (map.get t.texts number) [] else []

@@ -34,18 +34,18 @@ unfoldable pub text_of_number : ℕ → List TextLine → Option (List ℕ)
 text_of_number n lines =
     option_map (λ run. printed_text (run_text run)) (nonempty (first_lines_of n (reverse lines)))
 
--- Lines of section 5. A number up to the last named object is an object, another one a hundred
--- times a prop of the object before.
+-- Lines of section 5. A number up to the last named object is an object; any other number is a
+-- hundred times a prop of the object before.
 
--- whether the line is of an object's inventory text, and not of a prop
+-- whether the line belongs to an object's inventory text, and not to a prop
 abbrev pub names_object : TextLine → Bool
 names_object line = nat_lt 0 line.number && nat_le line.number LAST_NAMED
 
--- the object whose texts come after a line
+-- the object whose texts follow a line
 abbrev pub object_after : ℕ → TextLine → ℕ
 object_after object line = if names_object line then line.number else object
 
--- the object whose texts come after these lines, or 0
+-- the object whose texts follow these lines, or 0
 abbrev pub object_after_lines : List TextLine → ℕ
 object_after_lines lines = fold object_after 0 lines
 
@@ -57,7 +57,7 @@ object_key object line = if names_object line then line.number else 100 * object
 abbrev pub with_key : ℕ → TextLine → TextLine
 with_key object line = record { number = object_key object line; text = line.text }
 
--- the lines under such numbers, where the texts of this object come first
+-- the lines under such numbers, if the texts of this object come first
 abbrev pub by_object : ℕ → List TextLine → List TextLine
 by_object object [] = []
 by_object object (line ∷ lines) = with_key object line ∷ by_object (object_after object line) lines

@@ -88,7 +88,7 @@ impl Bindings {
     }
 }
 
-/// Reads bindings, or returns the error of the first faulty line.
+/// Reads bindings, or returns the fault of the first faulty line.
 pub fn read_bindings(alloc: Global, text: &[u8]) -> Result<Bindings, CaveError>
     ensures right { IfOk result (λ _. first_binding_fault [] (lines text.now) ≡ None) }
     ensures found { IfOk result

@@ -1,4 +1,4 @@
-//! A cave: the tables of a database and what its bindings say.
+//! A cave: the tables of a database, and what its bindings say.
 ghost use Rattle.std.specs.Prelude.{◌≡◌, All, option_map, map, length, nat_lt, IfOk, IfErr, IfSome};
 ghost use Rattle.std.specs.Prelude.{MatchOption, MatchResult, None, unwrap_or, []};
 ghost use Rattle.std.specs.Str.Lines.{lines};
@@ -38,19 +38,19 @@ use data_rows::{Cause, CaveError, FaultSite, Hint, PlaceRole, Role, Row};
 use std::alloc::Global;
 use std::marker::Model;
 
-/// The place where a game begins, where bindings say nothing.
+/// The place where a game begins, if bindings don't say.
 pub const DEFAULT_START: u16 = 1;
 
-/// The place where treasures are to be brought, where bindings say nothing.
+/// The place where treasures are to be brought, if bindings don't say.
 pub const DEFAULT_BUILDING: u16 = 3;
 
-/// The last place outside the cave, where bindings say nothing.
+/// The last place outside the cave, if bindings don't say.
 pub const DEFAULT_OUTSIDE: u16 = 8;
 
-/// The first place of the cave's depths, where bindings say nothing.
+/// The first place of the cave's depths, if bindings don't say.
 pub const DEFAULT_DEEP: u16 = 15;
 
-/// How many letters of a word count, where bindings say nothing.
+/// How many letters of a word count, if bindings don't say.
 const DEFAULT_LETTERS: u8 = 5;
 
 /// A cave that was read from a database and its bindings.
@@ -72,7 +72,7 @@ pub struct Cave {
     letters: u8,
 }
 
-/// The place that has the role where bindings say nothing.
+/// The place that has the role if bindings don't say.
 fn default_place(place: PlaceRole) -> Option<u16>
     ensures value { result ≡ default_place (place_number place) }
     ensures within { IfSome result IsPlace }
@@ -139,7 +139,7 @@ fn letters_of(bound: Option<u16>) -> u8
     }
 }
 
-/// The cave of tables and bindings.
+/// The cave that tables and bindings make.
 fn finish(tables: Tables, bindings: Bindings) -> Cave
     requires bindings { AreInRange bindings }
     requires placements { HasOnly IsPlacementInRange tables.placements }
@@ -199,18 +199,18 @@ impl Cave {
             (λ e. result ≡ Err e) }
         ensures found { IfOk result (λ c. Reads database.now bindings.now c) }
         ensures fault { IfErr result (λ e. FaultIs e (fault database.now bindings.now)) }
-        // Where a line of the database has several faults, the one with the lowest number is its
-        // cause.
+        // If a line of the database has several faults, its cause is the one with the lowest
+        // number.
         ensures lowest { ReportsLowest }
         // The lines before the first faulty one begin a database.
         ensures first { IfSome (first_fault [] (lines database.now))
             (IsFirstFault (lines database.now)) }
-        // There is no fault exactly where the inputs are a database and bindings.
+        // There is no fault exactly if the inputs are a database and its bindings.
         ensures right { (AreValidInputs database.now bindings.now
             → fault database.now bindings.now ≡ None)
             × (fault database.now bindings.now ≡ None → AreValidInputs database.now bindings.now) }
         ensures laws { IfOk result (λ c. KeepsLaws database.now c) }
-        // Where a cave is described, it is read, unless memory runs out.
+        // A cave that the inputs describe is read, unless memory runs out.
         ensures only { (c : CaveView) → Reads database.now bindings.now c
             → MatchResult result (λ d. d ≡ c) (λ e. e ≡ no_memory) }
     {
@@ -273,7 +273,7 @@ impl Cave {
         self.conditions.get(place).unwrap_or(0)
     }
 
-    /// The first place of the object and its second, and (0, 0) where no row says so.
+    /// The first place of the object and its second, or (0, 0) if no row gives them.
     pub fn placement(&self, object: u16) -> (u16, i16)
         ensures first { result.0 ≡ (placement_of self.now object).first }
         ensures second { result.1 ≡ (placement_of self.now object).second }
@@ -285,7 +285,7 @@ impl Cave {
         }
     }
 
-    /// The message that the action prints where no rule says more, or 0.
+    /// The message that the action prints if no rule says more, or 0.
     pub fn default_of(&self, action: u16) -> u16
         ensures { result ≡ default_message self.now action }
     {
@@ -299,7 +299,7 @@ impl Cave {
         self.hints.get(number)
     }
 
-    /// A number above those of all hints.
+    /// A number greater than that of any hint.
     pub fn hint_end(&self) -> usize
         ensures { IsAbove result self.now.hints }
     {
@@ -314,7 +314,7 @@ impl Cave {
         self.roles.get(role.number())
     }
 
-    /// The place that has the role, by bindings or where they say nothing.
+    /// The place that has the role, from bindings, or if they don't say.
     pub fn place(&self, place: PlaceRole) -> Option<u16>
         ensures value { result ≡ get self.now.places (place_number place) }
         ensures within { IfSome result IsPlace }
@@ -329,7 +329,7 @@ impl Cave {
         &self.words
     }
 
-    /// The class of the score: the first row whose bound is not below it.
+    /// The class of the score: the first row whose bound is not below the score.
     pub fn class_of(&self, score: u32) -> Option<Rating<'_>>
         ensures { option_map rating result ≡ class_of self.now score }
     {

@@ -78,7 +78,7 @@ impl Classes {
         Ok(())
     }
 
-    /// The class of the score: the first row whose bound is not below it.
+    /// The class of the score: the first row whose bound is not below the score.
     pub fn class_of(&self, score: u32) -> Option<Rating<'_>>
         ensures { option_map rating result ≡ class_from 1 score (map printed_class self.now) }
     {

@@ -35,8 +35,8 @@ pub fn error_at(cause: Cause, line: usize, site: FaultSite) -> CaveError
     }
 }
 
-// Tables are let go by a call, and not at the end of a block: the checker then goes through all
-// that they have once.
+// Tables are dropped by a call, and not at the end of a block, because then the checker goes
+// through all that they have just once.
 
 /// The tables of a database.
 pub fn read_database(alloc: Global, database: &[u8]) -> Result<Tables, CaveError>

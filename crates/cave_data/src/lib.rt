@@ -1,4 +1,4 @@
-//! Caves: databases with their bindings, as tables that a game looks things up in.
+//! Caves: databases with their bindings, as tables in which a game looks things up.
 #![tactic(auto)]
 
 mod bindings;

@@ -27,7 +27,7 @@ const MAX_WAYS: usize = 2000;
 /// The last number that a text of an object may have: a hundred times the object, and a prop.
 const LAST_OBJECT_TEXT: u16 = 100 * LAST_NAMED + LAST_PROP;
 
-/// The tables of the rows so far, and the object whose texts come, or 0.
+/// The tables of the rows so far, and the object whose texts follow, or 0.
 #[derive(Drop)]
 pub struct Tables {
     pub long: Texts,
@@ -51,7 +51,7 @@ pub struct DatabaseReader {
     pub tables: Tables,
 }
 
-/// Whether a line of this number is of an object's inventory text.
+/// Whether a line with this number belongs to an object's inventory text.
 fn names_object(number: u16) -> bool
     ensures { result ≡ (nat_lt 0 number && nat_le number defined.LAST_NAMED) }
 {

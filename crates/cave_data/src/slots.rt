@@ -4,7 +4,7 @@ ghost use Rattle.cave_data.specs.Slots.{slot, SameSlots, ChangesSlot};
 
 use std::alloc::{AllocError, Global};
 
-/// Values by number, and for how many numbers it takes room as the first value comes.
+/// Values by number, and how many numbers get room when the first value is set.
 #[derive(Drop)]
 pub struct Slots<T> {
     pub items: Vec<Option<T>>,
@@ -12,7 +12,7 @@ pub struct Slots<T> {
 }
 
 impl<T: Drop> Slots<T> {
-    /// A table with nothing in it, which takes room for the numbers up to the last at once.
+    /// An empty table, which takes room for the numbers up to the last at once.
     pub fn with_room(alloc: Global, last: u16) -> Self
         ensures { result.items.items ≡ [] }
     {

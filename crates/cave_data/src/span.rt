@@ -3,7 +3,7 @@ ghost use Rattle.std.specs.Prelude.{◌≡◌, ◌++◌, ◌∷◌, [], OnOk, On
 
 use std::alloc::AllocError;
 
-/// Where a text is in the store that has it.
+/// Where in its store a text is.
 #[derive(Clone, Copy)]
 pub struct TextSpan {
     pub start: u32,
@@ -17,7 +17,7 @@ pub struct NumberedSpan {
     pub span: TextSpan,
 }
 
-/// Adds a row at the end. The first row takes room for so many.
+/// Adds a row at the end. The first row takes room for this many.
 pub fn add_row(
     rows: &mut Vec<NumberedSpan>,
     room: usize,

@@ -1,4 +1,4 @@
-//! A store of bytes that has many texts, one after another.
+//! A store of bytes: many texts, one after another.
 ghost use Rattle.std.specs.Prelude.{◌≡◌, ◌≤◌, ◌++◌, ◌∷◌, [], IfOk, OnOk, length};
 ghost use Rattle.cave_data.specs.Spans.{text_of_span, IsSpanWithin, IsFrom};
 
@@ -27,7 +27,7 @@ impl Model for Store {
 }
 
 impl Store {
-    /// A store of no bytes.
+    /// An empty store.
     pub fn new(alloc: Global) -> Self
         ensures { result ≡ [] }
     {

@@ -29,7 +29,7 @@ impl<T> Model for ByNumber<T> {
 
 #[tactic(auto, using(crate::proofs::SlotChanges::slot_changes))]
 impl<T: Copy> ByNumber<T> {
-    /// A table with nothing in it, which takes room for the numbers up to the last at once.
+    /// An empty table, which takes room for the numbers up to the last at once.
     pub fn with_room(alloc: Global, last: u16) -> Self
         ensures { result ≡ empty }
     {
@@ -45,7 +45,7 @@ impl<T: Copy> ByNumber<T> {
         self.slots.get(number).copied()
     }
 
-    /// A number above those of all values.
+    /// A number greater than that of any value.
     pub fn end(&self) -> usize
         ensures { IsAbove result self.now }
     {

@@ -48,7 +48,7 @@ fn is_last(last: Option<u16>, number: u16) -> bool
     }
 }
 
-/// Where the text begins that a line is added to, in a store of so many bytes.
+/// Where the text to which a line is added begins, in a store of this many bytes.
 fn start_of(span: Option<TextSpan>, continues: bool, end: usize) -> usize
     requires { IfSome span (λ span. span.start ≤ end) }
     ensures value { result ≡ (if continues
@@ -74,7 +74,7 @@ pub fn printed(text: &[u8]) -> &[u8]
 const NOTHING: &[u8] = b">$<\n";
 
 impl Texts {
-    /// No texts. The first takes room for those of the numbers up to the last.
+    /// No texts. The first one takes room for the numbers up to the last.
     pub fn with_room(alloc: Global, last: u16) -> Self
         ensures { result ≡ record { texts = empty; last = None } }
     {
@@ -85,7 +85,7 @@ impl Texts {
         }
     }
 
-    /// Adds a line to the text of the number, or begins that text anew.
+    /// Adds a line to the text of the number, or begins that text again.
     pub fn add_line(&mut self, number: u16, line: &[u8]) -> Result<(), AllocError>
         ensures { OnOk result (self.new
             ≡ with_line self.old (record { number = number; text = line.now })) }

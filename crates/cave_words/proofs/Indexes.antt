@@ -1,4 +1,4 @@
--- What the rows of a word leave of its meanings, and what lookups then find.
+-- Which meanings the rows of a word leave, and what lookups then find.
 use Rattle.std.proofs.Common.{◌≡◌, ℕ, ◌+◌, ◌<◌, Bool, true, false, cond, ◌&&◌, List, [], ◌∷◌, ◌++◌}
 use Rattle.std.proofs.Common.{length, take, Option, Some, None, option_map, option_and_then, find}
 use Rattle.std.proofs.Common.{fold, bytes_eq, refl, sym, ap, ◌∙◌}

@@ -40,7 +40,7 @@ object_of_word_means cave index written is =
     ∙ ap (option_map (λ (m : Meaning). m.number))
     (in_class-meanings_of NAME_LETTERS cave.words (word_of NAME_LETTERS written) Object)
 
--- what is known of each name is at the name's number
+-- the object of each name is at the number of the name
 at_number : {K : Type 0} (f : Named → K) (d : K) (n : Named)
     → get_or (map f EACH_NAME) (name_number n) d ≡ f n
 at_number f d name.Keys = refl

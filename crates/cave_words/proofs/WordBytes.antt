@@ -6,7 +6,7 @@ use Rattle.std.proofs.lemmas.Bool.Decides.{same_from_decides, Decides-like, Deci
 use Rattle.std.proofs.lemmas.Nat.{le_bytes_8}
 use Rattle.std.proofs.lemmas.Slice.Eq.{bytes_eq-Decides}
 
--- eight bytes are the same exactly where the numbers that they make are
+-- eight bytes are the same exactly if the numbers that they make are
 pub same_numbers : (a b : List ℕ) (m n : ℕ) → length a ≡ 8 → length b ≡ 8
     → ((i : ℕ) → get_or a i 0 < 256) → ((i : ℕ) → get_or b i 0 < 256)
     → m ≡ from_le_bytes w64 a → n ≡ from_le_bytes w64 b → nat_eq m n ≡ bytes_eq a b

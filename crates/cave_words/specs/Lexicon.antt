@@ -18,12 +18,12 @@ Index = List (List ℕ × Meanings)
 abbrev pub meanings_in : Index → List ℕ → Option Meanings
 meanings_in index word = lookup (bytes_eq word) index
 
--- the index says what the rows say of each word, where so many letters count
+-- the index says of each word what the rows say, if this many letters count
 abbrev pub IsIndexOf : ℕ → List WordEntry → Index → Type 0
 IsIndexOf letters rows index = (word : List ℕ)
     → meanings_in index word ≡ meanings_of letters rows word
 
--- what a lexicon is: the words with their meanings, and the objects of the names by their numbers
+-- a lexicon is the words with their meanings, and the objects of the names by their numbers
 pub record LexiconView : Type 0 where
   pub letters : ℕ
   pub words : Index

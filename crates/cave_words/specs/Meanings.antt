@@ -10,7 +10,7 @@ use Rattle.cave_words.specs.declared.meanings.Meanings.{Meanings}
 use Rattle.cave_data.specs.CaveView.{CaveView}
 use Rattle.cave_words.specs.Words.{word_of}
 
--- the class that the number of a row says by its thousands
+-- the class that the thousands of a row's number say
 abbrev pub class_of_number : ℕ → Class
 class_of_number number =
     if number / WORDS_PER_CLASS == 0 then Motion
@@ -54,12 +54,12 @@ meaning_in_class Object meanings = meanings.object
 meaning_in_class Action meanings = meanings.action
 meaning_in_class Special meanings = meanings.special
 
--- a word whose only meaning has no class yet
+-- a word with one meaning, before its class is counted
 abbrev pub only_first : Meaning → Meanings
 only_first meaning =
     record { first = meaning; motion = None; object = None; action = None; special = None }
 
--- the meanings, where this one counts in its class if it is the first there
+-- the meanings with this one, which counts in its class if it is the first there
 abbrev pub with_in_class : Class → Meaning → Meanings → Meanings
 with_in_class Motion meaning meanings =
     record meanings { motion = option_or meanings.motion (Some meaning) }
@@ -70,12 +70,12 @@ with_in_class Action meaning meanings =
 with_in_class Special meaning meanings =
     record meanings { special = option_or meanings.special (Some meaning) }
 
--- the meanings of a word once one more row was read
+-- the meanings of a word after one more row
 unfoldable pub with_meaning : Option Meanings → Meaning → Meanings
 with_meaning known meaning =
     with_in_class meaning.class meaning (unwrap_or known (only_first meaning))
 
--- the meanings of a word once a row was read, which may be another word's
+-- the meanings of a word after a row, which may be another word's
 abbrev pub with_row : ℕ → List ℕ → Option Meanings → WordEntry → Option Meanings
 with_row letters word known row = if is_word letters word row
     then Some (with_meaning known (meaning_of row.number)) else known

@@ -91,7 +91,7 @@ object_of_word cave word =
     first_meaning (is_word_in NAME_LETTERS (word_of NAME_LETTERS word) Object) cave.words in
     option_map (λ meaning. meaning.number) object
 
--- the object after, if there may be one
+-- the next object, if its number is possible
 abbrev pub next_object : ℕ → Option ℕ
 next_object object = if nat_lt object LAST_OBJECT then Some (object + 1) else None
 

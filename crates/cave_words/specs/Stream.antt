@@ -5,15 +5,16 @@ use Rattle.std.specs.Prelude.{ℕ, ◌+◌, ◌*◌, ◌/◌, ◌%◌, Bool, nat
 abbrev pub STREAM_SIZE : ℕ
 STREAM_SIZE = 1048576
 
--- the most numbers among which one is drawn: that many times a number of the stream fit in 32 bits
+-- the most numbers among which one is drawn: a number of the stream fits this many times into 32
+-- bits
 abbrev pub max_choices : ℕ
 max_choices = 4095
 
--- what a number of the stream is multiplied by for the next one
+-- by what a number of the stream is multiplied to make the next one
 abbrev pub MULTIPLIER : ℕ
 MULTIPLIER = 1093
 
--- what is added then
+-- what is then added
 abbrev pub INCREMENT : ℕ
 INCREMENT = 221587
 
@@ -26,6 +27,6 @@ number_drawn n x = n * x / STREAM_SIZE
 abbrev pub next : ℕ → ℕ
 next x = (MULTIPLIER * x + INCREMENT) % STREAM_SIZE
 
--- what happens in p of 100 cases happens where the stream is at x
+-- if the stream is at x, what happens in p of 100 cases happens
 abbrev pub pct : ℕ → ℕ → Bool
 pct p x = nat_lt (number_drawn 100 x) p

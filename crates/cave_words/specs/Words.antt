@@ -5,11 +5,11 @@ use Rattle.base_lines.specs.Bytes.{is_blank, is_nonblank, prefix_while, after_pr
 use Rattle.cave_words.specs.declared.words.Words.{Words}
 use Rattle.std.specs.Char.{to_ascii_uppercase}
 
--- the most letters of a word that count
+-- the most letters of a word that can count
 abbrev pub MAX_LETTERS : ℕ
 MAX_LETTERS = 8
 
--- how many letters of the words that rules write out count
+-- how many letters count in the words that rules write out
 abbrev pub NAME_LETTERS : ℕ
 NAME_LETTERS = 5
 

@@ -1,4 +1,5 @@
-//! The words of a cave with what they mean, for lookups that neither walk the rows nor take memory.
+//! The words of a cave with what they mean. Looking one up neither goes through the rows nor takes
+//! memory.
 ghost use Rattle.std.specs.Prelude.{◌≡◌, ◌≤◌, map, option_copied, IfOk};
 ghost use Rattle.cave_data.specs.CaveView.{CaveView};
 ghost use Rattle.cave_words.specs.Meanings.{meaning, meaning_in};
@@ -89,7 +90,7 @@ impl Lexicon {
         look_at(&self.words, word)?.in_class(class)
     }
 
-    /// The object of a name that rules of play write out. The cave is the lexicon's own.
+    /// The object of a name that rules write out. The cave is that of the lexicon.
     #[tactic(auto, using(crate::proofs::Lexicons::found_object_means))]
     pub fn named(&self, cave: &Cave, name: Named) -> Option<u16>
         requires { IsLexiconOf cave.now self.now }
@@ -99,7 +100,8 @@ impl Lexicon {
     }
 }
 
-/// The object that a word names, by its first five letters. The index has words of so many letters.
+/// The object that a word names, by its first five letters. The index has words with this many
+/// letters.
 #[tactic(auto, using(crate::proofs::Lexicons::object_of_word_means))]
 fn object_of_word(index: &IndexMap<Word, Meanings>, written: &[u8]) -> Option<u16>
     ensures { (cave : CaveView) → IsIndexOf defined.NAME_LETTERS cave.words index.now.entries
@@ -139,7 +141,7 @@ fn objects_of_names(index: &IndexMap<Word, Meanings>) -> [Option<u16>; NAME_COUN
     objects
 }
 
-/// The meanings of a word, where they lie.
+/// A reference to the meanings of a word.
 fn look_at(index: &IndexMap<Word, Meanings>, word: Word) -> Option<&Meanings>
     ensures { option_copied result ≡ meanings_in index.now.entries word }
 {
@@ -152,7 +154,7 @@ fn look_up(index: &IndexMap<Word, Meanings>, word: Word) -> Option<Meanings>
     look_at(index, word).copied()
 }
 
-/// The meanings of some words, where so many letters count.
+/// The meanings of these words, if this many letters count.
 fn index(
     alloc: Global,
     words: &WordTable,

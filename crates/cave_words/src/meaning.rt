@@ -23,8 +23,8 @@ pub struct Meaning {
 impl Meaning {
     ghost use Rattle.cave_words.specs.Meanings.{meaning_of};
 
-    /// What the number of a row of words says: its thousands are the class, the rest is the number
-    /// within it.
+    /// What the number of a row of words says: its thousands are the class, and the rest is the
+    /// number within the class.
     pub fn of(number: u16) -> Meaning
         ensures { result ≡ meaning_of number }
     {

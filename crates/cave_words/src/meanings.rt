@@ -28,7 +28,7 @@ impl Meanings {
         }
     }
 
-    /// The meanings of a word once one more row was read, of whose meaning only what is new counts.
+    /// The meanings of a word after one more row. Only what is new in the row's meaning counts.
     #[tactic(auto, unfolding(crate::specs::Meanings::with_meaning))]
     pub fn with(known: Option<Meanings>, meaning: Meaning) -> Meanings
         ensures { result ≡ with_meaning known meaning }

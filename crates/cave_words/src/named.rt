@@ -1,9 +1,9 @@
-//! The objects that rules of play name by a word.
+//! The objects that rules name by a word.
 ghost use Rattle.std.specs.Prelude.{◌≡◌, ◌<◌};
 ghost use Rattle.cave_words.specs.Named.{name_number, word_of_name, is_second};
 ghost use Rattle.cave_words.specs.Named as defined;
 
-/// An object that rules of play name by a word of the cave.
+/// An object that rules name by a word of the cave.
 #[derive(Clone, Copy, Debug, PartialEq, Eq)]
 pub enum Named {
     Keys,
@@ -128,7 +128,7 @@ impl Named {
         self as usize
     }
 
-    /// The word that names it, or that names the object before a second one.
+    /// The word that names it, or that names the object before it.
     #[tactic(auto, unfolding(crate::specs::Named::word_of_name))]
     pub fn word(self) -> &'static [u8]
         ensures { result.now ≡ word_of_name self }

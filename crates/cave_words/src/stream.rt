@@ -8,13 +8,13 @@ use std::marker::Model;
 /// How many numbers the stream goes through.
 pub const STREAM_SIZE: u32 = 1_048_576;
 
-/// What a number of the stream is multiplied by for the next one.
+/// By what a number of the stream is multiplied to make the next one.
 const MULTIPLIER: u32 = 1093;
 
-/// What is added then.
+/// What is then added.
 const INCREMENT: u32 = 221_587;
 
-/// Where a random stream is.
+/// A random stream, at one of its numbers.
 #[derive(Clone, Copy, Debug, PartialEq, Eq)]
 pub struct Stream {
     x: u32,
@@ -43,7 +43,7 @@ impl Stream {
         }
     }
 
-    /// The number at which the stream is, which as a seed begins it there.
+    /// The number at which the stream is. As a seed it begins the stream there.
     pub fn position(self) -> u32
         ensures value { result ≡ self }
         ensures within { result < defined.STREAM_SIZE }
@@ -64,7 +64,7 @@ impl Stream {
         value
     }
 
-    /// Draws whether something happens that happens in `p` of 100 cases, and moves on.
+    /// Draws whether something that happens in `p` of 100 cases happens now, and moves on.
     pub fn pct(&mut self, p: u32) -> bool
         ensures value { result ≡ pct p self.old }
         ensures moves_on { self.new ≡ next self.old }

@@ -8,10 +8,10 @@ use base_lines::bytes::split_word;
 use std::hash::{Hash, Hasher};
 use std::marker::Model;
 
-/// The most letters of a word that count.
+/// The most letters of a word that can count.
 pub const MAX_LETTERS: usize = 8;
 
-/// How many letters of the words that rules write out count.
+/// How many letters count in the words that rules write out.
 pub const NAME_LETTERS: u8 = 5;
 
 /// A word as it is compared: in upper case, cut to the letters that count, and filled up with
@@ -75,13 +75,13 @@ impl Hash for Word {
 }
 
 impl Word {
-    /// The word that a run of nonblanks makes, of which `letters` letters count.
+    /// The word that a run of nonblanks makes, if `letters` letters count.
     #[tactic(auto, using(crate::proofs::Padding::padding))]
     pub fn of(bytes: &[u8], letters: u8) -> Word
         requires { letters ≤ defined.MAX_LETTERS }
         ensures word { result ≡ word_of letters bytes.now }
 
-        // So words are equal exactly where what counts of them is.
+        // So two words are equal exactly if the parts of them that count are.
         ensures letters { IsTrue (list_all is_nonblank bytes.now)
             → prefix_while is_nonblank result ≡ letters_that_count letters bytes.now }
     {

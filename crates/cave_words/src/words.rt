@@ -5,7 +5,7 @@ ghost use Rattle.cave_words.specs.Words.{after_first_run, words_of};
 use crate::word::Word;
 use base_lines::bytes::{skip_blanks, split_word};
 
-/// The words of a line: at most two, the rest is ignored.
+/// The words of a line: at most two, as the rest is ignored.
 #[derive(Clone, Copy, Debug, PartialEq, Eq)]
 pub struct Words {
     pub first: Option<Word>,
@@ -13,7 +13,7 @@ pub struct Words {
 }
 
 impl Words {
-    /// The words of a line, in each of which `letters` letters count.
+    /// The words of a line, if `letters` letters of each count.
     #[tactic(auto, unfolding(crate::specs::Words::words_of))]
     pub fn of(line: &[u8], letters: u8) -> Words
         requires fewest { NAME_LETTERS ≤ letters }

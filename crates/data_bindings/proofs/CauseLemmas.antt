@@ -1,4 +1,4 @@
--- The cause of a line of bindings is there by the grammar, and no earlier one is.
+-- The cause of a line of bindings applies by the grammar, and no earlier one does.
 use Rattle.std.proofs.Common.{◌≡◌, ◌⊎◌, inl, inr, ℕ, Bool, true, false, cond, ◌&&◌, nat_eq}
 use Rattle.std.proofs.Common.{nat_le, List, [], ◌∷◌, ◌++◌, length, drop, codes, Option, Some, None}
 use Rattle.std.proofs.Common.{Result, Ok, Err, is_some, option_to_list, refl, sym, ap, subst}
@@ -106,7 +106,7 @@ in_bounds first last n e =
     let both = and_parts (nat_le first n) (nat_le n last) e in
     (grind (arith, nat_tests, both.0), grind (arith, nat_tests, both.1))
 
--- a number out of the range of its family is read as such
+-- a number that is out of the range of its family is read as one
 pub outside_read : (key : List ℕ) (first last n : ℕ) → HasRange key first last
     → (nat_le first n && nat_le n last) ≡ false → binding_of key n ≡ Err (BadBinding BadValue)
 outside_read key first last n of_messages e = rw e refl

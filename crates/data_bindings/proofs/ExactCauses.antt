@@ -1,4 +1,5 @@
--- A cause of a line of bindings that is there by the grammar, with none before it, is the line's.
+-- A cause that applies to a line of bindings by the grammar, and none before it does, is the
+-- line's.
 use Rattle.std.proofs.Common.{◌≡◌, inl, inr, ℕ, Bool, true, false, ◌&&◌, nat_le, List}
 use Rattle.std.proofs.Common.{Some, Result, Ok, Err, refl, subst, ◌∙◌}
 use Rattle.std.proofs.Common.{IsTrue}

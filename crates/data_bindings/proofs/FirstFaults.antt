@@ -1,4 +1,4 @@
--- The fault of bindings is of the first line at fault.
+-- The fault of bindings is that of their first faulty line.
 use Rattle.std.proofs.Common.{◌≡◌, ℕ, List, [], ◌∷◌, ◌++◌, Option, Some, None, option_map}
 use Rattle.std.proofs.Common.{refl, sym, ap, subst, ◌∙◌}
 use Rattle.std.specs.Option.{option_or, IfSome}
@@ -12,7 +12,7 @@ use Rattle.cave_data.proofs.BindingRows.{faultless_bindings}
 use Rattle.data_bindings.specs.BindingCauses.{IsFirstBindingFault, FaultsAreFirst}
 use Rattle.data_bindings.proofs.CauseLemmas.{cause_is_there}
 
--- lines without a fault have none with a line that has no cause
+-- lines without a fault still have none after one more line without a cause
 one_more : (prior before : List (List ℕ)) (line : List ℕ)
     → first_binding_fault prior before ≡ None → binding_cause (prior ++ before) line ≡ None
     → first_binding_fault prior (before ++ line ∷ []) ≡ None

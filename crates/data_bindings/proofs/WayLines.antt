@@ -1,4 +1,4 @@
--- The ways of one row more.
+-- The ways of one more row.
 use Rattle.std.proofs.Common.{◌≡◌, ℕ, ◌+◌, ◌<◌, List, [], ◌∷◌, ◌++◌, length, drop, get_or, take}
 use Rattle.std.proofs.Common.{sym}
 use Rattle.std.proofs.lemmas.List.{append_assoc, drop_more, take_more}
@@ -6,7 +6,7 @@ use Rattle.data_bindings.specs.WayLines.{way_lines_at, way_lines_from}
 use Rattle.data_bindings.specs.declared.by_line.WayLine.{WayLine}
 use Rattle.data_bindings.specs.declared.mark.MarkedRow.{MarkedRow}
 
--- the ways of one row more
+-- the ways of one more row
 pub way_lines_more : (so_far : List WayLine) (rows : List MarkedRow) (i : ℕ) (d : MarkedRow)
     → i < length rows
     → so_far ++ way_lines_from (take i rows) (drop i rows)

@@ -1,4 +1,4 @@
--- The ways that rows have, those that are counted among marked rows, and rows that are no ways.
+-- The ways that rows have, those that are counted among marked rows, and rows that aren't ways.
 use Rattle.std.proofs.Common.{◌≡◌, ◌∙◌, ◌+◌, ◌++◌, ◌∷◌, ℕ, Bool, true, false, List, []}
 use Rattle.std.proofs.Common.{Option, Some, None, length, map, refl, sym, ap}
 use Rattle.std.specs.Prelude.{◌==◌, if◌then◌else◌, filter, is_some, slice_get, unwrap_or}
@@ -43,7 +43,7 @@ at_end (y ∷ xs) x ys = at_end xs x ys
 
 -- ---- rows before, and the ways that are counted among them
 
--- as many ways of each place were counted as the rows have
+-- the number of ways that were counted of each place is the number that the rows have
 abbrev pub Alike : List MarkedRow → List Entry → Type 0
 Alike before rows = (place : ℕ) → way_index place before ≡ length (goings_of place rows)
 
@@ -83,7 +83,7 @@ way_alike before rows line place going alike other = by_test (place == other) re
         more_ways other before row 0 (rw differs refl) ∙ ap (λ k. k + 0) (alike other)
         ∙ sym (more_goings other rows (Way place going) 0 (rw differs refl))
 
--- ---- rows that are no ways
+-- ---- rows that aren't ways
 
 abbrev pub IsNoWay : Option RowMark → Type 0
 IsNoWay None = Unit {0}

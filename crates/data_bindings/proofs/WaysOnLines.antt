@@ -46,7 +46,7 @@ Stand passed earlier position ls rows = (before : List MarkedRow) → Alike befo
     → All (StandsAmong (passed ++ ls) (earlier ++ rows))
     (way_lines_from before (marked_rows (suc (length passed)) position ls))
 
--- what is so after one line more is so of the lines from it on
+-- what holds after one more line holds of the lines from there on
 one_passed : (passed : List (List ℕ)) (line : List ℕ) (later : List (List ℕ)) (rows : List Entry)
     (position : Position) (before : List MarkedRow)
     → All (StandsAmong ((passed ++ line ∷ []) ++ later) rows)
@@ -101,7 +101,7 @@ row_leads s line row is =
     let open_still = closes-natural begins.0 line begins.1 in
     rw (some, open_still) refl
 
--- a row that is no way
+-- a row that isn't a way
 other_row : (passed : List (List ℕ)) (earlier : List Entry) (s : Section) (line : List ℕ)
     (row : Entry) (later : List (List ℕ)) (rest : List Entry) → IsRow s line row
     → is_some (way_of row) ≡ false

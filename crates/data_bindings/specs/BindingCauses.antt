@@ -1,5 +1,5 @@
--- What each cause of a line of bindings says, by the grammar. Of several on one line the first is
--- told: that of its form, of its number, of its name, or of a key that was bound before.
+-- What each cause of a line of bindings says, by the grammar. If a line has several, the first is
+-- reported: that of its form, of its number, of its name, or of a key that was bound before.
 use Rattle.std.specs.Prelude.{◌≡◌, ◌↔◌, ℕ, suc, List, [], ◌∷◌, ◌++◌, length, codes, Some, IsTrue}
 use Rattle.std.specs.Option.{IfSome}
 use Rattle.data_rows.specs.declared.error.Cause.{Cause}
@@ -20,7 +20,7 @@ use Rattle.cave_data.specs.Bindings.{value_of}
 use Rattle.cave_data.specs.BindingFault.{binding_cause, first_binding_fault}
 use Rattle.cave_data.specs.Reads.{AreBindings}
 
--- The line is two fields, of which the second is 1 to 9 digits, whatever they bind.
+-- The line is two fields, of which the second is 1 to 9 digits, whether or not they bind anything.
 pub record HasBindingForm (line key : List ℕ) (number : ℕ) : Type 0 where
   pub after_key : List ℕ
   pub digits : List ℕ
@@ -30,7 +30,7 @@ pub record HasBindingForm (line key : List ℕ) (number : ℕ) : Type 0 where
   pub ends : IsTrue (is_all_blank after_digits)
   pub is_number : WritesNatural digits number
 
--- the key is of a family, known or not, of which the numbers go from the first to the last
+-- the key, known or not, is of a family whose numbers go from the first to the last
 pub data HasRange : List ℕ → ℕ → ℕ → Type 0 where
   of_messages : {name : List ℕ} → HasRange (codes "msg." ++ name) 1 LAST_MESSAGE
   of_places : {name : List ℕ} → HasRange (codes "place." ++ name) 1 LAST_PLACE
@@ -41,7 +41,7 @@ abbrev pub IsOutside : List ℕ → ℕ → Type 0
 IsOutside key number =
     (first : ℕ) × (last : ℕ) × HasRange key first last × (¬ IsBetween first last number)
 
--- no key is written so
+-- no key is written like this
 abbrev pub IsUnknown : List ℕ → Type 0
 IsUnknown bytes = (key : Key) → ¬ IsKey bytes key
 
@@ -49,7 +49,7 @@ IsUnknown bytes = (key : Key) → ¬ IsKey bytes key
 abbrev pub IsBound : List Binding → Key → Type 0
 IsBound before key = (value : ℕ) × (value_of key before ≡ Some value)
 
--- this is wrong with the line after these bindings, and no earlier cause is
+-- this is wrong with the line after these bindings, and no earlier cause applies
 abbrev pub IsFirstCause : List Binding → List ℕ → Cause → Type 0
 IsFirstCause before line (BadBinding Malformed) =
     (key : List ℕ) (number : ℕ) → ¬ HasBindingForm line key number
@@ -66,12 +66,12 @@ IsFirstCause before line cause = ⊥
 abbrev pub IsCauseAfter : List Binding → List ℕ → Cause → Type 0
 IsCauseAfter before line cause = (¬ IsTrue (is_skipped line)) × IsFirstCause before line cause
 
--- a line of bindings has this cause exactly where the grammar gives it this one
+-- a line of bindings has this cause exactly if the grammar gives it that cause
 abbrev pub CausesAreExact : Type 0
 CausesAreExact = (before : List (List ℕ)) (line : List ℕ) (cause : Cause)
     → (binding_cause before line ≡ Some cause) ↔ IsCauseAfter (bindings_of before) line cause
 
--- The lines before are bindings, and the fault is of the line after them.
+-- The lines before are bindings, and the line after them has the fault.
 pub record IsFirstBindingFault (ls : List (List ℕ)) (fault : CaveError) : Type 0 where
   pub before : List (List ℕ)
   pub line : List ℕ
@@ -82,6 +82,6 @@ pub record IsFirstBindingFault (ls : List (List ℕ)) (fault : CaveError) : Type
   pub number : fault.line ≡ suc (length before)
   pub site : fault.site ≡ Bindings
 
--- the fault of bindings is of the first line at fault
+-- the fault of bindings is that of their first faulty line
 abbrev pub FaultsAreFirst : Type 0
 FaultsAreFirst = (ls : List (List ℕ)) → IfSome (first_binding_fault [] ls) (IsFirstBindingFault ls)

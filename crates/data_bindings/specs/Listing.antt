@@ -1,4 +1,4 @@
--- What is said of the bindings of a cave: each key with its number, and what the number means.
+-- The list of the bindings of a cave: each key with its number, and what the number means.
 use Rattle.std.specs.Prelude.{ℕ, Bool, false, is_some, List, [], ◌++◌, length, slice_index_or}
 use Rattle.std.specs.Prelude.{codes, Option, None, Some}
 use Rattle.std.specs.Option.{option_or}
@@ -41,7 +41,7 @@ module _ (cave : CaveView) where
   abbrev pub text_of_message : ℕ → Option (List ℕ)
   text_of_message number = map.get cave.messages number
 
-  -- a place is known by its long text, or else by its short one
+  -- a place is known by its long text, or otherwise by its short one
   abbrev pub text_of_place : ℕ → Option (List ℕ)
   text_of_place number = option_or (map.get cave.long number) (map.get cave.short number)
 

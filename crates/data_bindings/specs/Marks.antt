@@ -16,7 +16,7 @@ use Rattle.data_bindings.specs.declared.mark.RowMark.{RowMark}
 use Rattle.data_bindings.specs.declared.mark.RowMark.TheVariants as mark
 use Rattle.data_bindings.specs.declared.mark.MarkedRow.{MarkedRow}
 
--- a line of section 5 is of an inventory text, or of what is seen of the object before
+-- a line of section 5 belongs to an inventory text, or to what is seen of the object before
 abbrev pub mark_of_object_line : TextLine → Option RowMark
 mark_of_object_line line = if names_object line then Some (mark.Name line.number) else None
 

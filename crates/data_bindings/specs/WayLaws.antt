@@ -1,4 +1,4 @@
--- The lines that ways are listed with are those on which they stand.
+-- The lines with which ways are listed are those on which they stand.
 use Rattle.std.specs.Prelude.{◌≡◌, ℕ, ◌+◌, List, Some, slice_get}
 use Rattle.std.specs.List.{All}
 use Rattle.std.specs.Str.Lines.{lines}
@@ -21,7 +21,7 @@ pub record StandsOn (ls : List (List ℕ)) (ways : ℕ → List Going) (way : Wa
   pub is_row : IsRow section.Travel line (Way way.place going)
   pub is_way : slice_get (ways way.place) way.index ≡ Some going
 
--- in a cave that a database was read as, each way that is listed stands on its line
+-- in the cave that a database makes, each way that is listed stands on its line
 abbrev pub WaysStandOnTheirLines : Type 0
 WaysStandOnTheirLines = (database bindings : List ℕ) (c : CaveView) → Reads database bindings c
     → All (StandsOn (lines database) (ways_from c)) (way_lines database)

@@ -9,17 +9,17 @@ use Rattle.data_bindings.specs.declared.mark.RowMark.TheVariants as mark
 use Rattle.data_bindings.specs.declared.mark.MarkedRow.{MarkedRow}
 use Rattle.data_bindings.specs.declared.by_line.WayLine.{WayLine}
 
--- which of a place's ways a row is, by the rows before it, from 0
+-- which of its place's ways a row is, counted from 0, by the rows before it
 abbrev pub way_index : ℕ → List MarkedRow → ℕ
 way_index place before = length (filter (is_way_from place) before)
 
--- ---- how many ways of each place there were so far
+-- ---- how many ways of each place there have been so far
 
 -- in a table of counts by the numbers of places, the count of a place
 abbrev pub count_of : List ℕ → ℕ → ℕ
 count_of counts place = slice_index_or counts place 0
 
--- one way more of the place is counted
+-- one more way of the place is counted
 pub record CountsOne (place : ℕ) (old new : List ℕ) : Type 0 where
   pub here : count_of new place ≡ count_of old place + 1
   pub others : (other : ℕ) → other ≢ place → count_of new other ≡ count_of old other

@@ -24,7 +24,7 @@ pub fn way_index(place: u16, before: &[MarkedRow]) -> usize
     before.iter().filter(|row| row.is_way_from(place)).count()
 }
 
-/// Counts one way more of a place, and says how many there were.
+/// Counts one more way of a place, and returns how many there were before.
 fn count_way(counts: &mut Vec<usize>, place: u16) -> Result<usize, AllocError>
     requires { count_of counts.old.items place + 1 < 2 ^ 64 }
     ensures before { IfOk result (λ count. count ≡ count_of counts.old.items place) }
@@ -39,7 +39,7 @@ fn count_way(counts: &mut Vec<usize>, place: u16) -> Result<usize, AllocError>
     Ok(count)
 }
 
-/// Adds a row, if it is a way, after the rows whose ways were counted, and counts it.
+/// Adds a row, if it is a way, after the rows whose ways have been counted, and counts it.
 fn push_way(
     row: &MarkedRow,
     counts: &mut Vec<usize>,

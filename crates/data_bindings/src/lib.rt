@@ -1,5 +1,5 @@
-//! What the bindings of a cave say: each key with its number, and what that number is there. Also
-//! laws of what is wrong with bindings, and on which lines of a database its rows are.
+//! What the bindings of a cave say: each key with its number, and what has that number in the cave.
+//! Also laws of what is wrong with bindings, and on which lines of a database its rows are.
 #![tactic(auto)]
 
 pub mod by_line;

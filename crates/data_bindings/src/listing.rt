@@ -1,4 +1,4 @@
-//! The list of all keys of bindings, as text.
+//! The list of all keys of bindings, as a text.
 
 ghost use Rattle.std.specs.Prelude.{◌≡◌, ◌++◌, OnOk, codes, length, option_map};
 ghost use Rattle.std.specs.Fmt.{decimal};
@@ -20,7 +20,7 @@ use data_rows::role::ROLE_NAMES;
 use data_rows::{PlaceRole, Role};
 use std::alloc::{AllocError, Global};
 
-/// The first line of a text, without its end; empty where the text is.
+/// The first line of a text, without its end; it is empty if the text is.
 pub fn first_line(text: &[u8]) -> &[u8]
     ensures { result.now ≡ first_line text.now }
 {
@@ -30,7 +30,7 @@ pub fn first_line(text: &[u8]) -> &[u8]
     }
 }
 
-/// The text by which a place is known: its long one, or else its short one.
+/// The text by which a place is known: its long one, or otherwise its short one.
 fn text_of_place(cave: &Cave, place: u16) -> Option<&[u8]>
     ensures { option_map (λ text. text.now) result ≡ text_of_place cave.now place }
 {

@@ -35,7 +35,7 @@ pub struct MarkedRow {
 }
 
 impl MarkedRow {
-    /// Whether it is of the long text of a place.
+    /// Whether it belongs to the long text of a place.
     pub fn is_long_text(&self, place: u16) -> bool
         ensures { result ≡ is_long_text place self.now }
     {
@@ -45,7 +45,7 @@ impl MarkedRow {
         }
     }
 
-    /// Whether it is of the short text of a place.
+    /// Whether it belongs to the short text of a place.
     pub fn is_short_text(&self, place: u16) -> bool
         ensures { result ≡ is_short_text place self.now }
     {
@@ -55,7 +55,7 @@ impl MarkedRow {
         }
     }
 
-    /// Whether it is of the inventory text of an object.
+    /// Whether it belongs to the inventory text of an object.
     pub fn is_name(&self, object: u16) -> bool
         ensures { result ≡ is_name object self.now }
     {
@@ -96,21 +96,21 @@ impl MarkedRow {
     }
 }
 
-/// Whether one of some rows is of the long text of a place.
+/// Whether one of these rows belongs to the long text of a place.
 pub fn any_long_text(rows: &[MarkedRow], place: u16) -> bool
     ensures { result ≡ list_any (is_long_text place) rows.now }
 {
     rows.iter().any(|row| row.is_long_text(place))
 }
 
-/// Whether one of some rows is of the short text of a place.
+/// Whether one of these rows belongs to the short text of a place.
 pub fn any_short_text(rows: &[MarkedRow], place: u16) -> bool
     ensures { result ≡ list_any (is_short_text place) rows.now }
 {
     rows.iter().any(|row| row.is_short_text(place))
 }
 
-/// Whether one of some rows is of the inventory text of an object.
+/// Whether one of these rows belongs to the inventory text of an object.
 pub fn any_name(rows: &[MarkedRow], object: u16) -> bool
     ensures { result ≡ list_any (is_name object) rows.now }
 {

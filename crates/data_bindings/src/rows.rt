@@ -1,4 +1,4 @@
-//! The rows of a database that is accepted, each with the number of its line.
+//! The rows of an accepted database, each with the number of its line.
 
 ghost use Rattle.std.specs.Prelude.{◌≡◌, IfOk};
 ghost use Rattle.std.specs.Str.Lines.{lines};
@@ -133,7 +133,7 @@ fn mark_at(position: Position, line: &[u8]) -> Option<RowMark>
     }
 }
 
-/// Where the line after a line is.
+/// Where the line after this one is.
 #[tactic(auto, unfolding(data_rows::specs::Grammar::position_after_line))]
 fn position_after_line(position: Position, line: &[u8]) -> Position
     ensures { result ≡ position_after_line position line.now }
@@ -148,7 +148,7 @@ fn position_after_line(position: Position, line: &[u8]) -> Position
     }
 }
 
-/// The rows of a database, each with its line, but those of kinds that have no mark.
+/// The rows of a database, each with its line, except those of kinds that have no mark.
 pub fn marked_rows(alloc: Global, database: &[u8]) -> Result<Vec<MarkedRow>, AllocError>
     ensures { IfOk result
         (λ rows. rows.items ≡ marked_rows 1 Position.Outside (lines database.now)) }

@@ -1,4 +1,4 @@
--- A line is one of bindings exactly where it is read as one.
+-- A line is one of bindings exactly if it is read as one.
 use Rattle.std.proofs.Common.{◌≡◌, ℕ, ◌≤◌, Bool, true, false, cond, ◌&&◌, nat_eq, nat_le, List, []}
 use Rattle.std.proofs.Common.{◌∷◌}
 use Rattle.std.proofs.Common.{◌++◌, length, drop, codes, Option, Some, None, Result, Ok, Err}

@@ -1,4 +1,4 @@
--- What a line of a database does at its position is what it is by its bytes.
+-- What reading does with a line of a database at its position is what the bytes of the line say.
 use Rattle.std.proofs.Common.{◌≡◌, ℕ, Bool, true, false, cond, ◌==◌, List, ◌∷◌, Option}
 use Rattle.std.proofs.Common.{Some, None, option_map, refl, ap, subst, ◌∙◌}
 use Rattle.std.proofs.lemmas.Bool.{eqb-true}
@@ -82,7 +82,7 @@ pub heading-end : (line : List ℕ) → IsLineOfNumber (Natural 0) line
 unfolding position_after_heading
 heading-end line is = ap heading_at (first_number (Natural 0) line is).1
 
--- the number is a section's, or that of a later one
+-- the number is that of this section, or of a later one
 by_number : (n k : ℕ) (s t : Section) (later : Option Section) → k ≡ section_number s
     → (later ≡ Some t → n ≡ section_number t) → cond (n == k) (Some s) later ≡ Some t
     → n ≡ section_number t

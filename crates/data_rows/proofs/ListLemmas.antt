@@ -89,7 +89,7 @@ pub list_bad : (low high : ℕ) (o : Option (List Number))
 list_bad low high (Some ns) e = cc
 list_bad low high None e = refl
 
--- a list has a number where one was read
+-- a list has a number if one was read
 some_of_few : (v : ℕ) (r : Result (List ℕ) Cause)
     → some_listed (r >>= (λ vs. Ok (v ∷ vs)) >>= few_of) ≡ Ok (r >>= (λ vs. Ok (v ∷ vs)) >>= few_of)
 some_of_few v (Ok vs) =

@@ -1,4 +1,4 @@
--- What the parts of a row are by their bytes is what reading them gives.
+-- The parts of a row, as their bytes define them, are what reading gives.
 use Rattle.std.proofs.Common.{◌≡◌, ℕ, ◌≤◌, Bool, true, false, cond, not, ◌==◌, ◌&&◌, nat_lt, nat_le}
 use Rattle.std.proofs.Common.{List, [], ◌∷◌, ◌++◌, length, Option, Some, None, option_map, IsTrue}
 use Rattle.std.proofs.Common.{unwrap_or}
@@ -153,7 +153,7 @@ written-number_of_field (byte ∷ bytes) n is = at (byte == 45) refl is where
       subst (WritesNumber (byte ∷ bytes)) m.2
       (unsigned (written-natural (byte ∷ bytes) m.0 m.1))
 
--- bytes begin with a number exactly where one is read
+-- bytes begin with a number exactly if one is read
 pub number_at-begins : (bytes : List ℕ) (n : Number) (rest : List ℕ)
     → BeginsWithNumber bytes n rest → number_at bytes ≡ Some (n, rest)
 unfolding number_at

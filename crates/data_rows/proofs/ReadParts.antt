@@ -1,4 +1,5 @@
--- What the parts of a row are by their bytes is what reading them, or else their cause, gives.
+-- The parts of a row, as their bytes define them, are what reading gives, or the cause that it
+-- gives.
 use Rattle.std.proofs.Common.{◌≡◌, ℕ, ◌≤◌, Bool, true, false, cond}
 use Rattle.std.proofs.Common.{◌==◌, ◌&&◌, nat_lt, nat_le, List, [], ◌∷◌, ◌++◌, length, map, drop}
 use Rattle.std.proofs.Common.{Option, Some, None, option_map, Result, Ok, Err, IsTrue, refl, sym}

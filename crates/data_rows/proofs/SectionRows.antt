@@ -1,4 +1,4 @@
--- A line is a row of a section's form exactly where it is read as one.
+-- A line is a row of a section's form exactly if it is read as one.
 use Rattle.std.proofs.Common.{◌≡◌, ℕ, ◌≤◌}
 use Rattle.std.proofs.Common.{List, [], ◌∷◌, length, map}
 use Rattle.std.proofs.Common.{Ok, refl, sym, ap, subst, ◌∙◌}

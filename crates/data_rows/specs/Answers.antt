@@ -1,9 +1,9 @@
--- How what a call returns is the reading that the specs give.
+-- What a call returns is the reading that the definitions give.
 use Rattle.std.specs.Prelude.{◌≡◌, Result, Ok, Err}
 use Rattle.data_rows.specs.declared.error.Cause.{Cause}
 use Rattle.data_rows.specs.declared.error.Cause.TheVariants.{Memory}
 
--- what a call that asks for no memory returns, by its view, is what reading gives
+-- what a call that asks for no memory returns, as its view, is what reading gives
 abbrev pub Answers : {X Y : Type 0} → (X → Y) → Result X Cause → Result Y Cause → Type 0
 Answers view (Ok x) read = read ≡ Ok (view x)
 Answers view (Err cause) read = read ≡ Err cause

@@ -31,7 +31,7 @@ IsValueOf (RoleKey number) value = IsBetween 1 LAST_MESSAGE value
 IsValueOf (PlaceKey number) value = IsBetween 1 LAST_PLACE value
 IsValueOf LettersKey value = IsBetween 5 8 value
 
--- The line is a key and 1 to 9 digits, with blanks between them and, where wanted, at the ends.
+-- The line is a key and 1 to 9 digits, with blanks between them and, optionally, at both ends.
 pub record IsBindingLine (line : List ℕ) (binding : Binding) : Type 0 where
   pub key : List ℕ
   pub after_key : List ℕ

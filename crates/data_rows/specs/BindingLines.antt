@@ -52,7 +52,7 @@ binding_row line = do
   n ← ok_or (natural pair.1) (BadBinding Malformed)
   binding_of pair.0 n
 
--- the binding that a line is, if it is one
+-- the binding that a line states, if it states one
 unfoldable pub binding_at : List ℕ → List Binding
 binding_at line = if is_skipped line then [] else option_to_list (result_ok (binding_row line))
 

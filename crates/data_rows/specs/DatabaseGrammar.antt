@@ -29,9 +29,9 @@ section_number section.Magic = 12
 abbrev pub IsLineOfNumber : Number → List ℕ → Type 0
 IsLineOfNumber number line = (ignored : List ℕ) × BeginsWithNumber line number ignored
 
--- From this position on the lines are those of a database, and these are its rows: outside every
--- section the number of one opens it, inside a section each line is a row of it up to one that
--- begins with -1, and a 0 outside is the end, after which anything may come.
+-- From this position on the lines are those of a database, and these are its rows. Outside every
+-- section the number of a section opens it; inside it each line is one of its rows, up to a line
+-- that begins with -1. A 0 outside is the end, after which anything may follow.
 pub data HasRows : Position → List (List ℕ) → List Entry → Type 0 where
   blank_line : {position : Position} {line : List ℕ} {lines : List (List ℕ)} {rows : List Entry}
       → IsTrue (is_all_blank line) → HasRows position lines rows

@@ -59,12 +59,12 @@ position_after_row Outside line = unwrap_or (position_after_heading line) Outsid
 position_after_row (Inside s) line = if closes line then Outside else Inside s
 position_after_row After line = After
 
--- where the line after a line is
+-- where the line after this one is
 unfoldable pub position_after_line : Position → List ℕ → Position
 position_after_line position line = if is_all_blank line then position
     else position_after_row position line
 
--- where the line after these is
+-- where the line after these lines is
 abbrev pub position_after : List (List ℕ) → Position
 position_after lines = fold position_after_line Outside lines
 

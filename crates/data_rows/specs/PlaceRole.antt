@@ -1,4 +1,4 @@
--- The places that the rules of play name by what they are for.
+-- The places that rules name by what they are for.
 use Rattle.std.specs.Prelude.{ℕ, List, [], ◌∷◌, codes}
 use Rattle.data_rows.specs.declared.place_role.PlaceRole.{PlaceRole}
 use Rattle.data_rows.specs.declared.place_role.PlaceRole.TheVariants as place

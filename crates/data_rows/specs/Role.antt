@@ -1,4 +1,4 @@
--- The messages that the rules of play name by what they are for.
+-- The messages that rules name by what they are for.
 use Rattle.std.specs.Prelude.{ℕ, List, [], ◌∷◌, codes}
 use Rattle.data_rows.specs.declared.role.Role.{Role}
 use Rattle.data_rows.specs.declared.role.Role.TheVariants as role

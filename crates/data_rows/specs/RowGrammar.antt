@@ -1,4 +1,4 @@
--- What a row of each section is, said of its bytes.
+-- What the bytes of a row of each section are.
 use Rattle.std.specs.Prelude.{◌≡◌, ◌⊎◌, ℕ, ℤ, pos, negsuc, ◌+◌, ◌*◌, ◌≤◌, List, [], ◌∷◌, length}
 use Rattle.std.specs.Prelude.{map}
 use Rattle.std.specs.List.{All}
@@ -37,7 +37,7 @@ pub record IsWayRow (line : List ℕ) (place : ℕ) (going : Going) : Type 0 whe
   pub target_in_range : IsBetween 0 999999 going.target
   pub motions_in_range : All (IsBetween 1 999) going.motions
 
--- motions, objects, actions and special words, each from its thousand on
+-- motions, objects, actions and special words, each class from its own thousand on
 abbrev pub IsWordNumber : ℕ → Type 0
 IsWordNumber n = IsBetween 1 999 n
     ⊎ (IsBetween 1001 (1000 + LAST_OBJECT) n
@@ -68,7 +68,7 @@ pub data IsSecondPlace : Number → ℤ → Type 0 where
   is_place : {n : ℕ} → n ≤ LAST_PLACE → IsSecondPlace (Natural n) (pos n)
   is_immovable : IsSecondPlace (Negative 1) (negsuc 0)
 
--- an object, its first place and its second; either is 0 where the line ends before it
+-- an object, its first place and its second; each place is 0 if the line ends before it
 pub record IsPlacementRow (line : List ℕ) (object : ℕ) (placement : Placement) : Type 0 where
   pub after_object : List ℕ
   pub after_first : List ℕ

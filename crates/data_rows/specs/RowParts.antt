@@ -1,4 +1,4 @@
--- The parts of a row, said of its bytes: fields, numbers, lists of numbers, and texts.
+-- What the bytes of the parts of a row are: fields, numbers, lists of numbers, and texts.
 use Rattle.std.specs.Prelude.{◌≡◌, ℕ, ◌≤◌, Bool, true, ◌==◌, if◌then◌else◌, List, []}
 use Rattle.std.specs.Prelude.{◌∷◌, ◌++◌, length, IsTrue}
 use Rattle.std.specs.List.{list_all}
@@ -11,8 +11,8 @@ abbrev pub ends_field : List ℕ → Bool
 ends_field [] = true
 ends_field (b ∷ bytes) = is_blank b
 
--- blanks or none, a field, which is a run of nonblanks, and the rest, which a blank begins or which
--- is empty
+-- any blanks, a field, which is a run of nonblanks, and the rest, which is empty or begins with a
+-- blank
 pub record BeginsWithField (bytes field rest : List ℕ) : Type 0 where
   pub blanks : List ℕ
   pub parts : bytes ≡ blanks ++ (field ++ rest)
@@ -68,7 +68,7 @@ pub data IsNumberList : List ℕ → List Number → Type 0 where
       → BeginsWithNumber bytes number rest → ¬ (number ≡ Natural 0) → IsNumberList rest numbers
       → IsNumberList bytes (number ∷ numbers)
 
--- after a number nothing, or one blank and the text
+-- what follows a number: nothing, or one blank and the text
 abbrev pub IsTextAfter : List ℕ → List ℕ → Type 0
 IsTextAfter [] text = text ≡ []
 IsTextAfter (byte ∷ bytes) text = IsTrue (is_blank byte) × (text ≡ bytes)

@@ -1,4 +1,4 @@
--- Rows as the code has them, seen as the rows of a section.
+-- What rows of the code are as rows of a section.
 use Rattle.std.specs.Prelude.{ℕ, List}
 use Rattle.std.specs.Borrow.{Bor}
 use Rattle.data_rows.specs.declared.rows.Row.{Row}

@@ -1,4 +1,4 @@
--- The rows of each section, and what is wrong with a line that is none.
+-- The rows of each section, and what is wrong with a line that isn't one.
 use Rattle.std.specs.Prelude.{ℕ, ℤ, pos, negsuc, ◌+◌, ◌*◌, ◌%◌, Bool, false, ◌&&◌, ◌||◌, ◌==◌}
 use Rattle.std.specs.Prelude.{nat_lt, nat_le, if◌then◌else◌, List, [], ◌∷◌, length, drop, Option}
 use Rattle.std.specs.Prelude.{Some, None, option_map, Result, Ok, Err}
@@ -80,11 +80,11 @@ all_within low high [] = Ok []
 all_within low high (n ∷ ns) =
     within low high n >>= λ v. all_within low high ns >>= λ vs. Ok (v ∷ vs)
 
--- at least one
+-- at least one number
 abbrev pub some_of : List Number → Result (List Number) Cause
 some_of ns = if nat_lt 0 (length ns) then Ok ns else Err BadNumber
 
--- at most forty
+-- at most forty numbers
 abbrev pub few_of : List ℕ → Result (List ℕ) Cause
 few_of ns = if nat_le (length ns) 40 then Ok ns else Err TooManyRows
 
@@ -100,7 +100,7 @@ text_line low high line = do
   text ← text_or_cause n.1
   Ok (record { number = number; text = text })
 
--- a line of a text of an object begins with so many times a prop, or with an object
+-- a line of a text of an object begins with this number times a prop, or with an object
 abbrev pub PROP_STEP : ℕ
 PROP_STEP = 100
 
@@ -142,12 +142,12 @@ way_row line = do
   motions ← few_of all
   Ok (place, record { target = target; motions = motions })
 
--- how many numbers a class of words has: those of motions come first, then those of objects, of
--- actions and of special words
+-- how many numbers a class of words has: the numbers of motions come first, then those of objects,
+-- of actions and of special words
 abbrev pub WORDS_PER_CLASS : ℕ
 WORDS_PER_CLASS = 1000
 
--- the words of objects come after this number, each with its object's
+-- the words of objects come after this number, each of them its object's number later
 abbrev pub OBJECT_WORDS : ℕ
 OBJECT_WORDS = WORDS_PER_CLASS
 
@@ -155,7 +155,7 @@ OBJECT_WORDS = WORDS_PER_CLASS
 abbrev pub LAST_OBJECT_WORD : ℕ
 LAST_OBJECT_WORD = OBJECT_WORDS + LAST_OBJECT
 
--- the words of actions come after this number, each with its action's
+-- the words of actions come after this number, each of them its action's number later
 abbrev pub ACTION_WORDS : ℕ
 ACTION_WORDS = 2 * WORDS_PER_CLASS
 
@@ -163,7 +163,7 @@ ACTION_WORDS = 2 * WORDS_PER_CLASS
 abbrev pub LAST_ACTION_WORD : ℕ
 LAST_ACTION_WORD = ACTION_WORDS + LAST_ACTION
 
--- the special words come after this number, each with its message's
+-- the special words come after this number, each of them its message's number later
 abbrev pub SPECIAL_WORDS : ℕ
 SPECIAL_WORDS = 3 * WORDS_PER_CLASS
 
@@ -246,7 +246,7 @@ hint_row line = do
   text ← within 0 LAST_MESSAGE x.0
   Ok (hint, record { turns = turns; points = points; question = question; text = text })
 
--- the row of a section that a line is
+-- the line, read as a row of a section
 abbrev pub entry_in : Section → List ℕ → Result Entry Cause
 entry_in section.LongTexts line = text_line 1 LAST_PLACE line >>= λ row. Ok (LongLine row)
 entry_in section.ShortTexts line = text_line 1 LAST_PLACE line >>= λ row. Ok (ShortLine row)

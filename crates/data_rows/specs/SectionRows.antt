@@ -1,4 +1,4 @@
--- The rows of one section, of all rows of a database.
+-- Those rows of a database that are in one section.
 use Rattle.std.specs.Prelude.{ℕ, List, Option, Some, None}
 use Rattle.data_rows.specs.declared.rows.Placement.{Placement}
 use Rattle.data_rows.specs.declared.rows.Hint.{Hint}

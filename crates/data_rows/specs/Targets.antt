@@ -10,9 +10,9 @@ use Rattle.data_rows.specs.declared.targets.Destination.TheVariants.{PutsEmerald
 use Rattle.data_rows.specs.declared.targets.Special.TheVariants.{Squeeze, Bridge}
 use Rattle.base_lines.specs.Numbers.{LAST_PLACE, LAST_OBJECT}
 
--- the thousands of a target are its condition: none, a chance in percent, or that of ways that
--- aren't for dwarves; then come the objects to be in the hands, those to be there or here, and, by
--- the hundred, the props that an object must not have
+-- the thousands of a target are its condition: none, a chance in percent, or that dwarves don't
+-- take the way; then come the objects that must be in the hands, those that must be there or in the
+-- hands, and, by the hundred, the props that an object must not have
 unfoldable pub condition_of : ℕ → Condition
 condition_of target =
     let m = target / 1000 in
@@ -23,7 +23,7 @@ condition_of target =
     else (if nat_le m 300 then AtHand (m - 200)
     else OtherProp (m % 100) (m / 100 - 3)))))
 
--- the rest of a target is its destination: a place up to 300, three ways with rules of their own,
+-- the rest of a target is its destination: a place up to 300, three ways that have their own rules,
 -- and from 501 on a message
 unfoldable pub destination_of : ℕ → Destination
 destination_of target =
@@ -34,14 +34,14 @@ destination_of target =
     else (if nat_le n 300 then Place n
     else (if nat_lt 500 n then Message (n - 500) else NoWay))))
 
--- the objects of a condition are objects that there may be
+-- the objects of a condition are possible numbers of objects
 abbrev pub IsConditionWithin : Condition → Type 0
 IsConditionWithin (InHands object) = object ≤ LAST_OBJECT
 IsConditionWithin (AtHand object) = object ≤ LAST_OBJECT
 IsConditionWithin (OtherProp object prop) = object ≤ LAST_OBJECT
 IsConditionWithin _ = Unit {0}
 
--- the place of a destination is a place that there may be
+-- the place of a destination is a possible number of a place
 abbrev pub EndsWithin : Destination → Type 0
 EndsWithin (Place place) = place ≤ LAST_PLACE
 EndsWithin _ = Unit {0}

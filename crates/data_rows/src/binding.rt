@@ -24,14 +24,14 @@ pub enum Key {
     LettersKey,
 }
 
-/// A key with its value.
+/// A key and its value.
 #[derive(Clone, Copy, Debug, PartialEq, Eq)]
 pub struct Binding {
     pub key: Key,
     pub value: u16,
 }
 
-/// The two fields of a line that has two.
+/// The two fields of a line, if it has exactly two.
 fn two_fields(line: &[u8]) -> Result<(&[u8], &[u8]), Cause>
     ensures { Answers (λ pair. (pair.0.now, pair.1.now)) result (two_fields (fields line.now)) }
 {
@@ -130,7 +130,7 @@ fn binding_of(key: &[u8], n: u32) -> Result<Binding, Cause>
     }
 }
 
-/// The binding that a line is.
+/// The binding that a line states.
 #[tactic(auto, unfolding(crate::specs::BindingLines::binding_row))]
 pub fn binding_row(line: &[u8]) -> Result<Binding, Cause>
     ensures { Answers (λ binding. binding) result (binding_row line.now) }

@@ -5,7 +5,7 @@ use crate::explain::{At, Expected};
 use std::alloc::{AllocError, AllocFailed};
 use thiserror::Error;
 
-/// Why a line of bindings binds nothing, though its key may be known.
+/// Why a line of bindings binds nothing, although its key may be known.
 #[derive(Clone, Copy, Debug, PartialEq, Eq, Error)]
 pub enum BindingFlaw {
     #[error("this is no binding")]
@@ -16,7 +16,8 @@ pub enum BindingFlaw {
     Repeated,
 }
 
-/// Why a database or its bindings are refused. On one line the first cause that fits is reported.
+/// Why a database or its bindings are refused. If several causes fit a line, the first of them is
+/// reported.
 #[derive(Clone, Copy, Debug, PartialEq, Eq, Error)]
 pub enum Cause {
     #[error("the input is too large")]
@@ -39,7 +40,7 @@ pub enum Cause {
     Memory,
 }
 
-/// A section of a database, in the order of their numbers from 1.
+/// A section of a database; these are in the order of their numbers, from 1.
 #[derive(Clone, Copy, Debug, PartialEq, Eq)]
 pub enum Section {
     LongTexts,
@@ -64,8 +65,8 @@ pub enum FaultSite {
     Bindings,
 }
 
-/// A fault: its cause, its line from 1, or 0 where no line is at fault, and the place of that line
-/// in the database.
+/// A fault: its cause, its line from 1, or 0 if no line is at fault, and where in the database that
+/// line is.
 #[derive(Clone, Copy, Debug, PartialEq, Eq, Error)]
 #[error("{}{}", At {line: *.line, site: *.site}, Expected {cause: *.cause, site: *.site})]
 pub struct CaveError {

@@ -3,7 +3,7 @@
 use crate::error::{BindingFlaw, Cause, FaultSite, Section};
 use std::fmt;
 
-/// The line that is at fault, if one is.
+/// The line at fault, if a line is.
 #[derive(Clone, Copy, Debug)]
 pub struct At {
     pub line: usize,
@@ -59,7 +59,7 @@ impl fmt::Display for Expected {
     }
 }
 
-/// What was expected where the database as a whole or a line outside every section is at fault.
+/// What was expected, if the database as a whole or a line outside every section is at fault.
 fn outside(cause: Cause) -> Option<&'static str> {
     match cause {
         Cause::TooLarge => Some("a database has at most 1,048,576 bytes"),
@@ -193,7 +193,7 @@ fn range(section: Section) -> &'static str {
     }
 }
 
-/// How many rows the section may have, and how long they may be, where that is limited.
+/// How many rows the section may have, and how long they may be, if there is a limit.
 fn limit(section: Section) -> Option<&'static str> {
     match section {
         Section::Travel => Some("section 3 has at most 2000 rows, and a row at most 40 motions"),

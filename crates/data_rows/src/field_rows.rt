@@ -28,19 +28,19 @@ const MAX_TEXT: usize = 255;
 /// The last number of a motion.
 const LAST_MOTION: u16 = WORDS_PER_CLASS - 1;
 
-/// The words of objects come after this number, each with its object's.
+/// The words of objects come after this number, each of them its object's number later.
 const OBJECT_WORDS: u32 = WORDS_PER_CLASS as u32;
 
 /// The last number of the word of an object.
 const LAST_OBJECT_WORD: u32 = OBJECT_WORDS + LAST_OBJECT as u32;
 
-/// The words of actions come after this number, each with its action's.
+/// The words of actions come after this number, each of them its action's number later.
 const ACTION_WORDS: u32 = 2 * WORDS_PER_CLASS as u32;
 
 /// The last number of the word of an action.
 const LAST_ACTION_WORD: u32 = ACTION_WORDS + LAST_ACTION as u32;
 
-/// The special words come after this number, each with its message's.
+/// The special words come after this number, each of them its message's number later.
 const SPECIAL_WORDS: u32 = 3 * WORDS_PER_CLASS as u32;
 
 /// The last number of a special word.
@@ -49,7 +49,7 @@ const LAST_SPECIAL_WORD: u32 = SPECIAL_WORDS + LAST_MESSAGE as u32;
 /// The last number of a target of a way, with its condition.
 const LAST_TARGET: u32 = 999_999;
 
-/// A line of a text of an object begins with so many times a prop, or with an object.
+/// A line of a text of an object begins with this number times a prop, or with an object.
 const PROP_STEP: u32 = 100;
 
 /// The last number that a line of a text of an object begins with.
@@ -105,11 +105,10 @@ fn is_zero(number: Number) -> bool
     matches!(number, Number::Natural(0))
 }
 
-/// The numbers of a list, or what is wrong with them: one is out of range, or they are too many.
+/// The numbers of a list, or what is wrong with them: one is out of range, or there are too many.
 type List = Result<ArrayVec<u16, MAX_LIST>, Cause>;
 
-/// The list with one more number. A number that is out of range is reported before too many of
-/// them.
+/// The list with one more number. A number out of range is reported before too many numbers are.
 fn with_number(list: List, number: Result<u16, Cause>) -> List
     ensures { list_or_cause result ≡ with_number (list_or_cause list) number }
 {
@@ -122,7 +121,7 @@ fn with_number(list: List, number: Result<u16, Cause>) -> List
     Ok(numbers)
 }
 
-/// The numbers up to a 0 or to the end of the line, each of which is to be in the range.
+/// The numbers up to a 0 or to the end of the line, each of which must be in the range.
 fn list_in(bytes: &[u8], low: u16, high: u16) -> Result<List, Cause>
     ensures { Answers list_or_cause result (list_within low high bytes.now) }
 {
@@ -261,7 +260,7 @@ pub fn word_row(line: &[u8]) -> Result<WordRow<'_>, Cause>
     Ok(WordRow { number, word })
 }
 
-/// The next number, where 0 means one that is left out.
+/// The next number, or 0 if it is left out.
 fn number_or_zero(bytes: &[u8]) -> Result<(Number, &[u8]), Cause>
     ensures { Answers (λ found. (found.0, found.1.now)) result (number_or_zero bytes.now) }
 {

@@ -9,7 +9,7 @@ use base_lines::bytes::{skip_blanks, split_word};
 #[derive(Clone, Copy, Debug, PartialEq, Eq)]
 pub enum Number {
     Natural(u32),
-    /// The distance below 0, which is at least 1.
+    /// How far it is below 0, which is at least 1.
     Negative(u32),
 }
 

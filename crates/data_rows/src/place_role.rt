@@ -1,9 +1,9 @@
-//! The places that the rules of play name by what they are for.
+//! The places that rules name by what they are for.
 ghost use Rattle.std.specs.Prelude.{◌≡◌, [], slice_index_or};
 ghost use Rattle.data_rows.specs.PlaceRole.{place_number};
 ghost use Rattle.data_rows.specs.PlaceRole as defined;
 
-/// A place that the rules of play name by what it is for; bindings say which number it has.
+/// A place that rules name by what it is for; bindings give its number.
 #[derive(Clone, Copy, Debug, PartialEq, Eq)]
 pub enum PlaceRole {
     Start,

@@ -1,9 +1,9 @@
-//! The messages that the rules of play name by what they are for.
+//! The messages that rules name by what they are for.
 ghost use Rattle.std.specs.Prelude.{◌≡◌, [], slice_index_or};
 ghost use Rattle.data_rows.specs.Role.{role_number};
 ghost use Rattle.data_rows.specs.Role as defined;
 
-/// A message that the rules of play name by what it is for; bindings say which number it has.
+/// A message that rules name by what it is for; bindings give its number.
 #[derive(Clone, Copy, Debug, PartialEq, Eq)]
 pub enum Role {
     Answer,
@@ -332,7 +332,7 @@ impl Role {
         self as u16
     }
 
-    /// The name that bindings give it, and that is printed for a message that is not bound.
+    /// The name that bindings give it. It is printed in place of a message that isn't bound.
     pub fn name(self) -> &'static str
         ensures { result.now ≡ slice_index_or defined.ROLE_NAMES (role_number self) [] }
     {

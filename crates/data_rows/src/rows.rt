@@ -9,8 +9,8 @@ use arrayvec::ArrayVec;
 /// The most numbers in the list of a row: the motions of a way, or the places that have a bit.
 pub const MAX_LIST: usize = 40;
 
-/// How many numbers a class of words has: those of motions come first, then those of objects, of
-/// actions and of special words.
+/// How many numbers a class of words has. The numbers of motions come first, then those of objects,
+/// of actions and of special words.
 pub const WORDS_PER_CLASS: u16 = 1000;
 
 /// A way out of a place: where to, and the motions that take it.
@@ -66,15 +66,15 @@ pub struct WordRow<'a> {
     pub word: &'a [u8],
 }
 
-/// Where an object is as a play begins: its first place, or 0, and its second
-/// place, 0 where there is none, or -1 where it can't be moved.
+/// Where an object is as a play begins: its first place, or 0, and its second place, which is 0 if
+/// there is none and -1 if it can't be moved.
 #[derive(Clone, Copy, Debug, PartialEq, Eq)]
 pub struct Placement {
     pub first: u16,
     pub second: i16,
 }
 
-/// A hint: the turns that it waits, its cost, and the messages that offer and give it.
+/// A hint: how many turns it waits, its cost, and the messages that offer and give it.
 #[derive(Clone, Copy, Debug, PartialEq, Eq)]
 pub struct Hint {
     pub turns: u16,

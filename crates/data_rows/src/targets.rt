@@ -9,7 +9,7 @@ ghost use Rattle.data_rows.specs.Targets.{EndsWithin};
 pub enum Condition {
     /// It always holds.
     Always,
-    /// It holds in so many of a hundred cases.
+    /// It holds in this many of a hundred cases.
     Chance(u8),
     /// It always holds, but dwarves don't take the way.
     NotForDwarves,
@@ -21,7 +21,7 @@ pub enum Condition {
     OtherProp(u8, u16),
 }
 
-/// A way with rules of its own.
+/// A way that has its own rules.
 #[derive(Clone, Copy, Debug, PartialEq, Eq)]
 pub enum Special {
     /// Through a passage that lets almost nothing through in the player's hands.
@@ -35,13 +35,13 @@ pub enum Special {
 pub enum Destination {
     /// To the place of a number; 0 is nowhere.
     Place(u16),
-    /// Where rules of its own say.
+    /// Where the way's own rules say.
     Special(Special),
     /// To no other place: the emerald is put down where the player is, and the next way is tried.
     PutsEmeraldDown,
     /// To no other place: the message of a number is printed.
     Message(u16),
-    /// To no place at all.
+    /// Nowhere.
     NoWay,
 }
 

@@ -2,7 +2,7 @@ use Rattle.std.proofs.Common.{◌≡◌, ◌++◌, [], drop, take}
 use Rattle.data_bindings.specs.WayLines.{AreCounts, way_lines_from}
 use Rattle.data_bindings.proofs.by_line.push_ways.Given as goal
 
--- the ways so far, with those of the rest, are those of the whole; those so far are counted
+-- the ways so far, with those of the rest, are all ways; those so far are counted
 abbrev pub invariant-loop-row : goal.invariant-loop-row
 invariant-loop-row l =
     (l.ways.items ++ way_lines_from (take l.row-index l.rows) (drop l.row-index l.rows)

@@ -4,8 +4,8 @@ use Rattle.data_rows.specs.declared.position.Position.TheVariants.{Outside}
 use Rattle.data_bindings.specs.Marks.{marked_rows}
 use Rattle.data_bindings.proofs.rows.marked_rows.Given as goal
 
--- the rows so far, with those of the rest, are those of the whole; each line that was counted took a
--- byte at least
+-- the rows so far, with those of the rest, are all rows; each line that was counted took at least
+-- one byte
 abbrev pub invariant-loop-line : goal.invariant-loop-line
 invariant-loop-line l =
     (marked_rows 1 Outside (lines l.database)
