@@ -1,4 +1,4 @@
--- `==` holds exactly where values are equal, field by field up to whole states.
+-- `==` holds exactly if values are equal, field by field up to whole states.
 use Rattle.std.proofs.Common.{◌≡◌, Bool, Option, Some, None, refl, sym, ap}
 use Rattle.std.specs.Prelude.{◌↔◌, IsTrue}
 use Rattle.std.specs.Bool.{Decides}
@@ -211,7 +211,7 @@ hints_decides a b =
     (Decides-and _ _ (pointwise_decides unsigned_Decides a.turns b.turns)
     (pointwise_decides booleans_Decides a.is_taken b.is_taken))
 
--- `==` holds of two states exactly where they are equal in every field
+-- `==` holds of two states exactly if they are equal in every field
 pub state_equality : (a b : State) → IsTrue (state_eq.eq-value.it a b) ↔ (a ≡ b)
 state_equality a b =
     Decides-like _
@@ -276,8 +276,8 @@ state_equality a b =
     (Decides-and _ _ (option_decides _ (ending_decides) a.ending b.ending)
     (unsigned_Decides a.stream b.stream))))))))))))
 
--- `==` holds of two states exactly where everything but the lists of objects is equal, and the list
--- of each place; the lists of every state that a program makes are in order
+-- `==` holds of two states exactly if everything but the lists of objects is equal, and so is the
+-- list of each place; the lists of every state that a program makes are in order
 pub same_game : (a b : State) → AreLists a.objects.lists → AreLists b.objects.lists
     → IsTrue (state_eq.eq-value.it a b) ↔ IsSameGame a b
 same_game a b first second =

@@ -1,11 +1,11 @@
--- How far the numbers go that a state counts, and how many dwarves there are.
+-- How far the counts of a state go, and how many dwarves there are.
 use Rattle.std.specs.Prelude.{ℕ, ℤ, pos, negsuc, ◌≤ℤ◌}
 
 -- the most turns that a lamp can still burn
 abbrev pub MAX_LAMP_TURNS : ℕ
 MAX_LAMP_TURNS = 100000
 
--- a lamp that burns so many turns more, or fewer, is low
+-- a lamp that burns this many turns more, or fewer, is low
 abbrev pub LOW_CHARGE : ℕ
 LOW_CHARGE = 30
 
@@ -36,7 +36,7 @@ STIRRING = 1
 abbrev pub AWAKE : ℕ
 AWAKE = 2
 
--- how angry dwarves are at most
+-- how angry dwarves can get
 abbrev pub MAX_ANGER : ℕ
 MAX_ANGER = 13
 

@@ -6,7 +6,7 @@ use Rattle.cave_world.specs.declared.motion.Motion.TheVariants as motion
 use Rattle.cave_world.specs.declared.motion.NoNamedMotion.{NoNamedMotion}
 use Rattle.cave_world.specs.declared.motion.TheConstants.{EACH_MOTION}
 
--- by its number a database knows it
+-- the number by which a database knows it
 abbrev pub motion_number : Motion → ℕ
 motion_number motion.Any = 1
 motion_number motion.Forward = 7
@@ -42,7 +42,7 @@ any_motion = motion_number motion.Any
 unfoldable pub motion_among : List Motion → ℕ → Option Motion
 motion_among motions number = find (λ m. motion_number m == number) motions
 
--- the motion of a number, if rules name it
+-- the motion with a number, if rules name it
 unfoldable pub motion_of : ℕ → Option Motion
 motion_of number = motion_among EACH_MOTION number
 

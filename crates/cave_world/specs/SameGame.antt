@@ -68,7 +68,7 @@ joined a b first second s =
       stream = s.stream i;
     }
 
--- states whose lists are in order are equal exactly where they are the same game
+-- states whose lists are in order are equal exactly if they are the same game
 pub same_state : (a b : State) → AreLists a.objects.lists → AreLists b.objects.lists
     → (a ≡ b) ↔ IsSameGame a b
 same_state a b first second =

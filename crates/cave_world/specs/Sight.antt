@@ -15,7 +15,7 @@ LIGHT_BIT = 0
 unfoldable pub has_condition : CaveView → ℕ → ℕ → Bool
 has_condition cave place bit = cond_of cave place / 2 ^ bit % 2 == 1
 
--- the first motion of the first way out is the one that any motion is
+-- the first motion of the first way out is the one that stands for any
 abbrev pub starts_with_any : List ℕ → Bool
 starts_with_any [] = false
 starts_with_any (motion ∷ motions) = motion == any_motion

@@ -1,4 +1,4 @@
--- Where the player is, how often places were described, and how a game begins and is over.
+-- Where the player is, how often places were described, and how a game begins and ends.
 use Rattle.std.specs.Prelude.{ℕ, ◌+◌, ◌-◌, ◌%◌, Bool, true, false, ◌==◌, ◌||◌, if◌then◌else◌, None}
 use Rattle.std.specs.Prelude.{Some, is_some, replicate, slice_index_or, slice_set, length, pos}
 use Rattle.cave_world.specs.declared.state.State.{State}
@@ -95,11 +95,11 @@ state_after_set_out s =
 unfoldable pub visits_of : State → ℕ → ℕ
 visits_of s place = if place == 0 then 0 else slice_index_or s.visits (place - 1) 0
 
--- visits are counted below it, and begin anew at it
+-- as the count of visits reaches this number it starts again at 0
 abbrev pub END_OF_VISITS : ℕ
 END_OF_VISITS = 10000
 
--- one more, or none after the last that is counted
+-- one more, or 0 after the last that is counted
 unfoldable pub with_visit : State → ℕ → State
 with_visit s place = if place == 0 then s
     else record s {
@@ -114,11 +114,11 @@ without_visits s place = if place == 0 then s
 abbrev pub MAX_LOST : ℕ
 MAX_LOST = 60000
 
--- the deaths that a game has: after the last of them nobody comes back
+-- how many deaths a game has: the player can't come back after the last
 abbrev pub LIVES : ℕ
 LIVES = 3
 
--- the most turns in the area of a hint that are counted
+-- the most turns that are counted in the area of a hint
 abbrev pub MAX_TURNS_IN_AREA : ℕ
 MAX_TURNS_IN_AREA = 10000
 

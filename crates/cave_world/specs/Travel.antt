@@ -45,12 +45,12 @@ holds (condition.AtHand object) s =
     is_in_hands s.objects object || is_object_at s.objects s.trail.here object
 holds (condition.OtherProp object prop) s = not (int_eq (prop_of s.objects object) (pos prop))
 
--- a condition by chance takes a draw, every other leaves the state
+-- a condition by chance takes a draw, and any other leaves the state as it is
 abbrev pub after_condition : Condition → State → State
 after_condition (condition.Chance percent) s = record s { stream = next s.stream }
 after_condition _ s = s
 
--- where a destination leads: nowhere if the emerald alone is put down
+-- where a destination leads: nowhere if only the emerald is put down
 abbrev pub outcome_at : Destination → Option Outcome
 outcome_at (destination.Place place) = Some (Go place)
 outcome_at (destination.Special special) = Some (Special special)
@@ -100,7 +100,7 @@ try_of emerald s number row = record {
   after = after_trying_row emerald s row;
 }
 
--- the row has the target of the one before it that failed
+-- the row has the same target as the row before it, which failed
 abbrev pub is_passed : Option ℕ → Going → Bool
 is_passed None row = false
 is_passed (Some target) row = row.target == target
@@ -115,7 +115,7 @@ tries emerald s failed number (row ∷ rows) =
     ∷ (if is_some (row_outcome s row) then []
     else tries emerald (after_trying_row emerald s row) (Some row.target) (number + 1) rows)
 
--- a motion tries the rows of a place from the first that lists it
+-- the tries of a motion, from the first row of a place that lists it
 abbrev pub tries_by_rows : ℕ → ℕ → State → List Going → List Try
 tries_by_rows emerald motion s ways =
     tries emerald s None (count_unlisted motion ways) (from_listed motion ways)
@@ -134,7 +134,7 @@ unfoldable pub travel_by_rows : ℕ → ℕ → State → List Going → TravelR
 travel_by_rows emerald motion s ways =
     result_of_last (record { state = s; outcome = NoMotion }) (tries_by_rows emerald motion s ways)
 
--- the rows that a motion tries, of those of a place
+-- those rows of a place that a motion tries
 unfoldable pub rows_tried_by : ℕ → ℕ → State → List Going → List RuleRow
 rows_tried_by emerald motion s ways = map (λ t. t.row) (tries_by_rows emerald motion s ways)
 

@@ -1,13 +1,13 @@
 ghost use Rattle.std.specs.Prelude.{◌≡◌};
 ghost use Rattle.cave_world.specs.State.{far_closing};
 
-/// How many turns in the depths come before the cave begins to close.
+/// How many turns in the depths pass before the cave begins to close.
 const TURNS_BEFORE_CLOSING: i8 = 30;
 
-/// How many turns later it is closed.
+/// How many more turns pass before it is closed.
 const TURNS_OF_CLOSING: i8 = 50;
 
-/// How far the cave is on its way to be closed.
+/// How far the closing of the cave has gone.
 #[derive(Clone, Copy, Debug, PartialEq, Eq)]
 pub struct Closing {
     /// The turns until the cave begins to close, or -1 once it has begun.
@@ -16,7 +16,7 @@ pub struct Closing {
     pub second_clock: i8,
     pub is_closing: bool,
     pub is_closed: bool,
-    /// Whether the player tried to get out of the closing cave.
+    /// Whether the player has tried to get out of the closing cave.
     pub is_panicking: bool,
 }
 

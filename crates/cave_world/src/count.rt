@@ -21,7 +21,7 @@ impl<const MOST: u16> Model for Count<MOST> {
 }
 
 impl<const MOST: u16> Count<MOST> {
-    /// The count of a number.
+    /// The count with a number.
     pub fn new(number: u16) -> Self
         requires { number ≤ MOST }
         ensures { result ≡ number }
@@ -50,7 +50,7 @@ impl<const MOST: u16> Count<MOST> {
         }
     }
 
-    /// One more, and 0 after `MOST`.
+    /// One more, or 0 after `MOST`.
     pub fn round(self) -> Self
         ensures { result ≡ (self.entry + 1) % (MOST + 1) }
     {

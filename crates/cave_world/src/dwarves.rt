@@ -10,7 +10,8 @@ pub const DWARVES: usize = 6;
 /// The number of the pirate, who comes after the other dwarves. They count from 0.
 pub const PIRATE: usize = DWARVES - 1;
 
-/// A dwarf: where it is and was, place 0 where it is gone, and whether it has seen the player.
+/// A dwarf: where it is and was, which is place 0 if it is gone, and whether it has seen the
+/// player.
 #[derive(Clone, Copy, Debug, PartialEq, Eq)]
 pub struct Dwarf {
     pub place: Place,
@@ -21,21 +22,21 @@ pub struct Dwarf {
 /// The knife that a dwarf threw.
 #[derive(Clone, Copy, Debug, PartialEq, Eq)]
 pub enum Knife {
-    /// No knife was thrown that the player could still ask for.
+    /// There is no knife that the player could still ask for.
     Unthrown,
-    /// It was thrown at a place.
+    /// It was thrown at this place.
     At(Place),
-    /// It was said that knives vanish.
+    /// The game has said that knives vanish.
     Vanished,
 }
 
-/// How angry dwarves are at most.
+/// How angry dwarves can get.
 const MAX_ANGER: u16 = 13;
 
 /// The most dwarves killed that are counted.
 const MAX_KILLS: u16 = 60_000;
 
-/// The dwarves, how angry they are, and how many were killed.
+/// The dwarves, how angry they are, and how many have been killed.
 #[derive(Clone, Copy, Debug, PartialEq, Eq)]
 pub struct Dwarves {
     pub anger: Count<MAX_ANGER>,

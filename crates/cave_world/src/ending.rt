@@ -7,7 +7,7 @@ pub enum Question {
     Welcome,
     /// Whether to end the game.
     Quit,
-    /// Whether to end the game, after the score was printed.
+    /// Whether to end the game, asked after the score was printed.
     ScoreQuit,
     /// Whether to come back from death.
     Die,

@@ -6,8 +6,7 @@ ghost use Rattle.cave_world.specs.declared.tables.RuleRow.{RuleRow};
 use crate::tables::RuleRow;
 use std::marker::Model;
 
-/// Rows in order, for contracts alone: they take no memory, and nothing is done with them when the
-/// program runs.
+/// Rows in order, only for contracts: they take no memory, and do nothing when the program runs.
 #[derive(Drop)]
 pub struct GhostRows {
     pub ghost rows: { List RuleRow },
@@ -18,7 +17,7 @@ impl Model for GhostRows {
 }
 
 impl GhostRows {
-    /// No row.
+    /// No rows.
     pub fn new() -> GhostRows
         ensures { result.rows ≡ [] }
     {

@@ -13,7 +13,7 @@ use world_objects::object::OBJECTS;
 use world_objects::{Half, Object, Place};
 
 impl State {
-    /// Whether there is the object, and its first half is nowhere.
+    /// Whether the object exists and its first half is nowhere.
     pub fn is_gone(&self, object: Object) -> bool
         ensures { result ≡ is_gone self.now.objects object }
     {
@@ -56,14 +56,15 @@ impl State {
         self.objects.count_in_hands()
     }
 
-    /// The objects in the player's hands, ascending.
+    /// The objects in the player's hands, in ascending order.
     pub fn in_hands(&self) -> ArrayVec<Object, OBJECTS>
         ensures { result.items ≡ objects_in_hands self.now.objects }
     {
         self.objects.in_hands()
     }
 
-    /// The halves that are at a place, latest first. Each is of an object, and none is at place 0.
+    /// The halves that are at a place, latest first. Each belongs to an object, and none is at
+    /// place 0.
     pub fn objects_at(&self, place: Place) -> ArrayVec<Half, HALVES>
         ensures value { result.items ≡ halves_at place self.now.objects.lists }
         ensures objects { All (λ half. 0 < object_of half)
@@ -90,7 +91,7 @@ impl State {
         self.objects.carry(object);
     }
 
-    /// An object is moved to the front of a place's list, also from the player's hands. Place 0 is
+    /// An object moves to the front of a place's list, even from the player's hands. Place 0 is
     /// nowhere.
     pub fn move_to(&mut self, object: Object, place: Place)
         ensures value { let s = self.old in
@@ -102,7 +103,7 @@ impl State {
         self.objects.move_to(object, place);
     }
 
-    /// An object falls at a place, from the player's hands too, and is the latest there.
+    /// An object falls at a place, even from the player's hands, and is then the latest there.
     pub fn drop_at(&mut self, object: Object, place: Place)
         requires { 0 < place }
         ensures value { let s = self.old in
@@ -114,7 +115,7 @@ impl State {
         self.move_to(object, place);
     }
 
-    /// An object is nowhere from now on.
+    /// An object vanishes: it is nowhere from now on.
     pub fn destroy(&mut self, object: Object)
         ensures value { let s = self.old in
             self.new ≡ record s { objects = after_move_to s.objects object 0 } }

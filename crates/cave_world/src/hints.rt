@@ -16,7 +16,7 @@ pub const CLUE_HINT: u8 = 2;
 /// The instructions, which count as a hint.
 pub const INSTRUCTIONS_HINT: u8 = 3;
 
-/// The most turns in the area of a hint that are counted.
+/// The most turns that are counted in the area of a hint.
 pub const MAX_TURNS_IN_AREA: u16 = 10_000;
 
 /// The number of a hint.
@@ -39,7 +39,7 @@ impl Model for HintNumber {
 }
 
 impl HintNumber {
-    /// The hint of a number.
+    /// The hint with a number.
     pub fn new(number: u8) -> HintNumber
         requires low { 1 ≤ number }
         requires high { number ≤ defined.LAST_HINT }
@@ -66,7 +66,7 @@ pub struct Hints {
 }
 
 impl Hints {
-    /// No hint was taken yet, nor waited for.
+    /// No hint has been taken yet, nor waited for.
     #[tactic(auto, unfolding(crate::specs::State::unused_hints))]
     pub fn unused() -> Hints
         ensures { result ≡ unused_hints }
@@ -79,14 +79,14 @@ impl Hints {
 }
 
 impl State {
-    /// Whether a hint was taken.
+    /// Whether a hint has been taken.
     pub fn is_hint_taken(&self, hint: HintNumber) -> bool
         ensures { result ≡ is_hint_taken self.now hint }
     {
         self.hints.is_taken[usize::from(hint.number()) - 1]
     }
 
-    /// A hint is taken.
+    /// Marks a hint as taken.
     pub fn take_hint(&mut self, hint: HintNumber)
         ensures { self.new ≡ with_hint_taken hint self.old }
     {

@@ -7,13 +7,13 @@ use std::marker::Model;
 /// The most turns that a lamp can still burn.
 const MAX_LAMP_TURNS: i32 = 100_000;
 
-/// How many turns a lamp burns.
+/// How many turns a new lamp burns.
 const FULL_CHARGE: i32 = 330;
 
-/// A lamp that burns so many turns more, or fewer, is low.
+/// A lamp that burns this many turns more, or fewer, is low.
 pub const LOW_CHARGE: i32 = 30;
 
-/// The turns that a lamp still burns. -1 says that it went out.
+/// The turns that a lamp still burns, or -1 if it has gone out.
 #[derive(Clone, Copy, Debug, PartialEq, Eq)]
 pub struct Charge {
     turns: i32,
@@ -33,7 +33,7 @@ impl Model for Charge {
 }
 
 impl Charge {
-    /// The charge of a number of turns.
+    /// The charge for a number of turns.
     pub fn new(turns: i32) -> Charge
         requires low { negsuc 0 ≤ℤ turns }
         requires high { turns ≤ℤ pos defined.MAX_LAMP_TURNS }
@@ -42,7 +42,7 @@ impl Charge {
         Charge { turns }
     }
 
-    /// The charge of a number of turns, or the greatest one where there are more.
+    /// The charge for a number of turns, or the greatest one if there are more.
     pub fn capped(turns: i32) -> Charge
         requires { negsuc 0 ≤ℤ turns }
         ensures { result ≡ int_min turns (pos defined.MAX_LAMP_TURNS) }
@@ -62,7 +62,7 @@ impl Charge {
     }
 }
 
-/// The lamp's charge, and whether the player was warned that it is low.
+/// The lamp's charge, and whether the player has been warned that it is low.
 #[derive(Clone, Copy, Debug, PartialEq, Eq)]
 pub struct Lamp {
     pub charge: Charge,
@@ -72,7 +72,7 @@ pub struct Lamp {
 impl Lamp {
     ghost use Rattle.cave_world.specs.State.{full_lamp};
 
-    /// A lamp that wasn't lit yet.
+    /// A lamp that hasn't been lit yet.
     #[tactic(auto, unfolding(crate::specs::State::full_lamp))]
     pub fn full() -> Lamp
         ensures { result ≡ full_lamp }

@@ -5,8 +5,8 @@ ghost use Rattle.cave_world.specs.Motions.{IsMotionOf, motion_among, motion_numb
 /// A motion that rules name, with its number in a database.
 #[derive(Clone, Copy, Debug, PartialEq, Eq)]
 pub enum Motion {
-    /// A row that lists it is taken by every motion. A place has a forced motion where its first
-    /// row begins with it.
+    /// A row that lists it is taken by every motion. If the first row of a place begins with it,
+    /// the place has a forced motion.
     Any = 1,
     Forward = 7,
     Back = 8,
@@ -37,7 +37,7 @@ pub enum Motion {
     Plover = 71,
 }
 
-/// Each of them.
+/// Each motion.
 pub const EACH_MOTION: [Motion; 26] = [
     Motion::Any,
     Motion::Forward,

@@ -7,7 +7,7 @@ use crate::tables::RuleRow;
 
 /// Notes on the rows of the rules.
 pub trait RowNotes: Drop {
-    /// The rows that were noted, in order.
+    /// The noted rows, in order.
     ghost rows: { Self → List RuleRow };
 
     /// Notes a row.
@@ -22,7 +22,7 @@ pub struct Unnoted {
 }
 
 impl Unnoted {
-    /// Nothing is noted yet.
+    /// No notes yet.
     pub fn new() -> Unnoted
         ensures { result.noted.rows ≡ [] }
     {

@@ -28,7 +28,7 @@ pub enum WordLine {
 /// One thing that a turn prints.
 #[derive(Clone, Copy, Debug, PartialEq, Eq)]
 pub enum Part {
-    /// The message of a number.
+    /// The message with a number.
     Message(u16),
     /// The long text of a place.
     Long(u16),
@@ -36,7 +36,7 @@ pub enum Part {
     Short(u16),
     /// The message of a role.
     Role(Role),
-    /// The text of an object for a number, as a prop is one.
+    /// The text of an object for a number, such as its prop.
     Object(Object, i8),
     /// The inventory text of an object.
     Name(Object),
@@ -60,7 +60,7 @@ impl Default for Part {
     }
 }
 
-/// How many parts a turn prints at most.
+/// The most parts that a turn prints.
 const MAX_PARTS: usize = 512;
 
 /// What a turn prints, in order.

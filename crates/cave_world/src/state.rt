@@ -14,7 +14,7 @@ use cave_words::Stream;
 use world_objects::place::PLACES;
 use world_objects::{Objects, Place};
 
-/// The deaths that a game has: after the last of them nobody comes back.
+/// How many deaths a game has: the player can't come back after the last.
 pub const LIVES: u16 = 3;
 
 /// How many treasures there may be.
@@ -34,8 +34,8 @@ pub struct Trail {
 /// What the score and the closing of the cave depend on.
 #[derive(Clone, Copy, Debug, PartialEq, Eq)]
 pub struct Tallies {
-    /// The known treasures, less one for each that was described while its prop was below 0. Where
-    /// a rule gives one another prop before that, as a vase that breaks in the dark, it stays
+    /// The known treasures, less one for each that was described while its prop was below 0. If a
+    /// rule gives a treasure another prop before that, as when a vase breaks in the dark, it stays
     /// counted.
     pub unseen: Count<MAX_TREASURES>,
     /// How often a rule has said that a treasure is lost, whether or not one was.
@@ -48,7 +48,7 @@ pub struct Tallies {
 pub struct State {
     pub trail: Trail,
     pub objects: Objects,
-    /// How often each place was described.
+    /// How often each place has been described.
     pub visits: [Visits; PLACES],
     pub lamp: Lamp,
     pub closing: Closing,
@@ -111,7 +111,7 @@ impl State {
         self.trail.here = place;
     }
 
-    /// Puts the player at a place, as one who has come from there.
+    /// Puts the player at a place, as if the player had also come from there.
     pub fn put_player_from(&mut self, place: Place)
         ensures { self.new ≡ with_player_from place self.old }
     {

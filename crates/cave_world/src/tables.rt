@@ -1,7 +1,7 @@
 //! The tables of the rules, and their rows.
 
 /// A table of the rules, in the order of docs/TURN.md, docs/PLAY.md and docs/VERBS.md. The answers
-/// to questions are two tables, and the tables that only add up the score are none.
+/// to questions are two tables; those tables that only add up the score aren't listed.
 #[derive(Clone, Copy, Debug, PartialEq, Eq)]
 pub enum Table {
     Asking,
@@ -118,7 +118,7 @@ pub enum Table {
 pub enum RuleRow {
     /// A row of a table applies. Rows are counted from 1.
     OfTable(Table, u8),
-    /// A row of a place is tried by a motion, by its place among the rows of that place, the first
-    /// of which is 0, and whether it applies: its condition holds, or fails.
+    /// A motion tries a row of a place: that place, which of its rows it is, counted from 0, and
+    /// whether it applies, which it does if its condition holds.
     OfPlace(u16, usize, bool),
 }

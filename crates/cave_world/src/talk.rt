@@ -5,7 +5,7 @@ use crate::count::Count;
 use crate::magic::Magic;
 use world_objects::Object;
 
-/// How often it is said that there are no more details.
+/// How often the game says that there are no more details.
 pub const MAX_DETAILS: u16 = 3;
 
 /// What the game remembers of what was said.
@@ -17,13 +17,13 @@ pub struct Talk {
     /// The object of the last command.
     pub last: Object,
     pub is_brief: bool,
-    /// How often it was said that there are no more details.
+    /// How often the game has said that there are no more details.
     pub details: Count<MAX_DETAILS>,
     pub magic: Magic,
 }
 
 impl Talk {
-    /// Nothing was said yet.
+    /// Nothing has been said yet.
     #[tactic(auto, unfolding(crate::specs::State::silent_talk))]
     pub fn silent() -> Talk
         ensures { result ≡ silent_talk }

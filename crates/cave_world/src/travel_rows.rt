@@ -20,13 +20,13 @@ use world_objects::{Object, Place};
 pub enum Outcome {
     /// The player arrives at a place.
     Go(Place),
-    /// The way has rules of its own.
+    /// The way has its own rules.
     Special(Special),
     /// A message is printed, and the player arrives where the player is.
     Say(u16),
     /// No row of the place lists the motion.
     NoMotion,
-    /// No row that is left can be taken.
+    /// None of the remaining rows can be taken.
     NoWay,
 }
 
@@ -39,7 +39,7 @@ pub fn travel(cave: &Cave, emerald: Object, state: &mut State, motion: u16) -> O
     note_travel(cave, emerald, state, motion, &mut Unnoted::new())
 }
 
-/// The same, and each row that is tried is noted.
+/// The same, and notes each row that it tries.
 #[tactic(auto, unfolding(crate::specs::Travel::travel, crate::specs::Travel::rows_tried_from))]
 pub fn note_travel<N: RowNotes>(
     cave: &Cave,
@@ -130,7 +130,7 @@ impl State {
     }
 }
 
-/// Whether a row has the target of the one before it that failed.
+/// Whether a row has the same target as the row before it, which failed.
 fn is_passed(failed: Option<u32>, row: &Row) -> bool
     ensures { result ≡ is_passed failed (going row.now) }
 {

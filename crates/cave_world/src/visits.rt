@@ -8,11 +8,11 @@ use world_objects::Place;
 /// The most visits that are counted.
 const MAX_VISITS: u16 = 9999;
 
-/// How often a place was described, which starts anew after the most that are counted.
+/// How often a place was described. After the most that are counted it starts again at 0.
 pub type Visits = Count<MAX_VISITS>;
 
 impl State {
-    /// How often a place was described. Place 0 never is.
+    /// How often a place was described, which place 0 never is.
     #[tactic(auto, unfolding(crate::specs::State::visits_of))]
     pub fn visits(&self, place: Place) -> Visits
         ensures { result ≡ visits_of self.now place }
@@ -35,7 +35,7 @@ impl State {
         self.visits[usize::from(place.number()) - 1] = visits;
     }
 
-    /// A place is described as if it never was.
+    /// A place counts as never described.
     #[tactic(auto, unfolding(crate::specs::State::without_visits))]
     pub fn forget_visits(&mut self, place: Place)
         ensures { self.new ≡ without_visits self.old place }

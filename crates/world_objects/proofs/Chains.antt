@@ -1,4 +1,4 @@
--- The lists come back from their links.
+-- The links of lists make up these lists again.
 use Rattle.std.proofs.Common.{◌≡◌, ◌≢◌, ℕ, zero, suc, ◌+◌, ◌-◌, ◌<◌, ◌≤◌, Bool, true, false, cond}
 use Rattle.std.proofs.Common.{List, [], ◌∷◌, ◌++◌, length, map, filter, set, get_or, nat_lt, eqb}
 use Rattle.std.proofs.Common.{refl, sym, ap, ◌∙◌, arith}
@@ -136,7 +136,7 @@ AreAlong-first_half next p (e ∷ es) l w k =
     begun next p e es (eqb e.place p) refl l.0.0 w.0.1 k.0
     (AreAlong-first_half next p es l.1.1.1.1 w.1 k.1)
 
--- what leads on alike from all other halves
+-- links that lead on in the same way from all other halves
 AreLinkedBy-like : (before after : ℕ → ℕ) (m : ℕ) (es : List PlacedHalf) → AreLists es → Lacks m es
     → ((n : ℕ) → 0 < n → n ≤ 200 → n ≢ m → after n ≡ before n)
     → AreLinkedBy before es → AreLinkedBy after es
@@ -194,7 +194,7 @@ length-filter p [] = omega arith
 length-filter p (e ∷ es) =
     omega (arith, shorter (p e) (length es) e (filter p es) (length-filter p es))
 
--- no list is longer than all of them
+-- no list is longer than all lists together
 pub length-halves_at : (p : ℕ) (es : List PlacedHalf) → AreLists es → length (halves_at p es) ≤ 200
 length-halves_at p es l =
     let kept : List PlacedHalf = filter (λ (e : PlacedHalf). eqb e.place p) es in

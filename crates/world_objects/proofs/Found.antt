@@ -14,7 +14,7 @@ unfolding without
 kept n e es true h f ih = absurd (false≢true (sym f))
 kept n e es false h f ih = rw h (ap (λ (l : List PlacedHalf). e ∷ l) ih)
 
--- taking out a half that is nowhere leaves all
+-- taking out a half that is nowhere changes nothing
 pub without_absent : (n : ℕ) (es : List PlacedHalf) → Lacks n es → without n es ≡ es
 unfolding without
 without_absent n [] l = refl

@@ -16,7 +16,7 @@ carried_more o n =
     ∙ ap (λ (l : List ℕ). filter (is_in_hands o) l ++ cond (is_in_hands o (n + 1)) ((n + 1) ∷ []) [])
     (map-id (range_with_len 1 n)))
 
--- one object more, which is in the hands
+-- one more object, which is in the hands
 pub carried_one : (o : Layout) (n x : ℕ) (xs : List ℕ) (b : Bool) → xs ≡ in_hands_up_to o n
     → x ≡ n + 1 → b ≡ is_in_hands o x → b ≡ true → xs ++ x ∷ [] ≡ in_hands_up_to o (n + 1)
 carried_one o n x xs b found next is held =
@@ -25,7 +25,7 @@ carried_one o n x xs b found next is held =
     rw (found, next)
     (sym (carried_more o n ∙ ap (λ t. in_hands_up_to o n ++ cond t ((n + 1) ∷ []) []) here))
 
--- one object more, which isn't
+-- one more object, which isn't
 pub carried_no : (o : Layout) (n x : ℕ) (xs : List ℕ) (b : Bool) → xs ≡ in_hands_up_to o n
     → x ≡ n + 1 → b ≡ is_in_hands o x → b ≡ false → xs ≡ in_hands_up_to o (n + 1)
 carried_no o n x xs b found next is free =

@@ -1,4 +1,4 @@
--- The lists and the objects still agree after a half moved.
+-- The lists and the objects still agree after a half has moved.
 use Rattle.std.proofs.Common.{◌≡◌, ◌≢◌, ℕ, ℤ, ◌+◌, ◌-◌, ◌<◌, ◌≤◌, ◌||◌, Bool, true, false, cond}
 use Rattle.std.proofs.Common.{not, eqb, List, [], ◌∷◌, length, set, get_or, replicate, Option, Some}
 use Rattle.std.proofs.Common.{None, refl, sym, ap, ◌∙◌, arith}
@@ -21,7 +21,7 @@ gone : (b : Bool) → cond b false false ≡ false
 gone true = refl
 gone false = refl
 
--- whether a half is left, by whether it is the one that goes
+-- whether a half remains, by whether it is the one that goes
 left : (n m k : ℕ) (a c was now : Bool) → eqb k m ≡ a → eqb n m ≡ c → now ≡ cond c false was
     → cond (not a) (eqb k n || now) now ≡ cond c false (eqb k n || was)
 left n m k true true was now h e s = s
@@ -65,7 +65,7 @@ is_listed-listed_at n q half (Some place) halves =
     ∙ placed n m (eqb place q) (eqb n m) (is_listed n halves) (is_listed n rest) refl
     (is_listed-others n m halves)
 
--- what a table has at an index where one element was replaced
+-- what a table has at an index after one element was replaced
 shown_line : {K : Type 0} (place : K → Option ℕ) (b : Bool) (q i y : ℕ) (k d : K) (ks : List K)
     (was : Bool) → (b ≡ true → y ≡ i) → (b ≡ false → y ≢ i) → i < length ks
     → was ≡ is_place q (place (get_or ks y d))
@@ -198,7 +198,7 @@ rest_unlisted : (b c : Bool) → (b || c) ≡ false → c ≡ false
 rest_unlisted true c t = absurd (false≢true (sym t))
 rest_unlisted false c t = t
 
--- a half that isn't in a list leaves it as it is
+-- taking out a half that isn't in a list leaves the list as it is
 pub others_absent : (n : ℕ) (halves : List Half) → is_listed n halves ≡ false
     → others n halves ≡ halves
 unfolding is_listed others

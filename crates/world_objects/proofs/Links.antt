@@ -1,4 +1,4 @@
--- What the moves of halves make of the first half of each place, and of the half after each half.
+-- How moves of halves change the first half of each place, and the half after each half.
 use Rattle.std.proofs.Common.{◌≡◌, ℕ, ◌<◌, Bool, true, false, cond, not, List, [], ◌∷◌, nat_lt, eqb}
 use Rattle.std.proofs.Common.{refl, sym, ap, ◌∙◌, arith}
 use Rattle.std.proofs.lemmas.Bool.Decides.{nat_tests}
@@ -49,7 +49,7 @@ none_after m (e ∷ es) l =
     let far : eqb (half_number e.half) m ≡ false = unequal (half_number e.half) m l.0 in
     rw far (none_after m es l.1)
 
--- ---- one link at most leads to a half
+-- ---- at most one link leads to a half
 
 -- the links past an entry don't lead to its half
 first_past : (m p : ℕ) (e : PlacedHalf) (es : List PlacedHalf) → AreLists (e ∷ es)
@@ -94,7 +94,7 @@ first_or_next m p n e es false true low l s ih u v = apart e.place p s
     (first_from_one m e.place p es low l.1.1.1.1 v u)
 first_or_next m p n e es false false low l s ih u v = ih u v
 
--- the first half of a place is after none
+-- the first half of a place follows none
 pub first_after_none : (m p n : ℕ) (es : List PlacedHalf) → 0 < m → AreLists es
     → first_half p es ≡ m
     → next_half n es ≡ m → ⊥
@@ -118,7 +118,7 @@ one_before m i j e es false true low l s t ih u v = absurd
     (first_after_none m e.place i es low l.1.1.1.1 v u)
 one_before m i j e es false false low l s t ih u v = ih u v
 
--- a half is after one at most
+-- a half follows at most one
 pub next_from_one : (m i j : ℕ) (es : List PlacedHalf) → 0 < m → AreLists es → next_half i es ≡ m
     → next_half j es ≡ m → i ≡ j
 unfolding next_half
@@ -133,7 +133,7 @@ after_other : (n : ℕ) (e : PlacedHalf) (es : List PlacedHalf) (b : Bool) → A
 after_other n e es true l t ih h = first_past n e.place e es l (equal (half_number e.half) n t) h
 after_other n e es false l t ih h = ih h
 
--- no half is after itself
+-- no half follows itself
 pub next_differs : (n : ℕ) (es : List PlacedHalf) → 0 < n → AreLists es → next_half n es ≡ n → ⊥
 unfolding next_half
 next_differs n [] low l h = not_zero n low h

@@ -1,4 +1,4 @@
--- What the moves of halves make of the lists.
+-- How moves of halves change the lists.
 use Rattle.std.proofs.Common.{◌≡◌, ℕ, ◌<◌, ◌≤◌, ◌||◌, Bool, true, false, cond, not, List, [], ◌∷◌}
 use Rattle.std.proofs.Common.{length, map, nat_lt, eqb, refl, sym, arith}
 use Rattle.std.specs.List.{IsDistinct, AllByRecursion, list_any}
@@ -160,7 +160,7 @@ in_range (e ∷ es) h q t =
     one_of (half_number e.half) q (eqb q (half_number e.half)) (list_any (eqb q) (numbers es)) refl
     (omega (arith, h.1.0)) (in_range es h.1.1.1.1 q) t
 
--- each half is listed once, so there is room for all of them
+-- each half is listed once, so there is room for all halves
 pub length-AreLists : (es : List PlacedHalf) → AreLists es → length es ≤ 200
 length-AreLists es h =
     let all =

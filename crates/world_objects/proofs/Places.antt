@@ -1,4 +1,4 @@
--- What the moves of halves make of the list of each place.
+-- How moves of halves change the list of each place.
 use Rattle.std.proofs.Common.{◌≡◌, ℕ, ◌==◌, Bool, true, false, cond, not, List, [], ◌∷◌, map}
 use Rattle.std.proofs.Common.{filter, nat_lt, eqb, Option, Some, None, refl, ap, ◌∙◌, arith}
 use Rattle.std.proofs.lemmas.Bool.Decides.{nat_tests}
@@ -35,7 +35,7 @@ told first es false = refl
 pub elsewhere : (p q r : ℕ) → nat_lt p r ≡ true → eqb p q ≡ true → eqb r q ≡ false
 elsewhere p q r h e = grind (arith, nat_tests)
 
--- where an entry of an earlier place is before the one that is put
+-- if an entry of an earlier place is before the one that is put in
 past : (q : ℕ) (first e : PlacedHalf) (es put : List PlacedHalf) (a : Bool)
     → nat_lt e.place first.place ≡ true → eqb e.place q ≡ a
     → halves_at q put ≡ cond (eqb first.place q) (first.half ∷ halves_at q es) (halves_at q es)

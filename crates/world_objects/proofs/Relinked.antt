@@ -1,4 +1,4 @@
--- The links once a half was taken out of its list or put into one.
+-- The links after a half was taken out of its list or put into one.
 use Rattle.std.proofs.Common.{◌≡◌, ◌≢◌, ℕ, ◌-◌, ◌<◌, ◌≤◌, ◌&&◌, Bool, true, false, cond, not, List}
 use Rattle.std.proofs.Common.{[], ◌∷◌, length, set, nat_lt, eqb, refl, sym, ap, ◌∙◌, length-set}
 use Rattle.std.proofs.Common.{replicate, arith}
@@ -22,7 +22,7 @@ use Rattle.world_objects.specs.SameLists.{Ascend-AreLists, same_lists}
 use Rattle.world_objects.proofs.Chains.{value_at-set, made, length-first, length-next}
 use Rattle.world_objects.proofs.Chains.{value_at-first, value_at-next}
 
--- ---- where entries have places and halves that there are, links lead to numbers that there are
+-- ---- if the places and halves of entries exist, links lead to numbers that exist
 
 AreEntriesWithin-without : (n : ℕ) (es : List PlacedHalf) → AreEntriesWithin es
     → AreEntriesWithin (without n es)
@@ -110,7 +110,7 @@ after_in : (m : ℕ) (x y : ℕ) (b : Bool) → (x ≡ m → IsNumber m) → (y 
 after_in m x y true f g h = f h
 after_in m x y false f g h = g h
 
--- and what is after another
+-- and so does what is after another
 pub next_is_number : (n m : ℕ) (es : List PlacedHalf) → 0 < m → AreLists es → next_half n es ≡ m
     → IsNumber m
 unfolding next_half

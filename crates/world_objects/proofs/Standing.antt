@@ -1,4 +1,4 @@
--- Whatever is at a place is a half of an object, and nothing is at place 0.
+-- Everything at a place is a half of an object, and nothing is at place 0.
 use Rattle.std.proofs.Common.{◌≡◌, ℕ, ◌<◌, ◌==◌, List, [], ◌∷◌, refl, arith}
 use Rattle.std.specs.List.{All}
 use Rattle.std.proofs.lemmas.List.Elements.{All-nil, All-cons, All-filter, All-map}

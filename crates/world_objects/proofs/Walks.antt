@@ -18,12 +18,12 @@ high_number : (half : Half) → object_of half ≤ 100 → half_number half ≤ 
 high_number (First x) high = omega (arith, high)
 high_number (Second x) high = omega (arith, high)
 
--- what the links from a number lead along, of which at most 200 are left
+-- the halves that the links from a number lead along, at most 200
 pub record IsLeft (es : List PlacedHalf) (number : ℕ) (rest : List Half) : Type 0 where
   pub along : AreAlong (λ n. next_half n es) number rest
   pub few : length rest ≤ 200
 
--- at a half: it is the first of what is left
+-- the step at a half, which is the first of what is left
 pub record IsStep (es : List PlacedHalf) (number : ℕ) (rest : List Half) : Type 0 where
   pub after : List Half
   pub splits : rest ≡ half_of number ∷ after
@@ -57,7 +57,7 @@ step es number (half ∷ after) h some =
       left = record { along = h.along.1.1; few = omega (arith, h.few) };
     }
 
--- at 0 nothing is left
+-- nothing is left at 0
 pub ended : (es : List PlacedHalf) (number : ℕ) (rest : List Half) → IsLeft es number rest
     → number ≡ 0
     → rest ≡ []
@@ -92,7 +92,7 @@ pub none_listed : (m : ℕ) → is_listed m [] ≡ false
 unfolding is_listed
 none_listed m = refl
 
--- ---- what was given so far, and what is left
+-- ---- what was returned so far, and what is left
 
 pub longer : (told rest all after : List Half) (half : Half) → told ++ rest ≡ all
     → rest ≡ half ∷ after → length told < length all
@@ -105,7 +105,7 @@ longer told rest all after half whole splits =
           (λ (l : List Half). length l) splits,
     )
 
--- one more is given
+-- one more is returned
 pub told_on : (told now rest all after : List Half) (half h : Half) → told ++ rest ≡ all
     → rest ≡ half ∷ after → now ≡ told ++ h ∷ [] → h ≡ half → now ++ after ≡ all
 told_on told now rest all after half h whole splits is same =

@@ -1,5 +1,5 @@
 -- The lists as they are kept: for each place the number of the first half there, and for each half
--- the number of the one after it. Where there is none, the number is 0.
+-- the number of the one after it. If there is none, the number is 0.
 use Rattle.std.specs.Prelude.{◌≡◌, ℕ, zero, suc, ◌+◌, ◌-◌, ◌≤◌, ◌==◌, if◌then◌else◌, List, [], ◌∷◌}
 use Rattle.std.specs.Prelude.{◌++◌, map, slice_index}
 use Rattle.std.specs.List.{range_with_len}
@@ -14,7 +14,7 @@ unfoldable pub first_half : ℕ → List PlacedHalf → ℕ
 first_half place [] = 0
 first_half place (e ∷ es) = if e.place == place then half_number e.half else first_half place es
 
--- the number of the half after the one of a number, at the same place
+-- the number of the half after the one with this number, at the same place
 unfoldable pub next_half : ℕ → List PlacedHalf → ℕ
 next_half number [] = 0
 next_half number (e ∷ es) =
@@ -34,13 +34,13 @@ links_of es = record {
   next = table (λ number. next_half number es) last_half;
 }
 
--- the halves from a number on, at most so many, where each leads to the next
+-- the halves from a number on, at most this many, each of which leads to the next
 unfoldable pub halves_along : (ℕ → ℕ) → ℕ → ℕ → List Half
 halves_along next zero number = []
 halves_along next (suc most) number =
     if number == 0 then [] else half_of number ∷ halves_along next most (next number)
 
--- the entries of so many places from one on, of which each has a list
+-- the entries of this many places from one on, each of which has a list
 unfoldable pub entries_of_places : (ℕ → List Half) → ℕ → ℕ → List PlacedHalf
 entries_of_places lists place zero = []
 entries_of_places lists place (suc more) =
@@ -53,13 +53,13 @@ entries_of l =
     entries_of_places
     (λ place. halves_along (value_at l.next) last_half (value_at l.first place)) 1 LAST_PLACE
 
--- each place and each object has a number that there may be
+-- the number of each place and of each object is possible
 abbrev pub AreEntriesWithin : List PlacedHalf → Type 0
 AreEntriesWithin [] = Unit {0}
 AreEntriesWithin (e ∷ es) =
     ((e.place ≤ LAST_PLACE) × (object_of e.half ≤ LAST_OBJECT)) × AreEntriesWithin es
 
--- the links make up lists, and nothing is linked besides
+-- the links make up lists, and nothing else is linked
 pub record AreLinks (l : Inside) : Type 0 where
   pub lists : AreLists (entries_of l)
   pub within : AreEntriesWithin (entries_of l)

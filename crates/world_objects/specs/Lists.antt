@@ -15,7 +15,7 @@ abbrev pub object_of : Half → ℕ
 object_of (First x) = x
 object_of (Second x) = x
 
--- first halves have the numbers of their objects, second ones come after them
+-- first halves have the numbers of their objects, and those of second halves come after them
 abbrev pub half_number : Half → ℕ
 half_number (First x) = x
 half_number (Second x) = LAST_OBJECT + x
@@ -30,7 +30,7 @@ no_half = First 0
 abbrev pub halves_at : ℕ → List PlacedHalf → List Half
 halves_at place entries = map (λ e. e.half) (filter (λ e. e.place == place) entries)
 
--- the lists without the half of a number
+-- the lists without the half with this number
 unfoldable pub without : ℕ → List PlacedHalf → List PlacedHalf
 without number entries = filter (λ e. not (half_number e.half == number)) entries
 
@@ -44,21 +44,21 @@ abbrev pub with_half : Half → Option ℕ → List PlacedHalf → List PlacedHa
 with_half half None lists = lists
 with_half half (Some place) lists = put_first (record { place = place; half = half }) lists
 
--- a half at the front of the list of the place, or in no list, once it was taken from the list in
--- which it was
+-- a half moved from its list to the front of the list of the place, or to no list
 unfoldable pub after_relist : Half → Option ℕ → List PlacedHalf → List PlacedHalf
 after_relist half place lists = with_half half place (without (half_number half) lists)
 
 unfoldable pub others : ℕ → List Half → List Half
 others number halves = filter (λ h. not (half_number h == number)) halves
 
--- the list of a place once a half was put at the front of the list of another, or in no list
+-- the list of a place after a half has moved to the front of the list of another place, or to no
+-- list
 unfoldable pub listed_at : ℕ → Half → Option ℕ → List Half → List Half
 listed_at q half None halves = others (half_number half) halves
 listed_at q half (Some place) halves =
     let rest = others (half_number half) halves in if place == q then half ∷ rest else rest
 
--- from the old lists to the new ones a half went to the front of the list of a place, or to no
+-- between the old lists and the new ones a half moved to the front of the list of a place, or to no
 -- list, and nothing else changed
 abbrev pub AreRelisted : List PlacedHalf → List PlacedHalf → Half → Option ℕ → Type 0
 AreRelisted old new half place = (q : ℕ)
@@ -84,7 +84,7 @@ AreLists (e ∷ es) =
     × ((half_number e.half ≤ last_half)
     × (Lacks (half_number e.half) es × (StartsAt e.place es × AreLists es)))
 
--- the half of a number is nowhere but at the place
+-- the half with this number is nowhere except at the place
 abbrev pub IsOnlyAt : ℕ → Option ℕ → List PlacedHalf → Type 0
 IsOnlyAt number from [] = Unit {0}
 IsOnlyAt number from (e ∷ es) = (half_number e.half ≡ number → from ≡ Some e.place)

@@ -1,5 +1,5 @@
--- Where objects are, what holds of them, and what is done to them. Object 0 is no object: no test
--- of it holds, and nothing is done to it.
+-- Where objects are, tests of them, and what changes them. Object 0 is no object: no test of it
+-- holds, and nothing changes it.
 use Rattle.std.specs.Prelude.{ℕ, ℤ, pos, ◌-◌, Bool, not, ◌==◌, ◌&&◌, ◌||◌, if◌then◌else◌, List, []}
 use Rattle.std.specs.Prelude.{filter, slice_index_or, slice_set, replicate, true, false, Option}
 use Rattle.std.specs.Prelude.{Some, None, ◌≡◌, ◌+◌, ◌<◌, length}
@@ -48,7 +48,7 @@ place_of_anchor anchor.Loose = None
 place_of_anchor anchor.Fixed = None
 place_of_anchor (anchor.At place) = Some place
 
--- a place is the one that is given
+-- there is a place, and it is the given one
 abbrev pub is_place : ℕ → Option ℕ → Bool
 is_place place None = false
 is_place place (Some p) = p == place
@@ -60,12 +60,11 @@ pub record Layout : Type 0 where
   pub props : List ℤ
   pub lists : List PlacedHalf
 
--- the half of a number is in a list
+-- the half with this number is in a list
 unfoldable pub is_listed : ℕ → List Half → Bool
 is_listed number halves = list_any (λ h. half_number h == number) halves
 
--- the lists and the objects agree: a half is in the list of a place exactly where its object says
--- so
+-- the lists and the objects agree: a half is in the list of a place exactly if its object says so
 pub record IsLaid (l : Layout) : Type 0 where
   pub firsts : (x q : ℕ) → x < LAST_OBJECT
       → is_listed (1 + x) (halves_at q l.lists)
@@ -106,14 +105,14 @@ is_object_at o place x = is_first_at o place x || is_place place (place_of_ancho
 unfoldable pub is_at_hand : Layout → ℕ → ℕ → Bool
 is_at_hand o place x = is_in_hands o x || is_first_at o place x
 
--- of the objects 1 to n, those in the hands
+-- those of the objects 1 to n that are in the hands
 unfoldable pub in_hands_up_to : Layout → ℕ → List ℕ
 in_hands_up_to o n = filter (is_in_hands o) (range_with_len 1 n)
 
 abbrev pub objects_in_hands : Layout → List ℕ
 objects_in_hands o = in_hands_up_to o LAST_OBJECT
 
--- the first half of an object moved to a spot
+-- the first half of an object moves to a spot
 unfoldable pub with_spot : Layout → ℕ → Spot → Layout
 with_spot o x s = if x == 0 then o
     else record o {
@@ -134,20 +133,20 @@ with_anchor o x a = if x == 0 then o
 unfoldable pub with_prop : Layout → ℕ → ℤ → Layout
 with_prop o x v = if x == 0 then o else record o { props = slice_set o.props (x - 1) v }
 
--- the first half moved to the front of a place's list; place 0 is nowhere
+-- the first half moves to the front of a place's list; place 0 is nowhere
 unfoldable pub after_move_to : Layout → ℕ → ℕ → Layout
 after_move_to o x place = with_spot o x (spot_at place)
 
--- the first half comes from its list into the hands, if it isn't there yet
+-- the first half moves from its list into the hands, if it isn't there yet
 unfoldable pub after_carry : Layout → ℕ → Layout
 after_carry o x = if is_in_hands o x then o else with_spot o x spot.InHands
 
--- both halves come to the front of the lists that they are in, if it isn't in the hands
+-- both halves move to the front of their lists, if the object isn't in the hands
 unfoldable pub after_juggle : Layout → ℕ → Layout
 after_juggle o x = if is_in_hands o x then o else let once = with_spot o x (spot_of o x) in
     with_anchor once x (anchor_of once x)
 
--- objects of which none is placed
+-- objects, none of which is placed
 unfoldable pub unplaced_objects : Layout
 unplaced_objects =
     record {

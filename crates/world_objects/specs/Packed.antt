@@ -1,5 +1,5 @@
--- Spots and anchors as numbers: two are for what is at no place, and each further one is for a
--- place.
+-- Spots and anchors as numbers: two of these are for what is at no place, and each further one is
+-- for a place.
 use Rattle.std.specs.Prelude.{◌≡◌, ◌≢◌, ℕ, zero, suc, ◌+◌, ◌≤◌, refl}
 use Rattle.world_objects.specs.declared.spot.Spot.{Spot}
 use Rattle.world_objects.specs.declared.spot.Spot.TheVariants as spot
@@ -27,7 +27,7 @@ anchor_of_code zero = anchor.Loose
 anchor_of_code (suc zero) = anchor.Fixed
 anchor_of_code (suc (suc place)) = anchor.At place
 
--- a code is of a place where something can be, or of no place
+-- a code stands for a place where something can be, or for no place
 abbrev pub IsCode : ℕ → Type 0
 IsCode code = (code ≤ LAST_PLACE + 2) × (code ≢ 2)
 

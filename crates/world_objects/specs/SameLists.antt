@@ -1,4 +1,4 @@
--- Lists that are in order and the same at each place are the same.
+-- Two lists that are in order, and the same at each place, are the same.
 use Rattle.std.proofs.Common.{◌≡◌, ℕ, ◌<◌, Bool, true, false, List, [], ◌∷◌, eqb, refl, sym, ◌∙◌}
 use Rattle.std.proofs.Common.{arith}
 use Rattle.std.proofs.lemmas.Bool.Decides.{nat_tests}
@@ -27,7 +27,7 @@ not_before e f es fs s h before =
     let clash : e.half ∷ halves_at e.place es ≡ [] = sym first ∙ (h ∙ nothing) in
     cc
 
--- what follows is the same, where the first entries are
+-- if the first entries are the same, so is what follows
 rest_same : (e f : PlacedHalf) (es fs : List PlacedHalf) (q : ℕ) (b : Bool) → eqb e.place q ≡ b
     → e.place ≡ f.place → halves_at q (e ∷ es) ≡ halves_at q (f ∷ fs)
     → halves_at q es ≡ halves_at q fs
@@ -46,7 +46,7 @@ pub Ascend-AreLists : (es : List PlacedHalf) → AreLists es → Ascend es
 Ascend-AreLists [] l = tt
 Ascend-AreLists (e ∷ es) l = (l.1.1.1.0, Ascend-AreLists es l.1.1.1.1)
 
--- the smaller first place decides
+-- the smaller of the first places decides
 pub same_lists : (es fs : List PlacedHalf) → Ascend es → Ascend fs
     → ((place : ℕ) → halves_at place es ≡ halves_at place fs) → es ≡ fs
 same_lists [] [] x y h = refl

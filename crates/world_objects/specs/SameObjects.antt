@@ -1,4 +1,4 @@
--- `==` of objects and of their lists holds exactly where they are equal, field by field.
+-- `==` of objects and of their lists holds exactly if they are equal, field by field.
 use Rattle.std.proofs.Common.{◌≡◌, List, sym, ap, ◌∙◌}
 use Rattle.std.specs.Bool.{Decides}
 use Rattle.std.specs.Cmp.{unsigned_Decides, signed_Decides}

@@ -1,4 +1,4 @@
-//! Where objects are: each with its prop and what holds it, and for each place the list of those
+//! Where objects are: the prop of each and what holds it, and for each place the list of those
 //! there.
 #![tactic(auto)]
 

@@ -47,8 +47,8 @@ impl Model for ObjectLists {
     ghost inverse_ok = { λ l h. h.exact };
 }
 
-// A derive would say of all entries, also of those that no links make up, that they are equal where
-// their links are.
+// A derive would state that any entries are equal if their links are, even entries that no links
+// make up.
 impl PartialEq for ObjectLists {
     ghost use Rattle.std.specs.Cmp.{partial_equiv_from_equiv};
     ghost use Rattle.std.specs.Cmp.Lexicographic.{pointwise, lists_equiv};
@@ -70,7 +70,7 @@ impl Eq for ObjectLists {
     ghost laws = { lists_equiv laws-law };
 }
 
-/// Takes the link from a half away, and returns where it led.
+/// Removes the link from a half, and returns where it led.
 fn unlink(next: &mut [u8; HALVES], number: u8) -> u8
     requires some { 0 < number }
     requires within { number ≤ last_half }
@@ -102,22 +102,22 @@ impl ObjectLists {
         self.first == other.first && self.next == other.next
     }
 
-    /// The lists are in the order of their places, and no half is in them twice. It is a law, so
-    /// nothing is done.
+    /// The lists are in the order of their places, and no half is in them twice. This is a law: it
+    /// does nothing.
     pub fn are_in_order(&self)
         ensures { AreLists self.now }
     {
         let _ = &self.first;
     }
 
-    /// No half is at a place after the last. It is a law, so nothing is done.
+    /// No half is at a place after the last. This is a law: it does nothing.
     pub fn are_within(&self)
         ensures { AreEntriesWithin self.now }
     {
         let _ = &self.first;
     }
 
-    /// The halves at a place, latest first. Each is of an object, and none is at place 0.
+    /// The halves at a place, latest first. Each belongs to an object, and none is at place 0.
     pub fn at(&self, place: Place) -> ArrayVec<Half, HALVES>
         ensures value { result.items ≡ halves_at place self.now }
         ensures objects { All (λ half. 0 < object_of half) (halves_at place self.now) }
@@ -178,7 +178,7 @@ impl ObjectLists {
         None
     }
 
-    /// Takes the first half out of the list of a place.
+    /// Removes the first half from the list of a place.
     fn remove_first(&mut self, number: u8, place: Place)
         requires some { 0 < number }
         requires first { first_half place self.old ≡ number }
@@ -188,7 +188,7 @@ impl ObjectLists {
         self.first[usize::from(place.number()) - 1] = after;
     }
 
-    /// Takes the half after another one out of their list.
+    /// Removes the half after another one from their list.
     fn remove_after(&mut self, number: u8, before: u8)
         requires some { 0 < number }
         requires after { next_half before self.old ≡ number }
@@ -198,7 +198,7 @@ impl ObjectLists {
         self.next[usize::from(before) - 1] = after;
     }
 
-    /// Takes the half of a number out of the list of the place where it is.
+    /// Removes the half with a number from the list of the place where it is.
     fn remove_from(&mut self, number: u8, place: Place)
         requires some { 0 < number }
         requires only { IsOnlyAt number (Some place) self.old }

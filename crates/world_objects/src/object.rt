@@ -5,13 +5,14 @@ ghost use Rattle.base_lines.specs.Numbers as defined;
 use base_lines::numbers::LAST_OBJECT;
 use std::marker::Model;
 
-/// How many objects there may be, each of them in the arrays of a state.
+/// How many objects there may be. Each has an element in the arrays of a state.
 pub const OBJECTS: usize = LAST_OBJECT as usize;
 
 /// The number of the last first half.
 const LAST_FIRST: u8 = LAST_OBJECT as u8;
 
-/// The number of an object. 0 is no object: it is nowhere, and what is done to it does nothing.
+/// The number of an object. 0 is no object: it is nowhere, and whatever rules do to it has no
+/// effect.
 #[derive(Clone, Copy, Debug, PartialEq, Eq)]
 pub struct Object {
     number: u8,
@@ -39,7 +40,7 @@ impl Default for Object {
 }
 
 impl Object {
-    /// The object of a number.
+    /// The object with a number.
     pub fn new(number: u8) -> Object
         requires { number ≤ defined.LAST_OBJECT }
         ensures { result ≡ number }
@@ -70,7 +71,7 @@ impl Object {
     }
 }
 
-/// A half of an object, which is in a list of its own: an object with two places has both.
+/// A half of an object, each in a list of its own: an object with two places has both halves.
 #[derive(Clone, Copy, Debug, PartialEq, Eq)]
 pub enum Half {
     First(Object),
@@ -88,7 +89,7 @@ impl Default for Half {
 }
 
 impl Half {
-    /// The object that this is a half of.
+    /// The object of which this is a half.
     pub fn object(self) -> Object
         ensures { result ≡ object_of self }
     {
@@ -98,7 +99,8 @@ impl Half {
         }
     }
 
-    /// A number of its own: first halves have those of their objects, second ones come after them.
+    /// Its number: first halves have the numbers of their objects, and those of second halves come
+    /// after them.
     pub fn number(&self) -> u8
         ensures value { result ≡ half_number self.now }
         ensures within { result ≤ last_half }
@@ -110,7 +112,7 @@ impl Half {
         }
     }
 
-    /// The half of a number.
+    /// The half with a number.
     pub fn numbered(number: u8) -> Half
         requires { number ≤ last_half }
         ensures { result ≡ half_of number }

@@ -53,7 +53,7 @@ impl Model for Objects {
     } };
 }
 
-/// There is a prop for each object. It is a law, so nothing is done.
+/// There is a prop for each object. This is a law: it does nothing.
 fn are_all_props(props: &[Prop; OBJECTS])
     ensures { length props.now ≡ LAST_OBJECT }
 {
@@ -61,7 +61,7 @@ fn are_all_props(props: &[Prop; OBJECTS])
 }
 
 impl Objects {
-    /// Objects of which none is placed.
+    /// Objects, none of which is placed.
     #[tactic(auto, unfolding(crate::specs::Objects::unplaced_objects))]
     pub fn unplaced() -> Objects
         ensures { result ≡ unplaced_objects }
@@ -74,7 +74,8 @@ impl Objects {
         }
     }
 
-    /// The halves that are at a place, latest first. Each is of an object, and none is at place 0.
+    /// The halves that are at a place, latest first. Each belongs to an object, and none is at
+    /// place 0.
     pub fn at(&self, place: Place) -> ArrayVec<Half, HALVES>
         ensures value { result.items ≡ halves_at place self.now.lists }
         ensures objects { All (λ half. 0 < object_of half) (halves_at place self.now.lists) }
@@ -90,16 +91,16 @@ impl Objects {
         self.lists.is_bare(place)
     }
 
-    /// The lists are in the order of their places, and no half is in them twice. It is a law, so
-    /// nothing is done.
+    /// The lists are in the order of their places, and no half is in them twice. This is a law: it
+    /// does nothing.
     pub fn lists_are_in_order(&self)
         ensures { AreLists self.now.lists }
     {
         self.lists.are_in_order();
     }
 
-    /// Each object has a spot, an anchor and a prop, and no half is at a place after the last. It
-    /// is a law, so nothing is done.
+    /// Each object has a spot, an anchor and a prop, and no half is at a place after the last. This
+    /// is a law: it does nothing.
     pub fn are_complete(&self)
         ensures spots { length self.now.first ≡ LAST_OBJECT }
         ensures anchors { length self.now.second ≡ LAST_OBJECT }
@@ -158,7 +159,7 @@ impl Objects {
         self.spot(object).is_in_hands()
     }
 
-    /// Whether there is the object, and its first half is nowhere.
+    /// Whether the object exists and its first half is nowhere.
     #[tactic(auto, unfolding(crate::specs::Objects::is_gone))]
     pub fn is_gone(&self, object: Object) -> bool
         ensures { result ≡ is_gone self.now object }
@@ -279,8 +280,7 @@ impl Objects {
         self.move_to_spot(object, Spot::InHands);
     }
 
-    /// Puts both halves of an object to the front of the lists that they are in, if it isn't
-    /// in the hands.
+    /// Moves both halves of an object to the front of their lists, if it isn't in the hands.
     #[tactic(auto, unfolding(crate::specs::Objects::after_juggle))]
     pub fn juggle(&mut self, object: Object)
         ensures { self.new ≡ after_juggle self.old object }
@@ -309,7 +309,7 @@ impl Objects {
         count
     }
 
-    /// The objects in the hands, ascending.
+    /// The objects in the hands, in ascending order.
     #[tactic(auto, using(crate::proofs::InHands::listing_in_hands))]
     pub fn in_hands(&self) -> ArrayVec<Object, OBJECTS>
         ensures { result.items ≡ objects_in_hands self.now }

@@ -7,7 +7,7 @@ use std::marker::Model;
 /// The code of a spot that is away, and of an anchor that is loose.
 const NOWHERE_CODE: u16 = 0;
 
-/// The code of the spot of what is in the hands.
+/// The code of the spot of an object in the hands.
 const IN_HANDS_CODE: u16 = 1;
 
 /// The code of an anchor that is fixed.
@@ -54,7 +54,7 @@ impl PackedSpot {
         }
     }
 
-    /// The spot that is packed.
+    /// The spot that was packed.
     pub fn spot(self) -> Spot
         ensures { result ≡ self }
     {
@@ -103,7 +103,7 @@ impl PackedAnchor {
         }
     }
 
-    /// The anchor that is packed.
+    /// The anchor that was packed.
     pub fn anchor(self) -> Anchor
         ensures { result ≡ self }
     {

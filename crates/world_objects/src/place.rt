@@ -7,7 +7,7 @@ use std::marker::Model;
 /// How many places there may be.
 pub const PLACES: usize = LAST_PLACE as usize;
 
-/// The number of a place. 0 is nowhere: a player who comes there is dead.
+/// The number of a place. 0 is nowhere: a player who is there is dead.
 #[derive(Clone, Copy, Debug, PartialEq, Eq)]
 pub struct Place {
     number: u16,
@@ -27,7 +27,7 @@ impl Model for Place {
 }
 
 impl Place {
-    /// The place of a number.
+    /// The place with a number.
     pub fn new(number: u16) -> Place
         requires { number ≤ defined.LAST_PLACE }
         ensures { result ≡ number }

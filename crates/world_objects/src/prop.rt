@@ -3,7 +3,7 @@ ghost use Rattle.world_objects.specs.Props.{HIGHEST_PROP, LOWEST_PROP};
 
 use std::marker::Model;
 
-/// The state of an object, by a number. A treasure that wasn't seen yet has one below 0.
+/// The state of an object, by a number. It is below 0 for a treasure that hasn't been seen yet.
 #[derive(Clone, Copy, Debug, PartialEq, Eq)]
 pub struct Prop {
     value: i8,
@@ -23,7 +23,7 @@ impl Model for Prop {
 }
 
 impl Prop {
-    /// The prop of a number.
+    /// The prop with a number.
     pub fn new(value: i8) -> Prop
         requires low { LOWEST_PROP ≤ℤ value }
         requires high { value ≤ℤ HIGHEST_PROP }

@@ -4,7 +4,7 @@ use Rattle.cave_world.specs.declared.travel_rows.Outcome.TheVariants.{NoMotion}
 use Rattle.cave_world.specs.Travel.{result_of_last, tries}
 use Rattle.cave_world.proofs.travel_rows.travel_by_rows.Given as goal
 
--- the rows that are left lead where all of them lead, and trying them tries what is left of all
+-- the remaining rows lead where all rows lead, and trying them makes the remaining tries of all
 abbrev pub invariant-loop-number : goal.invariant-loop-number
 invariant-loop-number g l =
     (result_of_last (record { state = l.state; outcome = l.outcome })

@@ -46,6 +46,6 @@ and_spec 𝓤 𝓛 𝓜 𝓡 wired =
     returns ! (look_at ! 0 refl) $ free_all ! refl $
     suffices ! _ (ends_at 𝓛 f.ended stayed c y none more (tt, (tt, tt)) (tt, (tt, tt))) $
     says ! refl $
-    -- what is left are the tokens
+    -- only the tokens are left
     made ! more $ nothing ! $ nothing ! $ join ! $ nothing ! $ join ! $
     move ! (2 ∷ 0 ∷ 1 ∷ []) $ done !))

@@ -4,7 +4,7 @@ use Rattle.world_objects.specs.Lists.{halves_at}
 use Rattle.world_objects.proofs.Walks.{IsLeft}
 use Rattle.world_objects.proofs.lists.ObjectLists.at.Given as goal
 
--- what was given and what is left make up the list
+-- what was returned and what is left make up the list
 abbrev pub invariant-loop-number : goal.invariant-loop-number
 invariant-loop-number l =
     (rest : List Half)
