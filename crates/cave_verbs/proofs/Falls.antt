@@ -1,4 +1,4 @@
--- Where a verb goes on, the rank falls.
+-- If a verb goes on, the rank falls.
 use Rattle.std.proofs.Common.{◌≡◌, ℕ, ◌<◌, ◌≤◌, zero, suc, true, false, arith, refl, sym, ◌∙◌, ◌==◌}
 use Rattle.std.proofs.Common.{not}
 use Rattle.std.proofs.lemmas.Bool.{true≢false, false≢true}

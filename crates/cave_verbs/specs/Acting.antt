@@ -1,4 +1,4 @@
--- What a verb does by its rules, and by those that it goes on with.
+-- What a verb does by its own rules, and by those of the verbs that it goes on with.
 use Rattle.std.specs.Prelude.{ℕ, ◌==◌, if◌then◌else◌, List, suc, zero}
 use Rattle.cave_data.specs.CaveView.{CaveView}
 use Rattle.turn_scene.specs.Scene.{Scene}
@@ -70,7 +70,7 @@ act_on d = first_fitting (rows_of d.about.verb).1 d
 abbrev pub act_once : Deed Command → Act VerbStep
 act_once d = if d.about.object == 0 then act_bare d else act_on d
 
--- what a verb does with those that it goes on with, so many at most
+-- what a verb does with those that it goes on with, at most this many
 unfoldable pub act_within : ℕ → Deed Command → Act VerbStep
 act_within zero d = act_once d
 act_within (suc left) d =
@@ -85,6 +85,6 @@ abbrev pub next_of_step : VerbStep → Next
 next_of_step (Done next) = next
 next_of_step (GoOn v x) = Stay
 
--- what is commanded is done; no verb goes on more than three times
+-- what a command says is done; no verb goes on more than three times
 unfoldable pub act : CaveView → Command → Scene → Act VerbStep
 act cave command p = act_within 3 (deed cave command p)

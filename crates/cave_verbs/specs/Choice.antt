@@ -6,7 +6,7 @@ use Rattle.turn_scene.specs.Rows.{Deed, Test, Thing}
 use Rattle.turn_scene.specs.Tests.{the}
 use Rattle.cave_verbs.specs.declared.command.Command.{Command}
 
--- of how many objects a verb without an object could be meant for one
+-- how many objects a verb without an object could be meant for
 abbrev pub MAX_MEANT : ℕ
 MAX_MEANT = 5
 
@@ -18,11 +18,11 @@ pub record Candidate : Type 0 where
 abbrev pub candidate : Named → Test Command → Candidate
 candidate n test = record { object = the n; test = test }
 
--- an object more, if the cave has it and the verb could be meant for it
+-- one more object, if the cave has it and the verb could be meant for it
 unfoldable pub with_meant : Bool → ℕ → List ℕ → List ℕ
 with_meant could_be x xs = if could_be && not (x == 0) then xs ++ x ∷ [] else xs
 
--- of candidates, the objects that the verb could be meant for
+-- those of the candidates that the verb could be meant for
 abbrev pub objects_meant : List Candidate → Deed Command → List ℕ
 objects_meant candidates d =
     fold (λ xs (c : Candidate). with_meant (c.test d) (c.object d) xs) [] candidates
@@ -39,10 +39,10 @@ only_of _ = 0
 abbrev pub several : (Deed Command → List ℕ) → Test Command
 several xs d = nat_le 2 (length (xs d))
 
--- the first; 0 where there is none
+-- the first; 0 if there is none
 abbrev pub first : (Deed Command → List ℕ) → Thing Command
 first xs d = first_or_none (xs d)
 
--- the only one; 0 where there are more, or none
+-- the only one; 0 if there are more, or none
 abbrev pub only : (Deed Command → List ℕ) → Thing Command
 only xs d = only_of (xs d)

@@ -34,7 +34,7 @@ find_rows =
 abbrev pub is_in_inventory : CaveView → State → ℕ → Bool
 is_in_inventory cave s x = is_carried cave s x && not (is_called cave x name.Bear)
 
--- of the objects from 1 on so many, those that the inventory lists
+-- those of this many objects, from 1 on, that the inventory lists
 unfoldable pub listed_up_to : CaveView → State → ℕ → List ℕ
 listed_up_to cave s n = filter (is_in_inventory cave s) (range_with_len 1 n)
 
@@ -51,7 +51,7 @@ after_naming objects p = record p { parts = p.parts ++ map part.Name objects }
 abbrev pub name_them : Effect Command
 name_them d = in_scene (after_naming (objects_listed d) d.scene) d
 
--- it is said that the bear follows, if the player has it
+-- the game says that the bear follows, if the player has it
 unfoldable pub bear_along_rows : List (Row Command (Unit {0}))
 bear_along_rows = plain_row (carried bear ∷ []) (say role.BearFollows ∷ []) ∷ []
 

@@ -33,7 +33,7 @@ foes = objects_meant
     ∷ candidate name.Bear (both (near bear) (prop bear BEAR_WILD))
     ∷ [])
 
--- what is killed where there is no foe
+-- what is killed if there is no foe
 abbrev pub prey : Deed Command → List ℕ
 prey = objects_meant
     (candidate name.Bird (both (near bird) (no (is_typed verb.Throw)))

@@ -19,7 +19,7 @@ on_rows =
     ∷ row_then (was_dark ∷ []) (set_prop lamp LAMP_ON ∷ say role.LampOn ∷ []) describes
     ∷ otherwise_then (set_prop lamp LAMP_ON ∷ say role.LampOn ∷ []) stays
 
--- it is said that it is dark, if it is so now
+-- the game says that it is dark, if it is so now
 unfoldable pub darkened_rows : List (Row Command (Unit {0}))
 darkened_rows = plain_row (in_the_dark ∷ []) (say role.Dark ∷ []) ∷ []
 

@@ -17,7 +17,7 @@ use Rattle.cave_verbs.specs.declared.command.Command.{Command}
 use Rattle.cave_world.specs.declared.tables.Table.TheVariants as table
 use Rattle.cave_verbs.specs.Things.{eggs, troll}
 
--- the number of the word that was just read among the special words; 0 if it is none of them
+-- the number of the word that was just read among the special words; 0 if it isn't one of them
 abbrev pub k : Deed Command → ℕ
 k d = special d.cave d.about.word
 
@@ -25,7 +25,7 @@ k d = special d.cave d.about.word
 abbrev pub foo : Deed Command → ℤ
 foo d = d.scene.state.talk.magic
 
--- the word is no special one
+-- the word isn't a special one
 abbrev pub is_plain : Test Command
 is_plain d = k d == 0
 
@@ -53,7 +53,7 @@ remember d = in_state (with_magic (pos (k d)) d.scene.state) d
 abbrev pub begin_anew : Effect Command
 begin_anew d = in_state (with_magic (pos 0) d.scene.state) d
 
--- which text is printed of the eggs as they go home
+-- which text of the eggs is printed as they go home
 unfoldable pub eggs_rows : List (Row Command (Unit {0}))
 eggs_rows =
     plain_row (player_at_home eggs ∷ []) (look eggs EGGS_APPEARING ∷ [])

@@ -32,8 +32,8 @@ is_locking d = is_verb d.about.verb verb.Lock
 abbrev pub does_it_to : Thing Command → Deed Command → VerbStep
 does_it_to t d = GoOn d.about.verb (t d)
 
--- what could be meant where the command names nothing, of which the first is: the grate or the door
--- that is here, the oyster or the clam at hand
+-- what a command that names nothing could mean, of which the first counts: the grate or the door
+-- that is here, or the oyster or the clam at hand
 abbrev pub locks : Deed Command → List ℕ
 locks = objects_meant
     (candidate name.Grate (is_here grate)

@@ -23,8 +23,8 @@ use Rattle.cave_verbs.specs.Tests.{x, no_object, is}
 use Rattle.cave_verbs.specs.declared.command.Command.{Command}
 use Rattle.cave_verbs.specs.Things.{bottle, door, oil, plant, second_plant, water}
 
--- what is poured: what is in the bottle, where that or nothing is named; 0 for a liquid without a
--- name
+-- what is poured: what is in the bottle, if the bottle or nothing is named; 0 for a liquid without
+-- a name
 abbrev pub poured_of : CaveView → State → ℕ → ℕ
 poured_of cave s y =
     if y == 0 || is_called cave y name.Bottle then unwrap_or (liquid_of cave s) 0 else y
@@ -42,7 +42,7 @@ empty_bottle d = set_prop bottle BOTTLE_EMPTY d
 abbrev pub look_above : Thing Command → Effect Command
 look_above t d = look t (prop_of d.scene.state.objects (t d) +ℤ pos 1) d
 
--- a prop goes up by two, from 0 to 5 round and round
+-- a prop goes up by two, around from 5 to 0
 abbrev pub grow : Thing Command → Effect Command
 grow t d = set_prop t (int_rem_euclid (prop_of d.scene.state.objects (t d) +ℤ pos 2) (pos 6)) d
 

@@ -34,7 +34,7 @@ rank cave verb.Throw x = throw_rank cave x
 rank cave verb.Feed x = 0
 rank cave _ x = bare_rank x
 
--- a verb that goes on is above what it goes on with
+-- a verb that goes on has a higher rank than what it goes on with
 abbrev pub rank_of : CaveView → VerbStep → ℕ
 rank_of cave (Done next) = 0
 rank_of cave (GoOn v x) = suc (rank cave v x)

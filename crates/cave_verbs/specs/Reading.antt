@@ -17,7 +17,7 @@ use Rattle.cave_verbs.specs.Tests.{x, is}
 use Rattle.cave_verbs.specs.declared.command.Command.{Command}
 use Rattle.cave_verbs.specs.Things.{magazine, message, oyster, tablet}
 
--- it is said that the word that was just read isn't seen here
+-- the game says that it doesn't see here what the word that was just read names
 abbrev pub not_seen : Effect Command
 not_seen d = tell (part.Word line.NotSeen d.about.word) d
 

@@ -1,4 +1,4 @@
--- How many parts a verb says at most.
+-- The most parts that a verb says.
 use Rattle.std.specs.Prelude.{ℕ}
 use Rattle.turn_scene.specs.Bounds.{parts_of_row, parts_of_inventory}
 use Rattle.cave_verbs.specs.declared.next.Next.TheVariants.{Stay}

@@ -57,7 +57,7 @@ does verb x d = GoOn verb (x d)
 abbrev pub row : List (Test Command) → List (Effect Command) → VerbRow
 row tests effects = row_then tests effects stays
 
--- the rows of a table after so many, by the numbers that they have in it
+-- the rows of a table after this many, by the numbers that they have in it
 abbrev pub noted_after : Table → ℕ → List VerbRow → List VerbRow
 noted_after table n rows = noted_from table (n + 1) (drop n rows)
 
@@ -65,7 +65,7 @@ noted_after table n rows = noted_from table (n + 1) (drop n rows)
 abbrev pub first_fitting : List VerbRow → Deed Command → Act VerbStep
 first_fitting rows d = first_fitting_or rows (nothing_but stays) d
 
--- the same turn has come to what a rule says of a command, and so has what follows
+-- the code has done in the same turn what a rule says of a command, and returns what follows
 abbrev pub ActsBy : {N : Type 0} → (N → List RuleRow) → (Deed Command → Act VerbStep) → Rules
     → Command → OpenScene N → OpenScene N → VerbStep → Type 0
 ActsBy noted_rows f rules command old new step =

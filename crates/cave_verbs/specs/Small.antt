@@ -27,8 +27,8 @@ bare_quit_rows = otherwise_then [] (poses question.Quit)
 unfoldable pub bare_score_rows : List VerbRow
 bare_score_rows = otherwise_then [] (poses question.ScoreQuit)
 
--- places are described briefly from now on, and it was said often enough that there are no more
--- details
+-- places are described briefly from now on, and the game has said often enough that there are no
+-- more details
 abbrev pub with_brevity : State → State
 with_brevity s = with_talk (record (s.talk) { is_brief = true; details = MAX_DETAILS }) s
 

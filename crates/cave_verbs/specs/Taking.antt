@@ -17,7 +17,7 @@ use Rattle.cave_verbs.specs.Tests.{x, is}
 use Rattle.cave_verbs.specs.declared.command.Command.{Command}
 use Rattle.cave_verbs.specs.Things.{bear, bird, bottle, cage, rod}
 
--- the object of which a half is here alone; 0 where there are more halves, or none
+-- the object of the only half that is here; 0 if there are more halves, or none
 abbrev pub lone_object : List Half → ℕ
 lone_object (half ∷ []) = object_of half
 lone_object _ = 0

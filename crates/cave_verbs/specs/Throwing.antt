@@ -30,7 +30,7 @@ without_one each None = each
 without_one each (Some index) =
     slice_set each index (killed_dwarf (slice_index_or each index no_dwarf))
 
--- of the dwarves, the first of the five that is at a place is gone; the sixth is the pirate
+-- the first of the five dwarves that is at the place is gone; the sixth is the pirate
 unfoldable pub without_first_at : ℕ → List Dwarf → List Dwarf
 without_first_at place each = without_one each (position (is_dwarf_at place) (take PIRATE each))
 

@@ -16,7 +16,7 @@ use Rattle.cave_verbs.specs.Things.{fissure, rod, second_rod}
 abbrev pub flip : Thing Command → Effect Command
 flip t d = set_prop t (pos 1 -ℤ prop_of d.scene.state.objects (t d)) d
 
--- the text for 2 less the prop: of what was just flipped, the text for 1 more than its prop was
+-- the text for 2 less the prop, which is 1 more than the prop was before it was flipped
 abbrev pub look_at_flip : Thing Command → Effect Command
 look_at_flip t d = look t (pos 2 -ℤ prop_of d.scene.state.objects (t d)) d
 

@@ -31,7 +31,7 @@ use cave_world::{Question, RowNotes};
 use data_rows::Role;
 use turn_scene::{Rules, Scene};
 
-/// Does what is commanded, and returns what follows.
+/// Does what a command says, and returns what follows.
 #[tactic(auto, using(crate::proofs::Falls::few_ranks), unfolding(crate::specs::Acting::act))]
 pub fn act<N: RowNotes>(rules: &Rules<'_>, command: Command, scene: &mut Scene<'_, N>) -> Next
     requires { HasRoom parts_of_verb scene.old }
@@ -133,7 +133,7 @@ fn act_once<N: RowNotes>(rules: &Rules<'_>, command: Command, scene: &mut Scene<
     }
 }
 
-/// Does a verb, and those that it goes on with, which are so many at most.
+/// Does a verb, and those that it goes on with, at most this many.
 #[tactic(auto, unfolding(crate::specs::Acting::act_within))]
 fn act_within<N: RowNotes>(
     rules: &Rules<'_>,

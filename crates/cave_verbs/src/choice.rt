@@ -6,13 +6,13 @@ ghost use Rattle.cave_verbs.specs.Choice as defined;
 use arrayvec::ArrayVec;
 use world_objects::Object;
 
-/// Of how many objects a verb without an object could be meant for one.
+/// How many objects a verb without an object could be meant for.
 const MAX_MEANT: usize = 5;
 
 /// The objects that a verb without an object could be meant for.
 pub type Meant = ArrayVec<Object, MAX_MEANT>;
 
-/// One object more, if the cave has it and the verb could be meant for it.
+/// One more object, if the cave has it and the verb could be meant for it.
 #[tactic(auto, unfolding(crate::specs::Choice::with_meant))]
 pub fn add_meant(could_be: bool, object: Object, meant: &mut Meant)
     requires { array_vec_len meant.old < defined.MAX_MEANT }
@@ -41,7 +41,7 @@ pub fn first(meant: &[Object]) -> Object
     }
 }
 
-/// The only one, if there is one and no other.
+/// The only one, if there is exactly one.
 pub fn only(meant: &[Object]) -> Object
     ensures { result ≡ only_of meant.now }
 {

@@ -24,7 +24,7 @@ pub struct Command {
     pub word: Word,
 }
 
-/// The message that the cave gives an action is said, if there is one.
+/// Says the message that the cave gives an action, if there is one.
 pub fn tell_default<N: RowNotes>(rules: &Rules<'_>, number: u16, scene: &mut Scene<'_, N>)
     requires { HasRoom 1 scene.old }
     ensures scene { scene_of N.rows scene.new
@@ -52,7 +52,7 @@ impl Command {
         }
     }
 
-    /// The message that the cave gives the verb is said, if there is one.
+    /// Says the message that the cave gives the verb, if there is one.
     pub fn say_default<N: RowNotes>(self, rules: &Rules<'_>, scene: &mut Scene<'_, N>) -> Next
         requires { HasRoom 1 scene.old }
         ensures row { DoneByRow N.rows (row [] (default ∷ [])) rules.now self scene.old scene.new

@@ -55,7 +55,7 @@ fn drop_bird_by_snake<N: RowNotes>(
     Next::Stay
 }
 
-/// A vase that is put down elsewhere than where the pillow is at home breaks without the pillow.
+/// A vase that is put down away from the pillow's home breaks without the pillow.
 #[tactic(auto, unfolding(crate::specs::Dropping::drop_rows))]
 fn drop_vase<N: RowNotes>(rules: &Rules<'_>, command: Command, scene: &mut Scene<'_, N>) -> Next
     requires room { HasRoom parts_of_row scene.old }

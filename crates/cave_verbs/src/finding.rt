@@ -80,7 +80,7 @@ fn name_all<N: RowNotes>(objects: &[Object], scene: &mut Scene<'_, N>)
     }
 }
 
-/// It is said that the bear follows, if it does, and nothing more is done.
+/// Says that the bear follows, if it does, and does nothing more.
 #[tactic(auto, unfolding(crate::specs::Finding::bear_along_rows))]
 fn tell_bear<N: RowNotes>(rules: &Rules<'_>, command: Command, scene: &mut Scene<'_, N>) -> Next
     requires { HasRoom 1 scene.old }

@@ -40,7 +40,7 @@ fn foes<N: RowNotes>(rules: &Rules<'_>, command: &Command, scene: &Scene<'_, N>)
     foes
 }
 
-/// What the player could mean where there is no foe.
+/// What the player could mean if there is no foe.
 fn prey<N: RowNotes>(rules: &Rules<'_>, command: &Command, scene: &Scene<'_, N>) -> Meant
     ensures { result.items
         ≡ prey (deed (cave_of rules.now) command.now (scene_of N.rows scene.now)) }

@@ -13,7 +13,7 @@ use turn_scene::props::LAMP_OFF;
 use turn_scene::{Rules, Scene, is_near};
 use world_objects::Prop;
 
-/// ON, whatever it is done to.
+/// ON, with any object.
 #[tactic(auto, unfolding(crate::specs::Light::on_rows))]
 pub fn turn_on<N: RowNotes>(rules: &Rules<'_>, command: Command, scene: &mut Scene<'_, N>) -> Next
     requires { HasRoom parts_of_row scene.old }
@@ -39,7 +39,7 @@ pub fn turn_on<N: RowNotes>(rules: &Rules<'_>, command: Command, scene: &mut Sce
     Next::Stay
 }
 
-/// OFF, whatever it is done to.
+/// OFF, with any object.
 #[tactic(auto, unfolding(crate::specs::Light::off_rows, crate::specs::Light::darkened_rows))]
 pub fn turn_off<N: RowNotes>(rules: &Rules<'_>, command: Command, scene: &mut Scene<'_, N>) -> Next
     requires { HasRoom parts_of_row scene.old }

@@ -32,7 +32,7 @@ fn magic_of(state: &State) -> i16
     state.talk.magic.value()
 }
 
-/// The number of the magic word that was said last is remembered.
+/// Remembers the number of the magic word that was said last.
 fn set_magic(state: &mut State, k: i16)
     requires { IsMagic k }
     ensures { state.new ≡ with_magic k state.old }
@@ -47,7 +47,7 @@ fn is_out_of_turn(state: &State, k: u16) -> bool
     magic_of(state) != 1 - k as i16
 }
 
-/// The word of a number is remembered as the last that was said.
+/// Remembers the word with a number as the last that was said.
 fn remember(state: &mut State, k: u16)
     requires { k < WORDS_PER_CLASS }
     ensures { state.new ≡ with_magic (pos k) state.old }
@@ -75,7 +75,7 @@ fn look_at_eggs<N: RowNotes>(rules: &Rules<'_>, command: &Command, scene: &mut S
     }
 }
 
-/// A text of the eggs is printed, and they go home.
+/// Prints a text of the eggs, and moves them home.
 fn send_eggs_home<N: RowNotes>(
     rules: &Rules<'_>,
     command: &Command,

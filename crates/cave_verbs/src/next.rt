@@ -39,7 +39,7 @@ pub enum VerbStep {
 impl Next {
     ghost use Rattle.cave_verbs.specs.declared.next.Next.TheVariants.{Stay, End};
 
-    /// The message of a role is said, and nothing follows.
+    /// Says the message of a role, and nothing follows.
     pub fn say<N: RowNotes>(role: Role, scene: &mut Scene<'_, N>) -> Next
         requires { HasRoom 1 scene.old }
         ensures scene { scene_of N.rows scene.new ≡ after_saying role (scene_of N.rows scene.old) }

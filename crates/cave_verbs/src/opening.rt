@@ -29,7 +29,7 @@ use turn_scene::{
 };
 use world_objects::{Anchor, Object, Place, Prop};
 
-/// What the player could mean who names nothing: the grate or the door that is here, the oyster or
+/// What a player who names nothing could mean: the grate or the door that is here, or the oyster or
 /// the clam at hand.
 fn locks<N: RowNotes>(rules: &Rules<'_>, command: &Command, scene: &Scene<'_, N>) -> Meant
     ensures { result.items

@@ -21,7 +21,7 @@ use turn_scene::props::{
 use turn_scene::{Rules, Scene, is_carried, is_liquid, is_near, lake, liquid};
 use world_objects::{Anchor, Object, Prop};
 
-/// What is poured: of the bottle, and where nothing is named, what is in the bottle.
+/// What is poured: if the player names the bottle or nothing, it is what is in the bottle.
 fn poured(rules: &Rules<'_>, state: &State, object: Object) -> Object
     ensures { result ≡ poured_of (cave_of rules.now) state.now object }
 {

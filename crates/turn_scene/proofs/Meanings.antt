@@ -7,7 +7,7 @@ use Rattle.cave_words.specs.Meanings.{meaning_in, meaning_of, is_word_in}
 use Rattle.cave_words.specs.declared.meaning.Class.TheVariants.{Special}
 use Rattle.turn_scene.specs.SpecialWords.{number_or_none, special}
 
--- what a row of words means has such a number
+-- the meaning of a row of words has a number in this range
 row_below : (row : Option WordEntry)
     → number_or_none (option_map (λ r. meaning_of r.number) row) < WORDS_PER_CLASS
 row_below None = omega arith

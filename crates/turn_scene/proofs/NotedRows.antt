@@ -22,7 +22,7 @@ in_order_from C F table n (r ∷ rows) =
 pub noted_in_order : (C F : Type 0) → NotedInOrder C F
 noted_in_order C F table rows = in_order_from C F table 1 rows
 
--- a row that so many come before in the table is noted
+-- a row is noted if this many come before it in the table
 record NotesFrom {C F : Type 0} (table : Table) (n : ℕ) (rows : List (Row C F)) (act : Act F)
     : Type 0 where
   before : ℕ

@@ -1,22 +1,22 @@
--- How many parts a turn says at most.
+-- The most parts that a turn says.
 use Rattle.std.specs.Prelude.{ℕ, ◌+◌, ◌*◌, ◌≤◌}
 use Rattle.arrayvec.specs.ArrayVec.{array_vec_len}
 use Rattle.turn_scene.specs.Scene.{GoesOn, IsSameScene, MAX_FORCED_MOTIONS}
 use Rattle.turn_scene.specs.declared.scene.Scene.{Scene as OpenScene}
 
--- so many parts more can be said: a turn has room for 512
+-- this many more parts can be said: a turn has room for 512
 abbrev pub HasRoom : {N : Type 0} → ℕ → OpenScene N → Type 0
 HasRoom parts scene = array_vec_len scene.out.now + parts ≤ 512
 
--- so many parts were said at most
+-- at most this many parts were said
 abbrev pub SaysUpTo : {N : Type 0} → ℕ → OpenScene N → OpenScene N → Type 0
 SaysUpTo parts old new = array_vec_len new.out.now ≤ array_vec_len old.out.now + parts
 
--- the same turn goes on, no forced motion was counted, and so many parts were said at most
+-- the same turn goes on, no forced motion was counted, and at most this many parts were said
 abbrev pub GoesOnSaying : {N : Type 0} → ℕ → OpenScene N → OpenScene N → Type 0
 GoesOnSaying parts old new = GoesOn old new × SaysUpTo parts old new
 
--- the same turn goes on, whatever forced motions were counted, and so many parts were said at most
+-- the same turn goes on, with any count of forced motions, and at most this many parts were said
 abbrev pub MovesOnSaying : {N : Type 0} → ℕ → OpenScene N → OpenScene N → Type 0
 MovesOnSaying parts old new = IsSameScene old new × SaysUpTo parts old new
 
@@ -36,7 +36,7 @@ parts_of_question = 2
 abbrev pub parts_of_throws : ℕ
 parts_of_throws = 2
 
--- what dwarves do: how many they are, and their knives
+-- what dwarves do: how many there are, and their knives
 abbrev pub parts_of_attack : ℕ
 parts_of_attack = 1 + parts_of_throws
 
@@ -60,15 +60,15 @@ parts_of_clocks = 2
 abbrev pub parts_of_place : ℕ
 parts_of_place = parts_of_text + 1 + 200
 
--- what holds the player back from a place: that the cave is closed, a dwarf
+-- what keeps the player out of a place: that the cave is closed, or a dwarf
 abbrev pub parts_of_holding_back : ℕ
 parts_of_holding_back = 2
 
--- a place of forced motion: what holds the player back, and its text
+-- a place of forced motion: what keeps the player out of it, and its text
 abbrev pub parts_of_passing : ℕ
 parts_of_passing = parts_of_holding_back + parts_of_text
 
--- a place at which the player stays: what holds the player back, the dwarves, the place
+-- a place at which the player stays: what keeps the player out of it, the dwarves, the place
 abbrev pub parts_of_stop : ℕ
 parts_of_stop = parts_of_holding_back + parts_of_dwarves + parts_of_place
 
@@ -81,7 +81,7 @@ parts_of_journey = 1 + parts_of_death
 abbrev pub parts_of_forced_motion : ℕ
 parts_of_forced_motion = 1 + parts_of_passing
 
--- forced motions: each that is left, and the last place
+-- forced motions: each of those that are left, and the last place
 abbrev pub parts_of_forced_motions : ℕ → ℕ
 parts_of_forced_motions left = parts_of_forced_motion * left + parts_of_stop
 
@@ -89,7 +89,7 @@ parts_of_forced_motions left = parts_of_forced_motion * left + parts_of_stop
 abbrev pub parts_of_arrival : ℕ → ℕ
 parts_of_arrival left = parts_of_passing + parts_of_forced_motions left
 
--- a row of a verb says two parts at most
+-- a row of a verb says at most two parts
 abbrev pub parts_of_row : ℕ
 parts_of_row = 2
 
@@ -97,7 +97,7 @@ parts_of_row = 2
 abbrev pub parts_of_inventory : ℕ
 parts_of_inventory = 100 + 2
 
--- the rows from which a verb goes on, so many
+-- this many rows from which a verb goes on
 abbrev pub parts_of_goings_on : ℕ → ℕ
 parts_of_goings_on left = parts_of_row * left
 
@@ -105,8 +105,8 @@ parts_of_goings_on left = parts_of_row * left
 abbrev pub parts_of_verb : ℕ
 parts_of_verb = parts_of_goings_on 3 + parts_of_inventory
 
--- what is read is done: a verb that leads on, which takes no inventory, and an arrival; a way that
--- leads on, or a verb that leads nowhere, says fewer
+-- what the command asks is done: a verb that leads on, without an inventory, and an arrival; a way
+-- that leads on, or a verb that leads nowhere, says fewer parts
 abbrev pub parts_of_request : ℕ → ℕ
 parts_of_request left = parts_of_goings_on 3 + parts_of_row + parts_of_arrival left
 
@@ -114,7 +114,7 @@ parts_of_request left = parts_of_goings_on 3 + parts_of_row + parts_of_arrival l
 abbrev pub room_of_request : ℕ → ℕ
 room_of_request left = parts_of_verb + parts_of_arrival left
 
--- what is read is done after the clocks
+-- the clocks, and then what the command asks
 abbrev pub parts_of_timed_request : ℕ → ℕ
 parts_of_timed_request left = parts_of_clocks + parts_of_request left
 
@@ -126,8 +126,8 @@ room_of_timed_request left = parts_of_clocks + room_of_request left
 abbrev pub parts_of_finish : ℕ
 parts_of_finish = 1 + parts_of_question
 
--- a command: what is read is done after the clocks, with all the forced motions of a turn, and the
--- turn ends
+-- a command: the clocks, what it asks with all the forced motions of a turn, and the end of the
+-- turn
 abbrev pub parts_of_command : ℕ
 parts_of_command = parts_of_timed_request MAX_FORCED_MOTIONS + parts_of_finish
 

@@ -25,7 +25,7 @@ abbrev pub after_sending : ℕ → Option ℕ → State → State
 after_sending x None s = s
 after_sending x (Some place) s = with_objects (after_move_to s.objects x place) s
 
--- what is done for so many numbers from the first on, one after another
+-- what is done for this many numbers from the first on, one after another
 unfoldable pub for_each_from : {S : Type 0} → ℕ → ℕ → (ℕ → S → S) → S → S
 for_each_from first zero what s = s
 for_each_from first (suc n) what s = what (first + n) (for_each_from first n what s)
@@ -39,7 +39,7 @@ for_each_down_from (suc n) what s = for_each_down_from n what (what (suc n) s)
 abbrev pub for_each : {X S : Type 0} → List X → (X → S → S) → S → S
 for_each xs what s = fold (λ t x. what x t) s xs
 
--- what rows do, whatever they are about
+-- what rows about anything do
 module _ {C : Type 0} where
   abbrev pub in_scene : Scene → Deed C → Deed C
   in_scene p d = record d { scene = p }
@@ -88,15 +88,15 @@ module _ {C : Type 0} where
   abbrev pub set_prop : Thing C → ℤ → Effect C
   set_prop t v d = in_objects (with_prop d.scene.state.objects (t d) v) d
 
-  -- one treasure more is lost
+  -- one more treasure is lost
   abbrev pub lose_one : Effect C
   lose_one d = in_state (with_one_more_lost d.scene.state) d
 
-  -- what is told of states
+  -- effects on states
   abbrev pub change : (State → State) → Effect C
   change f d = in_state (f d.scene.state) d
 
-  -- what is told of scenes
+  -- effects on scenes
   abbrev pub follow : (CaveView → Scene → Scene) → Effect C
   follow f d = in_scene (f d.cave d.scene) d
 
@@ -123,6 +123,6 @@ module _ {C : Type 0} where
   abbrev pub take_hint : (Deed C → ℕ) → Effect C
   take_hint h d = in_state (with_hint_taken (h d) d.scene.state) d
 
-  -- the lamp burns so many turns from now on
+  -- the lamp burns this many turns from now on
   abbrev pub set_charge : ℤ → Effect C
   set_charge turns d = in_state (with_charge turns d.scene.state) d

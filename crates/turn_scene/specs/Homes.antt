@@ -13,7 +13,7 @@ use Rattle.cave_world.specs.declared.state.State.{State}
 abbrev pub home : CaveView → ℕ → ℕ
 home cave x = (placement_of cave x).first
 
--- what holds it there: -1 that it can't be moved, a place its second half
+-- what holds it there: -1 says that it can't be moved, and a place is that of its second half
 abbrev pub anchor_by : ℤ → Anchor
 anchor_by (pos zero) = anchor.Loose
 anchor_by (pos (suc n)) = anchor.At (suc n)
@@ -22,7 +22,7 @@ anchor_by (negsuc n) = anchor.Fixed
 abbrev pub hold_of : CaveView → ℕ → Anchor
 hold_of cave x = anchor_by (placement_of cave x).second
 
--- the place of a second half; 0 where the number is no place
+-- the place of a second half; 0 if the number is no place
 abbrev pub as_place : ℤ → ℕ
 as_place (pos n) = n
 as_place (negsuc n) = 0

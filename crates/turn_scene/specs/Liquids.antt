@@ -1,4 +1,4 @@
--- The liquids that are at hand: of the lake where the player is, and in the bottle.
+-- The liquids at hand: that of the lake where the player is, and that in the bottle.
 use Rattle.std.specs.Prelude.{ℕ, Bool, false, ◌==◌, ◌&&◌, not, if◌then◌else◌, Option, Some, None}
 use Rattle.std.specs.Ordering.{int_eq}
 use Rattle.cave_data.specs.CaveView.{CaveView}
@@ -15,7 +15,7 @@ abbrev pub is_liquid : ℕ → Option ℕ → Bool
 is_liquid x None = false
 is_liquid x (Some liquid) = not (x == 0) && liquid == x
 
--- the liquid of the lake where the player is: oil where the place says so, and else water
+-- the liquid of the lake where the player is: oil if the place says so, and otherwise water
 unfoldable pub lake_of : CaveView → State → Option ℕ
 lake_of cave s =
     if has_condition_of cave s.trail.here condition.Liquid

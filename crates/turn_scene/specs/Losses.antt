@@ -1,4 +1,4 @@
--- What can't be found any more once the snake is still there.
+-- What can't be found any more while the snake is still there.
 use Rattle.std.specs.Prelude.{List, [], ◌∷◌}
 use Rattle.cave_data.specs.CaveView.{CaveView}
 use Rattle.cave_words.specs.declared.named.Named.TheVariants as name

@@ -1,4 +1,4 @@
--- What becomes of the second clock when a player tries to get out of a closing cave.
+-- What happens to the second clock when a player tries to get out of a closing cave.
 use Rattle.std.specs.Prelude.{ℕ, pos, true, List, [], ◌∷◌}
 use Rattle.cave_data.specs.CaveView.{CaveView}
 use Rattle.cave_world.specs.declared.state.State.{State}
@@ -23,7 +23,7 @@ TURNS_IN_PANIC = 15
 abbrev pub with_few_turns : State → State
 with_few_turns s = with_closing (record (s.closing) { second_clock = pos TURNS_IN_PANIC }) s
 
--- a player panics once, and in a closed cave no clock goes
+-- a player panics once, and no clock runs in a closed cave
 unfoldable pub panic_rows : List (Row (Unit {0}) (Unit {0}))
 panic_rows =
     plain_row (panicked ∷ []) []

@@ -9,7 +9,7 @@ use Rattle.world_objects.specs.Objects.{Layout}
 use Rattle.cave_world.specs.State.{MAX_LOST}
 use Rattle.cave_world.specs.declared.state.State.{State}
 
--- one part of a state becomes another
+-- one part of a state is replaced
 abbrev pub with_closing : Closing → State → State
 with_closing closing s = record s { closing = closing }
 
@@ -28,7 +28,7 @@ with_tallies tallies s = record s { tallies = tallies }
 abbrev pub with_objects : Layout → State → State
 with_objects o s = record s { objects = o }
 
--- one treasure more is lost
+-- one more treasure is lost
 abbrev pub with_one_more_lost : State → State
 with_one_more_lost s =
     with_tallies (record (s.tallies) { lost = min (s.tallies.lost + 1) MAX_LOST }) s

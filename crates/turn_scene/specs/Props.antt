@@ -1,11 +1,11 @@
--- The props of objects: what the number says that an object has, and by which its text is chosen.
+-- The props of objects: the numbers that say what state an object is in, and that choose its text.
 use Rattle.std.specs.Prelude.{ℤ, pos, negsuc}
 
--- what a treasure has that wasn't seen yet; from here down, what a closed cave hides
+-- a treasure that hasn't been seen yet; from here down, what a closed cave hides
 abbrev pub UNSEEN : ℤ
 UNSEEN = negsuc 0
 
--- what was seen, and of which no other prop tells more
+-- what has been seen, if no other prop says more of it
 abbrev pub SEEN : ℤ
 SEEN = pos 0
 
@@ -110,7 +110,7 @@ GRATE_UNLOCKED = pos 1
 abbrev pub LAMP_OFF : ℤ
 LAMP_OFF = pos 0
 
--- the text of the oyster that tells of the writing on it
+-- the text of the oyster that mentions the writing on it
 abbrev pub OYSTER_WRITTEN_ON : ℤ
 OYSTER_WRITTEN_ON = pos 1
 
@@ -140,8 +140,7 @@ TROLL_RETURNING = pos 1
 abbrev pub TROLL_FLED : ℤ
 TROLL_FLED = pos 2
 
--- the vase; the second and the fourth are texts: it comes to lie on the pillow, or breaks as it
--- falls
+-- the vase; the second and the fourth are texts: it lands on the pillow, or breaks as it falls
 abbrev pub VASE_WHOLE : ℤ
 VASE_WHOLE = pos 0
 

@@ -1,5 +1,5 @@
--- What the player can get at, and what rules ask of objects. Of an object that isn't there each
--- test is false.
+-- What the player can get at, and what rules ask of objects. Each test is false for an object that
+-- isn't there.
 use Rattle.std.specs.Prelude.{ℕ, ℤ, Bool, true, false, ◌==◌, ◌&&◌, ◌||◌, not, nat_le, int_le}
 use Rattle.std.specs.Prelude.{if◌then◌else◌, take}
 use Rattle.std.specs.Ordering.{int_eq}
@@ -15,7 +15,7 @@ use Rattle.turn_scene.specs.Scene.{is_called, thing}
 use Rattle.cave_world.specs.Limits.{AWAKE, PIRATE}
 use Rattle.turn_scene.specs.Liquids.{is_liquid, liquid_of}
 
--- an object is carried: it is in the hands; but a liquid is if the bottle is there with it
+-- an object is carried if it is in the hands, and a liquid if the bottle is there with it
 unfoldable pub is_carried : CaveView → State → ℕ → Bool
 is_carried cave s x =
     if is_called cave x name.Water || is_called cave x name.Oil

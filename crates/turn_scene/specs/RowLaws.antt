@@ -12,12 +12,12 @@ abbrev pub NoneFits : {C F : Type 0} → List (Row C F) → Deed C → Type 0
 NoneFits [] d = Unit {0}
 NoneFits (r ∷ rows) d = (fits r d ≡ false) × NoneFits rows (after_trying r d)
 
--- the deed once rows were tried one after another
+-- the deed after rows were tried, one after another
 abbrev pub after_trying_all : {C F : Type 0} → List (Row C F) → Deed C → Deed C
 after_trying_all [] d = d
 after_trying_all (r ∷ rows) d = after_trying_all rows (after_trying r d)
 
--- a row that fits applies where none before it does, whatever rows come after it
+-- a row that fits applies if none before it does, whichever rows come after it
 abbrev pub FirstFittingApplies : Type 0 → Type 0 → Type 0
 FirstFittingApplies C F =
     (before after : List (Row C F)) (r : Row C F) (otherwise : Deed C → Act F)
@@ -40,7 +40,7 @@ NotedInOrder C F =
     (table : Table) (rows : List (Row C F)) → noted table rows
     ≡ map (λ numbered. noted_row table numbered.0 numbered.1) (enumerate_from 1 rows)
 
--- what is done is what a row of the table does, which is noted by its number
+-- a row of the table is what is done, and its number is noted
 pub record NotesRow {C F : Type 0} (table : Table) (rows : List (Row C F)) (act : Act F)
     : Type 0 where
   pub number : ℕ
@@ -51,8 +51,7 @@ pub record NotesRow {C F : Type 0} (table : Table) (rows : List (Row C F)) (act 
   pub is_row : slice_get rows (number - 1) ≡ Some row
   pub does : act ≡ act_of_row row (note_row table number tried)
 
--- of such a table either a row applies, and is noted by such a number, or none fits, and none is
--- noted
+-- in such a table either a row applies, and such a number is noted, or none fits, and none is noted
 abbrev pub NotesARowOrNone : Type 0 → Type 0 → Type 0
 NotesARowOrNone C F =
     (table : Table) (rows : List (Row C F)) (otherwise : Deed C → Act F) (d : Deed C)
@@ -60,7 +59,8 @@ NotesARowOrNone C F =
     × (first_fitting_or (noted table rows) otherwise d ≡ otherwise (after_trying_all rows d)))
     ⊎ NotesRow table rows (first_fitting_or (noted table rows) otherwise d)
 
--- a last row that applies where no other does is one row more, whatever would be done without it
+-- a last row that applies if no other does is one more row, for anything that would be done without
+-- it
 abbrev pub LastRowIsNoted : Type 0 → Type 0 → Type 0
 LastRowIsNoted C F =
     (table : Table) (rows : List (Row C F)) (effects : List (Effect C)) (end : Deed C → F)
@@ -68,13 +68,13 @@ LastRowIsNoted C F =
     → act_by_table table rows (otherwise_row effects end) d
     ≡ first_fitting_or (noted table (rows ++ otherwise_then effects end)) or_else d
 
--- where no row fits, nothing is done but what is done then
+-- if no row fits, only what is meant for that case is done
 abbrev pub NoneFittingDoesNothing : Type 0 → Type 0 → Type 0
 NoneFittingDoesNothing C F =
     (rows : List (Row C F)) (otherwise : Deed C → Act F) (d : Deed C)
     → NoneFits rows d → first_fitting_or rows otherwise d ≡ otherwise (after_trying_all rows d)
 
--- where a test of a row fails, it doesn't apply, and no draw is made of it
+-- if a test of a row fails, the row doesn't apply, and makes no draw
 abbrev pub DrawsComeLast : Type 0 → Type 0 → Type 0
 DrawsComeLast C F =
     (r : Row C F) (d : Deed C) → all_hold r.tests d ≡ false

@@ -9,7 +9,7 @@ use Rattle.turn_scene.specs.declared.rules.Rules.{Rules}
 use Rattle.cave_world.specs.declared.tables.RuleRow.{RuleRow}
 use Rattle.cave_world.specs.declared.tables.Table.{Table}
 
--- what a rule is about, as a command, in the scene that it is played in
+-- what a rule is about, such as a command, in the scene in which it is played
 pub record Deed (C : Type 0) : Type 0 where
   pub cave : CaveView
   pub about : C
@@ -30,7 +30,7 @@ Effect C = Deed C → Deed C
 abbrev pub Thing : Type 0 → Type 0
 Thing C = Deed C → ℕ
 
--- tests, a draw where there is one, effects, and what follows
+-- tests, a draw if there is one, effects, and what follows
 pub record Row (C F : Type 0) : Type 0 where
   pub tests : List (Test C)
   pub draw : Option (Test C)
@@ -48,20 +48,20 @@ abbrev pub row_then : {C F : Type 0} → List (Test C) → List (Effect C) → (
 row_then tests effects end =
     record { tests = tests; draw = None; effects = effects; end = end }
 
--- a row with a draw, which is made where all tests hold: it decides whether the row applies
+-- a row with a draw, which is made if all tests hold, and decides whether the row applies
 abbrev pub row_by_draw : {C F : Type 0} → List (Test C) → Test C → List (Effect C) → (Deed C → F)
     → Row C F
 row_by_draw tests draw effects end =
     record { tests = tests; draw = Some draw; effects = effects; end = end }
 
--- the last row of a table, which applies where none before it does
+-- the last row of a table, which applies if none before it does
 abbrev pub otherwise_row : {C F : Type 0} → List (Effect C) → (Deed C → F) → Row C F
 otherwise_row effects end = row_then [] effects end
 
 abbrev pub otherwise_then : {C F : Type 0} → List (Effect C) → (Deed C → F) → List (Row C F)
 otherwise_then effects end = otherwise_row effects end ∷ []
 
--- what follows, an object or a hint is always the same, whatever the deed
+-- what follows, an object or a hint that is the same for any deed
 abbrev pub always : {C F : Type 0} → F → Deed C → F
 always step d = step
 
@@ -78,7 +78,7 @@ fits_by tests (Some draw) d = all_hold tests d && draw d
 abbrev pub fits : {C F : Type 0} → Row C F → Test C
 fits r d = fits_by r.tests r.draw d
 
--- a draw moves the stream on, whatever comes of it
+-- a draw moves the stream on, whichever way it falls
 abbrev pub after_drawing : {C : Type 0} → Effect C
 after_drawing d = record d { scene = after_draw d.scene }
 
@@ -86,7 +86,7 @@ abbrev pub after_trying_by : {C : Type 0} → List (Test C) → Option (Test C) 
 after_trying_by tests None d = d
 after_trying_by tests (Some draw) d = if all_hold tests d then after_drawing d else d
 
--- the deed once a row was tried
+-- the deed after a row was tried
 abbrev pub after_trying : {C F : Type 0} → Row C F → Effect C
 after_trying r d = after_trying_by r.tests r.draw d
 
@@ -121,7 +121,7 @@ first_fitting_or (r ∷ rows) or_else d =
     if fits r d then act_of_row r (after_trying r d)
     else first_fitting_or rows or_else (after_trying r d)
 
--- nothing is done, whatever follows
+-- nothing is done, and anything may follow
 abbrev pub nothing_but : {C F : Type 0} → (Deed C → F) → Deed C → Act F
 nothing_but end d = act_of d.scene (end d)
 
@@ -129,30 +129,30 @@ nothing_but end d = act_of d.scene (end d)
 abbrev pub answer_row : {C F : Type 0} → List (Test C) → (Deed C → F) → Row C F
 answer_row tests end = row_then tests [] end
 
--- what follows by the first row that fits, or by the last one
+-- what the first row that fits says follows, or the last row
 abbrev pub answer_by_rows : {C F : Type 0} → List (Row C F) → Row C F → Deed C → F
 answer_by_rows rows last d = (first_fitting_or rows (act_of_row last) d).step
 
--- what the first row of a table that fits does, or the last one, and it is noted which it was
+-- what the first row of a table that fits does, or the last row, with a note of which row it was
 abbrev pub act_by_table : {C F : Type 0} → Table → List (Row C F) → Row C F → Deed C → Act F
 act_by_table table rows last d =
     first_fitting_or (noted table rows) (act_of_row (noted_row table (length rows + 1) last)) d
 
--- the same, where what follows is an act of its own
+-- the same, if what follows is itself an act
 abbrev pub answer_by_table : {C F : Type 0} → Table → List (Row C (Act F)) → Row C (Act F)
     → Deed C → Act F
 answer_by_table table rows last d = (act_by_table table rows last d).step
 
--- a row of effects alone
+-- a row that only has effects
 abbrev pub plain_row : {C : Type 0} → List (Test C) → List (Effect C) → Row C (Unit {0})
 plain_row tests effects = row_then tests effects (always tt)
 
--- a row of effects alone, with a draw
+-- a row that only has effects and a draw
 abbrev pub chance_row : {C : Type 0} → List (Test C) → Test C → List (Effect C)
     → Row C (Unit {0})
 chance_row tests draw effects = row_by_draw tests draw effects (always tt)
 
--- the last row of a table of effects alone
+-- the last row of a table of effects
 abbrev pub otherwise : {C : Type 0} → List (Effect C) → List (Row C (Unit {0}))
 otherwise effects = otherwise_then effects (always tt)
 
@@ -169,8 +169,8 @@ abbrev pub by_rows_about : {C D : Type 0} → (Deed C → D) → List (Row D (Un
 by_rows_about what rows d =
     record d { scene = (by_rows rows (deed d.cave (what d) d.scene)).scene }
 
--- the same turn has come to what a rule says, and so has what follows; it said so many parts at
--- most
+-- the code has done in the same turn what a rule says, and returns what follows; the turn has said
+-- at most this many parts
 abbrev pub PlaysBy : {C F N : Type 0} → (N → List RuleRow) → (Deed C → Act F) → ℕ → Rules → C
     → OpenScene N → OpenScene N → F → Type 0
 PlaysBy noted_rows f parts rules about old new step =

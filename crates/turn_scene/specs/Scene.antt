@@ -36,7 +36,7 @@ is_liquid_name named.Water = true
 is_liquid_name named.Oil = true
 is_liquid_name _ = false
 
--- the object of a name: WATER and OIL count as absent where their number is that of BOTTL
+-- the object of a name: WATER and OIL count as absent if they have the number of BOTTL
 unfoldable pub thing : CaveView → Named → ℕ
 thing cave name =
     if is_liquid_name name && object_called cave name == object_called cave named.Bottle then 0
@@ -51,7 +51,7 @@ abbrev pub is_one_of : CaveView → ℕ → List Named → Bool
 is_one_of cave x names = list_any (is_called cave x) names
 
 -- the state, what was said, which rows of the rules applied, whether it was dark as the turn began,
--- and the forced motions that are left in it
+-- and how many forced motions are left in the turn
 pub record Scene : Type 0 where
   pub state : State
   pub parts : List Part
@@ -59,7 +59,7 @@ pub record Scene : Type 0 where
   pub was_dark : Bool
   pub left : ℕ
 
--- the scene of a turn while it is played, of whose notes one reads which rows applied
+-- the scene of a turn while it is played, whose notes say which rows applied
 abbrev pub scene_of : {N : Type 0} → (N → List RuleRow) → OpenScene N → Scene
 scene_of rows scene =
     record {
@@ -111,7 +111,7 @@ after_saying role p = after_telling (part.Role role) p
 abbrev pub after_look_at : ℕ → ℤ → Scene → Scene
 after_look_at x v p = if x == 0 then p else after_telling (part.Object x v) p
 
--- so many forced motions are left
+-- this many forced motions are left
 abbrev pub with_left : ℕ → Scene → Scene
 with_left left p = record p { left = left }
 
@@ -129,6 +129,6 @@ after_setting_out p = with_state (state_after_set_out p.state) p
 abbrev pub after_draw : Scene → Scene
 after_draw p = let s = p.state in with_state (record s { stream = next s.stream }) p
 
--- what happens in so many of 100 cases happens now
+-- what happens in this many of 100 cases happens now
 abbrev pub happens : ℕ → Scene → Bool
 happens percent p = pct percent p.state.stream

@@ -9,6 +9,6 @@ use Rattle.cave_words.specs.declared.meaning.Meaning.{Meaning}
 abbrev pub number_or_none : Option Meaning → ℕ
 number_or_none o = unwrap_or (option_map (λ meaning. meaning.number) o) 0
 
--- the number of a word among the special words; 0 if it is none of them
+-- the number of a word among the special words; 0 if it isn't one of them
 unfoldable pub special : CaveView → List ℕ → ℕ
 special cave word = number_or_none (meaning_in cave word Special)

@@ -25,11 +25,11 @@ use Rattle.turn_scene.specs.Rows.{Deed, Test, Thing}
 abbrev pub MAX_TAKEN : ℕ
 MAX_TAKEN = 7
 
--- how often it is said that there are no more details
+-- how often the game says that there are no more details
 abbrev pub MAX_DETAILS : ℕ
 MAX_DETAILS = 3
 
--- what rows ask, whatever they are about
+-- what rows about anything ask
 module _ {C : Type 0} where
   -- the object of a name
   abbrev pub the : Named → Thing C
@@ -101,7 +101,7 @@ module _ {C : Type 0} where
   abbrev pub bottle_full : Test C
   bottle_full d = is_some (liquid_of d.cave d.scene.state)
 
-  -- the object is what the lake is of
+  -- the lake is of this object
   abbrev pub in_lake : Thing C → Test C
   in_lake t d = is_liquid (t d) (lake_of d.cave d.scene.state)
 
@@ -118,11 +118,11 @@ module _ {C : Type 0} where
   abbrev pub treasure : Thing C → Test C
   treasure t d = is_treasure (t d)
 
-  -- a draw: one case of so many
+  -- a draw: one case of this many
   abbrev pub one_in : ℕ → Test C
   one_in n d = number_drawn n d.scene.state.stream == 0
 
-  -- a draw: so many of 100 cases
+  -- a draw: this many of 100 cases
   abbrev pub percent : ℕ → Test C
   percent p d = happens p d.scene
 
@@ -152,7 +152,7 @@ module _ {C : Type 0} where
   abbrev pub is_bound : PlaceRole → Test C
   is_bound role d = is_some (place_named d.cave role)
 
-  -- the place of a role, where it has one
+  -- the place of a role, if it has one
   abbrev pub place_of : PlaceRole → Deed C → ℕ
   place_of role d = unwrap_or (place_named d.cave role) 0
 
@@ -209,7 +209,7 @@ module _ {C : Type 0} where
   abbrev pub place_has : PlaceCondition → (Deed C → ℕ) → Test C
   place_has c place d = has_condition_of d.cave (place d) c
 
-  -- from a place the player is moved on at once
+  -- a place moves the player on at once
   abbrev pub forced_at : (Deed C → ℕ) → Test C
   forced_at place d = forced d.cave (place d)
 
@@ -221,7 +221,7 @@ module _ {C : Type 0} where
   abbrev pub has_hint : (Deed C → ℕ) → Test C
   has_hint h d = is_hint_taken d.scene.state (h d)
 
-  -- so many deaths are counted
+  -- this many deaths are counted
   abbrev pub deaths : ℕ → Test C
   deaths n d = d.scene.state.tallies.deaths == n
 
@@ -233,7 +233,7 @@ module _ {C : Type 0} where
   abbrev pub last_object : Named → Test C
   last_object n d = is_called d.cave d.scene.state.talk.last n
 
--- what rows ask that are about an object, a hint or a dwarf, by its number
+-- what rows about an object, a hint or a dwarf ask, by its number
 abbrev pub it : Thing ℕ
 it d = d.about
 

@@ -8,13 +8,13 @@ use crate::rules::Rules;
 use cave_world::has_condition;
 use world_objects::Place;
 
-/// A condition that rules ask of a place, by a bit of its own. Bit 0, light, is asked where it is
-/// asked whether the player sees anything, by `State::dark`.
+/// A condition that rules ask of a place, each with its own bit. Bit 0, light, isn't here:
+/// `State::dark` asks for it, as it asks whether the player sees anything.
 #[derive(Clone, Copy, Debug, PartialEq, Eq)]
 pub enum PlaceCondition {
     /// The liquid of the place is oil.
     Oil,
-    /// The place has a lake: of oil, or else of water.
+    /// The place has a lake: of oil, or otherwise of water.
     Liquid,
     /// The pirate doesn't come to the place, and no dwarf bars a way out of it.
     NoPirate,

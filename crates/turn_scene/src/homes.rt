@@ -36,7 +36,7 @@ pub fn hold(rules: &Rules<'_>, object: Object) -> Anchor
     anchor_by(second)
 }
 
-/// Where the second half of an object is as a game begins; place 0 where it has none.
+/// Where the second half of an object is as a game begins; place 0 if it has none.
 pub fn second_home(rules: &Rules<'_>, object: Object) -> Place
     ensures { result ≡ second_home (cave_of rules.now) object }
 {
@@ -71,7 +71,7 @@ pub fn is_home_here(rules: &Rules<'_>, state: &State, object: Object) -> bool
     !object.is_none() && home(rules, object) == state.trail.here
 }
 
-/// Whether an object is at home elsewhere than where the player is.
+/// Whether an object is at home in another place than the player's.
 #[tactic(auto, unfolding(crate::specs::Homes::is_home_elsewhere))]
 pub fn is_home_elsewhere(rules: &Rules<'_>, state: &State, object: Object) -> bool
     ensures { result ≡ is_home_elsewhere (cave_of rules.now) state.now object }

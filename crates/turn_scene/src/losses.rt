@@ -12,14 +12,14 @@ use crate::scene::Scene;
 use cave_words::Named;
 use cave_world::{RowNotes, State, Table};
 
-/// One treasure more can't be found any more.
+/// One more treasure can't be found any more.
 pub fn lose_one(state: &mut State)
     ensures { state.new ≡ with_one_more_lost state.old }
 {
     state.tallies.lost = state.tallies.lost.up();
 }
 
-/// One treasure more can't be found any more, if the snake is still at home.
+/// One more treasure can't be found any more, if the snake is still at home.
 #[tactic(auto, unfolding(crate::specs::Losses::after_loss_to_snake, crate::specs::Losses::loss_to_snake_rows))]
 pub fn lose_to_snake<N: RowNotes>(rules: &Rules<'_>, scene: &mut Scene<'_, N>)
     ensures scene { scene_of N.rows scene.new

@@ -6,7 +6,7 @@ ghost use Rattle.turn_scene.specs.Scene.{or_no_object};
 use base_lines::numbers::LAST_OBJECT;
 use world_objects::Object;
 
-/// The object of a number; object 0 where there is none.
+/// The object with a number, or object 0 if there is none.
 pub fn or_no_object(object: Option<u16>) -> Object
     ensures { result ≡ or_no_object object }
 {

@@ -1,4 +1,4 @@
-//! What becomes of the second clock when a player tries to get out of a closing cave.
+//! What happens to the second clock when a player tries to get out of a closing cave.
 
 ghost use Rattle.std.specs.Prelude.{◌≡◌};
 ghost use Rattle.turn_scene.specs.Bounds.{GoesOnSaying};

@@ -1,8 +1,8 @@
-//! The props of objects: what the number says that an object has, and by which its text is chosen.
+//! The props of objects: the numbers that say what state an object is in, and that choose its text.
 
-/// A treasure that wasn't seen yet; from here down, what a closed cave hides.
+/// A treasure that hasn't been seen yet; from here down, what a closed cave hides.
 pub const UNSEEN: i8 = -1;
-/// What was seen, and of which no other prop tells more.
+/// What has been seen, if no other prop says more of it.
 pub const SEEN: i8 = 0;
 /// The rug under the dragon and the chain round the bear, as they are first seen.
 pub const SEEN_FASTENED: i8 = 1;
@@ -73,10 +73,10 @@ pub const GRATE_LOCKED: i8 = 0;
 /// The unlocked grate.
 pub const GRATE_UNLOCKED: i8 = 1;
 
-/// The lamp that doesn't burn; one that burns has `LAMP_ON`, which light goes by.
+/// The lamp that doesn't burn. One that burns has `LAMP_ON`, which light depends on.
 pub const LAMP_OFF: i8 = 0;
 
-/// The text of the oyster that tells of the writing on it.
+/// The text of the oyster that mentions the writing on it.
 pub const OYSTER_WRITTEN_ON: i8 = 1;
 
 /// The plant that wasn't watered; of its upper part, that it isn't there.
@@ -100,7 +100,7 @@ pub const TROLL_FLED: i8 = 2;
 
 /// The whole vase.
 pub const VASE_WHOLE: i8 = 0;
-/// The text of the vase that comes to lie on the pillow.
+/// The text of the vase that lands on the pillow.
 pub const VASE_ON_PILLOW: i8 = 1;
 /// The broken vase.
 pub const VASE_BROKEN: i8 = 2;

@@ -11,8 +11,8 @@ use cave_words::Named;
 use cave_world::{Dwarf, PIRATE, State};
 use world_objects::{Anchor, Object, Place};
 
-/// Whether an object is carried: it is in the hands. But a liquid is carried if the bottle is in the
-/// hands and has it.
+/// Whether an object is carried: it is in the hands. A liquid, however, is carried if it is in the
+/// bottle and the bottle is in the hands.
 #[tactic(auto, unfolding(crate::specs::Reach::is_carried))]
 pub fn is_carried(rules: &Rules<'_>, state: &State, object: Object) -> bool
     ensures { result ≡ is_carried (cave_of rules.now) state.now object }
@@ -48,7 +48,7 @@ pub fn has_other_prop(state: &State, object: Object, prop: i8) -> bool
     !object.is_none() && state.objects.prop(object).value() != prop
 }
 
-/// Whether there is the object, and its prop is at most a number.
+/// Whether the object exists and its prop is at most a number.
 #[tactic(auto, unfolding(crate::specs::Reach::has_prop_up_to))]
 pub fn has_prop_up_to(state: &State, object: Object, most: i8) -> bool
     ensures { result ≡ has_prop_up_to state.now object most }

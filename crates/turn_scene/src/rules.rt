@@ -1,4 +1,4 @@
-//! What a cave says, by which its rules go: the cave, its words, and the objects that rules name.
+//! What rules need of a cave: the cave, its words, and the objects that rules name.
 
 ghost use Rattle.std.specs.Prelude.{◌≡◌};
 ghost use Rattle.cave_words.specs.Lexicon.{IsLexiconOf};
@@ -58,7 +58,7 @@ impl<'a> Rules<'a> {
         matches!(name, Named::Water | Named::Oil)
     }
 
-    /// The object of a name; object 0 where the cave has none.
+    /// The object of a name, or object 0 if the cave has none.
     #[tactic(auto, unfolding(crate::specs::Scene::thing))]
     pub fn thing(&self, name: Named) -> Object
         ensures { result ≡ thing (cave_of self.now) name }

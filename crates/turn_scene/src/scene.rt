@@ -64,7 +64,7 @@ impl<'a, N: RowNotes> Scene<'a, N> {
         self.notes.note(RuleRow::OfTable(table, number));
     }
 
-    /// One more part is said.
+    /// Says one more part.
     pub fn tell(&mut self, part: Part)
         requires { HasRoom 1 self.old }
         ensures scene { scene_of N.rows self.new ≡ after_telling part (scene_of N.rows self.old) }
@@ -74,7 +74,7 @@ impl<'a, N: RowNotes> Scene<'a, N> {
         self.out.push(part);
     }
 
-    /// The message of a role is said.
+    /// Says the message of a role.
     pub fn say(&mut self, role: Role)
         requires { HasRoom 1 self.old }
         ensures scene { scene_of N.rows self.new ≡ after_saying role (scene_of N.rows self.old) }

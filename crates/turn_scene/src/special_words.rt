@@ -15,7 +15,7 @@ fn number_or_none(meaning: Option<Meaning>) -> u16
     }
 }
 
-/// The number of a word among the special words; 0 if it is none of them.
+/// The number of a word among the special words; 0 if it isn't one of them.
 #[tactic(auto, using(crate::proofs::Meanings::specials), unfolding(crate::specs::SpecialWords::special))]
 pub fn special(rules: &Rules<'_>, word: Word) -> u16
     ensures value { result ≡ special (cave_of rules.now) word }
