@@ -4,7 +4,7 @@ use Rattle.std.proofs.Common.{slice_index_or, slice_set, refl, ap, arith}
 use Rattle.cave_world.specs.declared.dwarves.Dwarf.{Dwarf}
 use Rattle.turn_clocks.specs.FirstClock.{dismissed_dwarf}
 
--- the dwarves, of which so many are gone
+-- the dwarves, this many of which are gone
 abbrev pub gone_up_to : ℕ → List Dwarf → List Dwarf
 gone_up_to n dwarves = map dismissed_dwarf (take n dwarves) ++ drop n dwarves
 
@@ -16,7 +16,7 @@ next_is_gone (one ∷ dwarves) zero d within = refl
 next_is_gone (one ∷ dwarves) (suc n) d within =
     ap (λ (l : List Dwarf). dismissed_dwarf one ∷ l) (next_is_gone dwarves n d (omega arith))
 
--- one more is
+-- one more dwarf is gone
 pub one_more_is_gone : (dwarves now : List Dwarf) (n m : ℕ) (d new : Dwarf)
     → now ≡ gone_up_to n dwarves → n < length dwarves → m ≡ suc n
     → new ≡ dismissed_dwarf (slice_index_or now n d) → slice_set now n new ≡ gone_up_to m dwarves

@@ -1,4 +1,4 @@
--- Where the player is in the area of no hint, and no turn counts, the hints change nothing.
+-- If the player is in the area of no hint, and no turn counts, the hints change nothing.
 use Rattle.std.proofs.Common.{◌≡◌, ℕ, zero, suc, ◌+◌, ◌<◌, ◌≤◌, ◌^◌, Bool, true, false}
 use Rattle.std.proofs.Common.{if◌then◌else◌, refl, ap, ◌∙◌, arith}
 use Rattle.std.proofs.Math.Nat.{div-eq_of_lt, pow-le-pow_right}
@@ -16,7 +16,7 @@ use Rattle.turn_clocks.specs.Hints.{FIRST_HINT, cave_has_it, in_area, has_turns,
 use Rattle.turn_clocks.specs.Hints.{after_consider}
 use Rattle.turn_clocks.proofs.Steps.{hints_up_to, starts_anew, waits}
 
--- where the player is outside and no turn counts, neither of the two rows fits
+-- if the player is outside and no turn counts, neither of the two rows fits
 no_row_outside : (a b c t : Bool) (x y z : Act (Unit {0})) → c ≡ false → t ≡ false
     → (if a && (b && (not c && (t && true))) then x else (if a && (b && (c && true)) then y else z))
     ≡ z
@@ -47,7 +47,7 @@ outside cave n s low =
     let below : cond_of cave s.trail.here < 2 ^ (4 + n) = omega (arith, low, least) in
     rw (div-eq_of_lt below) refl
 
--- so many hints change nothing
+-- this many hints change nothing
 pub quiet_hints : (cave : CaveView) (count : ℕ) (p : Scene)
     → cond_of cave p.state.trail.here < 16
     → ((n : ℕ) → n < count → turns_in_area p.state (FIRST_HINT + n) ≡ 0)

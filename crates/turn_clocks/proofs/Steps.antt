@@ -1,4 +1,4 @@
--- One hint more is considered.
+-- One more hint is considered.
 use Rattle.std.proofs.Common.{◌≡◌, ℕ, zero, suc, ◌+◌, ◌-◌, ◌≤◌, ◌⊎◌, inl, inr, Bool, true, false}
 use Rattle.std.proofs.Common.{[], ◌∷◌, None, min, if◌then◌else◌, refl, sym, ap, ◌∙◌, arith}
 use Rattle.std.proofs.lemmas.Bool.{cases_eq, true≢false}
@@ -29,7 +29,7 @@ waits d =
     act_of (after_all (note_row table.HintTurns 2 ∷ count_turn ∷ by_table table.Offers offer_rows ∷ [])
     d).scene tt
 
--- no row fits whose first test fails
+-- a row whose first test fails doesn't fit
 no_row : (a b c t : Bool) (x y z : Act (Unit {0})) → a ≡ false
     → (if a && (b && (not c && (t && true))) then x else (if a && (b && (c && true)) then y else z))
     ≡ z
@@ -46,7 +46,7 @@ after_consider-none cave h p none =
     (no_row (cave_has_it d) (no (has_hint it) d) (in_area d) (has_turns d) (starts_anew d) (waits d)
     (act_of p tt) (ap (λ hint. is_some hint) none))
 
--- so many hints from the first on
+-- this many hints from the first on
 abbrev pub hints_up_to : CaveView → ℕ → Scene → Scene
 hints_up_to cave n p = for_each_from FIRST_HINT n (after_consider cave) p
 
@@ -62,7 +62,7 @@ after_hints-later cave count (suc more) p above =
     ∙ after_consider-none cave (FIRST_HINT + (more + count)) _ (above _ (omega arith))
     ∙ after_hints-later cave count more p above
 
--- either no hint of the cave comes after the first few, or they are all that are offered
+-- either the cave has no hint after the first few, or these are all that are offered
 pub few_hints : (cave : CaveView) (end few : ℕ) → IsAbove end cave.hints
     → few ≡ min (end - FIRST_HINT) OFFERED_HINTS
     → IsAbove (few + FIRST_HINT) cave.hints ⊎ (few ≡ OFFERED_HINTS)
@@ -82,7 +82,7 @@ after_hints-all cave count p few (inl above) =
     ∙ ap (λ n. hints_up_to cave n p) all
 after_hints-all cave count p few (inr all) = ap (λ n. hints_up_to cave n p) all
 
--- one question is said at most: after one no other is asked
+-- at most one question is said: after one no other is asked
 pub few-asked : (over : Bool) (start before after : ℕ) → before ≤ start + 2
     → (over ≡ false → before ≤ start + 0)
     → after ≤ before + 2 → (over ≡ true → after ≤ before + 0) → after ≤ start + 2

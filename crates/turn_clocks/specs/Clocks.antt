@@ -16,7 +16,7 @@ use Rattle.turn_clocks.specs.Lamp.{lamp_clock}
 use Rattle.turn_clocks.specs.Repository.{second_clock, second_clock_from}
 use Rattle.turn_clocks.specs.Repository.{with_second_clock_down, close_cave}
 
--- the second clock goes once the first has run out; what follows is whether the cave is closed in
+-- the second clock runs once the first has run out; what follows says whether the cave is closed in
 -- this turn
 unfoldable pub clock_rows : List (Row (Unit {0}) Bool)
 clock_rows =
@@ -30,11 +30,11 @@ clock_rows =
     (change with_second_clock_down ∷ []) (always false)
     ∷ []
 
--- one of the clocks goes on by a turn, if one goes
+-- one of the clocks goes on by a turn, if one runs
 unfoldable pub tick_clocks : Deed (Unit {0}) → Act Bool
 tick_clocks d = first_fitting_or (noted table.Clocks clock_rows) (nothing_but (always false)) d
 
--- the clocks go on, and then the lamp, which is passed over where the cave was closed just now
+-- the clocks go on, and then the lamp, except in the turn that closes the cave
 unfoldable pub run_clocks : CaveView → Scene → Act Clocks
 run_clocks cave p =
     let a = tick_clocks (deed cave tt p) in

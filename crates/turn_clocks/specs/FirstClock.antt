@@ -1,4 +1,4 @@
--- The first clock, and how the cave begins to close where it runs out.
+-- The first clock, and how the cave begins to close as it runs out.
 use Rattle.std.specs.Prelude.{ℤ, pos, negsuc, ◌-ℤ◌, int_lt, map, true, false, ◌==◌, List, [], ◌∷◌}
 use Rattle.std.specs.Ordering.{int_eq}
 use Rattle.data_rows.specs.declared.role.Role.TheVariants as role
@@ -17,14 +17,14 @@ use Rattle.cave_world.specs.declared.tables.Table.TheVariants as table
 abbrev pub all_seen : Test (Unit {0})
 all_seen d = d.scene.state.tallies.unseen == 0
 
--- the first clock has so many turns left; -1 once it has run out
+-- the first clock has this many turns left, or -1 once it has run out
 abbrev pub first_clock : ℤ → Test (Unit {0})
 first_clock turns d = int_eq d.scene.state.closing.first_clock turns
 
 abbrev pub some_turns_left : Test (Unit {0})
 some_turns_left d = int_lt (pos 0) d.scene.state.closing.first_clock
 
--- a turn less is left until the cave begins to close
+-- one turn less is left until the cave begins to close
 abbrev pub with_first_clock_down : State → State
 with_first_clock_down s = let closing = s.closing in
     with_closing (record closing { first_clock = closing.first_clock -ℤ pos 1 }) s
@@ -43,7 +43,7 @@ abbrev pub with_closing_begun : State → State
 with_closing_begun s = let closing = s.closing in
     with_closing (record closing { first_clock = negsuc 0; is_closing = true }) s
 
--- the bear goes, but a dead one stays
+-- the bear vanishes, but a dead one stays
 unfoldable pub closing_bear_rows : List (Row (Unit {0}) (Unit {0}))
 closing_bear_rows =
     plain_row (prop (the name.Bear) BEAR_DEAD ∷ []) []

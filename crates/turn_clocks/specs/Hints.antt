@@ -24,14 +24,14 @@ use Rattle.turn_scene.specs.Effects.{for_each_from}
 use Rattle.turn_ends.specs.Questions.{ask}
 use Rattle.cave_world.specs.declared.tables.Table.TheVariants as table
 
--- the hints that are offered begin with this one
+-- the first hint that is offered
 abbrev pub FIRST_HINT : ℕ
 FIRST_HINT = 4
 
 abbrev pub OFFERED_HINTS : ℕ
 OFFERED_HINTS = 17
 
--- hints from 9 on have no guard
+-- the first hint without a guard
 abbrev pub FIRST_UNGUARDED_HINT : ℕ
 FIRST_UNGUARDED_HINT = 9
 
@@ -51,11 +51,11 @@ MAZE_HINT = 7
 abbrev pub PYRAMID_HINT : ℕ
 PYRAMID_HINT = 8
 
--- the hint is that of a number
+-- the hint has this number
 abbrev pub hint_is : ℕ → Test ℕ
 hint_is h d = d.about == h
 
--- it is that of a number, or a later one
+-- the hint has this number, or a higher one
 abbrev pub hint_from : ℕ → Test ℕ
 hint_from h d = nat_le h d.about
 
@@ -63,7 +63,7 @@ hint_from h d = nat_le h d.about
 abbrev pub no_hint : Hint
 no_hint = record { turns = 0; points = 0; question = 0; text = 0 }
 
--- the hint of the number, as the cave has it
+-- the hint with the number, as the cave has it
 abbrev pub hint_of : Deed ℕ → Hint
 hint_of d = unwrap_or (map.get d.cave.hints d.about) no_hint
 
@@ -112,7 +112,7 @@ ask_offer d = ask (question.Hint d.about) d
 abbrev pub offer : List (Effect ℕ)
 offer = restart ∷ ask_offer ∷ []
 
--- a hint is offered where its guard says that it helps, and where it has none; without an offer its
+-- a hint is offered if its guard says that it helps, or if it has no guard; without an offer its
 -- turns are counted from 0 again, but those of the bird's hint go on counting
 unfoldable pub guard_rows : List (Row ℕ (Unit {0}))
 guard_rows =
@@ -129,7 +129,7 @@ guard_rows =
     ∷ plain_row (hint_is BIRD_HINT ∷ []) []
     ∷ otherwise (restart ∷ [])
 
--- a hint whose player has stayed for long enough waits while a question is open
+-- a hint for which the player has stayed long enough waits while a question is open
 unfoldable pub offer_rows : List (Row ℕ (Unit {0}))
 offer_rows =
     plain_row (has_stayed ∷ over ∷ []) []
@@ -145,7 +145,7 @@ hint_rows =
     (count_turn ∷ by_table table.Offers offer_rows ∷ [])
     ∷ []
 
--- what a turn makes of a hint
+-- what a turn does to a hint
 unfoldable pub after_consider : CaveView → ℕ → Scene → Scene
 after_consider cave h p = (by_table table.HintTurns hint_rows (deed cave h p)).scene
 
@@ -171,7 +171,7 @@ hint_message d = (hint_of d).text
 abbrev pub bright : Test ℕ
 bright d = int_lt (pos LOW_CHARGE) d.scene.state.lamp.charge
 
--- for each point that it costs the lamp burns so many turns more, up to the most
+-- the lamp burns this many more turns for each point that the hint costs, up to the most
 abbrev pub TURNS_A_POINT : ℕ
 TURNS_A_POINT = 30
 
@@ -182,7 +182,7 @@ longer_charge points charge = int_min (charge +ℤ pos (TURNS_A_POINT * points))
 abbrev pub prolong : Effect ℕ
 prolong d = set_charge (longer_charge (hint_of d).points d.scene.state.lamp.charge) d
 
--- what a player gets who takes a hint
+-- what a player who takes a hint gets
 unfoldable pub give_rows : List (Row ℕ (Unit {0}))
 give_rows =
     plain_row (cave_has_it ∷ bright ∷ []) (tell_message hint_message ∷ take_hint it ∷ prolong ∷ [])

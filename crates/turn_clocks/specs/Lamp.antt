@@ -22,22 +22,22 @@ use Rattle.turn_clocks.specs.declared.clocks.Clocks.TheVariants.{GoOn, GaveUp}
 abbrev pub with_turn_burnt : State → State
 with_turn_burnt s = with_charge (int_max (s.lamp.charge -ℤ pos 1) (negsuc 0)) s
 
--- a lamp that is lit burns
+-- a lit lamp burns
 unfoldable pub burning_rows : List (Row (Unit {0}) (Unit {0}))
 burning_rows = plain_row (prop (the name.Lamp) LAMP_ON ∷ []) (change with_turn_burnt ∷ []) ∷ []
 
 abbrev pub burn : Effect (Unit {0})
 burn = by_table table.Burning burning_rows
 
--- the lamp has so many turns left
+-- the lamp has this many turns left
 abbrev pub turns_left : ℤ → Test (Unit {0})
 turns_left turns d = int_eq d.scene.state.lamp.charge turns
 
--- the lamp has so many turns left at most
+-- the lamp has at most this many turns left
 abbrev pub turns_left_up_to : ℤ → Test (Unit {0})
 turns_left_up_to turns d = int_le d.scene.state.lamp.charge turns
 
--- the player was told that the lamp is low
+-- the player has been warned that the lamp is low
 abbrev pub is_warned : Test (Unit {0})
 is_warned d = d.scene.state.lamp.is_warned
 
@@ -72,7 +72,7 @@ change_batteries =
 abbrev pub go_out : Effect (Unit {0})
 go_out d = set_prop (the name.Lamp) LAMP_OFF (set_charge (negsuc 0) d)
 
--- the warning, by where new batteries could come from
+-- the warning, which depends on where new batteries could come from
 unfoldable pub warning_rows : List (Row (Unit {0}) (Unit {0}))
 warning_rows =
     plain_row (prop (the name.Batteries) BATTERIES_USED ∷ []) (say role.LampLowUsed ∷ [])
@@ -94,10 +94,10 @@ lamp_rows =
     warn (always GoOn)
     ∷ []
 
--- what comes of the lamp once it has burnt
+-- what happens after the lamp has burnt
 unfoldable pub care_for_lamp : Deed (Unit {0}) → Act Clocks
 care_for_lamp d = first_fitting_or (noted table.Lamp lamp_rows) (nothing_but (always GoOn)) d
 
--- the lamp burns a turn, if it is lit, and what comes of it
+-- the lamp burns a turn, if it is lit, with all that follows from it
 abbrev pub lamp_clock : Deed (Unit {0}) → Act Clocks
 lamp_clock d = care_for_lamp (burn d)

@@ -1,4 +1,4 @@
--- The second clock, and the repository into which the cave is closed where it runs out.
+-- The second clock, and the repository into which the cave is closed as it runs out.
 use Rattle.std.specs.Prelude.{ℕ, ℤ, pos, ◌-ℤ◌, int_le, true, List, [], ◌∷◌}
 use Rattle.std.specs.Ordering.{int_eq}
 use Rattle.data_rows.specs.declared.place_role.PlaceRole.{PlaceRole}
@@ -16,21 +16,21 @@ use Rattle.turn_scene.specs.Tests.{the, place_of}
 use Rattle.turn_scene.specs.Effects.{in_scene, change, move, put_player, say, set_prop, attach}
 use Rattle.turn_scene.specs.Effects.{for_each}
 
--- the second clock has so many turns left; -1 once it has run out
+-- the second clock has this many turns left, or -1 once it has run out
 abbrev pub second_clock : ℤ → Test (Unit {0})
 second_clock turns d = int_eq d.scene.state.closing.second_clock turns
 
--- the second clock has so many turns left at least
+-- the second clock has at least this many turns left
 abbrev pub second_clock_from : ℤ → Test (Unit {0})
 second_clock_from turns d = int_le turns d.scene.state.closing.second_clock
 
--- a turn less is left until the cave is closed
+-- one turn less is left until the cave is closed
 abbrev pub with_second_clock_down : State → State
 with_second_clock_down s = let closing = s.closing in
     with_closing (record closing { second_clock = closing.second_clock -ℤ pos 1 }) s
 
--- the object of a name is put at the place of a role, with a prop for when it was in the hands;
--- until then it is unseen, and its prop is -1 less that one
+-- the object of a name is put at the place of a role, with the prop that it gets once it was in the
+-- hands; until then it is unseen, and its prop is -1 less that one
 abbrev pub store : PlaceRole → Named → ℤ → Effect (Unit {0})
 store role n v d = set_prop (the n) (UNSEEN -ℤ v) (move (the n) (place_of role) d)
 
@@ -44,7 +44,7 @@ northeast_things =
     ∷ store place.Ne name.Dwarf SEEN
     ∷ []
 
--- the mirror is at the one end, and its second half at the other
+-- the mirror is at one end, and its second half at the other
 abbrev pub hang_mirror : Effect (Unit {0})
 hang_mirror d =
     attach (the name.Mirror) (λ e. anchor_at (place_of place.Sw e))

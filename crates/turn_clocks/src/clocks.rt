@@ -12,7 +12,7 @@ use data_rows::PlaceRole;
 use turn_scene::{Rules, Scene, place_named};
 use world_objects::Place;
 
-/// What follows once the clocks and the lamp have gone on by a turn.
+/// What follows after the clocks and the lamp have gone on by a turn.
 #[derive(Clone, Copy, Debug, PartialEq, Eq)]
 pub enum Clocks {
     /// The command is read.
@@ -37,7 +37,7 @@ pub fn run_clocks<N: RowNotes>(rules: &Rules<'_>, scene: &mut Scene<'_, N>) -> C
     run_lamp(rules, scene)
 }
 
-/// One of the clocks goes on by a turn, if one goes. Returns whether that closed the cave.
+/// One of the clocks goes on by a turn, if one runs. Returns whether that closed the cave.
 #[tactic(auto, unfolding(crate::specs::Clocks::tick_clocks, crate::specs::Clocks::clock_rows))]
 fn tick_clocks<N: RowNotes>(rules: &Rules<'_>, scene: &mut Scene<'_, N>) -> bool
     requires { HasRoom 1 scene.old }

@@ -15,7 +15,7 @@ use turn_scene::props::{AXE_FREE, BEAR_DEAD, CHAIN_UNLOCKED, FISSURE_OPEN, GRATE
 use turn_scene::{Rules, Scene, deep_place, has_prop, is_place, place_named, remove_troll};
 use world_objects::{Anchor, Place, Prop};
 
-/// Whether the first clock goes. It doesn't go at y2.
+/// Whether the first clock runs. It doesn't run at y2.
 pub fn first_clock_goes<N: RowNotes>(rules: &Rules<'_>, scene: &Scene<'_, N>) -> bool
     ensures value { result
         ≡ all_hold (all_seen ∷ in_the_depths ∷ no (player_at place.Y2) ∷ some_turns_left ∷ [])
@@ -45,7 +45,7 @@ fn dismiss_all(dwarves: &mut [Dwarf])
     }
 }
 
-/// The bear goes, but a dead one stays.
+/// The bear vanishes, but a dead one stays.
 #[tactic(auto, unfolding(crate::specs::FirstClock::closing_bear_rows))]
 fn remove_bear<N: RowNotes>(rules: &Rules<'_>, scene: &mut Scene<'_, N>)
     ensures rows { Does N.rows (by_table table.ClosingBear closing_bear_rows ∷ []) 0

@@ -33,13 +33,13 @@ use turn_ends::ask;
 use turn_scene::props::{GRATE_LOCKED, UNSEEN};
 use turn_scene::{Rules, Scene, has_other_prop, has_prop, is_carried, is_near};
 
-/// The hints that are offered begin with this one.
+/// The first hint that is offered.
 const FIRST_HINT: u8 = 4;
 
 /// How many hints are offered.
 const OFFERED_HINTS: u8 = 17;
 
-/// Asks how to come through the grate.
+/// Asks how to get through the grate.
 const GRATE_HINT: u8 = 4;
 
 /// Asks how to catch the bird.
@@ -54,10 +54,10 @@ const MAZE_HINT: u8 = 7;
 /// Asks how to take the pyramid out.
 const PYRAMID_HINT: u8 = 8;
 
-/// Hints from 9 on have no guard.
+/// The first hint without a guard.
 const FIRST_UNGUARDED_HINT: u8 = 9;
 
-/// How many turns more the lamp burns for each point that a hint costs.
+/// How many more turns the lamp burns for each point that a hint costs.
 const TURNS_A_POINT: i32 = 30;
 
 /// The hints are considered, one after another.
@@ -67,10 +67,10 @@ pub fn consider_all<N: RowNotes>(rules: &Rules<'_>, scene: &mut Scene<'_, N>)
         ≡ after_hints (cave_of rules.now) (scene_of N.rows scene.old) }
     ensures says { GoesOnSaying parts_of_question scene.old scene.new }
 {
-    // A hint moves nobody, so the conditions of the place are looked up once.
+    // A hint doesn't move the player, so the conditions of the place are looked up once.
     let conditions = rules.cave.cond(scene.state.trail.here.number());
     let count = count_hints(rules.cave);
-    // At most places no hint is waited for, and then nothing changes.
+    // Most places are in the area of no hint, and then nothing changes.
     if conditions < 1 << FIRST_HINT && counts_no_turn(count, scene.state) {
         return;
     }
@@ -94,7 +94,8 @@ fn count_hints(cave: &Cave) -> u8
     count.min(usize::from(OFFERED_HINTS)) as u8
 }
 
-/// How many turns the player has stayed in the area of the hint that is offered after so many.
+/// How many turns the player has stayed in the area of the hint that is offered after this many
+/// others.
 fn turns_after(before: usize, state: &State) -> Count<MAX_TURNS_IN_AREA>
     requires { before < defined.OFFERED_HINTS }
     ensures { result ≡ turns_in_area state.now (defined.FIRST_HINT + before) }
@@ -102,7 +103,7 @@ fn turns_after(before: usize, state: &State) -> Count<MAX_TURNS_IN_AREA>
     state.hints.turns[before + usize::from(FIRST_HINT) - 1]
 }
 
-/// Whether of so many hints no turn counts.
+/// Whether no turn counts for any of the first hints, this many.
 fn counts_no_turn(count: u8, state: &State) -> bool
     requires { count ≤ defined.OFFERED_HINTS }
     ensures { IsTrue result → (n : ℕ) → n < count
@@ -116,7 +117,7 @@ fn counts_no_turn(count: u8, state: &State) -> bool
     true
 }
 
-/// What a hint costs is said, and whether it is worth that is asked.
+/// Says what a hint costs, and asks whether it is worth that.
 #[tactic(auto, unfolding(crate::specs::Hints::price_rows))]
 pub fn price<N: RowNotes>(rules: &Rules<'_>, number: HintNumber, scene: &mut Scene<'_, N>)
     requires { HasRoom (1 + parts_of_question) scene.old }
@@ -130,7 +131,7 @@ pub fn price<N: RowNotes>(rules: &Rules<'_>, number: HintNumber, scene: &mut Sce
     }
 }
 
-/// A hint is given. It lets a lamp that isn't low burn for longer.
+/// Gives a hint. A lamp that isn't low then burns for longer.
 #[tactic(auto, unfolding(crate::specs::Hints::give_rows))]
 pub fn give_hint<N: RowNotes>(rules: &Rules<'_>, number: HintNumber, scene: &mut Scene<'_, N>)
     requires { HasRoom 1 scene.old }
@@ -174,7 +175,7 @@ fn is_in_area(hint: HintNumber, conditions: u32) -> bool
     (conditions >> hint.number()) % 2 == 1
 }
 
-/// One turn more in the area of a hint.
+/// One more turn in the area of a hint.
 #[tactic(auto, unfolding(cave_world::specs::State::takes_no_command))]
 fn count_turn(hint: HintNumber, state: &mut State)
     ensures state { state.new ≡ with_turns_in_area hint
@@ -185,7 +186,7 @@ fn count_turn(hint: HintNumber, state: &mut State)
     set_turns_in_area(hint, turns_in_area(hint, state).up(), state);
 }
 
-/// The turns in the area of a hint are counted from 0 again.
+/// Counts the turns in the area of a hint from 0 again.
 #[tactic(auto, unfolding(cave_world::specs::State::takes_no_command))]
 fn restart(hint: HintNumber, state: &mut State)
     ensures state { state.new ≡ with_turns_in_area hint 0 state.old }
@@ -257,7 +258,7 @@ fn is_short_of_pyramid<N: RowNotes>(
         && has_prop(scene.state, rules.thing(Named::Pyramid), UNSEEN)
 }
 
-/// A hint is offered, by a row of the guards, and its turns are counted from 0 again.
+/// Offers a hint, by a row of the guards, and counts its turns from 0 again.
 #[tactic(auto, using(crate::proofs::Trails::trail_asked))]
 fn offer<N: RowNotes>(rules: &Rules<'_>, number: HintNumber, row: u8, scene: &mut Scene<'_, N>)
     requires { HasRoom parts_of_question scene.old }
@@ -271,7 +272,7 @@ fn offer<N: RowNotes>(rules: &Rules<'_>, number: HintNumber, row: u8, scene: &mu
     ask(rules, &Question::Hint(number), scene);
 }
 
-/// A hint is offered where its guard says that it helps, and where it has none.
+/// A hint is offered if its guard says that it helps, or if it has no guard.
 #[tactic(auto, unfolding(crate::specs::Hints::guard_rows))]
 fn offer_by_guard<N: RowNotes>(rules: &Rules<'_>, number: HintNumber, scene: &mut Scene<'_, N>)
     requires { HasRoom parts_of_question scene.old }
@@ -297,7 +298,8 @@ fn offer_by_guard<N: RowNotes>(rules: &Rules<'_>, number: HintNumber, scene: &mu
     }
 }
 
-/// A hint whose player has stayed for long enough is offered, or waits while a question is open.
+/// A hint for which the player has stayed long enough is offered, or waits while a question is
+/// open.
 #[tactic(auto, unfolding(crate::specs::Hints::offer_rows))]
 fn consider_offer<N: RowNotes>(
     rules: &Rules<'_>,
@@ -327,7 +329,7 @@ fn consider_offer<N: RowNotes>(
     offer_by_guard(rules, number, scene);
 }
 
-/// A hint that the cave has and that wasn't taken counts its turns, and is offered.
+/// A hint that the cave has, and that wasn't taken, counts its turns and is offered.
 #[tactic(auto, unfolding(crate::specs::Hints::after_consider, crate::specs::Hints::hint_rows))]
 fn consider<N: RowNotes>(
     rules: &Rules<'_>,

@@ -19,7 +19,7 @@ use world_objects::Prop;
 
 const BATTERY_TURNS: i32 = 2500;
 
-/// A lamp that is lit burns a turn.
+/// A lit lamp burns a turn.
 #[tactic(auto, unfolding(crate::specs::Lamp::burning_rows))]
 fn burn<N: RowNotes>(rules: &Rules<'_>, scene: &mut Scene<'_, N>)
     ensures rows { Does N.rows (burn ∷ []) 0 rules.now tt scene.old scene.new }
@@ -84,7 +84,7 @@ fn is_stranded<N: RowNotes>(rules: &Rules<'_>, scene: &Scene<'_, N>) -> bool
         && scene.state.trail.here.number() <= outside_place(rules.cave).number()
 }
 
-/// Whether the lamp is low and at hand, and the player wasn't warned.
+/// Whether the lamp is low and at hand, and the player hasn't been warned.
 fn is_warning_due<N: RowNotes>(rules: &Rules<'_>, scene: &Scene<'_, N>) -> bool
     ensures { result ≡ all_hold
         (turns_left_up_to (pos defined.LOW_CHARGE) ∷ no is_warned ∷ near (the name.Lamp) ∷ [])
@@ -95,7 +95,7 @@ fn is_warning_due<N: RowNotes>(rules: &Rules<'_>, scene: &Scene<'_, N>) -> bool
         && is_near(rules, scene.state, rules.thing(Named::Lamp))
 }
 
-/// The player is warned, by where new batteries could come from.
+/// Warns the player; the warning depends on where new batteries could come from.
 #[tactic(auto, unfolding(crate::specs::Lamp::warn, crate::specs::Lamp::warning_rows))]
 fn warn<N: RowNotes>(rules: &Rules<'_>, scene: &mut Scene<'_, N>)
     requires { HasRoom 1 scene.old }
@@ -115,7 +115,7 @@ fn warn<N: RowNotes>(rules: &Rules<'_>, scene: &mut Scene<'_, N>)
     }
 }
 
-/// What comes of the lamp once it has burnt.
+/// What happens after the lamp has burnt.
 #[tactic(auto, unfolding(crate::specs::Lamp::care_for_lamp, crate::specs::Lamp::lamp_rows))]
 fn care_for_lamp<N: RowNotes>(rules: &Rules<'_>, scene: &mut Scene<'_, N>) -> Clocks
     requires { HasRoom 1 scene.old }
@@ -150,7 +150,7 @@ fn care_for_lamp<N: RowNotes>(rules: &Rules<'_>, scene: &mut Scene<'_, N>) -> Cl
     Clocks::GoOn
 }
 
-/// The lamp burns a turn, if it is lit, and what comes of it.
+/// The lamp burns a turn, if it is lit, with all that follows from it.
 pub fn run_lamp<N: RowNotes>(rules: &Rules<'_>, scene: &mut Scene<'_, N>) -> Clocks
     requires { HasRoom 1 scene.old }
     ensures row { PlaysBy N.rows lamp_clock 1 rules.now tt scene.old scene.new result }

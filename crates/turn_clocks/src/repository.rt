@@ -15,7 +15,7 @@ use turn_scene::props::{BIRD_CAGED, BOTTLE_EMPTY, SNAKE_GONE, UNSEEN};
 use turn_scene::{Rules, Scene};
 use world_objects::{Anchor, Object, Objects, Place, Prop};
 
-/// A thing is put at a place, with its prop.
+/// Puts a thing at a place, with its prop.
 fn put_in(rules: &Rules<'_>, name: Named, prop: Prop, place: Place, objects: &mut Objects)
     ensures { let x = thing (cave_of rules.now) name in
         objects.new ≡ with_prop (after_move_to objects.old x place) x prop }
@@ -25,7 +25,7 @@ fn put_in(rules: &Rules<'_>, name: Named, prop: Prop, place: Place, objects: &mu
     objects.set_prop(object, prop);
 }
 
-/// What belongs at the northeast end is put there.
+/// Puts there what belongs at the northeast end.
 #[tactic(auto, unfolding(crate::specs::Repository::northeast_things))]
 fn put_northeast_things<N: RowNotes>(rules: &Rules<'_>, place: Place, scene: &mut Scene<'_, N>)
     requires { place_named (cave_of rules.now) role.Ne ≡ Some place }
@@ -42,7 +42,7 @@ fn put_northeast_things<N: RowNotes>(rules: &Rules<'_>, place: Place, scene: &mu
     put_in(rules, Named::Dwarf, unseen, place, objects);
 }
 
-/// The mirror is hung at the northeast end, and its second half is at the southwest end.
+/// Hangs the mirror at the northeast end, with its second half at the southwest end.
 fn hang_mirror<N: RowNotes>(
     rules: &Rules<'_>,
     northeast: Place,
@@ -58,7 +58,7 @@ fn hang_mirror<N: RowNotes>(
     objects.anchor_to(rules.thing(Named::Mirror), Anchor::at(southwest));
 }
 
-/// What belongs at the southwest end is put there, and the mirror is hung.
+/// Puts there what belongs at the southwest end, and hangs the mirror.
 #[tactic(auto, unfolding(crate::specs::Repository::southwest_things))]
 fn put_southwest_things<N: RowNotes>(
     rules: &Rules<'_>,
@@ -100,7 +100,7 @@ fn empty_hands(state: &mut State)
     destroy_all(held.as_slice(), &mut state.objects);
 }
 
-/// The cave is closed, and the player is at the northeast end of the repository.
+/// Closes the cave, and puts the player at the northeast end of the repository.
 #[tactic(auto, unfolding(crate::specs::Repository::close_cave))]
 pub fn close_cave<N: RowNotes>(
     rules: &Rules<'_>,

@@ -10,12 +10,12 @@ use Rattle.data_rows.specs.RowViews.{going}
 use Rattle.data_rows.specs.declared.rows.Row.{Row}
 use Rattle.turn_dwarves.specs.Ahead.{without_repeats}
 
--- where n were found, they are the first n
+-- if n were found, they are the first n
 pub full : (n : ℕ) (xs ys all : List ℕ) → length xs ≡ n → take n (xs ++ ys) ≡ take n all
     → xs ≡ take n all
 full n xs ys all many same = sym (take_at xs ys n many) ∙ same
 
--- where no row is left and no more than n were found, they are the first n
+-- if no row is left and at most n were found, they are the first n
 pub short : (n : ℕ) (xs all : List ℕ) (last : Option ℕ) (lead : Going → Option ℕ)
     (rows : List Row) (i : ℕ) → length rows ≤ i → length xs ≤ n
     → take n (xs ++ without_repeats last (filter_map lead (map going (drop i rows)))) ≡ take n all
@@ -26,7 +26,7 @@ short n xs all last lead rows i none few same =
     let rest = ap (λ (left : List Row). take n (xs ++ ahead left)) (drop_all i rows none) in
     sym (take_all n xs few) ∙ (ap (λ l. take n l) (sym (append-nil xs)) ∙ (sym rest ∙ same))
 
--- where more than 19 of the first 20 were found, there are more, and the first 19 are the same
+-- if more than 19 of the first 20 were found, there are more, and the first 19 are the same
 pub record AreMany (found all : List ℕ) : Type 0 where
   pub some : (length all == 0) ≡ false
   pub more : nat_lt 19 (length all) ≡ true
@@ -43,7 +43,7 @@ many found all is more =
       same = ap (λ l. take 19 l) is ∙ take-take 19 20 all (omega arith);
     }
 
--- where some of the first 20 were found, and no more than 19, they are all
+-- if some of the first 20 were found, and at most 19, they are all
 pub record AreAll (found all : List ℕ) : Type 0 where
   pub some : (length all == 0) ≡ false
   pub no_more : nat_lt 19 (length all) ≡ false

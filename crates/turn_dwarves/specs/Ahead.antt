@@ -24,21 +24,21 @@ use Rattle.turn_dwarves.specs.Band.{its_dwarf}
 abbrev pub FIRST_HAUNT : ℕ
 FIRST_HAUNT = 15
 
--- the places where dwarves go are those from the first without forced motion; to some of them the
--- pirate doesn't come
+-- dwarves go to the places from the first on that have no forced motion; the pirate stays away from
+-- some of them
 unfoldable pub is_haunt : CaveView → Bool → ℕ → Bool
 is_haunt cave is_pirate place =
     nat_le FIRST_HAUNT place && nat_le place LAST_PLACE && not (forced cave place)
     && not (is_pirate && has_condition_of cave place condition.NoPirate)
 
--- the place of a destination, if the dwarf goes there and neither is nor was there before
+-- the place of a destination, if the dwarf goes there and neither is there nor was there before
 abbrev pub haunt_ahead : CaveView → Bool → Dwarf → Destination → Option ℕ
 haunt_ahead cave is_pirate dwarf (Place place) =
     if not (place == dwarf.last) && not (place == dwarf.place) && is_haunt cave is_pirate place
     then Some place else None
 haunt_ahead cave is_pirate dwarf _ = None
 
--- the place to which a way leads a dwarf on: to none, if it isn't for dwarves
+-- the place to which a way leads a dwarf: none, if dwarves don't take it
 abbrev pub place_ahead_if : CaveView → Bool → Dwarf → Condition → Destination → Option ℕ
 place_ahead_if cave is_pirate dwarf NotForDwarves destination = None
 place_ahead_if cave is_pirate dwarf _ destination = haunt_ahead cave is_pirate dwarf destination
@@ -47,7 +47,7 @@ unfoldable pub place_ahead : CaveView → Bool → Dwarf → Going → Option �
 place_ahead cave is_pirate dwarf row =
     place_ahead_if cave is_pirate dwarf (row_condition row) (row_destination row)
 
--- places in their order, without those that are the same as the last one that was kept
+-- places in order, without those that are the same as the last one that was kept
 abbrev pub without_repeats : Option ℕ → List ℕ → List ℕ
 without_repeats last [] = []
 without_repeats last (place ∷ places) =
@@ -60,7 +60,7 @@ places_ahead cave is_pirate dwarf =
     let found = filter_map (place_ahead cave is_pirate dwarf) (ways_from cave dwarf.place) in
     without_repeats None found
 
--- the places ahead of the dwarf of the number
+-- the places ahead of the dwarf with the number
 abbrev pub ahead : Deed ℕ → List ℕ
 ahead d = places_ahead d.cave (d.about == PIRATE) (its_dwarf d)
 
@@ -75,15 +75,15 @@ more_ways_ahead n d = nat_lt n (length (ahead d))
 abbrev pub first_ahead : ℕ → Deed ℕ → List ℕ
 first_ahead n d = take n (ahead d)
 
--- the place where the dwarf was before, alone
+-- only the place where the dwarf was before
 abbrev pub way_back : Deed ℕ → List ℕ
 way_back d = (its_dwarf d).last ∷ []
 
--- among how many places a dwarf chooses at most
+-- the most places among which a dwarf chooses
 abbrev pub MAX_CANDIDATES : ℕ
 MAX_CANDIDATES = 19
 
--- the ways of a dwarf: where there is no other, back to where it was before
+-- the ways of a dwarf, which goes back to where it was before if there is no other way
 abbrev pub dwarf_way_rows : List (Row ℕ (List ℕ))
 dwarf_way_rows =
     answer_row (ways_ahead 0 ∷ []) way_back

@@ -23,7 +23,7 @@ with_anger n s = with_dwarves (record (s.dwarves) { anger = n }) s
 abbrev pub its_dwarf : Deed ℕ → Dwarf
 its_dwarf d = dwarf_of d.scene.state d.about
 
--- what rows ask of a dwarf, whatever they are about
+-- what rows about anything ask of a dwarf
 module _ {C : Type 0} where
   -- a dwarf is nowhere
   abbrev pub gone : (Deed C → Dwarf) → Test C

@@ -19,13 +19,13 @@ use Rattle.turn_scene.specs.Effects.{in_state, follow, for_each, say, send}
 use Rattle.cave_world.specs.declared.tables.Table.TheVariants as table
 use Rattle.turn_dwarves.specs.Band.{dwarf_of, with_dwarf}
 
--- all treasures are fair to the pirate, but not the pyramid where it or the emerald is at home
+-- to the pirate all treasures are fair game, except the pyramid at its own home or at the emerald's
 unfoldable pub fair : Test ℕ
 fair d =
     no (both (is_it name.Pyramid) (either (player_at_home (the name.Pyramid))
     (player_at_home (the name.Emerald)))) d
 
--- the player carries a fair treasure
+-- the player carries a treasure that is fair game
 unfoldable pub is_carried_booty : CaveView → Scene → ℕ → Bool
 is_carried_booty cave p x = all_hold (fair ∷ carried it ∷ []) (deed cave x p)
 
@@ -36,7 +36,7 @@ carries_booty d = list_any (is_carried_booty d.cave d.scene) treasures
 unfoldable pub treasure_near : Test (Unit {0})
 treasure_near d = list_any (is_near d.cave d.scene.state) treasures
 
--- a fair treasure that is carried, or is here and loose, is brought to the pirate's chest
+-- a treasure that is fair game is brought to the pirate's chest if it is carried, or here and loose
 unfoldable pub theft_rows : List (Row ℕ (Unit {0}))
 theft_rows =
     plain_row (no fair ∷ []) []
@@ -51,7 +51,7 @@ steal cave x p = (by_table table.Theft theft_rows (deed cave x p)).scene
 abbrev pub after_stealing_all : CaveView → List ℕ → Scene → Scene
 after_stealing_all cave xs p = for_each xs (steal cave) p
 
--- all treasures are
+-- all treasures are stolen
 abbrev pub steal_all : Effect (Unit {0})
 steal_all d = follow (λ cave. after_stealing_all cave treasures) d
 

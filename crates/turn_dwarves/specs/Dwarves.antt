@@ -1,4 +1,4 @@
--- What the dwarves do where the player arrives.
+-- What the dwarves do as the player arrives.
 use Rattle.std.specs.Prelude.{Bool, false, not, ◌==◌, List, [], ◌∷◌}
 use Rattle.cave_data.specs.CaveView.{CaveView}
 use Rattle.turn_scene.specs.Scene.{Scene}
@@ -15,15 +15,15 @@ use Rattle.turn_dwarves.specs.Pirate.{after_pirate}
 use Rattle.turn_dwarves.specs.Waking.{waking_rows}
 use Rattle.turn_dwarves.specs.declared.knives.Attack.{Attack}
 
--- a knife hit the player, or more of them did
+-- at least one knife hit the player
 abbrev pub is_struck : Deed Attack → Bool
 is_struck d = not (d.about.hits == 0)
 
--- the five act, and then the pirate; then it is said what the five did
+-- the five act, then the pirate, and then it is printed what the five did
 unfoldable pub awake : List (Effect Attack)
 awake = raid ∷ follow after_pirate ∷ tell_attack
 
--- by their anger the dwarves sleep, stir, or are awake
+-- their anger says whether the dwarves sleep, stir, or are awake
 unfoldable pub anger_rows : List (Row Attack Bool)
 anger_rows =
     row_then (anger ASLEEP ∷ in_the_depths ∷ []) (change (with_anger STIRRING) ∷ []) (always false)

@@ -18,11 +18,11 @@ use Rattle.turn_dwarves.specs.Band.{dwarf_of, gone, sees_player, was_with_player
 use Rattle.turn_dwarves.specs.Moving.{after_dwarf_move}
 use Rattle.turn_dwarves.specs.declared.knives.Attack.{Attack}
 
--- nothing is done to the player
+-- no dwarf does anything to the player
 abbrev pub no_attack : Attack
 no_attack = record { dwarves = 0; knives = 0; hits = 0 }
 
--- no more than n dwarves, knives and hits are counted
+-- at most n dwarves, knives and hits are counted
 pub record IsByUpTo (n : ℕ) (attack : Attack) : Type 0 where
   pub dwarves : attack.dwarves ≤ n
   pub knives : attack.knives ≤ n
@@ -47,15 +47,15 @@ attack d = d.about.attack
 abbrev pub with_attack : Attack → Effect Raider
 with_attack a d = record d { about = raider d.about.number a }
 
--- one dwarf more is with the player
+-- one more dwarf is with the player
 abbrev pub count_dwarf : Effect Raider
 count_dwarf d = let a = attack d in with_attack (record a { dwarves = a.dwarves + 1 }) d
 
--- one knife more was thrown
+-- one more knife was thrown
 abbrev pub count_knife : Effect Raider
 count_knife d = let a = attack d in with_attack (record a { knives = a.knives + 1 }) d
 
--- one knife more hit
+-- one more knife hit
 abbrev pub count_hit : Effect Raider
 count_hit d = let a = attack d in with_attack (record a { hits = a.hits + 1 }) d
 
@@ -63,7 +63,7 @@ abbrev pub is_vanished : Knife → Bool
 is_vanished knife.Vanished = true
 is_vanished _ = false
 
--- it was said that knives vanish
+-- the game has said that knives vanish
 abbrev pub knives_vanish : Test Raider
 knives_vanish d = is_vanished d.scene.state.dwarves.knife
 
@@ -71,7 +71,7 @@ knives_vanish d = is_vanished d.scene.state.dwarves.knife
 abbrev pub with_knife_here : State → State
 with_knife_here s = with_dwarves (record (s.dwarves) { knife = knife.At s.trail.here }) s
 
--- what becomes of a knife that is thrown
+-- what happens to a knife that is thrown
 unfoldable pub thrown_rows : List (Row Raider (Unit {0}))
 thrown_rows =
     plain_row (knives_vanish ∷ []) []
@@ -80,11 +80,11 @@ thrown_rows =
 abbrev pub throw_knife : Effect Raider
 throw_knife d = by_table table.KnifeThrown thrown_rows d
 
--- among how many cases it is drawn whether a knife hits
+-- the number of cases in the draw of whether a knife hits
 abbrev pub KNIFE_CASES : ℕ
 KNIFE_CASES = 1000
 
--- in how many of them it hits, for each degree of anger over that of dwarves that are just awake
+-- in how many of them it hits, for each degree of anger above that of dwarves that have just woken
 abbrev pub HITS_A_DEGREE : ℕ
 HITS_A_DEGREE = 95
 
@@ -93,7 +93,7 @@ abbrev pub knife_hits : Test Raider
 knife_hits d = let s = d.scene.state in
     nat_lt (number_drawn KNIFE_CASES s.stream) (HITS_A_DEGREE * (s.dwarves.anger - AWAKE))
 
--- what a dwarf does once it moved: one that was with the player before throws a knife
+-- what a dwarf does after it moved: one that was with the player before throws a knife
 unfoldable pub threat_rows : List (Row Raider Attack)
 threat_rows =
     answer_row (no (sees_player attacker) ∷ []) attack
@@ -108,7 +108,7 @@ threaten d = first_fitting_or (noted table.Threats threat_rows) (nothing_but att
 abbrev pub move_attacker : Effect Raider
 move_attacker d = in_scene (after_dwarf_move d.cave d.about.number d.scene) d
 
--- a dwarf that is gone does nothing; any other moves, and may threaten the player then
+-- a dwarf that is gone does nothing; any other moves, and then may threaten the player
 abbrev pub dwarf_turn_rows : List (Row Raider (Act Attack))
 dwarf_turn_rows = answer_row (gone attacker ∷ []) (nothing_but attack) ∷ []
 

@@ -1,4 +1,4 @@
--- What is printed of the dwarves and their knives.
+-- What is printed about the dwarves and their knives.
 use Rattle.std.specs.Prelude.{ℕ, ◌==◌, List, [], ◌∷◌}
 use Rattle.data_rows.specs.declared.role.Role.TheVariants as role
 use Rattle.cave_world.specs.declared.part.NumberLine.TheVariants as line
@@ -33,14 +33,14 @@ count_knives d = tell (part.Number line.KnivesThrown d.about.knives 0) d
 abbrev pub count_hits : Effect Attack
 count_hits d = tell (part.Number line.KnivesHit d.about.hits 0) d
 
--- how many dwarves are said to be here
+-- the line that says how many dwarves are here
 unfoldable pub dwarf_rows : List (Row Attack (Unit {0}))
 dwarf_rows =
     plain_row (dwarves 0 ∷ []) []
     ∷ plain_row (dwarves 1 ∷ []) (say role.DwarfOne ∷ [])
     ∷ otherwise (count_dwarves ∷ [])
 
--- how angry dwarves are that threw knives for the first time
+-- how angry dwarves are after they threw knives for the first time
 abbrev pub PROVOKED : ℕ
 PROVOKED = 3
 
@@ -50,7 +50,7 @@ provoked_rows =
     plain_row (no (knives 0) ∷ anger AWAKE ∷ []) (change (with_anger PROVOKED) ∷ [])
     ∷ []
 
--- what is said of the knives, and how many hit
+-- what is said about the knives, and how many hit
 unfoldable pub knife_rows : List (Row Attack (Unit {0}))
 knife_rows =
     plain_row (knives 0 ∷ []) []

@@ -1,4 +1,4 @@
--- How a dwarf moves, and whether it sees the player then.
+-- How a dwarf moves, and whether it then sees the player.
 use Rattle.std.specs.Prelude.{ℕ, true, false, List, [], ◌∷◌, length, slice_index_or}
 use Rattle.cave_data.specs.CaveView.{CaveView}
 use Rattle.cave_words.specs.Stream.{number_drawn}
@@ -12,7 +12,7 @@ use Rattle.turn_dwarves.specs.Band.{dwarf_of, with_dwarf, sees_player, is_with_p
 use Rattle.turn_dwarves.specs.Band.{was_with_player}
 use Rattle.turn_dwarves.specs.Ahead.{ways_of_dwarf}
 
--- one of the ways of the dwarf is drawn, also where there is but one
+-- one of the ways of the dwarf is drawn, even if there is only one
 unfoldable pub chosen_way : Deed ℕ → Act ℕ
 chosen_way d =
     let ways = ways_of_dwarf d in
@@ -30,7 +30,7 @@ comes d = record d.about { place = here d; has_seen = true }
 abbrev pub loses_sight : Deed Dwarf → Dwarf
 loses_sight d = record d.about { has_seen = false }
 
--- what becomes of a dwarf once it has gone to another place
+-- how a dwarf that has gone to another place changes
 abbrev pub dwarf_sight_rows : List (Row Dwarf Dwarf)
 dwarf_sight_rows =
     answer_row (sees_player mover ∷ in_the_depths ∷ []) comes
@@ -45,7 +45,7 @@ dwarf_in_sight d = act_by_table table.DwarfSight dwarf_sight_rows
 abbrev pub dwarf_on_way : ℕ → Dwarf → Dwarf
 dwarf_on_way place dwarf = record dwarf { place = place; last = dwarf.place }
 
--- the dwarf of a number goes one of its ways and looks about
+-- the dwarf with a number goes one of its ways and looks around
 unfoldable pub after_dwarf_move : CaveView → ℕ → Scene → Scene
 after_dwarf_move cave number p =
     let way = chosen_way (deed cave number p) in

@@ -30,8 +30,8 @@ pirate_came d = let one = pirate d in not (one.last == one.place)
 abbrev pub one_left : Test (Unit {0})
 one_left d = let tallies = d.scene.state.tallies in tallies.unseen == tallies.lost + 1
 
--- the pirate who is after the player robs, or else hides its chest, or else may be heard; one that
--- left no message yet puts its chest in its place before it takes its booty
+-- a pirate who is after the player robs; otherwise it hides its chest; otherwise it may be heard.
+-- One that hasn't left its message yet puts its chest in its place before it takes its booty
 unfoldable pub pirate_rows : List (Row (Unit {0}) (Unit {0}))
 pirate_rows =
     plain_row (carries_booty ∷ nowhere message ∷ [])
@@ -42,7 +42,7 @@ pirate_rows =
     ∷ chance_row (pirate_came ∷ []) (percent 20) (say role.Rustle ∷ [])
     ∷ []
 
--- the pirate is after the player whom it sees away from its chest, which wasn't seen yet
+-- the pirate is after a player whom it sees away from its chest, if that hasn't been seen yet
 unfoldable pub chase_rows : List (Row (Unit {0}) (Unit {0}))
 chase_rows =
     plain_row (sees_player pirate ∷ player_at place.Chest ∷ []) []
@@ -53,7 +53,7 @@ chase_rows =
 abbrev pub move_pirate : Effect (Unit {0})
 move_pirate d = in_scene (after_dwarf_move d.cave PIRATE d.scene) d
 
--- a pirate who isn't gone moves like a dwarf, and may be after the player then
+-- a pirate who isn't gone moves like a dwarf, and then may be after the player
 unfoldable pub pirate_turn_rows : List (Row (Unit {0}) (Unit {0}))
 pirate_turn_rows =
     plain_row (gone pirate ∷ []) []

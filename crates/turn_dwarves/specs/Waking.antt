@@ -16,7 +16,7 @@ use Rattle.cave_world.specs.declared.tables.Table.TheVariants as table
 use Rattle.turn_dwarves.specs.Band.{dwarf_of, with_dwarf, with_anger, its_dwarf, is_with_player}
 use Rattle.turn_dwarves.specs.declared.knives.Attack.{Attack}
 
--- a dwarf goes nowhere
+-- a dwarf vanishes: its place is now 0
 unfoldable pub without_dwarf : ℕ → State → State
 without_dwarf number s =
     let dwarf = dwarf_of s number in with_dwarf number (record dwarf { place = 0 }) s
@@ -28,7 +28,7 @@ remove d = in_state (without_dwarf d.about d.scene.state) d
 unfoldable pub leaving_rows : List (Row ℕ (Unit {0}))
 leaving_rows = chance_row [] (percent 50) (remove ∷ []) ∷ []
 
--- it is drawn which of the five that may be
+-- a draw says which of the five that may be
 abbrev pub let_one_leave : Effect Attack
 let_one_leave d =
     by_rows_about (λ e. number_drawn PIRATE d.scene.state.stream)
@@ -47,7 +47,7 @@ settle_dwarf place d = in_state (with_dwarf_at d.about (place d) d.scene.state) 
 abbrev pub its_place : Deed ℕ → ℕ
 its_place d = (its_dwarf d).place
 
--- a dwarf that is where the player is goes to another place, if one is named for it, and any
+-- a dwarf that is where the player is goes to another place, if one is named for it, and any dwarf
 -- forgets where it came from
 unfoldable pub apart_rows : List (Row ℕ (Unit {0}))
 apart_rows =
@@ -59,7 +59,7 @@ apart_rows =
 unfoldable pub keep_one_apart : CaveView → ℕ → Scene → Scene
 keep_one_apart cave number p = (by_table table.Apart apart_rows (deed cave number p)).scene
 
--- each of the five before the pirate is
+-- each of the five before the pirate is kept apart
 abbrev pub keep_apart : Effect Attack
 keep_apart d = in_scene (for_each_from 0 PIRATE (keep_one_apart d.cave) d.scene) d
 

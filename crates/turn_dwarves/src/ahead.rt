@@ -14,7 +14,7 @@ use world_objects::Place;
 /// The most places among which a dwarf chooses.
 pub const MAX_CANDIDATES: usize = 19;
 
-/// How many places are looked for: one more than those shows that some are left out.
+/// How many places are looked for. One more than a dwarf chooses from shows that some are left out.
 pub const MAX_SOUGHT: usize = MAX_CANDIDATES + 1;
 
 /// The first of the places where dwarves go.

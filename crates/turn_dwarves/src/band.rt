@@ -6,7 +6,7 @@ ghost use Rattle.cave_world.specs.Limits.{dwarf_count};
 
 use cave_world::{Dwarf, State};
 
-/// The dwarf of a number.
+/// The dwarf with a number.
 #[tactic(auto, unfolding(crate::specs::Band::dwarf_of))]
 pub fn dwarf_of(state: &State, number: usize) -> Dwarf
     requires { number < dwarf_count }
@@ -15,7 +15,7 @@ pub fn dwarf_of(state: &State, number: usize) -> Dwarf
     state.dwarves.each[number]
 }
 
-/// Changes the dwarf of a number.
+/// Changes the dwarf with a number.
 #[tactic(auto, unfolding(crate::specs::Band::with_dwarf))]
 pub fn set_dwarf(number: usize, dwarf: &Dwarf, state: &mut State)
     requires { number < dwarf_count }

@@ -21,7 +21,7 @@ use turn_scene::treasures::{FIRST_TREASURE, LAST_TREASURE};
 use turn_scene::{Rules, Scene, is_carried, is_fixed, is_home_here, is_near, place_named};
 use world_objects::{Object, Place};
 
-/// An object is moved to a place, if there is the place.
+/// Moves an object to a place, if the place exists.
 fn send(object: Object, place: Option<Place>, state: &mut State)
     ensures { state.new ≡ after_sending object place state.old }
 {
@@ -30,7 +30,7 @@ fn send(object: Object, place: Option<Place>, state: &mut State)
     }
 }
 
-/// Whether a treasure is fair: any but the pyramid where it or the emerald is at home.
+/// Whether a treasure is fair game: any is, except the pyramid at its own home or at the emerald's.
 #[tactic(auto, unfolding(crate::specs::Booty::fair))]
 fn is_fair<N: RowNotes>(rules: &Rules<'_>, object: Object, scene: &Scene<'_, N>) -> bool
     ensures { result ≡ fair (deed (cave_of rules.now) object (scene_of N.rows scene.now)) }
@@ -40,7 +40,7 @@ fn is_fair<N: RowNotes>(rules: &Rules<'_>, object: Object, scene: &Scene<'_, N>)
             || is_home_here(rules, scene.state, rules.thing(Named::Emerald))))
 }
 
-/// Whether the player carries a treasure that is fair.
+/// Whether the player carries a treasure that is fair game.
 #[tactic(auto, unfolding(crate::specs::Booty::is_carried_booty))]
 fn is_carried_booty<N: RowNotes>(rules: &Rules<'_>, object: Object, scene: &Scene<'_, N>) -> bool
     ensures { result ≡ is_carried_booty (cave_of rules.now) (scene_of N.rows scene.now) object }
@@ -74,7 +74,7 @@ pub fn is_treasure_near<N: RowNotes>(rules: &Rules<'_>, scene: &Scene<'_, N>) ->
     false
 }
 
-/// A treasure is brought to the pirate's chest.
+/// Brings a treasure to the pirate's chest.
 fn bring_to_chest(rules: &Rules<'_>, object: Object, state: &mut State)
     ensures { state.new
         ≡ after_sending object (place_named (cave_of rules.now) role.Chest) state.old }
@@ -83,7 +83,7 @@ fn bring_to_chest(rules: &Rules<'_>, object: Object, state: &mut State)
     send(object, chest, state);
 }
 
-/// A fair treasure that is carried, or is here and loose, is brought to the pirate's chest.
+/// Brings a treasure that is fair game to the pirate's chest, if it is carried, or here and loose.
 #[tactic(auto, unfolding(crate::specs::Booty::steal, crate::specs::Booty::theft_rows))]
 fn steal<N: RowNotes>(rules: &Rules<'_>, object: Object, scene: &mut Scene<'_, N>)
     ensures scene { scene_of N.rows scene.new
@@ -117,7 +117,7 @@ fn steal_all<N: RowNotes>(rules: &Rules<'_>, scene: &mut Scene<'_, N>)
     }
 }
 
-/// The pirate's chest is put in its place.
+/// Puts the pirate's chest in its place.
 pub fn put_chest(rules: &Rules<'_>, state: &mut State)
     ensures { state.new ≡ after_sending (thing (cave_of rules.now) name.Chest)
         (place_named (cave_of rules.now) role.Chest) state.old }
@@ -125,7 +125,7 @@ pub fn put_chest(rules: &Rules<'_>, state: &mut State)
     bring_to_chest(rules, rules.thing(Named::Chest), state);
 }
 
-/// The pirate's message is put in its place.
+/// Puts the pirate's message in its place.
 fn leave_message(rules: &Rules<'_>, state: &mut State)
     ensures { state.new ≡ after_sending (thing (cave_of rules.now) name.Message)
         (place_named (cave_of rules.now) role.Message) state.old }

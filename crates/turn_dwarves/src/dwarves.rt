@@ -12,7 +12,7 @@ use crate::waking::{ASLEEP, STIRRING, is_in_depths, set_anger, try_waking};
 use cave_world::{RowNotes, Table};
 use turn_scene::{Rules, Scene};
 
-/// The dwarves sleep, stir, or are awake, where the player arrives. Returns whether a knife hit the
+/// The dwarves sleep, stir, or are awake as the player arrives. Returns whether a knife hit the
 /// player.
 #[tactic(auto, unfolding(crate::specs::Dwarves::encounter_dwarves, crate::specs::Dwarves::anger_rows))]
 pub fn encounter_dwarves<N: RowNotes>(rules: &Rules<'_>, scene: &mut Scene<'_, N>) -> bool
@@ -43,8 +43,8 @@ pub fn encounter_dwarves<N: RowNotes>(rules: &Rules<'_>, scene: &mut Scene<'_, N
     }
 }
 
-/// The five act, and then the pirate, and it is said what the five did. Returns whether a knife hit
-/// the player.
+/// The five act, then the pirate, and then it is printed what the five did. Returns whether a knife
+/// hit the player.
 #[tactic(auto, unfolding(crate::specs::Dwarves::awake, crate::specs::Lines::tell_attack))]
 fn encounter_awake<N: RowNotes>(rules: &Rules<'_>, scene: &mut Scene<'_, N>) -> bool
     requires { HasRoom parts_of_dwarves scene.old }

@@ -12,13 +12,14 @@ use crate::waking::AWAKE;
 use cave_world::{Knife, PIRATE, RowNotes, Table};
 use turn_scene::{Rules, Scene};
 
-/// Among how many cases it is drawn whether a knife hits.
+/// The number of cases in the draw of whether a knife hits.
 const KNIFE_CASES: u32 = 1000;
 
-/// In how many of them it hits, for each degree of anger over that of dwarves that are just awake.
+/// In how many of them it hits, for each degree of anger above that of dwarves that have just
+/// woken.
 const HITS_A_DEGREE: u32 = 95;
 
-/// What dwarves do to the player together.
+/// What all dwarves together do to the player.
 #[derive(Clone, Copy, Debug, PartialEq, Eq)]
 pub struct Attack {
     /// The dwarves at the player's place.
@@ -30,7 +31,7 @@ pub struct Attack {
 }
 
 impl Attack {
-    /// Nothing is done to the player.
+    /// No dwarf does anything to the player.
     pub fn none() -> Attack
         ensures { result ≡ no_attack }
     {
@@ -41,7 +42,7 @@ impl Attack {
         }
     }
 
-    /// One dwarf more is with the player.
+    /// One more dwarf is with the player.
     fn count_dwarf(self) -> Attack
         requires { self.dwarves < defined.PIRATE }
         ensures { result ≡ record self { dwarves = self.dwarves + 1 } }
@@ -53,7 +54,7 @@ impl Attack {
         }
     }
 
-    /// One knife more was thrown.
+    /// One more knife was thrown.
     fn count_knife(self) -> Attack
         requires { self.knives < defined.PIRATE }
         ensures { result ≡ record self { knives = self.knives + 1 } }
@@ -65,7 +66,7 @@ impl Attack {
         }
     }
 
-    /// One knife more hit.
+    /// One more knife hit.
     fn count_hit(self) -> Attack
         requires { self.hits < defined.PIRATE }
         ensures { result ≡ record self { hits = self.hits + 1 } }
@@ -78,7 +79,7 @@ impl Attack {
     }
 }
 
-/// A knife is thrown, and lies where the player is, unless it was said that knives vanish.
+/// A knife is thrown, and lies where the player is, unless the game has said that knives vanish.
 #[tactic(auto, unfolding(crate::specs::Knives::thrown_rows))]
 fn throw_knife<N: RowNotes>(
     rules: &Rules<'_>,
@@ -98,8 +99,8 @@ fn throw_knife<N: RowNotes>(
     }
 }
 
-/// What a dwarf does once it moved: one that sees the player and was here before throws a knife. It
-/// hits the more often the angrier the dwarves are.
+/// What a dwarf does after it moved: one that sees the player and was here before throws a knife.
+/// The angrier the dwarves are, the more often it hits.
 #[tactic(auto, unfolding(crate::specs::Knives::threaten, crate::specs::Knives::threat_rows))]
 fn threaten<N: RowNotes>(
     rules: &Rules<'_>,

@@ -12,10 +12,10 @@ use cave_world::{NumberLine, Part, RowNotes, Table};
 use data_rows::Role;
 use turn_scene::{Rules, Scene};
 
-/// How angry dwarves are that threw knives for the first time.
+/// How angry dwarves are after they threw knives for the first time.
 const PROVOKED: u16 = 3;
 
-/// A line of the game's own with a number is printed.
+/// Prints a line of the game's own with a number.
 fn tell_number<N: RowNotes>(line: NumberLine, number: u32, scene: &mut Scene<'_, N>)
     requires { HasRoom 1 scene.old }
     ensures scene { scene_of N.rows scene.new
@@ -25,7 +25,7 @@ fn tell_number<N: RowNotes>(line: NumberLine, number: u32, scene: &mut Scene<'_,
     scene.tell(Part::Number(line, number, 0));
 }
 
-/// How many dwarves are here is printed.
+/// Prints how many dwarves are here.
 #[tactic(auto, unfolding(crate::specs::Lines::dwarf_rows))]
 fn tell_dwarf_lines<N: RowNotes>(rules: &Rules<'_>, attack: Attack, scene: &mut Scene<'_, N>)
     requires { HasRoom 1 scene.old }
@@ -45,7 +45,7 @@ fn tell_dwarf_lines<N: RowNotes>(rules: &Rules<'_>, attack: Attack, scene: &mut 
     }
 }
 
-/// The lines of the knives are printed, if any were thrown.
+/// Prints the lines about the knives, if any were thrown.
 #[tactic(auto, unfolding(crate::specs::Lines::knife_rows))]
 fn tell_knife_lines<N: RowNotes>(rules: &Rules<'_>, attack: Attack, scene: &mut Scene<'_, N>)
     requires { HasRoom parts_of_throws scene.old }
@@ -97,7 +97,7 @@ fn set_provoked<N: RowNotes>(rules: &Rules<'_>, attack: Attack, scene: &mut Scen
     }
 }
 
-/// The line of the dwarves is printed, and then those of their knives.
+/// Prints the line about the dwarves, and then those about their knives.
 #[tactic(auto, unfolding(crate::specs::Lines::tell_attack))]
 pub fn tell_attack<N: RowNotes>(rules: &Rules<'_>, attack: Attack, scene: &mut Scene<'_, N>)
     requires { HasRoom parts_of_attack scene.old }

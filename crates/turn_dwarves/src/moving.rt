@@ -30,7 +30,7 @@ fn draw_place(places: &ArrayVec<Haunt, MAX_SOUGHT>, count: usize, stream: &mut S
     places[drawn as usize].place()
 }
 
-/// Draws one of the ways of a dwarf, also where there is but one.
+/// Draws one of the ways of a dwarf, even if there is only one.
 #[tactic(auto, unfolding(crate::specs::Moving::chosen_way, crate::specs::Ahead::ways_of_dwarf))]
 fn choose_way<N: RowNotes>(rules: &Rules<'_>, number: usize, scene: &mut Scene<'_, N>) -> Place
     requires { number < dwarf_count }
@@ -88,7 +88,7 @@ fn dwarf_in_sight<N: RowNotes>(rules: &Rules<'_>, dwarf: Dwarf, scene: &mut Scen
     }
 }
 
-/// The dwarf of a number moves.
+/// Moves the dwarf with a number.
 #[tactic(auto, unfolding(crate::specs::Moving::after_dwarf_move))]
 pub fn move_dwarf<N: RowNotes>(rules: &Rules<'_>, number: usize, scene: &mut Scene<'_, N>)
     requires { number < dwarf_count }

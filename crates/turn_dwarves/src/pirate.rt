@@ -22,7 +22,7 @@ use cave_world::{LAMP_ON, PIRATE, RowNotes, State, Table};
 use data_rows::{PlaceRole, Role};
 use turn_scene::{Rules, Scene, has_prop, is_near, is_place, place_named};
 
-/// Whether the chest was seen.
+/// Whether the chest has been seen.
 fn is_chest_seen(rules: &Rules<'_>, state: &State) -> bool
     ensures { let chest = thing (cave_of rules.now) name.Chest in
         result ≡ (not (chest == 0) && int_le (pos 0) (prop_of state.now.objects chest)) }
@@ -94,7 +94,7 @@ fn meet_pirate<N: RowNotes>(rules: &Rules<'_>, scene: &mut Scene<'_, N>)
     }
 }
 
-/// The pirate is after the player whom it sees away from its chest, which wasn't seen yet.
+/// The pirate is after a player whom it sees away from its chest, if that hasn't been seen yet.
 #[tactic(auto, unfolding(crate::specs::Pirate::chase_rows))]
 fn chase<N: RowNotes>(rules: &Rules<'_>, scene: &mut Scene<'_, N>)
     requires { HasRoom 1 scene.old }
@@ -116,7 +116,7 @@ fn chase<N: RowNotes>(rules: &Rules<'_>, scene: &mut Scene<'_, N>)
     meet_pirate(rules, scene);
 }
 
-/// The pirate moves like a dwarf, and may be after the player then. One that is gone does nothing.
+/// The pirate moves like a dwarf, and then may be after the player. One that is gone does nothing.
 #[tactic(auto, unfolding(crate::specs::Pirate::after_pirate, crate::specs::Pirate::pirate_turn_rows))]
 pub fn send_pirate<N: RowNotes>(rules: &Rules<'_>, scene: &mut Scene<'_, N>)
     requires { HasRoom 1 scene.old }

@@ -19,16 +19,16 @@ use data_rows::{PlaceRole, Role};
 use turn_scene::{Rules, Scene, deep_place, place_named};
 use world_objects::Place;
 
-/// How angry dwarves are who sleep.
+/// How angry sleeping dwarves are.
 pub const ASLEEP: u16 = 0;
 
-/// How angry dwarves are who stir.
+/// How angry stirring dwarves are.
 pub const STIRRING: u16 = 1;
 
-/// How angry dwarves are who are just awake.
+/// How angry dwarves are that have just woken.
 pub const AWAKE: u16 = 2;
 
-/// The dwarves are so angry from now on.
+/// The dwarves are this angry from now on.
 pub fn set_anger(degree: u16, state: &mut State)
     requires { degree ≤ MAX_ANGER }
     ensures { state.new ≡ with_anger degree state.old }
@@ -43,7 +43,7 @@ pub fn is_in_depths(rules: &Rules<'_>, state: &State) -> bool
     deep_place(rules.cave).number() <= state.trail.here.number()
 }
 
-/// A dwarf goes nowhere.
+/// A dwarf vanishes: its place is now 0.
 #[tactic(auto, unfolding(crate::specs::Waking::without_dwarf))]
 fn remove_dwarf(number: usize, state: &mut State)
     requires { number < defined.PIRATE }
@@ -58,7 +58,7 @@ fn remove_dwarf(number: usize, state: &mut State)
     set_dwarf(number, &gone, state);
 }
 
-/// One of those before the pirate is drawn, and in half of the cases it is gone.
+/// Draws one of those before the pirate, which is then gone in half of the cases.
 #[tactic(auto, unfolding(crate::specs::Waking::leaving_rows))]
 fn let_one_leave<N: RowNotes>(rules: &Rules<'_>, scene: &mut Scene<'_, N>)
     ensures rows { Does N.rows (let_one_leave ∷ []) 0 rules.now no_attack scene.old scene.new }
@@ -70,7 +70,7 @@ fn let_one_leave<N: RowNotes>(rules: &Rules<'_>, scene: &mut Scene<'_, N>)
     }
 }
 
-/// A dwarf is at a place, and came from there.
+/// Puts a dwarf at a place, as if it had also come from there.
 #[tactic(auto, unfolding(crate::specs::Waking::with_dwarf_at))]
 fn put_dwarf_at(number: usize, place: Place, state: &mut State)
     requires { number < defined.PIRATE }
@@ -85,7 +85,7 @@ fn put_dwarf_at(number: usize, place: Place, state: &mut State)
     set_dwarf(number, &settled, state);
 }
 
-/// A dwarf that is where the player is goes to another place, if one is named for it, and any
+/// A dwarf that is where the player is goes to another place, if one is named for it; any dwarf
 /// forgets where it came from.
 #[tactic(auto, unfolding(crate::specs::Waking::keep_one_apart, crate::specs::Waking::apart_rows))]
 fn keep_one_apart<N: RowNotes>(rules: &Rules<'_>, number: usize, scene: &mut Scene<'_, N>)
@@ -106,7 +106,8 @@ fn keep_one_apart<N: RowNotes>(rules: &Rules<'_>, number: usize, scene: &mut Sce
     put_dwarf_at(number, place, scene.state);
 }
 
-/// The dwarves before the pirate are kept apart from the player, and forget where they came from.
+/// Keeps the dwarves before the pirate apart from the player, and makes them forget where they came
+/// from.
 fn keep_apart<N: RowNotes>(rules: &Rules<'_>, scene: &mut Scene<'_, N>)
     ensures scene { scene_of N.rows scene.new
         ≡ for_each_from 0 defined.PIRATE (keep_one_apart (cave_of rules.now))

@@ -1,4 +1,4 @@
--- What a game begins with: of each object what it is, and the lists.
+-- What a game begins with: what each object is, and the lists.
 use Rattle.std.proofs.Common.{◌≡◌, ℕ, ◌+◌, ◌-◌, ◌<◌, ◌≤◌, ◌||◌, Bool, true, false, cond, eqb}
 use Rattle.std.proofs.Common.{nat_lt, List, [], ◌∷◌, ◌++◌, length, map, set, get_or, replicate}
 use Rattle.std.proofs.Common.{Option, Some, None, ℤ, pos, negsuc, refl, sym, ap, ◌∙◌, arith}
@@ -75,7 +75,7 @@ relisted_new : (half : Half) (place : Option ℕ) (es : List PlacedHalf)
 unfolding after_relist
 relisted_new half place es h = ap (λ l. with_half half place l) (lacking (half_number half) es h)
 
--- neither half of an object is among those of others
+-- neither half of an object is among the halves of others
 apart : (x : ℕ) (xs : List ℕ) → 0 < x → x ≤ 100 → list_any (eqb x) xs ≡ false → IsOrder xs
     → (list_any (λ (h : Half). eqb (half_number h) x) (flat_map both_halves xs) ≡ false)
     × (list_any (λ (h : Half). eqb (half_number h) (100 + x)) (flat_map both_halves xs) ≡ false)
@@ -112,7 +112,7 @@ unfolding after_placing after_move_to with_spot with_anchor
 placed_is cave x o h =
     let some : eqb x 0 ≡ false = ne_eqb x 0 (λ e. absurd (omega (arith, e))) in rw some refl
 
--- what the objects of a list are once they were put, of which none was anywhere
+-- what the objects of a list are after they were put down, if none of them was anywhere
 abbrev standing : CaveView → List ℕ → Layout → Layout
 standing cave xs o = record {
   first = sets (λ x. spot_at (home cave x)) xs o.first;

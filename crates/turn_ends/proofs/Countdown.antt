@@ -1,4 +1,4 @@
--- Objects that are done one after another.
+-- Objects that are handled one after another.
 use Rattle.std.proofs.Common.{◌≡◌, ℕ, suc, ◌+◌, ◌-◌, ◌<◌, ◌≤◌, Bool, cond, true, false, List, []}
 use Rattle.std.proofs.Common.{◌∷◌, length, negsuc, refl, ap, arith}
 use Rattle.std.specs.Prelude.{is_some}
@@ -11,7 +11,7 @@ use Rattle.turn_ends.specs.Placing.{after_placing}
 use Rattle.turn_ends.specs.Placing.{after_placing_all, after_hiding_treasures}
 use Rattle.turn_scene.specs.Treasures.{treasures, known_treasures}
 
--- of some objects those that are due
+-- those of these objects that are due
 unfoldable pub due_from : CaveView → Bool → ℕ → ℕ → List ℕ
 due_from cave twice first count =
     filter (λ x. is_placed_now twice (hold_of cave x)) (range_with_len first count)
@@ -26,7 +26,7 @@ unfolding due_from objects_due all_objects
 due_all cave twice i all =
     ap (λ n. filter (λ x. is_placed_now twice (hold_of cave x)) (range_with_len (101 - n) n)) all
 
--- one object down
+-- the next object, counting down
 pub placed_next : (cave : CaveView) (twice : Bool) (i : ℕ) (o : Layout) → i < 100
     → after_placing_all cave (due_from cave twice (101 - (i + 1)) (i + 1)) o
     ≡ cond (is_placed_now twice (hold_of cave (100 - i)))
@@ -47,7 +47,7 @@ placed_next cave twice i o h =
     chosen true x xs = refl
     chosen false x xs = refl
 
--- of the treasures from one on those that are known
+-- those of the treasures from one on that are known
 unfoldable pub known_from : CaveView → ℕ → ℕ → List ℕ
 known_from cave first count =
     filter (λ x. is_some (name_of cave x)) (range_with_len first count)
@@ -60,7 +60,7 @@ pub known_none : (cave : CaveView) (n : ℕ) → 80 ≤ n → known_from cave n 
 unfolding known_from
 known_none cave n h = let none : 80 - n ≡ 0 = omega arith in rw none refl
 
--- one treasure up
+-- the next treasure, counting up
 pub hidden_next : (cave : CaveView) (n : ℕ) (o : Layout) → n < 80
     → after_hiding_treasures (known_from cave n (80 - n)) o
     ≡ after_hiding_treasures (known_from cave (n + 1) (80 - (n + 1)))

@@ -13,7 +13,7 @@ use Rattle.turn_ends.specs.Score.{life_points, escape_points, has_other_end, has
 use Rattle.turn_ends.specs.Score.{is_closing, closed_points, has_magazine_there}
 use Rattle.turn_ends.specs.Score.{score_rows, score_of, max_score_of}
 
--- each row counts its most at most
+-- each row counts at most its most
 abbrev AreWithin : State → List ScoreRow → Type 0
 AreWithin s [] = Unit {0}
 AreWithin s (r ∷ rows) = (r.points s ≤ r.most) × AreWithin s rows
@@ -29,7 +29,7 @@ rows_within s (r ∷ rows) each =
     both_within (r.points s) (points_by rows s) r.most (most_by rows) each.0
     (rows_within s rows each.1)
 
--- what counts where something is so
+-- what counts if something holds
 given_within : (b : Bool) (n most : ℕ) → n ≤ most → cond b n 0 ≤ most
 given_within true n most h = h
 given_within false n most h = omega arith

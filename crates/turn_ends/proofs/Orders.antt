@@ -1,4 +1,4 @@
--- Numbers of objects of which none comes twice, and what is set for each.
+-- Numbers of objects without a repetition, and what is set for each.
 use Rattle.std.proofs.Common.{◌≡◌, ◌⊎◌, inl, inr, ℕ, zero, suc, ◌+◌, ◌-◌, ◌<◌, ◌≤◌, ◌||◌, ◌&&◌}
 use Rattle.std.proofs.Common.{Bool, true, false, cond, eqb, leb, ltb, List, [], ◌∷◌, ◌++◌, length}
 use Rattle.std.proofs.Common.{map, set, get_or, refl, sym, ap, ◌∙◌, arith}
@@ -29,7 +29,7 @@ pub among : (p : ℕ → Bool) (xs : List ℕ) (k : ℕ)
     → list_any (eqb k) (filter p xs) ≡ (p k && list_any (eqb k) xs)
 among p xs k = any-filter_same (eqb k) p (p k) (λ x t. ap p (sym (eqb-true k x t))) xs
 
--- ---- each number is that of an object, and none comes twice
+-- ---- each number is that of an object, and none occurs twice
 abbrev pub IsOrder : List ℕ → Type 0
 IsOrder [] = Unit {0}
 IsOrder (x ∷ xs) = (0 < x) × ((x ≤ 100) × ((list_any (eqb x) xs ≡ false) × IsOrder xs))

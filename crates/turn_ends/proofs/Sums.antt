@@ -11,7 +11,7 @@ use Rattle.turn_ends.specs.Treasures.{treasure_rows, treasures_row}
 use Rattle.turn_ends.specs.Score.{hints_taken, price_of, hint_costs}
 use Rattle.cave_world.specs.State.{is_hint_taken}
 
--- what the numbers from one on, up to an end, count of which something holds
+-- what those numbers from one on, up to an end, count of which something holds
 abbrev sum_from : (ℕ → Bool) → (ℕ → ℕ) → ℕ → ℕ → ℕ
 sum_from holds f first end = sum_by f (filter holds (range_with_len first (end - first)))
 
@@ -32,7 +32,7 @@ sum_none holds f n end h = let none : end - n ≡ 0 = omega arith in rw none ref
 abbrev points_of_one : CaveView → State → ℕ → ℕ
 points_of_one cave s x = points_by (treasure_rows cave x) s
 
--- the most that it can
+-- the most that it can count
 abbrev most_of_one : CaveView → ℕ → ℕ
 most_of_one cave x = most_by (treasure_rows cave x)
 
@@ -55,7 +55,7 @@ pub points_more : (cave : CaveView) (s : State) (n : ℕ) → n < 80
 unfolding points_from
 points_more cave s n h = sum_more (is_known cave) (points_of_one cave s) n 80 h
 
--- the most that they can
+-- the most that they can count
 unfoldable pub worth_from : CaveView → ℕ → ℕ
 worth_from cave n = sum_from (is_known cave) (most_of_one cave) n 80
 
@@ -73,7 +73,7 @@ pub worth_more : (cave : CaveView) (n : ℕ) → n < 80
 unfolding worth_from
 worth_more cave n h = sum_more (is_known cave) (most_of_one cave) n 80 h
 
--- what the hints from a number on cost that were taken
+-- what those hints from a number on cost that were taken
 unfoldable pub costs_from : CaveView → State → ℕ → ℕ
 costs_from cave s n = sum_from (is_hint_taken s) (price_of cave) n 21
 

@@ -1,4 +1,4 @@
--- The state that a game begins with.
+-- The state with which a game begins.
 use Rattle.std.specs.Prelude.{ℕ, ℤ, pos, ◌==◌, Bool, true, false, not, if◌then◌else◌, List}
 use Rattle.std.specs.Prelude.{unwrap_or, [], ◌∷◌, ◌++◌, length, map, filter, flat_map, Option}
 use Rattle.std.specs.List.{list_any, range_with_len}
@@ -25,7 +25,7 @@ use Rattle.base_lines.specs.Numbers.{LAST_OBJECT}
 unfoldable pub all_objects : List ℕ
 all_objects = range_with_len 1 LAST_OBJECT
 
--- a known treasure wasn't seen yet
+-- a known treasure hasn't been seen yet
 abbrev pub start_prop : CaveView → ℕ → ℤ
 start_prop cave x = if list_any (λ t. x == t) (known_treasures cave) then UNSEEN else pos 0
 
@@ -38,15 +38,15 @@ is_placed_now twice (anchor.At place) = twice
 unfoldable pub objects_due : CaveView → Bool → List ℕ
 objects_due cave twice = filter (λ x. is_placed_now twice (hold_of cave x)) all_objects
 
--- in a list those with one place come before those with two, and each of either before those of
--- higher numbers
+-- in a list those with one place come before those with two, and among either lower numbers come
+-- before higher ones
 unfoldable pub start_order : CaveView → List ℕ
 start_order cave = objects_due cave false ++ objects_due cave true
 
 abbrev pub both_halves : ℕ → List Half
 both_halves x = First x ∷ Second x ∷ []
 
--- all halves in the order in which lists have them, the latest first
+-- all halves in the order of the lists, the latest first
 abbrev pub start_halves : CaveView → List Half
 start_halves cave = flat_map both_halves (start_order cave)
 
@@ -65,7 +65,7 @@ abbrev pub start_list : CaveView → ℕ → List Half
 start_list cave place =
     filter (λ half. is_place place (place_of_half cave half)) (start_halves cave)
 
--- each object where it is, held by what holds it, with its prop
+-- each object is where it belongs, with its anchor and its prop
 unfoldable pub starting_objects : CaveView → Layout
 starting_objects cave = record {
   first = map (λ x. spot_at (home cave x)) all_objects;
@@ -74,7 +74,7 @@ starting_objects cave = record {
   lists = lists_of_halves cave (start_halves cave);
 }
 
--- a dwarf at its place, or gone where there is none
+-- a dwarf at its place, or gone, if there is none
 unfoldable pub dwarf_by_role : CaveView → PlaceRole → Dwarf
 dwarf_by_role cave role = let at = unwrap_or (place_named cave role) 0 in
     record { place = at; last = at; has_seen = false }

@@ -35,7 +35,7 @@ points_wanted score (Some rated) = rated.bound + 1 - score
 abbrev pub has_class : Test (Unit {0})
 has_class d = is_some (class_now d)
 
--- another class comes after that of the score
+-- another class follows that of the score
 abbrev pub has_next_class : Test (Unit {0})
 has_next_class d = unwrap_or (option_map (λ (class : Rated). class.is_followed) (class_now d)) false
 
@@ -62,12 +62,12 @@ tell_score = tell_turns ∷ by_table table.Classes class_rows ∷ []
 abbrev pub with_ending : Ending → State → State
 with_ending how s = record s { ending = Some how }
 
--- the game ends, and then the score is told
+-- the game ends, and then the score is printed
 unfoldable pub after_end : CaveView → Ending → Scene → Scene
 after_end cave how p =
     (after_all tell_score (deed cave tt (with_state (with_ending how p.state) p))).scene
 
--- one death more, up to the last
+-- one more death, up to the last
 abbrev pub with_one_death : State → State
 with_one_death s = with_tallies (record (s.tallies) { deaths = min (s.tallies.deaths + 1) LIVES }) s
 

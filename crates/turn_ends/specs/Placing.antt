@@ -9,12 +9,12 @@ use Rattle.turn_scene.specs.Props.{UNSEEN}
 unfoldable pub after_placing : CaveView → ℕ → Layout → Layout
 after_placing cave x o = after_move_to (with_anchor o x (hold_of cave x)) x (home cave x)
 
--- the objects of a list are put so, the last one first
+-- the objects of a list are put down like this, the last one first
 abbrev pub after_placing_all : CaveView → List ℕ → Layout → Layout
 after_placing_all cave [] o = o
 after_placing_all cave (x ∷ xs) o = after_placing cave x (after_placing_all cave xs o)
 
--- the objects of a list weren't seen yet
+-- the objects of a list haven't been seen yet
 abbrev pub after_hiding_treasures : List ℕ → Layout → Layout
 after_hiding_treasures [] o = o
 after_hiding_treasures (x ∷ xs) o = after_hiding_treasures xs (with_prop o x UNSEEN)

@@ -25,7 +25,7 @@ abbrev pub is_dragon : Question → Bool
 is_dragon question.Dragon = true
 is_dragon _ = false
 
--- how a player who dies is asked whether to come back
+-- the question that asks a player who died whether to come back
 unfoldable pub die_rows : List (Row Question (Unit {0}))
 die_rows =
     plain_row (deaths 0 ∷ []) (say role.Die1 ∷ [])
@@ -69,7 +69,7 @@ pose d = tell_question d.about (note_row table.Questions (question_row d.about) 
 abbrev pub after_question : CaveView → Question → Scene → Scene
 after_question cave asked p = (pose (deed cave asked p)).scene
 
--- the score up to now, and the greatest that there is
+-- the score up to now, and the greatest score
 abbrev pub tell_score_now : Effect Question
 tell_score_now d =
     tell (part.Number line.ScoreNow (score_of d.cave d.scene.state) (max_score_of d.cave)) d

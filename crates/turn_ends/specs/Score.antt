@@ -1,4 +1,4 @@
--- The score, by a table of what counts, from which the greatest one is read too.
+-- The score, by a table of what counts. The same table gives the greatest score.
 use Rattle.std.specs.Prelude.{ℕ, ◌-◌, ◌*◌, Bool, true, false, ◌==◌, if◌then◌else◌, not, List, []}
 use Rattle.std.specs.Prelude.{◌∷◌, filter, Option, Some, None}
 use Rattle.std.specs.FinMap as map
@@ -18,11 +18,11 @@ use Rattle.turn_scene.specs.Places.{place_named}
 use Rattle.turn_ends.specs.Counting.{ScoreRow, points_by, most_by, score_row, score_row_up_to}
 use Rattle.turn_ends.specs.Treasures.{treasures_row}
 
--- all scores are below it
+-- all scores are below this number
 abbrev pub END_OF_SCORES : ℕ
 END_OF_SCORES = 10000
 
--- each life that is left
+-- each remaining life
 abbrev pub life_points : State → ℕ
 life_points s = 10 * (LIVES - s.tallies.deaths)
 

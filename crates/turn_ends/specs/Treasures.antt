@@ -12,8 +12,8 @@ use Rattle.turn_scene.specs.Treasures.{known_treasures}
 use Rattle.turn_scene.specs.Props.{SEEN}
 use Rattle.turn_ends.specs.Counting.{ScoreRow, score_row, score_row_each}
 
--- what a treasure is worth: less before the chest than after it; where there is no chest, each is
--- worth what those before one are
+-- what a treasure is worth: less before the chest than after it; if there is no chest, each is
+-- worth what those before a chest are
 unfoldable pub worth : CaveView → ℕ → ℕ
 worth cave x =
     let chest = thing cave name.Chest in
@@ -26,7 +26,7 @@ is_seen x s = int_le (pos 0) (prop_of s.objects x)
 abbrev pub is_safe : CaveView → ℕ → State → Bool
 is_safe cave x s = is_first_at s.objects (building_place cave) x && has_prop s x SEEN
 
--- a treasure counts once it was seen, and the rest of its worth where it is safe
+-- a treasure counts once it was seen, and the rest of its worth if it is safe
 unfoldable pub treasure_rows : CaveView → ℕ → List ScoreRow
 treasure_rows cave x =
     score_row 2 (is_seen x)

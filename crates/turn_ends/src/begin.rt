@@ -55,7 +55,7 @@ fn place_down(cave: &Cave, twice: bool, objects: &mut Objects)
     }
 }
 
-/// The known treasures weren't seen yet. Returns how many they are.
+/// Marks the known treasures as not seen yet, and returns how many there are.
 #[tactic(auto, using(crate::proofs::Countdown::hiding))]
 fn hide_treasures(cave: &Cave, objects: &mut Objects) -> Count<MAX_TREASURES>
     ensures objects { objects.new ≡ after_hiding_treasures (known_treasures cave.now) objects.old }
@@ -71,7 +71,8 @@ fn hide_treasures(cave: &Cave, objects: &mut Objects) -> Count<MAX_TREASURES>
     hidden
 }
 
-/// Puts the objects where they are as a game begins. Returns how many treasures weren't seen yet.
+/// Puts the objects where they are as a game begins. Returns how many treasures haven't been seen
+/// yet.
 fn place_all(cave: &Cave, objects: &mut Objects) -> Count<MAX_TREASURES>
     requires { objects.old ≡ unplaced_objects }
     ensures objects { objects.new ≡ starting_objects cave.now }
@@ -109,7 +110,7 @@ fn starting_dwarves(cave: &Cave) -> [Dwarf; DWARVES]
     ]
 }
 
-/// The state that a game begins with.
+/// The state with which a game begins.
 #[tactic(auto, unfolding(crate::specs::Begin::begun_state, cave_world::specs::State::starting_state))]
 pub fn begun_state(cave: &Cave, stream: Stream) -> State
     ensures state { result ≡ begun_state cave.now stream }

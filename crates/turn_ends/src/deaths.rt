@@ -10,7 +10,7 @@ use cave_world::{Ending, Question, RowNotes, State, Table};
 use data_rows::Role;
 use turn_scene::{Rules, Scene};
 
-/// One death more is counted.
+/// Counts one more death.
 pub fn count_death(state: &mut State)
     ensures { state.new ≡ with_one_death state.old }
 {

@@ -15,7 +15,7 @@ use cave_world::{HintNumber, NumberLine, Part, Question, RowNotes, State, Table}
 use data_rows::Role;
 use turn_scene::{Rules, Scene};
 
-/// A question is asked, and the next line answers it.
+/// Asks a question, which the next line answers.
 #[tactic(auto, unfolding(crate::specs::Questions::after_ask, crate::specs::Questions::ask_question, cave_world::specs::State::takes_no_command))]
 pub fn ask<N: RowNotes>(rules: &Rules<'_>, question: &Question, scene: &mut Scene<'_, N>)
     requires { HasRoom parts_of_question scene.old }
@@ -78,7 +78,7 @@ pub fn question_row(question: &Question) -> u8
     }
 }
 
-/// The message of a question is printed.
+/// Prints the message of a question.
 pub fn tell_question<N: RowNotes>(rules: &Rules<'_>, question: &Question, scene: &mut Scene<'_, N>)
     requires { HasRoom 1 scene.old }
     ensures scene { scene_of N.rows scene.new
@@ -98,7 +98,7 @@ pub fn tell_question<N: RowNotes>(rules: &Rules<'_>, question: &Question, scene:
     }
 }
 
-/// The message of a question is printed, and the score before the question that is about it.
+/// Prints the message of a question, and the score before the question that is about it.
 #[tactic(auto, unfolding(crate::specs::Questions::asking_rows))]
 fn begin_asking<N: RowNotes>(rules: &Rules<'_>, question: &Question, scene: &mut Scene<'_, N>)
     requires { HasRoom parts_of_question scene.old }

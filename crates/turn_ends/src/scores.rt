@@ -16,37 +16,37 @@ use data_rows::PlaceRole;
 use turn_scene::{Rules, place_named};
 use world_objects::{Object, Place};
 
-/// What each life that is left counts.
+/// How many points each remaining life counts.
 pub const POINTS_OF_LIFE: u32 = 10;
 
-/// What it counts that a game ended in another way than by quitting.
+/// How many points it counts that a game ended in another way than by quitting.
 pub const POINTS_OF_ENDING: u32 = 4;
 
-/// What it counts that the dwarves are awake.
+/// How many points it counts that the dwarves are awake.
 pub const POINTS_OF_DWARVES: u32 = 25;
 
-/// What it counts that the cave is closing.
+/// How many points it counts that the cave is closing.
 pub const POINTS_OF_CLOSING: u32 = 25;
 
-/// What it counts at most that the cave closed.
+/// The most points that it counts that the cave closed.
 pub const POINTS_OF_SUCCESS: u32 = 45;
 
-/// What it counts that the player got out of the closed cave the wrong way.
+/// How many points it counts that the player got out of the closed cave the wrong way.
 const POINTS_OF_WRONG_WAY: u32 = 30;
 
-/// What it counts that the player blew up the closed cave, and the player with it.
+/// How many points it counts that the player blew up the closed cave, and the player with it.
 const POINTS_OF_KLUTZ: u32 = 25;
 
-/// What it counts that the cave closed, where the game went on or ended otherwise.
+/// How many points it counts that the cave closed, if the game went on or ended in another way.
 const POINTS_OF_CLOSED: u32 = 10;
 
-/// What it counts that the magazine is at its place.
+/// How many points it counts that the magazine is at its place.
 pub const POINTS_OF_MAGAZINE: u32 = 1;
 
-/// What each game counts.
+/// How many points each game counts.
 pub const POINTS_OF_PLAYING: u32 = 2;
 
-/// What the lives count that are left.
+/// How many points the remaining lives count.
 pub fn life_points(state: &State) -> u32
     ensures value { result ≡ life_points state.now }
     ensures most { result ≤ 30 }
@@ -54,7 +54,7 @@ pub fn life_points(state: &State) -> u32
     POINTS_OF_LIFE * u32::from(LIVES - state.tallies.deaths.number())
 }
 
-/// What a game counts that has ended in another way than by quitting.
+/// How many points it counts that a game has ended in another way than by quitting.
 pub fn ending_points(state: &State) -> u32
     ensures value { result ≡ (score_row 4 has_other_end).points state.now }
     ensures most { result ≤ 4 }
@@ -67,7 +67,7 @@ pub fn ending_points(state: &State) -> u32
     }
 }
 
-/// What it counts that the dwarves aren't asleep.
+/// How many points it counts that the dwarves aren't asleep.
 pub fn dwarf_points(state: &State) -> u32
     ensures value { result ≡ (score_row 25 has_dwarves_up).points state.now }
     ensures most { result ≤ 25 }
@@ -79,7 +79,7 @@ pub fn dwarf_points(state: &State) -> u32
     }
 }
 
-/// What it counts that the cave is closing.
+/// How many points it counts that the cave is closing.
 pub fn closing_points(state: &State) -> u32
     ensures value { result ≡ (score_row 25 is_closing).points state.now }
     ensures most { result ≤ 25 }
@@ -91,7 +91,7 @@ pub fn closing_points(state: &State) -> u32
     }
 }
 
-/// What it counts to have got out of the closed cave, or to be in it.
+/// How many points it counts to have got out of the closed cave, or to be in it.
 fn escape_points(ending: Option<Ending>) -> u32
     ensures value { result ≡ escape_points ending }
     ensures most { result ≤ 45 }
@@ -104,7 +104,7 @@ fn escape_points(ending: Option<Ending>) -> u32
     }
 }
 
-/// What it counts that the cave is closed.
+/// How many points it counts that the cave is closed.
 pub fn closed_points(state: &State) -> u32
     ensures value { result ≡ closed_points state.now }
     ensures most { result ≤ 45 }
@@ -125,7 +125,7 @@ fn lies_at(state: &State, object: Object, place: Option<Place>) -> bool
     }
 }
 
-/// What it counts that the magazine is at its place.
+/// How many points it counts that the magazine is at its place.
 pub fn magazine_points(rules: &Rules<'_>, state: &State) -> u32
     ensures value { result
         ≡ (score_row 1 (has_magazine_there (cave_of rules.now))).points state.now }
@@ -139,7 +139,7 @@ pub fn magazine_points(rules: &Rules<'_>, state: &State) -> u32
     }
 }
 
-/// What a state counts before hints are paid for.
+/// How many points a state counts before hints are paid for.
 #[tactic(auto, unfolding(crate::specs::Score::score_rows))]
 fn score_points(rules: &Rules<'_>, state: &State) -> u32
     ensures value { result ≡ points_by (score_rows (cave_of rules.now)) state.now }
@@ -155,7 +155,7 @@ fn score_points(rules: &Rules<'_>, state: &State) -> u32
         + POINTS_OF_PLAYING
 }
 
-/// What a hint costs.
+/// How many points a hint costs.
 #[tactic(auto, unfolding(crate::specs::Score::price_of))]
 pub fn price_of(cave: &Cave, hint: u16) -> u32
     ensures value { result ≡ price_of cave.now hint }

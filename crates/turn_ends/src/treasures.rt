@@ -10,7 +10,7 @@ use turn_scene::treasures::{FIRST_TREASURE, LAST_TREASURE};
 use turn_scene::{Rules, building_place, has_prop, is_known};
 use world_objects::Object;
 
-/// What a treasure counts that was seen.
+/// How many points a treasure counts once it was seen.
 pub const POINTS_OF_SEEING: u32 = 2;
 
 /// Whether a treasure was seen.
@@ -28,7 +28,7 @@ pub fn is_safe(rules: &Rules<'_>, state: &State, treasure: Object) -> bool
     state.objects.is_first_at(building, treasure) && has_prop(state, treasure, SEEN)
 }
 
-/// What a treasure counts.
+/// How many points a treasure counts.
 #[tactic(auto, unfolding(crate::specs::Treasures::treasure_rows))]
 fn points_of_treasure(rules: &Rules<'_>, state: &State, treasure: Object) -> u32
     ensures value { result
@@ -48,7 +48,7 @@ fn points_of_treasure(rules: &Rules<'_>, state: &State, treasure: Object) -> u32
     seen + safe
 }
 
-/// What the treasures count that the cave knows.
+/// How many points the known treasures count.
 #[tactic(auto, using(crate::proofs::Sums::points))]
 pub fn treasure_points(rules: &Rules<'_>, state: &State) -> u32
     ensures value { result ≡ (treasures_row (cave_of rules.now)).points state.now }

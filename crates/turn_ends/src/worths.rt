@@ -8,13 +8,13 @@ use turn_scene::treasures::{FIRST_TREASURE, LAST_TREASURE};
 use turn_scene::{Rules, is_known};
 use world_objects::Object;
 
-/// What a treasure is worth whose number is below the chest's, as each is where there is no chest.
+/// What a treasure is worth if its number is below the chest's, or if there is no chest.
 const WORTH_BEFORE_CHEST: u32 = 12;
 
 /// What the chest is worth.
 const WORTH_OF_CHEST: u32 = 14;
 
-/// What a treasure is worth whose number is above the chest's.
+/// What a treasure is worth if its number is above the chest's.
 const WORTH_AFTER_CHEST: u32 = 16;
 
 /// What a treasure is worth: more than the chest after it, less before it.

@@ -1,4 +1,4 @@
--- What happens where a player arrives.
+-- What happens as a player arrives.
 use Rattle.std.specs.Prelude.{ℕ, zero, suc, Bool, ◌==◌, ◌&&◌, if◌then◌else◌, List, [], ◌∷◌, take}
 use Rattle.std.specs.Prelude.{true, false}
 use Rattle.std.specs.List.{list_any}
@@ -51,8 +51,8 @@ block d = first_fitting_or (noted table.Blocking blocking_rows) (nothing_but new
 abbrev pub at_no_place : Test (Unit {0})
 at_no_place d = here d == 0
 
--- 0 is death, of a place of forced motion the text alone is printed, and dwarves don't move where
--- the pirate doesn't come
+-- place 0 is death; at a place of forced motion only the text is printed, and dwarves don't move
+-- where the pirate doesn't come
 unfoldable pub place_rows : List (Row (Unit {0}) Bool)
 place_rows =
     row_then (at_no_place ∷ []) (die ∷ []) (always false)
@@ -60,7 +60,7 @@ place_rows =
     ∷ row_then (place_has NoPirate here ∷ []) (describe_place ∷ []) (always false)
     ∷ []
 
--- what dwarves leave: a knife kills, and else the place is described
+-- what dwarves leave: a knife kills, and otherwise the place is described
 unfoldable pub hit_rows : List (Row Bool Bool)
 hit_rows =
     row_then ((λ d. d.about) ∷ []) (die_at here ∷ []) (always false)
@@ -82,20 +82,20 @@ come_to cave place p =
 unfoldable pub over_rows : List (Row ℕ Bool)
 over_rows = answer_row (over ∷ []) (always false) ∷ []
 
--- else the player arrives at the place, if nothing is in the way
+-- otherwise the player arrives at the place, if nothing is in the way
 abbrev pub come_on : Deed ℕ → Act Bool
 come_on d = let held = block d in come_to d.cave held.step held.scene
 
 unfoldable pub stop_at : CaveView → ℕ → Scene → Act Bool
 stop_at cave place p = first_fitting_or over_rows come_on (deed cave place p)
 
--- a player who is moved on sets out by any motion, and is shown the next place; so many forced
--- motions are left then
+-- a player who is moved on sets out by any motion, and is shown the next place; then this many
+-- forced motions are left
 abbrev pub move_on : ℕ → CaveView → Scene → Act Bool
 move_on left cave p =
     let j = set_forth cave any_motion (with_left left p) in stop_at cave j.step j.scene
 
--- so it goes on, while the player is where a forced motion moves the player on and some are left
+-- this goes on while the player is at a place of forced motion and some forced motions are left
 unfoldable pub after_forced_motions : ℕ → CaveView → Act Bool → Scene
 after_forced_motions zero cave s = if s.step then after_saying role.ForcedLimit s.scene else s.scene
 after_forced_motions (suc left) cave s =
@@ -105,6 +105,6 @@ after_forced_motions (suc left) cave s =
 abbrev pub after_arrival : CaveView → ℕ → Scene → Scene
 after_arrival cave place p = after_forced_motions p.left cave (stop_at cave place p)
 
--- the player's place is described anew, without an arrival
+-- the player's place is described again, without an arrival
 abbrev pub after_description : CaveView → Scene → Scene
 after_description cave p = after_forced_motions p.left cave (stop_here (deed cave tt p))

@@ -27,26 +27,26 @@ unfoldable pub place_back : Deed (Unit {0}) → Act ℕ
 place_back d = act_by_table table.BackFrom place_back_rows
     (otherwise_row [] old) d
 
--- the row leads to the place that is sought
+-- the row leads to the place sought
 abbrev pub leads_to : ℕ → Going → Bool
 leads_to sought row = leads_to_place sought (row_destination row)
 
--- the first row does
+-- the first row leads there
 abbrev pub leads_at_once : ℕ → List Going → Bool
 leads_at_once sought [] = false
 leads_at_once sought (row ∷ rows) = leads_to sought row
 
--- the destination is a place whose forced motion leads to the place that is sought
+-- the destination is a place whose forced motion leads to the place sought
 abbrev pub forces_to : CaveView → ℕ → Destination → Bool
 forces_to cave sought (Place place) =
     forced cave place && leads_at_once sought (ways_from cave place)
 forces_to cave sought _ = false
 
--- the row leads to the place that is sought through a place of forced motion
+-- the row leads to the place sought through a place of forced motion
 abbrev pub leads_through : CaveView → ℕ → Going → Bool
 leads_through cave sought row = forces_to cave sought (row_destination row)
 
--- the first row that leads to the place that is sought
+-- the first row that leads to the place sought
 abbrev pub direct_row : ℕ → List Going → Option Going
 direct_row sought rows = find (leads_to sought) rows
 
@@ -69,18 +69,18 @@ sought d = d.about
 abbrev pub ways : Deed ℕ → List Going
 ways d = ways_from d.cave (here d)
 
--- by which motion the player gets there at once, or through a place of forced motion
+-- the motion that takes the player there at once, or through a place of forced motion
 abbrev pub at_once : Deed ℕ → Option ℕ
 at_once d = first_motion (direct_row (sought d) (ways d))
 
 abbrev pub in_passing : Deed ℕ → Option ℕ
 in_passing d = first_motion (indirect_row d.cave (sought d) (ways d))
 
--- the player gets there in a way
+-- the player gets there by some motion
 abbrev pub possible : (Deed ℕ → Option ℕ) → Test ℕ
 possible way d = is_some (way d)
 
--- by which motion the player goes back
+-- the motion by which the player goes back
 unfoldable pub back_rows : List (Row ℕ (Option ℕ))
 back_rows =
     row_then (same sought here ∷ []) (set_out ∷ say role.BackNone ∷ []) (always None)

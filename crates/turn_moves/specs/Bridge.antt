@@ -15,7 +15,7 @@ use Rattle.turn_scene.specs.Effects.{say, look, move, destroy, fix, loosen, jugg
 use Rattle.turn_scene.specs.Effects.{lose_one, attach}
 use Rattle.turn_moves.specs.Ways.{Passage, other_end, passable, end_of, die_at}
 
--- an end of a bridge is a place of the cave, and 0 is none
+-- an end of a bridge is a place of the cave, which 0 isn't
 abbrev pub bridgehead : ℕ → Option ℕ
 bridgehead place = if place == 0 then None else Some place
 
@@ -27,7 +27,7 @@ bridge d =
     (bridgehead (second_home_of (the name.Troll) d))
     else None
 
--- the troll asks for a treasure once more, at both ends of the bridge
+-- the troll asks for a treasure again, at both ends of the bridge
 unfoldable pub demand_toll : List (Effect (Unit {0}))
 demand_toll =
     look (the name.Troll) TROLL_RETURNING
@@ -49,7 +49,7 @@ toll_rows =
 abbrev pub pass_troll : Effect (Unit {0})
 pass_troll = by_table table.Toll toll_rows
 
--- spices that weren't seen yet are lost
+-- spices that haven't been seen yet are lost
 unfoldable pub spices_rows : List (Row (Unit {0}) (Unit {0}))
 spices_rows = plain_row (prop_up_to (the name.Spices) UNSEEN ∷ []) (lose_one ∷ []) ∷ []
 
@@ -70,7 +70,8 @@ break_bridge =
 abbrev pub bear_comes_along : Test (Unit {0})
 bear_comes_along d = carried (the name.Bear) (pass_troll d)
 
--- no way, or the troll, holds the player back; the bridge bears the player, but not the bear too
+-- a missing way or the troll holds the player back; the bridge bears the player, but not the bear
+-- too
 unfoldable pub bridge_rows : List (Row (Unit {0}) ℕ)
 bridge_rows =
     row_then (no (passable bridge) ∷ []) (say role.NoWay ∷ []) here

@@ -65,7 +65,7 @@ abbrev pub after_objects_here : CaveView → Scene → Scene
 after_objects_here cave p =
     after_all_objects cave (halves_at p.state.trail.here p.state.objects.lists) p
 
--- of a place of forced motion the text alone is printed
+-- at a place of forced motion only the text is printed
 unfoldable pub tell_place : List (Effect (Unit {0}))
 tell_place =
     by_table table.BearFollows bear_rows ∷ by_table table.PlaceText text_rows ∷ []
@@ -95,7 +95,7 @@ module _ {C : Type 0} where
   abbrev pub describe_place : Effect C
   describe_place d = follow after_describe d
 
--- what is seen where the player is; what follows is whether a forced motion moves the player on
+-- what is seen where the player is; what follows says whether a forced motion moves the player on
 unfoldable pub stop_rows : List (Row (Unit {0}) Bool)
 stop_rows =
     row_then (forced_at here ∷ []) tell_place (always true)

@@ -29,7 +29,7 @@ use Rattle.turn_moves.specs.Bridge.{cross_bridge}
 use Rattle.turn_moves.specs.Squeeze.{squeeze_through}
 use Rattle.turn_moves.specs.Ways.{staying}
 
--- the motion is the one of a name
+-- the motion has this name
 abbrev pub is_motion : Motion → Test ℕ
 is_motion m d = d.about == motion_number m
 
@@ -37,7 +37,7 @@ is_motion m d = d.about == motion_number m
 abbrev pub is_motion_of : List Motion → Test ℕ
 is_motion_of motions d = list_any (λ m. motion_number m == d.about) motions
 
--- it may be said once more that there are no more details
+-- the game may say once more that there are no more details
 abbrev pub details_left : Test ℕ
 details_left d = nat_lt d.scene.state.talk.details MAX_DETAILS
 
@@ -50,7 +50,7 @@ enough_rows = plain_row (details_left ∷ []) (say role.Enough ∷ change with_o
 abbrev pub without_visits_here : State → State
 without_visits_here s = without_visits s s.trail.here
 
--- it counts as light before
+-- the place before counts as light
 abbrev pub forget_darkness : Effect ℕ
 forget_darkness d = let p = d.scene in in_scene (record p { was_dark = false }) d
 
@@ -63,18 +63,18 @@ look_round =
 abbrev pub before_cave : Test ℕ
 before_cave d = nat_lt (here d) (outside_place d.cave)
 
--- by which motion the player travels: by none, or by the one that is asked for
+-- the motion by which the player travels: none, or the one asked for
 abbrev pub no_travel : Deed ℕ → Act (Option ℕ)
 no_travel = nothing_but (always None)
 
 abbrev pub that_motion : Deed ℕ → Act (Option ℕ)
 that_motion = nothing_but (λ d. Some d.about)
 
--- or by the one that leads back
+-- or the one that leads back
 abbrev pub motion_back : Deed ℕ → Act (Option ℕ)
 motion_back d = go_back (deed d.cave tt d.scene)
 
--- what a motion comes to that the player asks for: some have rules of their own
+-- what a motion that the player asks for does: some have their own rules
 abbrev pub own_motion_rows : List (Row ℕ (Act (Option ℕ)))
 own_motion_rows =
     answer_row (is_motion motion.Nowhere ∷ []) no_travel
@@ -87,7 +87,7 @@ unfoldable pub own_motion : Deed ℕ → Act (Option ℕ)
 own_motion d = answer_by_table table.OwnMotions own_motion_rows
     (otherwise_row [] that_motion) d
 
--- how many parts are said of it at most: one where the player doesn't travel
+-- the most parts that are said of it: one if the player doesn't travel
 abbrev pub parts_of_own_motion : Option ℕ → ℕ
 parts_of_own_motion None = 1
 parts_of_own_motion (Some motion) = 0

@@ -24,11 +24,11 @@ unseen d = int_lt (prop_of d.scene.state.objects (it d)) (pos 0)
 abbrev pub is_second_here : Test ℕ
 is_second_here d = is_place (here d) (place_of_anchor (anchor_of d.scene.state.objects (it d)))
 
--- one treasure less counts as unseen
+-- one treasure fewer counts as unseen
 abbrev pub with_one_less_unseen : State → State
 with_one_less_unseen s = with_tallies (record (s.tallies) { unseen = s.tallies.unseen - 1 }) s
 
--- as many count as lost as count as unseen, and some do
+-- the treasures that count as lost are as many as the unseen ones, and there are some
 abbrev pub is_rest_lost : Test ℕ
 is_rest_lost d =
     let tallies = d.scene.state.tallies in
@@ -67,8 +67,8 @@ find_treasure v =
     ∷ by_table table.ObjectText object_text_rows
     ∷ []
 
--- the steps aren't described while the gold is in the hands, nor is a treasure that a closed cave
--- hides; the rug and the chain are held fast once they are seen
+-- neither are the steps described while the gold is in the hands, nor is a treasure that a closed
+-- cave hides; the rug and the chain are held fast once they are seen
 unfoldable pub object_rows : List (Row ℕ (Unit {0}))
 object_rows =
     plain_row (same it (the name.Steps) ∷ in_hands (the name.Gold) ∷ []) []

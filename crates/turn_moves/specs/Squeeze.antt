@@ -19,7 +19,7 @@ squeeze d =
 abbrev pub has_load : ℕ → Test (Unit {0})
 has_load n d = held d == n
 
--- the hands are empty, or have the emerald alone
+-- the hands are empty, or have only the emerald
 abbrev pub slim : Test (Unit {0})
 slim = either (has_load 0) (both (has_load 1) (in_hands (the name.Emerald)))
 

@@ -1,4 +1,4 @@
--- Words of the rules about ways and places: what they ask, do, and where a player goes by them.
+-- Words of the rules about ways and places: what they ask and do, and where they take a player.
 use Rattle.std.specs.Prelude.{ℕ, ◌==◌, if◌then◌else◌, Option, Some, None, is_some, unwrap_or}
 use Rattle.turn_scene.specs.Rows.{Deed, Act, Test, Effect, act_of}
 use Rattle.turn_scene.specs.Effects.{in_scene}

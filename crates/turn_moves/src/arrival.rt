@@ -25,7 +25,7 @@ use turn_ends::die;
 use turn_scene::{PlaceCondition, Rules, Scene, has_condition_of, outside_place, start_panic};
 use world_objects::Place;
 
-/// The player arrives at a place, and is moved on from there while forced motions are left.
+/// The player arrives at a place, and moves on from there while forced motions are left.
 #[tactic(auto, unfolding(crate::specs::Arrival::after_forced_motions))]
 pub fn arrive<N: RowNotes>(rules: &Rules<'_>, place: Place, scene: &mut Scene<'_, N>)
     requires { HasRoom (parts_of_arrival scene.old.left) scene.old }
@@ -38,7 +38,7 @@ pub fn arrive<N: RowNotes>(rules: &Rules<'_>, place: Place, scene: &mut Scene<'_
     }
 }
 
-/// Whether a cave that is closing keeps the player from a place.
+/// Whether a closing cave keeps the player from a place.
 fn is_shut<N: RowNotes>(rules: &Rules<'_>, place: Place, scene: &Scene<'_, N>) -> bool
     ensures { result ≡ all_hold (cave_closing ∷ there_is new ∷ outside new ∷ [])
         (deed (cave_of rules.now) place (scene_of N.rows scene.now)) }
@@ -73,7 +73,7 @@ fn is_barred<N: RowNotes>(rules: &Rules<'_>, place: Place, scene: &Scene<'_, N>)
         && some_comes_from(place, &scene.state.dwarves.each[..PIRATE])
 }
 
-/// Where the player arrives: a closing cave and a dwarf block the way.
+/// Where the player arrives: a closing cave or a dwarf blocks the way.
 #[tactic(auto, unfolding(crate::specs::Arrival::block, crate::specs::Arrival::blocking_rows))]
 fn block<N: RowNotes>(rules: &Rules<'_>, place: Place, scene: &mut Scene<'_, N>) -> Place
     requires { HasRoom 1 scene.old }
@@ -178,7 +178,7 @@ fn follow_forced_motions<N: RowNotes>(rules: &Rules<'_>, scene: &mut Scene<'_, N
     }
 }
 
-/// The player's place is described anew, and forced motions move the player on in the same way.
+/// Describes the player's place again, and forced motions move the player on in the same way.
 #[tactic(auto, unfolding(crate::specs::Arrival::after_forced_motions))]
 pub fn describe_here<N: RowNotes>(rules: &Rules<'_>, scene: &mut Scene<'_, N>)
     requires { HasRoom (parts_of_arrival scene.old.left) scene.old }

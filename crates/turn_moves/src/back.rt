@@ -25,7 +25,7 @@ fn place_back<N: RowNotes>(rules: &Rules<'_>, scene: &mut Scene<'_, N>) -> Place
     scene.state.trail.last
 }
 
-/// Whether a row leads to a place whose forced motion leads to the place that is sought.
+/// Whether a row leads to a place whose forced motion leads to the place sought.
 fn leads_through(rules: &Rules<'_>, sought: Place, row: &Row) -> bool
     ensures { result ≡ leads_through (cave_of rules.now) sought (going row.now) }
 {
@@ -46,7 +46,7 @@ fn leads_at_once(sought: Place, rows: &[Row]) -> bool
     }
 }
 
-/// The first row that leads to the place that is sought.
+/// The first row that leads to the place sought.
 fn direct_row(sought: Place, rows: &[Row]) -> Option<&Row>
     ensures { option_map (λ row. going row.now) result
         ≡ direct_row sought (map going rows.now) }

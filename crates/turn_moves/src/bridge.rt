@@ -79,7 +79,7 @@ fn bridge<N: RowNotes>(rules: &Rules<'_>, scene: &Scene<'_, N>) -> Option<Place>
     )
 }
 
-/// The troll asks for a treasure once more, at both ends of the bridge.
+/// The troll asks for a treasure again, at both ends of the bridge.
 #[tactic(auto, unfolding(crate::specs::Bridge::demand_toll))]
 fn demand_toll<N: RowNotes>(rules: &Rules<'_>, scene: &mut Scene<'_, N>)
     requires { HasRoom 1 scene.old }
@@ -112,7 +112,7 @@ fn pass_troll(rules: &Rules<'_>, state: &mut State) -> bool
     was_calm
 }
 
-/// It is noted that a troll that was calm will stop the player the next time.
+/// Notes that a troll that was calm will stop the player the next time.
 fn note_toll<N: RowNotes>(was_calm: bool, scene: &mut Scene<'_, N>)
     ensures scene { let before = scene_of N.rows scene.old in
         scene_of N.rows scene.new ≡ (if was_calm then after_row table.Toll 1 before else before) }
@@ -123,7 +123,7 @@ fn note_toll<N: RowNotes>(was_calm: bool, scene: &mut Scene<'_, N>)
     }
 }
 
-/// Spices that weren't seen yet are lost.
+/// Spices that haven't been seen yet are lost.
 #[tactic(auto, unfolding(crate::specs::Bridge::spices_rows))]
 fn lose_spices<N: RowNotes>(rules: &Rules<'_>, scene: &mut Scene<'_, N>)
     ensures rows { Does N.rows (by_table table.SpicesLost spices_rows ∷ []) 0 rules.now tt scene.old

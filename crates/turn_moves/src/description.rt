@@ -28,7 +28,7 @@ fn tell_bear<N: RowNotes>(rules: &Rules<'_>, scene: &mut Scene<'_, N>)
     }
 }
 
-/// The text of the player's place is printed, long or short.
+/// Prints the text of the player's place, long or short.
 #[tactic(auto, unfolding(crate::specs::Description::text_rows))]
 fn tell_text<N: RowNotes>(rules: &Rules<'_>, scene: &mut Scene<'_, N>)
     requires { HasRoom 1 scene.old }
@@ -83,7 +83,7 @@ fn tell_hollow<N: RowNotes>(rules: &Rules<'_>, scene: &mut Scene<'_, N>)
     }
 }
 
-/// The text of the player's place is printed, after the bear.
+/// Prints the text of the player's place, after the bear.
 #[tactic(auto, unfolding(crate::specs::Description::tell_place))]
 pub fn tell_place<N: RowNotes>(rules: &Rules<'_>, scene: &mut Scene<'_, N>)
     requires { HasRoom parts_of_text scene.old }
@@ -93,7 +93,7 @@ pub fn tell_place<N: RowNotes>(rules: &Rules<'_>, scene: &mut Scene<'_, N>)
     tell_text(rules, scene);
 }
 
-/// A place that the player sees is described.
+/// Describes a place that the player sees.
 #[tactic(auto, unfolding(crate::specs::Description::see_place, crate::specs::Description::tell_place))]
 fn see_place<N: RowNotes>(rules: &Rules<'_>, scene: &mut Scene<'_, N>)
     requires { HasRoom parts_of_place scene.old }
@@ -107,7 +107,7 @@ fn see_place<N: RowNotes>(rules: &Rules<'_>, scene: &mut Scene<'_, N>)
     tell_objects(rules, scene);
 }
 
-/// A place is described where the player sees nothing.
+/// Describes a place in which the player sees nothing.
 #[tactic(auto, unfolding(crate::specs::Description::feel_place))]
 fn feel_place<N: RowNotes>(rules: &Rules<'_>, scene: &mut Scene<'_, N>)
     requires { HasRoom parts_of_darkness scene.old }

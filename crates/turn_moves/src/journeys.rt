@@ -40,8 +40,8 @@ pub fn journey_by_request<N: RowNotes>(
     }
 }
 
-/// What a motion comes to that the player asks for. Returns the motion by which the player travels,
-/// if by any.
+/// What a motion that the player asks for does. Returns the motion by which the player travels, if
+/// by any.
 #[tactic(auto, unfolding(crate::specs::Journeys::own_motion))]
 fn own_motion<N: RowNotes>(rules: &Rules<'_>, motion: u16, scene: &mut Scene<'_, N>) -> Option<u16>
     requires { HasRoom 1 scene.old }
@@ -88,7 +88,7 @@ fn say_enough<N: RowNotes>(rules: &Rules<'_>, motion: u16, scene: &mut Scene<'_,
     }
 }
 
-/// The player looks round, and the place will be described at length.
+/// The player looks around, and the place will be described at length.
 #[tactic(auto, unfolding(crate::specs::Journeys::look_round))]
 fn look_round<N: RowNotes>(rules: &Rules<'_>, motion: u16, scene: &mut Scene<'_, N>)
     requires { HasRoom 1 scene.old }

@@ -15,7 +15,8 @@ use turn_scene::props::{SEEN, SEEN_FASTENED, STEPS_FROM_ABOVE};
 use turn_scene::{Rules, Scene};
 use world_objects::{Half, Object, Prop};
 
-/// The most turns for which the lamp burns once as many treasures count as lost as count as unseen.
+/// The most turns for which the lamp burns once the treasures that count as lost are as many as the
+/// unseen ones.
 const SHORT_LAMP: i32 = 35;
 
 fn is_unseen<N: RowNotes>(rules: &Rules<'_>, object: Object, scene: &Scene<'_, N>) -> bool
@@ -38,7 +39,7 @@ fn shorten_lamp(state: &mut State)
     state.lamp.charge = Charge::new(turns.min(SHORT_LAMP));
 }
 
-/// Whether as many treasures count as lost as count as unseen, and some do.
+/// Whether the treasures that count as lost are as many as the unseen ones, and there are some.
 fn is_rest_lost<N: RowNotes>(rules: &Rules<'_>, object: Object, scene: &Scene<'_, N>) -> bool
     ensures { result ≡ is_rest_lost (deed (cave_of rules.now) object (scene_of N.rows scene.now)) }
 {
@@ -56,7 +57,7 @@ fn is_second_here<N: RowNotes>(rules: &Rules<'_>, object: Object, scene: &Scene<
     }
 }
 
-/// The text of an object is printed.
+/// Prints the text of an object.
 #[tactic(auto, unfolding(crate::specs::Objects::object_text_rows))]
 fn tell_object_text<N: RowNotes>(rules: &Rules<'_>, object: Object, scene: &mut Scene<'_, N>)
     requires { HasRoom 1 scene.old }
@@ -73,7 +74,7 @@ fn tell_object_text<N: RowNotes>(rules: &Rules<'_>, object: Object, scene: &mut 
     scene.tell(Part::Object(object, prop.value()));
 }
 
-/// The lamp doesn't burn for long any more once all treasures that are left are lost.
+/// The lamp doesn't burn for long any more once all remaining treasures are lost.
 #[tactic(auto, unfolding(crate::specs::Objects::last_treasure_rows))]
 fn meet_last_treasure<N: RowNotes>(rules: &Rules<'_>, object: Object, scene: &mut Scene<'_, N>)
     ensures rows { Does N.rows (by_table table.LastTreasure last_treasure_rows ∷ []) 0 rules.now
@@ -102,7 +103,7 @@ fn find_treasure<N: RowNotes>(
     tell_object_text(rules, object, scene);
 }
 
-/// An object is described, and is found if it wasn't seen before.
+/// Describes an object, which is then found if it wasn't seen before.
 #[tactic(auto, unfolding(crate::specs::Objects::after_object, crate::specs::Objects::object_rows))]
 fn tell_object<N: RowNotes>(rules: &Rules<'_>, object: Object, scene: &mut Scene<'_, N>)
     requires { HasRoom 1 scene.old }
@@ -143,7 +144,7 @@ fn tell_all<N: RowNotes>(rules: &Rules<'_>, halves: &[Half], scene: &mut Scene<'
     }
 }
 
-/// The objects at the player's place are described, latest first.
+/// Describes the objects at the player's place, latest first.
 pub fn tell_objects<N: RowNotes>(rules: &Rules<'_>, scene: &mut Scene<'_, N>)
     requires { HasRoom last_half scene.old }
     ensures scene { let state = scene.old.state.now in

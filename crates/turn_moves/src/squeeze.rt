@@ -13,7 +13,7 @@ use data_rows::{PlaceRole, Role};
 use turn_scene::{Rules, Scene, place_named};
 use world_objects::Place;
 
-/// The other end of the narrow passage, where the player is at one end.
+/// The other end of the narrow passage, if the player is at one end.
 #[tactic(auto, unfolding(crate::specs::Squeeze::squeeze))]
 fn squeeze<N: RowNotes>(rules: &Rules<'_>, scene: &Scene<'_, N>) -> Option<Place>
     ensures { result ≡ squeeze (deed (cave_of rules.now) tt (scene_of N.rows scene.now)) }
@@ -23,7 +23,7 @@ fn squeeze<N: RowNotes>(rules: &Rules<'_>, scene: &Scene<'_, N>) -> Option<Place
     other_end(scene.state.trail.here, alcove, plover)
 }
 
-/// Whether the hands are empty, or have the emerald alone.
+/// Whether the hands are empty, or have only the emerald.
 fn is_slim<N: RowNotes>(rules: &Rules<'_>, scene: &Scene<'_, N>) -> bool
     ensures { result
         ≡ all_hold (slim ∷ []) (deed (cave_of rules.now) tt (scene_of N.rows scene.now)) }

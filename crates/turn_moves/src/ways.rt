@@ -21,7 +21,7 @@ pub fn other_end(here: Place, one: Option<Place>, other: Option<Place>) -> Optio
     if here == other { Some(one) } else { None }
 }
 
-/// The player stays, and a role's message is said.
+/// The player stays, and a role's message is printed.
 pub fn stay<N: RowNotes>(scene: &mut Scene<'_, N>, role: Role) -> Place
     requires { HasRoom 1 scene.old }
     ensures journey { act_of (scene_of N.rows scene.new) result

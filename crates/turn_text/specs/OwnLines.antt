@@ -1,4 +1,4 @@
--- The lines that the game itself words, round numbers and words.
+-- The lines that the game itself words, around numbers and words.
 use Rattle.std.specs.Prelude.{ℕ, ◌==◌, if◌then◌else◌, List, ◌++◌, codes, decimal}
 use Rattle.base_lines.specs.Bytes.{prefix_while, is_nonblank}
 use Rattle.cave_world.specs.declared.part.NumberLine.{NumberLine}
@@ -10,7 +10,7 @@ use Rattle.cave_world.specs.declared.part.WordLine.TheVariants as word
 abbrev pub number_between : List ℕ → ℕ → List ℕ → List ℕ
 number_between before n after = before ++ (decimal n ++ after)
 
--- points, of which there may be one, and the end of the line
+-- `point` or `points`, and the end of the line
 abbrev pub points_end : ℕ → List ℕ
 points_end n = if n == 1 then codes " point.\n" else codes " points.\n"
 
@@ -26,7 +26,7 @@ score_line before score most after =
     number_between before score (codes " out of a possible ")
     ++ number_between (codes "") most after
 
--- the line of its kind, where `most` counts only in the line of a score
+-- the line of its kind; only the line of a score uses `most`
 unfoldable pub number_line : NumberLine → ℕ → ℕ → List ℕ
 number_line number.DwarvesHere n most =
     number_between (codes "There are ") n

@@ -15,7 +15,7 @@ or_nothing text = unwrap_or text []
 abbrev pub message_text : CaveView → ℕ → List ℕ
 message_text cave number = or_nothing (map.get cave.messages number)
 
--- the line that is printed for a role to which no message is bound: its name in brackets
+-- the line that is printed for a role without a message: its name in brackets
 abbrev pub name_line : Role → List ℕ
 name_line role = codes "[" ++ slice_index_or ROLE_NAMES (role_number role) [] ++ codes "]\n"
 

@@ -9,7 +9,7 @@ use data_rows::Role;
 use std::alloc::AllocError;
 use world_objects::Object;
 
-/// Appends what the parts print at a number of turns. Where memory runs out the text is as it was.
+/// Appends what the parts print at a number of turns. If memory runs out the text is as it was.
 pub fn render(cave: &Cave, parts: &[Part], turns: u32, text: &mut Vec<u8>) -> Result<(), AllocError>
     ensures ok { OnOk result
         (text.new.items ≡ text.old.items ++ text_of_all cave.now turns parts.now) }

@@ -6,7 +6,7 @@ use Rattle.turn_dwarves.specs.Booty.{after_stealing_all}
 use Rattle.turn_dwarves.proofs.Treasures.{treasures_from}
 use Rattle.turn_dwarves.proofs.booty.steal_all.Given as goal
 
--- stealing the treasures that are left is stealing all
+-- stealing the remaining treasures is stealing all
 abbrev pub invariant-loop-number : goal.invariant-loop-number
 invariant-loop-number g l =
     (after_stealing_all (cave_of l.rules) (treasures_from l.number)

@@ -4,7 +4,7 @@ use Rattle.turn_ends.specs.Placing.{after_hiding_treasures}
 use Rattle.turn_ends.proofs.Countdown.{known_from}
 use Rattle.turn_ends.proofs.begin.hide_treasures.Given as goal
 
--- hiding those that are left is hiding all, and each that is hidden is counted
+-- hiding the remaining treasures is hiding all, and each hidden one is counted
 abbrev pub invariant-loop-number : goal.invariant-loop-number
 invariant-loop-number l = record {
   hidden : after_hiding_treasures (known_from l.cave l.number (80 - l.number)) l.objects

@@ -4,7 +4,7 @@ use Rattle.turn_scene.specs.Scene.{cave_of, scene_of, GoesOn}
 use Rattle.turn_moves.specs.Objects.{after_all_objects}
 use Rattle.turn_moves.proofs.objects.tell_all.Given as goal
 
--- describing the rest from here is describing all, and there is room for it
+-- describing the rest is describing all, and there is room for it
 abbrev pub invariant-loop-half : goal.invariant-loop-half
 invariant-loop-half g l =
     (after_all_objects (cave_of l.rules) (drop l.half-index l.halves)
