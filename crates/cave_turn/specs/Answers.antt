@@ -31,7 +31,7 @@ answer_of word =
     if is_written (codes "Y") word || is_written (codes "YES") word then Yes
     else (if is_written (codes "N") word || is_written (codes "NO") word then No else Neither)
 
--- the first word of a line alone is the answer
+-- only the first word of a line is the answer
 unfoldable pub answer_in : CaveView → List ℕ → Answer
 answer_in cave line =
     unwrap_or (option_map answer_of (words_of cave.letters line).first) Neither
@@ -40,7 +40,7 @@ answer_in cave line =
 abbrev pub without_question : State → State
 without_question s = record s { question = None }
 
--- how many turns the lamp of a player burns who wants the instructions
+-- how many turns the lamp burns for a player who wants the instructions
 abbrev pub INSTRUCTED_CHARGE : ℕ
 INSTRUCTED_CHARGE = 1000
 
@@ -52,7 +52,7 @@ give_instructions =
 unfoldable pub quit : List (Effect Question)
 quit = say role.Ok ∷ end_as ending_is.Quit ∷ []
 
--- what yes does, and what no does; a player who doesn't fight the dragon commands something else
+-- what yes does, and what no does; a player who doesn't fight the dragon gives another command
 abbrev pub answers_to : Question → List (Effect Question) × List (Effect Question)
 answers_to question.Welcome = (give_instructions, arrive start ∷ [])
 answers_to question.Quit = (quit, say role.Ok ∷ [])
@@ -106,7 +106,7 @@ do_no d = in_scene (after_no d.cave d.about.question d.scene) d
 abbrev pub repeat_question : Effect Reply
 repeat_question d = in_scene (after_question d.cave d.about.question d.scene) d
 
--- yes and no close the question; what is neither leaves it open
+-- yes and no close the question; any other answer leaves it open
 unfoldable pub reply_rows : List (Row Reply (Unit {0}))
 reply_rows =
     plain_row (says_yes ∷ []) (change without_question ∷ do_yes ∷ [])
@@ -131,7 +131,7 @@ unfoldable pub after_answer : CaveView → Question → List ℕ → State → S
 after_answer cave q line s =
     after_end_of_answer cave q (after_reply cave q (answer_in cave line) (scene_at_start false s))
 
--- a line answers a question; to the one whether to fight the dragon with bare hands only yes is an
--- answer, and any other line is a command
+-- a line answers a question; to the question whether to fight the dragon with bare hands only yes
+-- is an answer, and any other line is a command
 abbrev pub answers : CaveView → List ℕ → Question → Bool
 answers cave line asked = not (is_dragon asked) || is_yes (answer_in cave line)

@@ -45,7 +45,7 @@ use Rattle.cave_turn.specs.declared.request.Request.{Request}
 use Rattle.cave_turn.specs.declared.request.Request.TheVariants as request
 use Rattle.cave_turn.specs.declared.request.Understood.{Understood}
 
--- a magic word waits for the command after it, and where that says none, the words begin anew
+-- a magic word waits for the command after it, and if that says none, the words begin again
 abbrev pub with_magic_waiting : State → State
 with_magic_waiting s =
     with_talk (record (s.talk) { magic = int_min (pos 0) (pos 0 -ℤ s.talk.magic) }) s
@@ -67,7 +67,7 @@ forget_knife_rows =
     plain_row (knife_elsewhere ∷ []) (change (with_knife knife.Unthrown) ∷ [])
     ∷ []
 
--- magic words wait, it is noted whether it is dark, and a knife elsewhere is forgotten
+-- magic words wait, the game remembers whether it is dark, and a knife elsewhere is forgotten
 unfoldable pub begin_command : CaveView → State → Scene
 begin_command cave s =
     let t = with_magic_waiting s in
@@ -85,7 +85,7 @@ unknown_word_rows =
     ∷ plain_row ((λ d. d.about) ∷ []) (say role.NoWord2 ∷ [])
     ∷ otherwise (say role.NoWord ∷ [])
 
--- a draw is made before, whatever comes of it
+-- the first draw is made before the rows are tried, and moves the stream on whichever way it falls
 unfoldable pub after_unknown_word : CaveView → Scene → Scene
 after_unknown_word cave p =
     (by_table table.UnknownWord unknown_word_rows (deed cave (happens 20 p) (after_draw p))).scene
@@ -107,7 +107,7 @@ do_verb cave command p =
     let a = act cave command p in let next = next_of_step a.step in
     act_of (after_next cave next a.scene) next
 
--- an action that has rules is done by them; of another it is said what the cave says of it
+-- an action is done by its rules, if it has any; otherwise the game says what the cave says of it
 abbrev pub do_action : CaveView → Option Verb → ℕ → ℕ → List ℕ → Scene → Act Next
 do_action cave (Some v) number x word p = do_verb cave (command_of v x word) p
 do_action cave None number x word p = act_of (after_default cave number p) next_is.Stay
@@ -131,7 +131,7 @@ pub record Done : Type 0 where
 abbrev pub done : Understood → Next → Done
 done understood next = record { understood = understood; next = next }
 
--- the verb that asks what it is to be done to, if one does
+-- the verb that asks for its object, if one does
 abbrev pub verb_that_asks : Request → Next → Option ℕ
 verb_that_asks (request.Act number x word) next_is.Keep = Some number
 verb_that_asks _ _ = None
@@ -158,7 +158,7 @@ is_unknown _ = false
 abbrev pub unknown_word : Test Done
 unknown_word d = is_unknown d.about.understood.request
 
--- the verb alone, or what was said so far
+-- just the verb, or what was said so far
 abbrev pub verb_alone : Deed Done → Option HalfCommand
 verb_alone d = Some (record { verb = asking_verb d; object = 0 })
 
@@ -176,7 +176,7 @@ unfoldable pub keep_half_command : Deed Done → Act (Option HalfCommand)
 keep_half_command d = act_by_table table.HalfCommand half_command_rows
     (otherwise_row [] (always None)) d
 
--- what is kept is remembered; where nothing is, the object that was read is the last one
+-- what is kept is remembered; if nothing is, the object that was read becomes the last object
 abbrev pub after_remembering : Option HalfCommand → ℕ → State → State
 after_remembering None x s = with_talk (record (s.talk) { verb = None; object = 0; last = x }) s
 after_remembering (Some half) x s =

@@ -1,4 +1,4 @@
--- The dragon that is fought with bare hands.
+-- A fight with the dragon, with bare hands.
 use Rattle.std.specs.Prelude.{ℕ, ◌+◌, ◌/◌, List, [], ◌∷◌}
 use Rattle.base_lines.specs.Numbers.{LAST_OBJECT}
 use Rattle.cave_data.specs.CaveView.{CaveView}
@@ -26,7 +26,7 @@ abbrev pub half_way : Deed Question → ℕ
 half_way d = (home_of dragon d + second_home_of dragon d) / 2
 
 -- where the dragon is once it is dead: between its two homes; if one of them is no place, at the
--- other, and if neither is one, where the player is
+-- other; if neither is a place, where the player is
 abbrev pub lair_rows : List (Row Question ℕ)
 lair_rows =
     answer_row (there_is (home_of dragon) ∷ there_is (second_home_of dragon) ∷ []) half_way
@@ -37,7 +37,7 @@ unfoldable pub lair : Deed Question → Act ℕ
 lair d = act_by_table table.Lair lair_rows
     (otherwise_row [] here) d
 
--- the object's first half is at a place, if there is the place
+-- the object's first half is at a place, if the place exists
 abbrev pub first_at : (Deed ℕ → ℕ) → Test ℕ
 first_at place =
     both (there_is place) (λ d. is_first_at d.scene.state.objects (place d) (it d))
@@ -46,7 +46,7 @@ first_at place =
 abbrev pub by_dragon : Test ℕ
 by_dragon = either (first_at (home_of dragon)) (first_at (second_home_of dragon))
 
--- and is moved to the lair
+-- the object is then moved to the lair
 unfoldable pub gathering_rows : ℕ → List (Row ℕ (Unit {0}))
 gathering_rows place = plain_row (by_dragon ∷ []) (move it (always place) ∷ []) ∷ []
 
@@ -54,7 +54,7 @@ unfoldable pub after_gather : CaveView → ℕ → ℕ → Scene → Scene
 after_gather cave place x p =
     (by_table table.Gathering (gathering_rows place) (deed cave x p)).scene
 
--- each object that is by the dragon is, one after another
+-- each object that is by the dragon is moved, one after another
 abbrev pub gather : Effect ℕ
 gather d = in_scene (for_each_from 1 LAST_OBJECT (after_gather d.cave (it d)) d.scene) d
 
@@ -74,7 +74,7 @@ settle =
 unfoldable pub after_settle : CaveView → ℕ → Scene → Scene
 after_settle cave place p = (after_all settle (deed cave place p)).scene
 
--- the lair is found once
+-- the lair is looked for once
 abbrev pub settle_in_lair : Effect Question
 settle_in_lair d = let found = lair d in in_scene (after_settle d.cave found.step found.scene) d
 

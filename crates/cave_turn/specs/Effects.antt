@@ -1,4 +1,4 @@
--- What rows do to the scene by moves.
+-- What rows do to the scene by moving the player.
 use Rattle.std.specs.Prelude.{ℕ}
 use Rattle.turn_scene.specs.Scene.{scene_at_place}
 use Rattle.turn_moves.specs.Arrival.{after_arrival, after_description}
@@ -10,10 +10,10 @@ module _ {C : Type 0} where
   abbrev pub arrive : (Deed C → ℕ) → Effect C
   arrive place d = in_scene (after_arrival d.cave (place d) d.scene) d
 
-  -- the player is at a place; where the player came from stays as it is
+  -- the player is put at a place, and where the player came from doesn't change
   abbrev pub stand : (Deed C → ℕ) → Effect C
   stand place d = in_scene (scene_at_place (place d) d.scene) d
 
-  -- the place is described anew
+  -- the place is described again
   abbrev pub describe : Effect C
   describe d = follow after_description d

@@ -1,4 +1,4 @@
--- How a turn ends that leaves no question open.
+-- How a turn that leaves no question open ends.
 use Rattle.std.specs.Prelude.{ℕ, pos, ◌-ℤ◌, Bool, ◌&&◌, int_lt, List, [], ◌∷◌}
 use Rattle.base_lines.specs.Numbers.{LAST_OBJECT}
 use Rattle.cave_data.specs.CaveView.{CaveView}
@@ -12,7 +12,7 @@ use Rattle.turn_scene.specs.Rows.{Test, Effect, Thing, Row, deed, plain_row, by_
 use Rattle.turn_scene.specs.Tests.{the, no, cave_closed, over, it}
 use Rattle.turn_scene.specs.Effects.{look, set_prop, follow, for_each_from}
 
--- an object that is in the hands and shows nothing yet
+-- an object that is in the hands and hasn't shown yet what it is
 abbrev pub is_hidden_in_hands : Layout → ℕ → Bool
 is_hidden_in_hands o x = is_in_hands o x && int_lt (prop_of o x) (pos 0)
 

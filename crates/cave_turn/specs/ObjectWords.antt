@@ -1,4 +1,4 @@
--- What a word says that names an object.
+-- What a word that names an object says.
 use Rattle.std.specs.Prelude.{ℕ, Bool, false, ◌==◌, List, [], ◌∷◌, Option, Some, None}
 use Rattle.turn_scene.specs.Scene.{is_called}
 use Rattle.turn_scene.specs.Props.{PLANT_SMALL}
@@ -36,7 +36,7 @@ is_knife_at here _ = false
 abbrev pub is_knife_here : Test NamedObject
 is_knife_here d = is_knife_at d.scene.state.trail.here d.scene.state.dwarves.knife
 
--- the verb is one with rules of its own
+-- the verb is one that has rules
 abbrev pub is_verb_of : Verb → Option ℕ → Bool
 is_verb_of v None = false
 is_verb_of v (Some number) = number == verb_number v
@@ -44,7 +44,7 @@ is_verb_of v (Some number) = number == verb_number v
 abbrev pub by_verb : Verb → Test NamedObject
 by_verb v d = is_verb_of v d.about.verb
 
--- no word comes after
+-- no word follows
 abbrev pub alone : Test NamedObject
 alone d = d.about.is_alone
 

@@ -117,7 +117,7 @@ pour_in cave =
 abbrev pub put_pour : Effect Phrase
 put_pour d = record d { about = record (d.about) { next = Some (pour_in d.cave) } }
 
--- what is asked for, with the half command as it is then
+-- what is asked for, with the half command as it is after that
 abbrev pub asks_for : Request → Deed Phrase → Act Understood
 asks_for asked d = act_of d.scene (record { half = d.about.half; request = asked })
 
@@ -150,7 +150,7 @@ acts_by None d = asks_for (request.WhatToDo d.about.word.word) d
 abbrev pub acts_by_verb : Deed Phrase → Act Understood
 acts_by_verb d = acts_by d.about.half.verb d
 
--- what the word of an object comes to
+-- what the word of an object asks for
 abbrev pub object_comes_to : Bool → Deed Phrase → Act ObjectWord
 object_comes_to is_alone d =
     let x = or_no_object (Some (number d)) in let v = d.about.half.verb in
@@ -167,7 +167,7 @@ abbrev pub object_alone : Deed Phrase → Act Understood
 object_alone d =
     let found = object_comes_to true d in by_object_alone found.step (in_scene found.scene d)
 
--- a word that no other follows
+-- a word that no other word follows
 abbrev pub word_alone_rows : List (Row Phrase (Act Understood))
 word_alone_rows =
     answer_row (no has_meaning ∷ []) (asks_for request.Unknown)
@@ -213,7 +213,7 @@ abbrev pub object_before : Deed Phrase → Act Understood
 object_before d =
     let found = object_comes_to false d in by_object_before found.step (in_scene found.scene d)
 
--- a word that another follows
+-- a word that another word follows
 abbrev pub word_before_rows : List (Row Phrase (Act Understood))
 word_before_rows =
     answer_row (no has_meaning ∷ []) (asks_for request.Unknown)
@@ -233,7 +233,7 @@ pours_over d =
     (either (both (next_word_is (codes "PLANT")) (is_here (the name.Plant)))
     (both (next_word_is (codes "DOOR")) (is_here (the name.Door)))) d
 
--- two words that are put together
+-- two words together
 abbrev pub two_words_rows : List (Row Phrase (Act Understood))
 two_words_rows =
     answer_row (word_is (codes "ENTER") ∷ []) word_entered
@@ -243,7 +243,7 @@ unfoldable pub two_words : Deed Phrase → Act Understood
 two_words d = answer_by_table table.TwoWords two_words_rows
     (otherwise_row [] word_before) d
 
--- after SAY alone a word is said, and of two words SAY is forgotten
+-- after just SAY one word is said aloud; if there are two, SAY is forgotten
 abbrev pub line_rows : List (Row Phrase (Act Understood))
 line_rows =
     row_then (after_say ∷ has_next ∷ []) (forget_verb ∷ []) two_words

@@ -16,7 +16,7 @@ use Rattle.turn_scene.specs.Props.{LAMP_OFF}
 use Rattle.cave_world.specs.declared.tables.Table.TheVariants as table
 use Rattle.cave_turn.specs.Effects.{describe}
 
--- what is said of a first, a second, a third revival
+-- what is said at a first, a second, a third revival
 unfoldable pub reborn_rows : List (Row Question (Unit {0}))
 reborn_rows =
     plain_row (deaths 0 ∷ []) (say role.Reborn1 ∷ [])
@@ -28,8 +28,8 @@ unfoldable pub put_out_rows : List (Row Question (Unit {0}))
 put_out_rows =
     plain_row (carried (the name.Lamp) ∷ []) (set_prop (the name.Lamp) LAMP_OFF ∷ []) ∷ []
 
--- what a dead player had in the hands falls: the lamp where the game begins, all else at the older
--- place of the trail, which each death but one at place 0 sets to where things are left
+-- what a dead player had in the hands falls: the lamp where the game begins, and all else at the
+-- older place of the trail, which each death except one at place 0 sets to where things are left
 unfoldable pub fall_rows : List (Row ℕ (Unit {0}))
 fall_rows =
     plain_row (in_hands it ∷ is_it name.Lamp ∷ []) (move it start ∷ [])
@@ -68,6 +68,6 @@ come_back =
     ∷ by_table table.Revival revival_rows
     ∷ []
 
--- the player doesn't, and is dead
+-- the player doesn't want to come back, and is dead
 unfoldable pub bury : List (Effect Question)
 bury = say role.Ok ∷ count_death ∷ end_as Killed ∷ []

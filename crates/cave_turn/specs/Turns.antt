@@ -1,4 +1,4 @@
--- What a line of a log makes of a game.
+-- What a line of a log does to a game.
 use Rattle.std.specs.Prelude.{ℕ, Bool, true, false, if◌then◌else◌, List, [], ◌∷◌, Option, Some}
 use Rattle.std.specs.Prelude.{None}
 use Rattle.base_lines.specs.LogLine.{log_line}
@@ -31,7 +31,7 @@ silent_turn s = record { state = s; parts = []; ticked = false }
 abbrev pub turn_of : Bool → Scene → Turn
 turn_of ticked p = record { state = p.state; parts = p.parts; ticked = ticked }
 
--- a line of input: nothing after the end, an answer where a question is open, and else a command,
+-- a line of input: nothing after the end, an answer if a question is open, and otherwise a command,
 -- which is a turn
 abbrev pub turn_of_input : CaveView → List ℕ → Option Ending → Option Question → State → Turn
 turn_of_input cave line (Some ending) question s = silent_turn s
@@ -43,7 +43,7 @@ turn_of_input cave line None None s = turn_of true (after_command cave line s)
 abbrev pub with_seed : State → ℕ → State
 with_seed s seed = record s { stream = stream_of_seed seed }
 
--- a seed line changes the random stream alone, whatever else is going on
+-- a seed line changes only the random stream, in any state
 abbrev pub turn_on_log_line : CaveView → List ℕ → LogLine → State → Turn
 turn_on_log_line cave line (kind.Seed seed) s = silent_turn (with_seed s seed)
 turn_on_log_line cave line kind.Input s = turn_of_input cave line s.ending s.question s
@@ -69,7 +69,7 @@ rows_on_log_line cave line _ s = []
 unfoldable pub rows_on_line : CaveView → State → List ℕ → List RuleRow
 rows_on_line cave s line = rows_on_log_line cave line (log_line line) s
 
--- a state, and what is said as it begins
+-- a state, and what is said as the game begins
 pub record Beginning : Type 0 where
   pub state : State
   pub parts : List Part

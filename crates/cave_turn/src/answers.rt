@@ -27,7 +27,7 @@ use turn_ends::{end, question_row, tell_question};
 use turn_moves::arrive;
 use turn_scene::{Rules, Scene, start_place};
 
-/// What a line says to a question.
+/// What a line answers to a question.
 #[derive(Clone, Copy, Debug, PartialEq, Eq)]
 pub enum Answer {
     Yes,
@@ -35,7 +35,7 @@ pub enum Answer {
     Neither,
 }
 
-/// How many turns the lamp of a player burns who asked for the instructions.
+/// How many turns the lamp burns for a player who asked for the instructions.
 const INSTRUCTED_CHARGE: i32 = 1000;
 
 /// Takes a line as the answer to the open question.
@@ -76,7 +76,7 @@ fn answer_of(word: Word) -> Answer
     }
 }
 
-/// What a line says to a question: its first word alone counts.
+/// What a line answers to a question. Only its first word counts.
 #[tactic(auto, unfolding(crate::specs::Answers::answer_in))]
 pub fn answer_in(rules: &Rules<'_>, line: &[u8]) -> Answer
     ensures { result ≡ answer_in (cave_of rules.now) line.now }
@@ -96,7 +96,7 @@ fn instruct(state: &mut State)
     state.lamp.charge = Charge::new(INSTRUCTED_CHARGE);
 }
 
-/// The question is answered.
+/// Answers the question.
 pub fn close_question(state: &mut State)
     ensures { state.new ≡ without_question state.old }
 {
@@ -206,8 +206,8 @@ fn end_answer<N: RowNotes>(rules: &Rules<'_>, question: &Question, scene: &mut S
     }
 }
 
-/// Whether a line answers a question, and isn't a command: a player who is asked whether to fight
-/// the dragon with bare hands commands something else by any line but yes.
+/// Whether a line answers a question, and isn't a command. To the question whether to fight the
+/// dragon with bare hands any line except yes is a command.
 pub fn answers(rules: &Rules<'_>, line: &[u8], question: &Question) -> bool
     ensures { result ≡ answers (cave_of rules.now) line.now question.now }
 {

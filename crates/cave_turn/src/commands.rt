@@ -29,7 +29,7 @@ use turn_moves::{arrive, describe_here, journey_by_request};
 use turn_scene::{Rules, Scene};
 use world_objects::{Object, Place};
 
-/// Does what a line commands.
+/// Does what a command line says.
 #[tactic(auto, unfolding(crate::specs::Commands::after_command, crate::specs::Commands::begin_command))]
 pub fn command<N: RowNotes>(
     rules: &Rules<'_>,
@@ -72,7 +72,7 @@ fn is_elsewhere(here: Place, knife: Knife) -> bool
     }
 }
 
-/// A knife that was thrown elsewhere is forgotten.
+/// Forgets a knife that was thrown elsewhere.
 #[tactic(auto, unfolding(crate::specs::Commands::forget_knife_rows))]
 fn forget_knife<N: RowNotes>(rules: &Rules<'_>, scene: &mut Scene<'_, N>)
     ensures rows { Does N.rows (by_table table.KnifeForgotten forget_knife_rows ∷ []) 0 rules.now tt
@@ -96,7 +96,7 @@ fn travel_by<N: RowNotes>(rules: &Rules<'_>, motion: u16, scene: &mut Scene<'_, 
     arrive(rules, place, scene);
 }
 
-/// The cave doesn't have the word.
+/// Says that the cave doesn't have the word.
 #[tactic(auto, unfolding(crate::specs::Commands::after_unknown_word, crate::specs::Commands::unknown_word_rows))]
 fn tell_unknown_word<N: RowNotes>(rules: &Rules<'_>, scene: &mut Scene<'_, N>)
     requires { HasRoom 1 scene.old }
@@ -120,7 +120,7 @@ fn tell_unknown_word<N: RowNotes>(rules: &Rules<'_>, scene: &mut Scene<'_, N>)
     scene.say(Role::NoWord);
 }
 
-/// It is said that the knives vanished.
+/// Says that the knives vanished.
 fn tell_vanished_knives<N: RowNotes>(scene: &mut Scene<'_, N>)
     requires { HasRoom 1 scene.old }
     ensures scene { scene_of N.rows scene.new ≡ after_vanished_knives (scene_of N.rows scene.old) }
@@ -146,7 +146,7 @@ fn do_next<N: RowNotes>(rules: &Rules<'_>, next: &Next, scene: &mut Scene<'_, N>
     }
 }
 
-/// A verb is done by the first of its rows that fits, and then what follows, which is returned.
+/// Does a verb by the first of its rows that fits, and then what follows, which is returned.
 #[tactic(auto, unfolding(crate::specs::Commands::do_verb))]
 fn do_verb<N: RowNotes>(rules: &Rules<'_>, command: Command, scene: &mut Scene<'_, N>) -> Next
     requires { HasRoom (room_of_request scene.old.left) scene.old }
@@ -159,7 +159,7 @@ fn do_verb<N: RowNotes>(rules: &Rules<'_>, command: Command, scene: &mut Scene<'
     next
 }
 
-/// An action that has rules is done by them; of another it is said what the cave says of it.
+/// Does an action by its rules, if it has any; otherwise says what the cave says of it.
 fn do_action<N: RowNotes>(
     rules: &Rules<'_>,
     number: u16,
@@ -182,7 +182,7 @@ fn do_action<N: RowNotes>(
     }
 }
 
-/// What was read is done. Returns what a verb leaves to the turn.
+/// Does what was read. Returns what a verb leaves to the turn.
 fn do_request<N: RowNotes>(rules: &Rules<'_>, request: &Request, scene: &mut Scene<'_, N>) -> Next
     requires { HasRoom (room_of_request scene.old.left) scene.old }
     ensures scene { act_of (scene_of N.rows scene.new) result
@@ -214,8 +214,7 @@ fn do_request<N: RowNotes>(rules: &Rules<'_>, request: &Request, scene: &mut Sce
     }
 }
 
-/// What is kept for the next command: the verb that asks what it is to be done to, or what was said
-/// so far.
+/// What is kept for the next command: the verb that asks for its object, or what was said so far.
 #[tactic(auto, unfolding(crate::specs::Commands::keep_half_command))]
 fn keep_half_command<N: RowNotes>(
     understood: &Understood,
@@ -256,7 +255,7 @@ fn keep_half_command<N: RowNotes>(
     }
 }
 
-/// What is kept is remembered; where nothing is, the object that was read is the last one.
+/// Remembers what is kept. If nothing is, the object that was read becomes the last object.
 fn remember_command(kept: Option<HalfCommand>, object: Object, state: &mut State)
     ensures { state.new ≡ after_remembering kept object state.old }
 {
@@ -273,7 +272,7 @@ fn remember_command(kept: Option<HalfCommand>, object: Object, state: &mut State
     }
 }
 
-/// What was read is carried out, and what is left of it is remembered.
+/// Does what was read, and remembers what is left of it.
 #[tactic(auto, unfolding(crate::specs::Commands::after_understood, crate::specs::Commands::after_keeping))]
 fn do_understood<N: RowNotes>(rules: &Rules<'_>, understood: &Understood, scene: &mut Scene<'_, N>)
     requires { HasRoom (room_of_request scene.old.left) scene.old }
@@ -336,7 +335,7 @@ fn go_on_after_clocks<N: RowNotes>(
     }
 }
 
-/// The clocks run, and the words of the line are done.
+/// Runs the clocks, and does what the words of the line say.
 #[tactic(auto, unfolding(crate::specs::Commands::after_timed_words))]
 fn do_timed_words<N: RowNotes>(rules: &Rules<'_>, words: Words, scene: &mut Scene<'_, N>)
     requires { HasRoom (room_of_timed_request scene.old.left) scene.old }

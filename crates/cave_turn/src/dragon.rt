@@ -51,7 +51,7 @@ fn is_by_dragon<N: RowNotes>(rules: &Rules<'_>, object: Object, scene: &Scene<'_
         || (other.number() != 0 && objects.is_first_at(other, object))
 }
 
-/// An object that is at a home of the dragon is moved to the lair.
+/// Moves an object that is at a home of the dragon to the lair.
 #[tactic(auto, unfolding(crate::specs::Dragon::after_gather, crate::specs::Dragon::gathering_rows))]
 fn gather_object<N: RowNotes>(
     rules: &Rules<'_>,
@@ -69,7 +69,7 @@ fn gather_object<N: RowNotes>(
     }
 }
 
-/// All that is at the homes of the dragon is moved to its lair.
+/// Moves all that is at the homes of the dragon to its lair.
 fn gather<N: RowNotes>(rules: &Rules<'_>, lair: Place, scene: &mut Scene<'_, N>)
     ensures scene { scene_of N.rows scene.new
         ≡ for_each_from 1 LAST_OBJECT (after_gather (cave_of rules.now) lair)

@@ -1,4 +1,4 @@
-//! How a turn ends that leaves no question open.
+//! How a turn that leaves no question open ends.
 
 ghost use Rattle.std.specs.Prelude.{◌≡◌, ◌+◌, [], ◌∷◌};
 ghost use Rattle.turn_scene.specs.Bounds.{GoesOnSaying, HasRoom, parts_of_finish};
@@ -17,7 +17,7 @@ use turn_scene::{Rules, Scene};
 use world_objects::object::OBJECTS;
 use world_objects::{Object, Objects, Prop};
 
-/// A turn ends; after a question or the end of the game nothing more is done.
+/// Ends a turn; after a question or the end of the game it does nothing more.
 #[tactic(auto, unfolding(crate::specs::Finish::after_end_of_turn, crate::specs::Finish::end_rows))]
 pub fn end_turn<N: RowNotes>(rules: &Rules<'_>, scene: &mut Scene<'_, N>)
     requires { HasRoom (parts_of_finish + parts_of_question) scene.old }
@@ -32,7 +32,7 @@ pub fn end_turn<N: RowNotes>(rules: &Rules<'_>, scene: &mut Scene<'_, N>)
     consider_all(rules, scene);
 }
 
-/// Whether an object is in the hands and shows nothing yet.
+/// Whether an object is in the hands and hasn't shown yet what it is.
 fn is_hidden_in_hands(objects: &Objects, object: Object) -> bool
     ensures { result ≡ is_hidden_in_hands objects.now object }
 {

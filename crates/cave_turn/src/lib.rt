@@ -1,4 +1,4 @@
-//! The turn: what a line of a log makes of a game.
+//! The turn: what a line of a log does to a game.
 #![tactic(auto)]
 
 pub mod answers;

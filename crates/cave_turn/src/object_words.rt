@@ -17,7 +17,7 @@ use turn_scene::{
 };
 use world_objects::{Object, Place};
 
-/// What a word says that names an object.
+/// What a word that names an object says.
 #[derive(Clone, Copy, Debug, PartialEq, Eq)]
 pub enum ObjectWord {
     /// An object that a verb can be done to.
@@ -36,7 +36,7 @@ pub struct NamedObject {
     pub object: Object,
     /// The number of the action that was said before.
     pub verb: Option<u16>,
-    /// Whether no word comes after.
+    /// Whether no word follows.
     pub is_alone: bool,
 }
 
@@ -97,7 +97,7 @@ fn is_there<N: RowNotes>(rules: &Rules<'_>, about: &NamedObject, scene: &Scene<'
 }
 
 /// On the way to the cave the grate's word leads to it. The places are those before the building,
-/// in the valley and at the slit. No role names them, since nothing else is asked of them.
+/// in the valley and at the slit. No role names them, since no other rule asks for them.
 fn is_above_grate<N: RowNotes>(rules: &Rules<'_>, about: &NamedObject, scene: &Scene<'_, N>) -> bool
     ensures { result ≡ all_hold (word_names name.Grate ∷ at_one_of (1 ∷ 4 ∷ 7 ∷ []) ∷ [])
         (deed (cave_of rules.now) about.now (scene_of N.rows scene.now)) }
@@ -105,7 +105,7 @@ fn is_above_grate<N: RowNotes>(rules: &Rules<'_>, about: &NamedObject, scene: &S
     rules.is(about.object, Named::Grate) && matches!(scene.state.trail.here.number(), 1 | 4 | 7)
 }
 
-/// And in the first halls of the cave back to it.
+/// In the first halls of the cave it leads back to it.
 fn is_below_grate<N: RowNotes>(rules: &Rules<'_>, about: &NamedObject, scene: &Scene<'_, N>) -> bool
     ensures { result ≡ all_hold (word_names name.Grate ∷ at_from_to 10 14 ∷ [])
         (deed (cave_of rules.now) about.now (scene_of N.rows scene.now)) }
@@ -121,7 +121,7 @@ fn is_dwarf<N: RowNotes>(rules: &Rules<'_>, about: &NamedObject, scene: &Scene<'
     rules.is(about.object, Named::Dwarf) && is_dwarf_here(scene.state)
 }
 
-/// Whether an object is what a bottle at hand has in it, or what the lake is of.
+/// Whether an object is the liquid in a bottle at hand, or that of the lake.
 fn is_liquid_here<N: RowNotes>(rules: &Rules<'_>, about: &NamedObject, scene: &Scene<'_, N>) -> bool
     ensures { result ≡ either (both (in_bottle object) (near (the name.Bottle))) (in_lake object)
         (deed (cave_of rules.now) about.now (scene_of N.rows scene.now)) }
@@ -131,7 +131,7 @@ fn is_liquid_here<N: RowNotes>(rules: &Rules<'_>, about: &NamedObject, scene: &S
         || is_liquid(about.object, lake(rules, scene.state))
 }
 
-/// Whether the plant that grew is taken for an object.
+/// Whether the name of the plant means the plant that grew.
 fn is_grown_plant<N: RowNotes>(rules: &Rules<'_>, about: &NamedObject, scene: &Scene<'_, N>) -> bool
     ensures { result ≡ all_hold (word_names name.Plant ∷ is_here (the name.SecondPlant)
         ∷ other_prop (the name.SecondPlant) (pos 0) ∷ [])
@@ -176,7 +176,7 @@ pub fn is_verb_of(verb: Verb, number: Option<u16>) -> bool
     }
 }
 
-/// What isn't here can still be sought.
+/// A player can ask for what isn't here.
 fn is_sought<N: RowNotes>(rules: &Rules<'_>, about: &NamedObject, scene: &Scene<'_, N>) -> bool
     ensures { result ≡ all_hold
         (either (by_verb verb_is.Find) (by_verb verb_is.Inventory) ∷ alone ∷ [])

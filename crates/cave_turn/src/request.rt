@@ -139,7 +139,7 @@ fn said_word(rules: &Rules<'_>, word: Word) -> SaidWord
     }
 }
 
-/// What an object asks for that no other word follows.
+/// What an object asks for if no other word follows.
 fn object_alone<N: RowNotes>(
     rules: &Rules<'_>,
     found: ObjectWord,
@@ -163,7 +163,7 @@ fn object_alone<N: RowNotes>(
     }
 }
 
-/// What a word says that no other follows.
+/// What a word says if no other follows.
 #[tactic(auto, unfolding(crate::specs::Request::word_alone))]
 fn word_alone<N: RowNotes>(
     rules: &Rules<'_>,
@@ -212,7 +212,7 @@ fn word_alone<N: RowNotes>(
     }
 }
 
-/// Whether a motion is done where it is said aloud.
+/// Whether a motion is done if it is said aloud.
 fn is_magic_motion(number: u16) -> bool
     ensures { result ≡ (number == motion_number motion_is.Xyzzy
         || (number == motion_number motion_is.Plugh || number == motion_number motion_is.Plover)) }
@@ -221,7 +221,7 @@ fn is_magic_motion(number: u16) -> bool
         || (number == Motion::Plugh.number() || number == Motion::Plover.number())
 }
 
-/// What is done where a word is said aloud.
+/// What is done if a word is said aloud.
 #[tactic(auto, unfolding(crate::specs::Request::word_aloud))]
 fn word_aloud<N: RowNotes>(
     rules: &Rules<'_>,
@@ -253,7 +253,7 @@ fn word_aloud<N: RowNotes>(
     half.asks(Request::Tell(Part::Word(WordLine::Okay, word.word)))
 }
 
-/// What an object asks for that another word follows.
+/// What an object asks for if another word follows.
 fn object_before<N: RowNotes>(
     rules: &Rules<'_>,
     found: ObjectWord,
@@ -273,7 +273,7 @@ fn object_before<N: RowNotes>(
     }
 }
 
-/// What a word says that another follows.
+/// What a word says if another follows.
 #[tactic(auto, unfolding(crate::specs::Request::word_before))]
 fn word_before<N: RowNotes>(
     rules: &Rules<'_>,
@@ -345,7 +345,7 @@ fn pour_in(rules: &Rules<'_>) -> SaidWord
     }
 }
 
-/// What a word says that follows ENTER.
+/// What a word after ENTER says.
 #[tactic(auto, unfolding(crate::specs::Request::word_entered))]
 fn word_entered<N: RowNotes>(
     rules: &Rules<'_>,

@@ -22,7 +22,7 @@ use turn_scene::{Rules, Scene, building_place, is_carried, start_place};
 use world_objects::object::OBJECTS;
 use world_objects::{Object, Prop};
 
-/// What is said of a first, a second, a third revival.
+/// What is said at a first, a second, a third revival.
 #[tactic(auto, unfolding(crate::specs::Revival::reborn_rows))]
 fn tell_reborn<N: RowNotes>(rules: &Rules<'_>, scene: &mut Scene<'_, N>)
     requires { HasRoom 1 scene.old }
@@ -45,7 +45,7 @@ fn tell_reborn<N: RowNotes>(rules: &Rules<'_>, scene: &mut Scene<'_, N>)
     }
 }
 
-/// A lamp that the player carries is put out.
+/// Puts out a lamp that the player carries.
 #[tactic(auto, unfolding(crate::specs::Revival::put_out_rows))]
 fn put_out_lamp<N: RowNotes>(rules: &Rules<'_>, scene: &mut Scene<'_, N>)
     ensures rows { Does N.rows (by_table table.LampPutOut put_out_rows ∷ []) 0 rules.now
@@ -58,8 +58,8 @@ fn put_out_lamp<N: RowNotes>(rules: &Rules<'_>, scene: &mut Scene<'_, N>)
     }
 }
 
-/// An object in the hands falls: the lamp where the game begins, all else at the older place of
-/// the trail, which a death sets to where it leaves things, except a death at place 0.
+/// An object in the hands falls: the lamp where the game begins, and all else at the older place of
+/// the trail. A death sets that place to where it leaves things, except a death at place 0.
 #[tactic(auto, unfolding(crate::specs::Revival::after_fall, crate::specs::Revival::fall_rows))]
 fn let_fall<N: RowNotes>(rules: &Rules<'_>, object: Object, scene: &mut Scene<'_, N>)
     ensures scene { scene_of N.rows scene.new

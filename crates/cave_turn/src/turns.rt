@@ -36,7 +36,7 @@ pub fn take_line(
     note_rows_on_line(rules, state, line, out, &mut Unnoted::new(), meter)
 }
 
-/// The same, and the rows of the rules are noted as they apply or are tried.
+/// The same, and notes the rows of the rules as they apply or are tried.
 #[tactic(auto, unfolding(crate::specs::Turns::turn_on_line, crate::specs::Turns::rows_on_line))]
 pub fn note_rows_on_line<N: RowNotes>(
     rules: &Rules<'_>,
@@ -68,7 +68,7 @@ pub fn note_rows_on_line<N: RowNotes>(
     }
 }
 
-/// What a line makes of a game: the state after it, and whether it is a turn of the game.
+/// What a line does to a game: the state after it, and whether it is a turn of the game.
 #[derive(Clone, Copy, Debug, PartialEq, Eq)]
 pub struct Turned {
     pub state: State,

@@ -7,7 +7,7 @@ use Rattle.check_doubts.specs.Doubts.{doubts_from, doubts_of_row}
 use Rattle.check_doubts.specs.declared.flaw.Doubt.{Doubt}
 use Rattle.data_bindings.specs.declared.mark.MarkedRow.{MarkedRow}
 
--- the doubts of one row more
+-- the doubts of one more row
 pub doubts_more : (cave : CaveView) (so_far : List Doubt) (rows : List MarkedRow) (i : ℕ)
     (d : MarkedRow) → i < length rows
     → so_far ++ doubts_from cave (take i rows) (drop i rows)

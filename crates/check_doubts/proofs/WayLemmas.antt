@@ -1,4 +1,4 @@
--- The way at an index, as the code has it, is that of what the rows say.
+-- The way at an index, in the code, is the way in what the rows say.
 use Rattle.std.proofs.Common.{◌≡◌, ℕ, ◌<◌, ◌≤◌, false, List, length, map, take, get_or, refl, sym}
 use Rattle.std.proofs.Common.{ap}
 use Rattle.std.specs.Prelude.{not}

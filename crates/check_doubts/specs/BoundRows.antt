@@ -1,4 +1,4 @@
--- The bindings of a text with their lines, and what is doubtful of one.
+-- The bindings of a text with their lines, and what is doubtful about one.
 use Rattle.std.specs.Prelude.{ℕ, suc, length, ◌==◌, if◌then◌else◌, List, []}
 use Rattle.std.specs.Prelude.{◌∷◌, Option, Some, None}
 use Rattle.std.specs.Result.{result_ok}
@@ -14,7 +14,7 @@ use Rattle.check_doubts.specs.declared.bound.BoundRow.{BoundRow}
 use Rattle.check_doubts.specs.declared.flaw.CaveFlaw.{CaveFlaw}
 use Rattle.check_doubts.specs.declared.flaw.CaveFlaw.TheVariants as flaw
 
--- the binding that a line is, if it is one
+-- the binding that a line states, if it states one
 abbrev pub binding_in : List ℕ → Option Binding
 binding_in line = if is_skipped line then None else result_ok (binding_row line)
 

@@ -4,6 +4,6 @@ use Rattle.std.specs.List.{list_any}
 use Rattle.data_bindings.specs.Marks.{is_class_from}
 use Rattle.data_bindings.specs.declared.mark.MarkedRow.{MarkedRow}
 
--- a class before has all scores up to this one
+-- an earlier class has all scores up to this one
 abbrev pub is_taken : ℕ → List MarkedRow → Bool
 is_taken score before = list_any (is_class_from score) before

@@ -1,4 +1,4 @@
--- What is doubtful of a cave: of each row of its database and of each binding, in their order.
+-- What is doubtful about a cave: about each row of its database and each binding, in their order.
 use Rattle.std.specs.Prelude.{ℕ, List, [], ◌∷◌, ◌++◌, Option, Some, None}
 use Rattle.std.specs.List.{flat_map}
 use Rattle.std.specs.Str.Lines.{lines}
@@ -19,7 +19,7 @@ doubt_of source line None = []
 doubt_of source line (Some flaw) = record { source = source; line = line; flaw = flaw } ∷ []
 
 module _ (cave : CaveView) where
-  -- what is doubtful of a row, after the rows before it
+  -- what is doubtful about a row, after the rows before it
   abbrev pub doubts_of_row : List MarkedRow → MarkedRow → List Doubt
   doubts_of_row before row =
       doubt_of Database row.line (first_flaw cave before row.mark)
@@ -33,7 +33,7 @@ module _ (cave : CaveView) where
   abbrev pub doubts_of_binding : BoundRow → List Doubt
   doubts_of_binding row = doubt_of Bindings row.line (bound_flaw cave row)
 
-  -- what is doubtful of the database and of the bindings
+  -- what is doubtful about the database and the bindings
   unfoldable pub doubts : List ℕ → List ℕ → List Doubt
   doubts database bindings =
       doubts_from [] (marked_rows 1 Outside (lines database))

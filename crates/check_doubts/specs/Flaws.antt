@@ -1,4 +1,4 @@
--- What is doubtful of a row of a database, after the rows before it.
+-- What is doubtful about a row of a database, after the rows before it.
 use Rattle.std.specs.Prelude.{Bool, ◌&&◌, not, if◌then◌else◌, List, Option, Some, None}
 use Rattle.cave_data.specs.CaveView.{CaveView}
 use Rattle.turn_ends.specs.Score.{max_score_of}

@@ -1,4 +1,4 @@
--- The list of what is doubtful of a cave.
+-- The list of what is doubtful about a cave.
 use Rattle.std.specs.Prelude.{ℕ, List, [], ◌++◌, codes, length, slice_index_or}
 use Rattle.std.specs.Fmt.{decimal}
 use Rattle.std.specs.List.{flat_map}
@@ -20,7 +20,7 @@ place_role_name role = slice_index_or PLACE_NAMES role []
 abbrev pub textless : ℕ → List ℕ
 textless number = decimal number ++ codes ", which has no text"
 
--- what is said of each kind of doubt
+-- what is said about each kind of doubt
 abbrev pub words : CaveFlaw → List ℕ
 words (flaw.NoWayTo place) = codes "no way leads to place " ++ decimal place
 words (flaw.LeadsToTextless place) = codes "the way leads to place " ++ textless place

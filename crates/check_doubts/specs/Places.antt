@@ -1,4 +1,4 @@
--- Places that no way leads to.
+-- Places to which no way leads.
 use Rattle.std.specs.Prelude.{ℕ, ◌+◌, ◌*◌, Bool, false, ◌==◌, ◌&&◌, ◌||◌, not, is_some, pos, Option, None}
 use Rattle.std.specs.Prelude.{◌+ℤ◌, int_lt}
 use Rattle.std.specs.Prelude.{Some, List}
@@ -70,7 +70,7 @@ module _ (cave : CaveView) (place : ℕ) where
   abbrev pub is_unreached_long : List MarkedRow → Bool
   is_unreached_long before = not (list_any (is_long_text place) before) && not is_come_to
 
-  -- or of its short text, where it has no long one
+  -- or of its short text, if it has no long one
   abbrev pub is_unreached_short : List MarkedRow → Bool
   is_unreached_short before =
       not (is_some (map.get cave.long place)) && not (list_any (is_short_text place) before)

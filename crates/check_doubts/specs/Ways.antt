@@ -14,7 +14,7 @@ use Rattle.data_bindings.specs.WayLines.{way_index}
 use Rattle.check_doubts.specs.Messages.{place_has_text}
 use Rattle.data_bindings.specs.declared.mark.MarkedRow.{MarkedRow}
 
--- ---- which ways are come to
+-- ---- which ways journeys reach
 
 -- a motion begins with the way: it lists one that no way before it lists
 abbrev pub begins_journey : List Going → Going → Bool
@@ -30,7 +30,7 @@ abbrev pub ends_there : Destination → Bool
 ends_there destination.PutsEmeraldDown = false
 ends_there _ = true
 
--- a journey that comes to the way ends with it, in each state and with each draw
+-- a journey that reaches the way ends with it, in each state and with each draw
 abbrev pub ends_journey : Going → Bool
 ends_journey way = is_certain (row_condition way) && ends_there (row_destination way)
 
@@ -38,12 +38,12 @@ abbrev pub is_other : ℕ → Option ℕ → Bool
 is_other target None = false
 is_other target (Some failed) = not (failed == target)
 
--- A journey comes to a way where a motion begins with it, or where one fails before it, at a way
--- with another target.
+-- A journey reaches a way if a motion begins with it, or if one fails before it, at a way with
+-- another target.
 abbrev pub comes_to : List Going → Option ℕ → Going → Bool
 comes_to before failed way = begins_journey before way || is_other way.target failed
 
--- the target at which a journey may have failed that goes on after the way; a way with that target
+-- the target at which a journey that goes on after the way may have failed; a way with that target
 -- is passed over
 abbrev pub failed_after : List Going → Option ℕ → Going → Option ℕ
 failed_after before failed way =
@@ -63,7 +63,7 @@ abbrev pub is_never_taken_after : List Going → Option Going → Bool
 is_never_taken_after before None = false
 is_never_taken_after before (Some way) = not (may_be_taken before way)
 
--- of a place's ways the one at an index is never taken
+-- the way of a place at an index is never taken
 abbrev pub is_never_taken_at : ℕ → List Going → Bool
 is_never_taken_at index ways = is_never_taken_after (take index ways) (slice_get ways index)
 

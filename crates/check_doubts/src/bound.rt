@@ -1,4 +1,4 @@
-//! The bindings of a text that is accepted, with their lines, and what is doubtful of one.
+//! The bindings of an accepted text, with their lines, and what is doubtful about one.
 
 ghost use Rattle.std.specs.Prelude.{◌≡◌, IfOk, option_map};
 ghost use Rattle.std.specs.Str.Lines.{lines};
@@ -18,7 +18,7 @@ pub struct BoundRow {
     pub binding: Binding,
 }
 
-/// The binding that a line is, if it is one.
+/// The binding that a line states, if it states one.
 fn binding_in(line: &[u8]) -> Option<Binding>
     ensures { result ≡ binding_in line.now }
 {
@@ -51,7 +51,7 @@ pub(crate) fn bound_rows(alloc: Global, bindings: &[u8]) -> Result<Vec<BoundRow>
     Ok(rows)
 }
 
-/// What is doubtful of the message that a role is bound to.
+/// What is doubtful about the message that a role is bound to.
 fn message_flaw(role: u16, message: u16, text: Option<&[u8]>) -> Option<CaveFlaw>
     ensures { result ≡ message_flaw role message (option_map (λ text. text.now) text.entry) }
 {
@@ -62,7 +62,7 @@ fn message_flaw(role: u16, message: u16, text: Option<&[u8]>) -> Option<CaveFlaw
     }
 }
 
-/// What is doubtful of a binding.
+/// What is doubtful about a binding.
 pub(crate) fn bound_flaw(cave: &Cave, row: &BoundRow) -> Option<CaveFlaw>
     ensures { result ≡ bound_flaw cave.now row.now }
 {

@@ -1,4 +1,4 @@
-//! All that is doubtful of a cave.
+//! All that is doubtful about a cave.
 
 ghost use Rattle.std.specs.Prelude.{◌≡◌, ◌++◌, IfOk, OnOk, []};
 ghost use Rattle.std.specs.List.{flat_map};
@@ -15,7 +15,7 @@ use data_bindings::{MarkedRow, marked_rows};
 use std::alloc::{AllocError, Global};
 use turn_scene::Rules;
 
-/// Adds a doubt, where there is one.
+/// Adds a doubt, if there is one.
 fn push_doubt(
     source: Source,
     line: usize,
@@ -33,7 +33,7 @@ fn push_doubt(
     }
 }
 
-/// Adds what is doubtful of a row, after the rows before it.
+/// Adds what is doubtful about a row, after the rows before it.
 fn push_row_doubts(
     rules: &Rules<'_>,
     before: &[MarkedRow],
@@ -57,7 +57,7 @@ fn push_row_doubts(
     )
 }
 
-/// Adds what is doubtful of some rows, before which there are none.
+/// Adds what is doubtful about the first rows of a database.
 #[tactic(auto, using(crate::proofs::Steps::doubts_more))]
 fn push_rows_doubts(
     rules: &Rules<'_>,
@@ -73,7 +73,7 @@ fn push_rows_doubts(
     Ok(())
 }
 
-/// Adds what is doubtful of some bindings.
+/// Adds what is doubtful about these bindings.
 fn push_bindings_doubts(
     cave: &Cave,
     rows: &[BoundRow],
@@ -88,7 +88,7 @@ fn push_bindings_doubts(
     Ok(())
 }
 
-/// What is doubtful of a cave that was read from a database and bindings, in their order.
+/// What is doubtful about a cave that was read from a database and bindings, in their order.
 #[tactic(auto, unfolding(crate::specs::Doubts::doubts))]
 pub fn doubts(
     alloc: Global,

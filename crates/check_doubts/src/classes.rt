@@ -5,7 +5,7 @@ ghost use Rattle.check_doubts.specs.Classes.{is_taken};
 
 use data_bindings::MarkedRow;
 
-/// Whether a class before has all scores up to this one.
+/// Whether an earlier class has all scores up to this one.
 pub(crate) fn is_taken(score: u32, before: &[MarkedRow]) -> bool
     ensures { result ≡ is_taken score before.now }
 {

@@ -1,4 +1,4 @@
-//! What is doubtful of a row of a database or of bindings.
+//! What is doubtful about a row of a database or of bindings.
 
 ghost use Rattle.std.specs.Prelude.{◌≡◌, [], map, slice_index_or};
 
@@ -6,14 +6,14 @@ use data_rows::place_role::PLACE_NAMES;
 use data_rows::role::ROLE_NAMES;
 use std::fmt;
 
-/// What is doubtful of a row. Places, objects, actions, hints and messages have their numbers.
+/// What is doubtful about a row. Places, objects, actions, hints and messages have their numbers.
 #[derive(Clone, Copy, Debug, PartialEq, Eq)]
 pub enum CaveFlaw {
     /// No way leads to the place.
     NoWayTo(u16),
     /// The way leads to a place that has no text.
     LeadsToTextless(u16),
-    /// A player never comes to the way.
+    /// A player never gets to the way.
     NeverTaken,
     /// The word means something else, by an earlier row.
     Hidden,
@@ -106,14 +106,14 @@ impl fmt::Display for CaveFlaw {
     }
 }
 
-/// The input that a doubt is of.
+/// The input that a doubt is about.
 #[derive(Clone, Copy, Debug, PartialEq, Eq)]
 pub enum Source {
     Database,
     Bindings,
 }
 
-/// What is doubtful of a row, with the number of its line, from 1.
+/// What is doubtful about a row, with the number of its line, from 1.
 #[derive(Clone, Copy, Debug, PartialEq, Eq)]
 pub struct Doubt {
     pub source: Source,

@@ -1,4 +1,4 @@
-//! What a maintainer would want to hear of a cave that is accepted.
+//! What a maintainer would want to know about an accepted cave.
 #![tactic(auto)]
 
 pub mod bound;

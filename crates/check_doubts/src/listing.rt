@@ -1,4 +1,4 @@
-//! The list of what is doubtful of a cave, as text.
+//! The list of what is doubtful about a cave, as a text.
 
 ghost use Rattle.std.specs.Prelude.{◌≡◌, ◌++◌, OnOk};
 ghost use Rattle.std.specs.List.{flat_map};
@@ -7,7 +7,7 @@ ghost use Rattle.check_doubts.specs.Listing.{doubt_line, doubts_text, file_of};
 use crate::flaw::{Doubt, Source};
 use std::alloc::{AllocError, Global};
 
-/// The names of the files that doubts are told of.
+/// The names of the files that doubts are about.
 #[derive(Clone, Copy)]
 pub struct DoubtFiles<'a> {
     pub database: &'a str,

@@ -5,7 +5,7 @@ ghost use Rattle.check_doubts.specs.Messages.{lacks_text, place_has_text};
 
 use cave_data::Cave;
 
-/// Whether a message has no text, where it is one.
+/// Whether the number is that of a message, and this has no text.
 pub(crate) fn lacks_text(cave: &Cave, message: u16) -> bool
     ensures { result ≡ lacks_text cave.now message }
 {

@@ -1,4 +1,4 @@
-//! Places that no way leads to.
+//! Places to which no way leads.
 
 ghost use Rattle.std.specs.Prelude.{◌≡◌, map};
 ghost use Rattle.std.specs.List.{list_any};
@@ -23,7 +23,7 @@ fn leads_to(row: &Row, place: u16) -> bool
     row.destination().leads_to_place(place)
 }
 
-/// Whether one of some ways leads to a place.
+/// Whether one of these ways leads to a place.
 fn any_leads_to(rows: &[Row], place: u16) -> bool
     ensures { result ≡ list_any (leads_to place) (map going rows.now) }
 {
@@ -106,7 +106,7 @@ fn is_lair(cave: &Cave, lexicon: &Lexicon, place: u16) -> bool
     is_midway(cave, place, lexicon.named(cave, Named::Dragon))
 }
 
-/// Whether a player comes to a place.
+/// Whether a player can get to a place.
 fn is_come_to(cave: &Cave, lexicon: &Lexicon, place: u16) -> bool
     requires { IsLexiconOf cave.now lexicon.now }
     ensures { result ≡ is_come_to cave.now place }
@@ -117,7 +117,7 @@ fn is_come_to(cave: &Cave, lexicon: &Lexicon, place: u16) -> bool
         || is_lair(cave, lexicon, place)
 }
 
-/// Whether a row begins the long text of a place that no way leads to.
+/// Whether a row begins the long text of a place to which no way leads.
 pub(crate) fn is_unreached_long(
     cave: &Cave,
     lexicon: &Lexicon,
@@ -130,7 +130,7 @@ pub(crate) fn is_unreached_long(
     !any_long_text(before, place) && !is_come_to(cave, lexicon, place)
 }
 
-/// Whether a row begins the short text of such a place, which has no long one.
+/// Whether a row begins the short text of such a place, if this has no long one.
 pub(crate) fn is_unreached_short(
     cave: &Cave,
     lexicon: &Lexicon,

@@ -1,4 +1,4 @@
-//! What is doubtful of a row of a database, after the rows before it.
+//! What is doubtful about a row of a database, after the rows before it.
 
 ghost use Rattle.std.specs.Prelude.{◌≡◌};
 ghost use Rattle.turn_scene.specs.Scene.{cave_of};
@@ -21,7 +21,7 @@ fn flaw_if(holds: bool, found: CaveFlaw) -> Option<CaveFlaw>
     if holds { Some(found) } else { None }
 }
 
-/// The first of what is doubtful of a row.
+/// The first thing that is doubtful about a row.
 pub(crate) fn first_flaw(rules: &Rules<'_>, before: &[MarkedRow], mark: RowMark) -> Option<CaveFlaw>
     ensures { result ≡ first_flaw (cave_of rules.now) before.now mark }
 {
@@ -70,7 +70,7 @@ pub(crate) fn first_flaw(rules: &Rules<'_>, before: &[MarkedRow], mark: RowMark)
     }
 }
 
-/// The second of what is doubtful of a row.
+/// The second thing that is doubtful about a row.
 pub(crate) fn second_flaw(
     rules: &Rules<'_>,
     before: &[MarkedRow],

@@ -15,7 +15,7 @@ use cave_world::travel_rows::lists_motion;
 use data_bindings::{MarkedRow, way_index};
 use data_rows::{Condition, Destination, Row};
 
-/// Whether one of some ways lists a motion.
+/// Whether one of these ways lists a motion.
 fn any_lists_motion(rows: &[Row], motion: u16) -> bool
     ensures { result ≡ list_any (lists_motion motion) (map going rows.now) }
 {
@@ -49,7 +49,7 @@ fn ends_there(destination: Destination) -> bool
     }
 }
 
-/// Whether each journey ends with a way that comes to it.
+/// Whether each journey that reaches a way ends with it.
 fn ends_journey(row: &Row) -> bool
     ensures { result ≡ ends_journey (going row.now) }
 {
@@ -65,14 +65,14 @@ fn is_other(target: u32, failed: Option<u32>) -> bool
     }
 }
 
-/// Whether a journey comes to a way, after others.
+/// Whether a journey reaches a way, after others.
 fn comes_to(before: &[Row], failed: Option<u32>, row: &Row) -> bool
     ensures { result ≡ comes_to (map going before.now) failed (going row.now) }
 {
     begins_journey(before, row) || is_other(row.target, failed)
 }
 
-/// The target at which a journey may have failed that goes on after a way.
+/// The target at which a journey that goes on after a way may have failed.
 fn failed_after(before: &[Row], failed: Option<u32>, row: &Row) -> Option<u32>
     ensures { result ≡ failed_after (map going before.now) failed (going row.now) }
 {
@@ -86,7 +86,7 @@ fn failed_after(before: &[Row], failed: Option<u32>, row: &Row) -> Option<u32>
     }
 }
 
-/// The target at which a journey may have failed that goes on after all these ways.
+/// The target at which a journey that goes on after all these ways may have failed.
 fn failed_at_end(rows: &[Row]) -> Option<u32>
     ensures { result ≡ failed_from [] None (map going rows.now) }
 {
@@ -104,7 +104,7 @@ fn may_be_taken(before: &[Row], row: &Row) -> bool
     comes_to(before, failed_at_end(before), row)
 }
 
-/// The way that a row is, by the rows before it.
+/// Which way of its place a row is, by the rows before it.
 pub(crate) fn way_of_row<'a>(cave: &'a Cave, place: u16, before: &[MarkedRow]) -> Option<&'a Row>
     ensures { option_map (λ row. going row.now) result ≡ way_of_row cave.now place before.now }
 {
@@ -142,7 +142,7 @@ pub(crate) fn end_of_way(found: Option<&Row>) -> u16
     }
 }
 
-/// Whether a place has no text, where it is one.
+/// Whether the number is that of a place, and this has no text.
 pub(crate) fn is_textless_end(cave: &Cave, place: u16) -> bool
     ensures { result ≡ is_textless_end cave.now place }
 {

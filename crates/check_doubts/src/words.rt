@@ -22,14 +22,14 @@ fn is_meant(found: Option<Meaning>, meaning: Meaning) -> bool
     }
 }
 
-/// Whether rules look up what means a thing of a class by that too.
+/// Whether rules also look up words of a class by that class.
 fn is_looked_up(class: Class) -> bool
     ensures { result ≡ is_looked_up class }
 {
     matches!(class, Class::Object | Class::Special)
 }
 
-/// Whether what a row means is found by its word.
+/// Whether looking up a row's word finds what the row means.
 fn is_found(cave: &Cave, lexicon: &Lexicon, word: Word, means: Meaning) -> bool
     requires { IsLexiconOf cave.now lexicon.now }
     ensures { result ≡ is_found cave.now word means }
@@ -68,7 +68,7 @@ fn word_index(before: &[MarkedRow]) -> usize
     before.iter().filter(|row| row.is_word()).count()
 }
 
-/// Whether the row is of a word that means something else.
+/// Whether the row has a word that means something else.
 pub(crate) fn is_hidden(cave: &Cave, lexicon: &Lexicon, before: &[MarkedRow]) -> bool
     requires { IsLexiconOf cave.now lexicon.now }
     ensures { result ≡ is_hidden cave.now (word_of_row cave.now before.now) }

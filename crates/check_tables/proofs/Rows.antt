@@ -1,4 +1,4 @@
--- Tests of rows and of roles, as the code has them, are those of what they say.
+-- Tests of rows and of roles in the code are tests of what these say.
 use Rattle.std.proofs.Common.{◌≡◌, ℕ, Bool, List, [], ◌∷◌, map, refl, sym, ap, ◌∙◌}
 use Rattle.std.specs.Prelude.{◌||◌}
 use Rattle.std.specs.List.{list_any}

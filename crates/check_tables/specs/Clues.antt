@@ -34,7 +34,7 @@ abbrev pub if_near : Cause → List ℕ → Option Clue
 if_near UnknownRole key = option_map NearKey (near_key key)
 if_near _ key = None
 
--- text is there, and neither a digit nor a minus sign begins it
+-- there is text, and neither a digit nor a minus sign begins it
 abbrev pub begins_no_number : List ℕ → Bool
 begins_no_number [] = false
 begins_no_number (byte ∷ bytes) = not (is_digit byte || byte == 45)
@@ -47,14 +47,13 @@ log_for _ line = None
 abbrev pub if_log : CaveError → List ℕ → Option Clue
 if_log error database = log_for error.cause (line_at_number 1 (lines database))
 
--- a first line that is at fault has a byte order mark before it, or else is as one of a log
+-- a faulty first line has a byte order mark before it, or looks like the first line of a log
 abbrev pub clue_at_first : CaveError → List ℕ → List ℕ → Option Clue
 clue_at_first error database bindings =
     if has_byte_order_mark (faulty_text error.site database bindings) then Some ByteOrderMark
     else if_log error database
 
--- what is known of a first line that is at fault, or else of a key that isn't known: it is near to
--- one that is
+-- what is known of a faulty first line, or otherwise of an unknown key: it is near to a known one
 abbrev pub clue_of : CaveError → List ℕ → List ℕ → Option Clue
 clue_of error database bindings =
     option_or (if error.line == 1 then clue_at_first error database bindings else None)

@@ -21,11 +21,12 @@ each_name =
     ∷ name.Pyramid ∷ name.Pearl ∷ name.Rug ∷ name.Spices ∷ name.Chain ∷ name.SecondRod
     ∷ name.SecondPlant ∷ name.SecondTroll ∷ []
 
--- a name as it is listed: its word, with a 2 where it is the object after the one of that word
+-- a name as it is listed: its word, followed by a 2 if the name is of the object after the one that
+-- the word names
 abbrev pub label : Named → List ℕ
 label name = word_of_name name ++ (if is_second name then codes "2" else [])
 
--- the first line of an object's inventory text, empty where it has none
+-- the first line of an object's inventory text, empty if it has none
 abbrev pub inventory_line : CaveView → ℕ → List ℕ
 inventory_line cave object = first_line (unwrap_or (name_of cave object) [])
 

@@ -61,7 +61,7 @@ impl fmt::Display for Clue {
     }
 }
 
-/// The line with a number, from 1, of a text; empty where it has none.
+/// The line of a text with a number, from 1, which is empty if the text has no such line.
 fn line_at(number: usize, text: &[u8]) -> &[u8]
     ensures { result.now ≡ line_at_number number (lines text.now) }
 {
@@ -94,7 +94,7 @@ fn key_in(line: &[u8]) -> &[u8]
     split_word(skip_blanks(line)).0
 }
 
-/// The clue to a key, where it isn't known and one alone is near.
+/// The clue to a key, if it isn't known and exactly one known key is near.
 fn if_near(alloc: Global, cause: Cause, key: &[u8]) -> Result<Option<Clue>, AllocError>
     ensures { IfOk result (λ clue. clue ≡ if_near cause key.now) }
 {
@@ -104,7 +104,7 @@ fn if_near(alloc: Global, cause: Cause, key: &[u8]) -> Result<Option<Clue>, Allo
     }
 }
 
-/// Whether text is there, and no number begins it.
+/// Whether there is text, and no number begins it.
 fn begins_no_number(text: &[u8]) -> bool
     ensures { result ≡ begins_no_number text.now }
 {
@@ -114,7 +114,7 @@ fn begins_no_number(text: &[u8]) -> bool
     }
 }
 
-/// The clue to a first line of a database, where it opens no section and no number begins it.
+/// The clue to a first line of a database, if it opens no section and no number begins it.
 fn if_log(error: CaveError, database: &[u8]) -> Option<Clue>
     ensures { result ≡ if_log error database.now }
 {

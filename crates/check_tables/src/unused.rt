@@ -16,7 +16,7 @@ use data_bindings::{first_line, message_keys};
 use data_rows::{Destination, Hint, Role, Row, WORDS_PER_CLASS};
 use std::alloc::{AllocError, Global};
 
-/// The special words come after this number, each with its message's.
+/// The special words come after this number, each of them its message's number later.
 const SPECIAL_WORDS: u16 = 3 * WORDS_PER_CLASS;
 
 /// Whether this is the number.
@@ -29,7 +29,7 @@ pub fn is_number(number: u16, found: Option<u16>) -> bool
     }
 }
 
-/// Whether one of some roles is bound to a message.
+/// Whether one of these roles is bound to a message.
 fn any_bound(cave: &Cave, roles: &[Role], number: u16) -> bool
     ensures { result ≡ list_any
         (λ role. is_number number (get cave.now.roles (role_number role))) roles.now }
@@ -37,7 +37,7 @@ fn any_bound(cave: &Cave, roles: &[Role], number: u16) -> bool
     roles.iter().any(|role| is_number(number, cave.role(*role)))
 }
 
-/// Whether a role is bound to a message.
+/// Whether any role is bound to a message.
 fn role_says(cave: &Cave, number: u16) -> bool
     ensures { result ≡ role_says cave.now number }
 {
@@ -54,7 +54,7 @@ fn row_says(row: &Row, number: u16) -> bool
     }
 }
 
-/// Whether one of some rows says a message.
+/// Whether one of these rows says a message.
 fn any_row_says(rows: &[Row], number: u16) -> bool
     ensures { result ≡ list_any (row_says number) (map going rows.now) }
 {
@@ -69,7 +69,7 @@ fn way_says(cave: &Cave, number: u16) -> bool
     (1..LAST_PLACE + 1).any(|place| any_row_says(cave.travel(place), number))
 }
 
-/// Whether a verb says a message where no rule says more.
+/// Whether a verb says a message if no rule says more.
 #[tactic(auto, unfolding(crate::specs::Unused::action_numbers))]
 fn verb_says(cave: &Cave, number: u16) -> bool
     ensures { result ≡ verb_says cave.now number }

@@ -103,7 +103,7 @@ fn turns_after(before: usize, state: &State) -> Count<MAX_TURNS_IN_AREA>
     state.hints.turns[before + usize::from(FIRST_HINT) - 1]
 }
 
-/// Whether no turn counts for any of the first hints, this many.
+/// Whether no turn counts for any of this many hints, from the first on.
 fn counts_no_turn(count: u8, state: &State) -> bool
     requires { count ≤ defined.OFFERED_HINTS }
     ensures { IsTrue result → (n : ℕ) → n < count
