@@ -61,6 +61,7 @@ checks: ## checks names, imports, pages and scripts, in seconds, without any pro
 	tools/check-rows
 	tools/check-version
 	tools/rule-words --check
+	tools/rooms --check
 	tools/counts --check
 	tools/check-checks
 	tools/check-help

@@ -25,14 +25,14 @@ if sys.version_info < OLDEST:
              % (*sys.version_info[:2], *OLDEST))
 
 
-def answer_help(words=None):
+def answer_help(words: list[str] | None = None) -> None:
     """Prints what the script says of itself, and ends it, if one of its words asks for help."""
     if {"-h", "--help"} & {*(sys.argv[1:] if words is None else words)}:
-        print(sys.modules["__main__"].__doc__.strip())
+        print((sys.modules["__main__"].__doc__ or "").strip())
         sys.exit()
 
 
-def missing(*programs):
+def missing(*programs: str) -> str | None:
     """What to do about the first of some programs that isn't there, or None."""
     lost = next((it for it in programs if not shutil.which(it)), None)
     if lost is None:
@@ -44,20 +44,20 @@ def missing(*programs):
     return f"there is no `{lost}`: install it, as by `apt-get install {PACKAGES.get(lost, lost)}`"
 
 
-def demand(*programs):
+def demand(*programs: str) -> None:
     """Ends the script with a line on standard error if a program isn't there."""
     if said := missing(*programs):
         print(f"{os.path.basename(sys.argv[0])}: {said}", file=sys.stderr)
         sys.exit(2)
 
 
-def skip(count, parts, *programs):
+def skip(count: int, parts: str, *programs: str) -> None:
     """Says how many parts of a check are skipped, and why. `make test` adds these up, by the file
     that SKIPPED names."""
     skip_for(count, parts, missing(*programs))
 
 
-def skip_for(count, parts, reason):
+def skip_for(count: int, parts: str, reason: str | None) -> None:
     """The same, for another reason."""
     line = f"{count} {parts} skipped: {reason}"
     print(line)

@@ -16,7 +16,7 @@ Place = namedtuple("Place", "order labels")
 
 PAGES = ("docs/TURN.md", "docs/PLAY.md", "docs/VERBS.md")
 SHOWN = re.compile(
-    r"^(?:((?:\*\*[^*]+\*\*(?:, )?)+)\n\n)?<!-- rows: (.*) -->\n\n?((?:^\|.*\n)*)", re.MULTILINE
+    r"^(?:((?:\*\*[^*]+\*\*(?:, )?)+)\n\n?)?<!-- rows: (.*) -->\n\n?((?:^\|.*\n)*)", re.MULTILINE
 )
 NOTED = re.compile(r"\b(?:noted|noted_from|by_table) table\.(\w+) (?:\d+ )?\(?(\w+)")
 ITSELF = re.compile(r"^(\w+) d =\s+\w+_by_table table\.(\w+)", re.MULTILINE)

@@ -1,4 +1,4 @@
-//! The items of a script, applied to a play of a cave: what comes of each, why one is refused, what
+//! The items of a script, applied to a play of a cave: what each leads to, why one is refused, what
 //! takes it back, what is written of it, and how the lines of the edited log end.
 #![tactic(auto)]
 
