@@ -1,5 +1,5 @@
 -- How many deaths, objects in the hands and dwarves there are, where the player is, what is open,
--- and that a closing cave lets nobody out.
+-- and that a closing cave doesn't let the player out.
 use Rattle.std.proofs.Common.{Bool, List, [], ap, arith, false, get_or, inl, inr, length, refl}
 use Rattle.std.proofs.Common.{subst, suc, sym, true, zero, ℕ, ◌+◌, ◌-◌, ◌<◌, ◌∙◌, ◌∷◌, ◌≡◌, ◌≤◌}
 use Rattle.std.proofs.Common.{◌⊎◌}
@@ -78,7 +78,7 @@ few_in_hands =
     (λ y _ held. absurd (none_carried cave seed y held)) in
     omega (arith, none)) held_kept
 
--- a command finds the player somewhere else than at place 0
+-- a command finds the player at a place other than 0
 found : (cave : CaveView) (s : State) (line : List ℕ) → IsSomewhere s
     → IsFound (line_of cave s line)
 found cave s line somewhere command = by_place (s.trail.here == 0) refl
@@ -97,8 +97,8 @@ found cave s line somewhere command = by_place (s.trail.here == 0) refl
     by_place true none = absurd (nowhere (somewhere (none_of s.trail.here none)))
     by_place false some = from_one s.trail.here some
 
--- the dwarves that were killed and those that live are five at most, and none lives in a closing
--- cave
+-- the dwarves that were killed and those that live are together at most five, and none lives in a
+-- closing cave
 abbrev FewBand : Claim
 FewBand v =
     (v.band.kills + living 5 v.band.each ≤ 5)
@@ -147,7 +147,7 @@ gone_for_good cave s line number somewhere low gone =
 abbrev Few : Claim
 Few v = (v.tallies.deaths ≤ 3) × (v.tallies.deaths ≡ 3 → is_some v.ending ≡ true)
 
--- one death more is not the third
+-- one more death isn't the third
 not_third : (d : ℕ) → nat_le 3 (min (d + 1) 3) ≡ false → (min (d + 1) 3 ≡ 3) → ⊥
 not_third d few three = grind (arith, nat_tests, few, three)
 
@@ -169,11 +169,11 @@ few_deaths = record {
       record { at_most = t.0; last = t.1 };
 }
 
--- the player is at place 0 only in the end, or where the player died
+-- the player is at place 0 only after the end, or if the player died
 abbrev Stands : Claim
 Stands v = v.here ≡ 0 → (is_some v.ending ≡ true) ⊎ (v.question ≡ Some question.Die)
 
--- where another question is open, or none, the game goes on
+-- if another question is open, or none, the game goes on
 not_dead : (q : Option Question) (e : Option Ending) → (q ≡ Some question.Die → ⊥) → e ≡ None
     → (is_some e ≡ true) ⊎ (q ≡ Some question.Die) → ⊥
 not_dead q e other goes (inl ended) = true≢false (sym ended ∙ ap is_some goes)
@@ -203,7 +203,7 @@ player_is_somewhere = record {
       turned cave Stands Stands s line (stands_kept cave one (line_of cave s line)) h;
 }
 
--- a hint that a question is about is one that the cave has
+-- the cave has the hint that a question is about
 abbrev Known : CaveView → Claim
 Known cave v = IsOpenKnown cave v.question
 
@@ -237,7 +237,7 @@ pub never_both : NeverBoth
 unfolding start_of_game begun_state starting_state
 never_both = lasts (λ cave. Either) (λ cave seed. inr refl) either_kept
 
--- nobody is asked in a closing cave whether to come back
+-- a closing cave never asks whether to come back
 abbrev InTime : Option Question → Bool → Type 0
 InTime q closing = q ≡ Some question.Die → closing ≡ false
 
@@ -261,7 +261,7 @@ asked_in_time = lasts (λ cave. Timely) (λ cave seed asked. refl) timely_kept
 abbrev AsIn : State → Claim
 AsIn s v = (v.here ≡ s.trail.here) × (v.tallies.deaths ≡ s.tallies.deaths) × Timely v
 
--- no fewer deaths than there were, and one more at most: then the game has ended or the cave isn't
+-- no fewer deaths than before, and at most one more, and then the game has ended or the cave isn't
 -- closing
 abbrev OneMore : ℕ → Claim
 OneMore n v =
@@ -304,7 +304,7 @@ deaths_come_one_by_one cave s line in_time =
     (deaths_kept s cave (line_of cave s line)) (refl, refl, in_time) in
     record { no_fewer = t.0; one_more = t.1 }
 
--- in a closing cave the player is outside only where the player was
+-- in a closing cave the player is outside only if the player was there before
 abbrev Inside : CaveView → ℕ → Claim
 Inside cave place v = v.closing.is_closing ≡ true → IsOutsideCave cave v.here → v.here ≡ place
 
@@ -321,7 +321,7 @@ beyond c last some inside = by (nat_le c last) refl
     by true is = absurd (inside (grind (arith, some), grind (arith, is)))
     by false is = grind (arith, is)
 
--- half-way between places inside is inside, or is where the player is
+-- the place half-way between places inside is inside, or is the player's
 half_way : (a b here last : ℕ) → ¬ ((1 ≤ a) × (a ≤ last)) → ¬ ((1 ≤ b) × (b ≤ last))
     → (1 ≤ between a b here) × (between a b here ≤ last) → between a b here ≡ here
 half_way a b here last one other =
@@ -334,7 +334,7 @@ half_way a b here last one other =
     far : last < a → last < b → (1 ≤ (a + b) / 2) × ((a + b) / 2 ≤ last) → ⊥
     far first second out = let least = out.1 in omega (arith, first, second, least)
 
--- where the player is put is inside
+-- the place where the player is put is inside
 put_inside : (cave : CaveView) (place : ℕ) (v : View) → PutsInside cave → IsPut cave place v
     → IsOutsideCave cave place → place ≡ v.here
 put_inside cave place v inside (inl is) out = absurd (inside.repository place is out)
@@ -371,7 +371,7 @@ inside_kept cave s inside l (Puts at) v is h =
     same ∙ h closing (subst (λ (p : ℕ). IsOutsideCave cave p) same out)
 inside_kept cave s inside l _ v is h = h
 
--- nobody gets out of a closing cave
+-- the player doesn't get out of a closing cave
 pub nobody_gets_out : NobodyGetsOut
 nobody_gets_out cave s line inside in_time =
     turned cave (AsIn s) (Inside cave s.trail.here) s line

@@ -1,4 +1,4 @@
--- What the clocks, and the lamp with them, make of a claim.
+-- What the clocks, and the lamp with them, do to a claim.
 use Rattle.std.proofs.Common.{◌++◌, Bool, List, [], arith, false, inl, inr, negsuc, pos, refl}
 use Rattle.std.proofs.Common.{subst, sym, true, ℕ, ℤ, ◌∙◌, ◌∷◌, ◌≡◌}
 use Rattle.std.proofs.lemmas.Bool.{true≢false}
@@ -52,15 +52,15 @@ use Rattle.turn_laws.proofs.View.{Begins, Burns, Change, Claim, Counts, Hold, Is
 use Rattle.turn_laws.proofs.View.{Juggle, Leaves, Line, On, Place, Prop, Ready, Shifts, Shuts}
 use Rattle.turn_laws.proofs.View.{Somewhere, There, Ticks, View, after, burnt, led, left_of, view}
 
--- an object is put at a place, with a prop for when it was in the hands
+-- an object is put at a place, with the prop that it gets once it was in the hands
 abbrev stored : ℕ → ℕ → ℤ → List Change
 stored place x v = Place x place ∷ Prop x (UNSEEN -ℤ v) ∷ []
 
--- a clock whose last turn goes has one
+-- a clock whose last turn passes has one turn left
 last_turn : (c : ℤ) → int_eq c (pos 1) ≡ true → int_le (pos 0) c ≡ true
 last_turn c one = grind (arith, ints, one)
 
--- what holds where the clocks closed the cave: the player is elsewhere, at the repository's end
+-- what holds if the clocks closed the cave: the player is elsewhere, at the repository's end
 pub record AfterClosure (P : Claim) (cave : CaveView) (before : ℕ) (s : State) : Type 0 where
   pub holds : On (There P before) s
   pub place : place_named cave landmark.Ne ≡ Some s.trail.here
@@ -70,7 +70,7 @@ abbrev pub AfterClocks : Claim → CaveView → ℕ → Bool → State → Type 
 AfterClocks P cave before true s = AfterClosure P cave before s
 AfterClocks P cave before false s = On P s
 
--- what is there is something
+-- an option that has a value is some value
 there : (o : Option ℕ) → is_some o ≡ true → o ≡ Some (unwrap_or o 0)
 there None is = absurd (true≢false (sym is))
 there (Some n) is = refl
@@ -142,7 +142,7 @@ module _ {game : CaveView} {l : Line} {Q P : Claim} (k : IsKept game l Q P) wher
   emptied_kept [] v h = h
   emptied_kept (x ∷ xs) v h = emptied_kept xs _ (moves v (Place x 0) h)
 
-  -- the cave is closed where both ends of a repository are known: the player is elsewhere
+  -- the cave is closed if both ends of a repository are known: the player is elsewhere
   closed_kept : (d : Deed (Unit {0})) (notes : List RuleRow) (b c : Bool)
       → (int_eq d.scene.state.closing.first_clock (negsuc 0)
       && (int_eq d.scene.state.closing.second_clock (pos 1)
@@ -176,7 +176,7 @@ module _ {game : CaveView} {l : Line} {Q P : Claim} (k : IsKept game l Q P) wher
       let held = emptied_kept (objects_in_hands e.scene.state.objects) _ hung in
       record { holds = held; place = there _ (search tests) }
 
-  -- the first clock goes only while it is above 0
+  -- the first clock runs only while it is above 0
   pub both_kept : (cave : CaveView) (p : Scene) → On Early p.state
       → AfterClocks Early cave p.state.trail.here (tick_clocks (deed cave tt p)).step
       (tick_clocks (deed cave tt p)).scene.state
@@ -214,7 +214,7 @@ module _ {cave : CaveView} {l : Line} {Q P : Claim} (k : IsKept cave l Q P) wher
   abbrev R : Claim
   R = Ready (Somewhere l) P
 
-  -- a claim will hold, whatever the lamp leaves of a charge that has burnt
+  -- a claim will hold for any charge that the lamp leaves after it has burnt
   abbrev Dims : Claim
   Dims v = (c : ℤ) → Leaves l v.charge c → R (record v { charge = c })
 

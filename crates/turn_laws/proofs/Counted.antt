@@ -1,4 +1,4 @@
--- How many objects are in the hands, and how many dwarves live, once something becomes of them.
+-- How many objects are in the hands, and how many dwarves live, after a change of them.
 use Rattle.std.proofs.Common.{cond, Bool, List, [], ap, arith, false, get_or, inl, inr, length}
 use Rattle.std.proofs.Common.{refl, set, subst, suc, sym, true, zero, ℕ, ℤ, ◌+◌, ◌-◌, ◌<◌, ◌∙◌, ◌∷◌}
 use Rattle.std.proofs.Common.{◌≡◌, ◌≤◌, ◌⊎◌}
@@ -28,15 +28,15 @@ use Rattle.turn_laws.specs.DwarfLaws.{is_living}
 use Rattle.turn_laws.proofs.View.{Band, Change, HasRoom, Hold, IsBandAfter, Juggle, Place, Prop}
 use Rattle.turn_laws.proofs.View.{after_change, after_taking, choose, kept_by_set, living}
 
--- where one condition follows from another, and one count is at most another, so it is with one
--- more of each
+-- if one condition follows from another, and one count is at most another, this still holds with
+-- one more of each
 pub head_fewer : {X : Type 0} (p q : Bool) (x y : X) (xs ys : List X) → (q ≡ true → p ≡ true)
     → length ys ≤ length xs
     → length (if q then y ∷ ys else ys) ≤ length (if p then x ∷ xs else xs)
 head_fewer p q x y xs ys each less = grind (arith, each, less)
 
--- of the numbers of a range, those with one property are as many as those with another at most, if
--- each of them has that too
+-- a range has at most as many numbers with one property as with another, if each of the former has
+-- the other property too
 pub fewer : (f g : ℕ → Bool) (a n : ℕ) → ((y : ℕ) → a ≤ y → g y ≡ true → f y ≡ true)
     → length (filter g (range_with_len a n)) ≤ length (filter f (range_with_len a n))
 fewer f g a zero each = omega arith
@@ -45,14 +45,14 @@ fewer f g a (suc n) each =
     (filter g (range_with_len (a + 1) n)) (each a (omega arith))
     (fewer f g (a + 1) n (λ y low. each y (omega (arith, low))))
 
--- a number more on the shorter list
+-- one more number on the shorter list
 head_more : (p q : Bool) (a : ℕ) (xs ys : List ℕ)
     → (q ≡ true → (p ≡ true) ⊎ (length ys ≤ length xs))
     → length ys ≤ length xs + 1
     → length (if q then a ∷ ys else ys) ≤ length (if p then a ∷ xs else xs) + 1
 head_more p q a xs ys each less = grind (arith, each, less)
 
--- they are one more at most, if each of them but one has that too
+-- there is at most one more, if all of them except one have the other property too
 one_more : (f g : ℕ → Bool) (x a n : ℕ) → ((y : ℕ) → g y ≡ true → (f y ≡ true) ⊎ (y ≡ x))
     → length (filter g (range_with_len a n)) ≤ length (filter f (range_with_len a n)) + 1
 one_more f g x a zero each = omega arith
@@ -92,7 +92,7 @@ spotted {T} o x y s held before now =
     same_object : (x == 0) ≡ false → (y == 0) ≡ false → y - 1 ≡ x - 1 → y ≡ x
     same_object some other same = grind (arith, nat_tests)
 
--- a place is no hand
+-- what is at a place isn't in the hands
 pub no_hand : (place : ℕ) → is_spot_in_hands (spot_at place) ≡ true → ⊥
 no_hand place held =
     choose (λ (s : Spot). is_spot_in_hands s ≡ true → ⊥) (place == 0) spot.Away (spot.At place)
@@ -124,7 +124,7 @@ change_holds (Juggle x) o y held =
     (λ free now. spotted o x y (spot_of o x) (anchored_holds once x (anchor_of once x) y now)
     (λ was. was) (λ _ carried. absurd (false≢true (sym free ∙ carried)))) held
 
--- an object that is taken is one more at most
+-- taking an object makes at most one more
 carried_more : (o : Layout) (x : ℕ)
     → length (objects_in_hands (after_carry o x)) ≤ length (objects_in_hands o) + 1
 unfolding after_carry in_hands_up_to
@@ -134,7 +134,7 @@ carried_more o x =
     (λ _. one_more (is_in_hands o) (is_in_hands (with_spot o x spot.InHands)) x 1 100
     (λ y held. spotted o x y spot.InHands held (λ was. inl was) (λ same _. inr same)))
 
--- as many are in the hands at most
+-- no more are in the hands
 pub held_fewer : (o p : Layout) → Holds o p
     → length (objects_in_hands p) ≤ length (objects_in_hands o)
 unfolding in_hands_up_to
@@ -144,13 +144,13 @@ held_fewer o p holds = fewer (is_in_hands o) (is_in_hands p) 1 100 (λ y _ held.
 pub room : (n : ℕ) → (nat_le 7 n && true) ≡ false → n ≤ 6
 room n free = grind (arith, nat_tests, free)
 
--- they still have where an object gets a prop
+-- they still have if an object gets a prop
 pub room_still : (o : Layout) (x : ℕ) (v : ℤ) → HasRoom o → HasRoom (with_prop o x v)
 room_still o x v few =
     let same = held_fewer o (with_prop o x v) (change_holds (Prop x v) o) in
     omega (arith, few, same)
 
--- no more are in the hands than were, and those that are taken
+-- no more are in the hands than were there, and those that are taken
 pub taken_more : (xs : List ℕ) (o : Layout)
     → length (objects_in_hands (after_taking xs o)) ≤ length (objects_in_hands o) + length xs
 taken_more [] o = omega arith
@@ -158,7 +158,7 @@ taken_more (x ∷ xs) o =
     let one = carried_more o x in
     let rest = taken_more xs (after_carry o x) in omega (arith, one, rest)
 
--- a place isn't 0 if another isn't that is 0 where it is
+-- a place isn't 0 if another isn't, which is 0 if it is
 lives : (i j : ℕ) → (i ≡ 0 → j ≡ 0) → not (j == 0) ≡ true → not (i == 0) ≡ true
 lives i j gone some = grind (arith, nat_tests, gone, some)
 
@@ -200,7 +200,7 @@ dismissed_living zero xs = refl
 dismissed_living (suc n) [] = refl
 dismissed_living (suc n) (x ∷ xs) = dismissed_living n xs
 
--- where a list has an element that passes, not all of them fail
+-- if a list has an element that passes, not all of them fail
 not_all_fail : (p : Dwarf → Bool) (xs : List Dwarf) → list_any p xs ≡ true
     → prefix_len (λ x. not (p x)) xs < length xs
 not_all_fail p [] any = absurd (false≢true any)
@@ -250,7 +250,7 @@ killed_gone xs None i was = was
 killed_gone xs (Some j) i was =
     kept_by_set (λ (d : Dwarf). d.place ≡ 0) xs j i _ no_dwarf was (λ _. refl)
 
--- of five at most five live
+-- at most five of five live
 pub five_at_most : (n : ℕ) (xs : List Dwarf) → living n xs ≤ n
 five_at_most n xs =
     let found = length-filter is_living (take n xs) in
@@ -280,7 +280,7 @@ changed here a i d gone = record {
   few = λ some. let less = changed_living 5 i a.each d (gone some) in omega (arith, less);
 }
 
--- a dwarf that is where the player is is killed
+-- a dwarf that is where the player is gets killed
 pub struck : (here : ℕ) (a : Band) → list_any (is_dwarf_at here) (take 5 a.each) ≡ true
     → IsBandAfter here a (record a {
       kills = min (a.kills + 1) 60000;

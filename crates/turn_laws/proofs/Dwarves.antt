@@ -1,4 +1,4 @@
--- What the dwarves do keeps each claim that what happens while the player stays keeps.
+-- The dwarves keep each claim that is kept by what happens while the player stays.
 use Rattle.std.proofs.Common.{Bool, List, [], arith, false, refl, subst, sym, true, ℕ, ◌<◌, ◌∷◌}
 use Rattle.std.proofs.Common.{◌≡◌, ◌≤◌}
 use Rattle.std.specs.Prelude.{min, ◌&&◌, ◌==◌}
@@ -99,7 +99,7 @@ module _ {game : CaveView} {l : Line} {Q P : Claim} (k : IsKept game l Q P) wher
   waking_kept d stirs h =
       by_guarded R d (noted table.Waking waking_rows) (search (effects, woken_kept) parts 20)
 
-  -- a dwarf that looks about changes nothing but itself
+  -- a dwarf that looks around changes only itself
   sight_same : (d : Deed Dwarf) → (dwarf_in_sight d).scene.state ≡ d.scene.state
   unfolding dwarf_in_sight
   sight_same d = grind arith

@@ -1,5 +1,5 @@
--- What rows make of a claim, by what their effects make of it: of one that is kept by what happens
--- while the player stays.
+-- What rows do to a claim, by what their effects do to it, if what happens while the player stays
+-- keeps the claim.
 use Rattle.std.proofs.Common.{Bool, List, [], arith, false, inl, inr, pos, refl, subst, suc, sym}
 use Rattle.std.proofs.Common.{true, zero, ℕ, ℤ, ◌+◌, ◌∷◌, ◌≡◌, ◌≤◌, ◌⊎◌}
 use Rattle.std.proofs.lemmas.Int.{ints}
@@ -33,7 +33,8 @@ use Rattle.turn_laws.proofs.View.{IsChargeAfter, IsKept, IsMoved, Juggle, Line, 
 use Rattle.turn_laws.proofs.View.{Panics, Pays, Place, Prop, Ready, Somewhere, View, after_change}
 use Rattle.turn_laws.proofs.View.{choose, view}
 
--- what holds before numbers one after another do something holds after it, if it does for each
+-- what holds before something is done for numbers, one after another, holds after it, if it does
+-- for each
 pub each_kept : {S : Type 0} (Q : S → Type 0) (first n : ℕ) (what : ℕ → S → S)
     → ((x : ℕ) (s : S) → Q s → Q (what x s)) → (s : S) → Q s → Q (for_each_from first n what s)
 unfolding for_each_from
@@ -51,14 +52,14 @@ each_kept_down Q (suc n) what one s h =
 abbrev pub Left : {F : Type 0} → Claim → (F → Type 0) → Act F → Type 0
 Left P Next a = On P a.scene.state × Next a.step
 
--- what holds of a deed once a draw decides that a row fits, or doesn't, and where there is no draw
+-- what holds of a deed after a draw decides that a row fits, or doesn't, or if there is no draw
 abbrev pub Drawn : {C : Type 0} → Option (Test C) → Deed C → (Deed C → Type 0)
     → (Deed C → Type 0) → Type 0
 Drawn None d Fit Unfit = Fit d
 Drawn (Some draw) d Fit Unfit =
     (draw d ≡ true → Fit (after_drawing d)) × (draw d ≡ false → Unfit (after_drawing d))
 
--- the same where the row has tests before
+-- the same if the row has tests before
 abbrev pub Tried : {C : Type 0} → List (Test C) → Option (Test C) → Deed C → (Deed C → Type 0)
     → (Deed C → Type 0) → Type 0
 Tried [] draw d Fit Unfit = Drawn draw d Fit Unfit
@@ -113,7 +114,7 @@ first_leads Q P Next (r ∷ rows) f k other d h =
     tried (Left P Next) (λ e. On Q e.scene.state) (act_of_row r) (first_fitting_or rows f)
     (λ e g. first_leads Q P Next rows f k.1 other e g) r.tests r.draw d (k.0 d h)
 
--- a table after which a claim still holds, whatever follows
+-- a table after which a claim still holds, and anything may follow
 pub kept_by : {C F : Type 0} (P : Claim) (rows : List (Row C F)) (end : Deed C → F)
     → LeadRows P P Any rows → (d : Deed C) → On P d.scene.state
     → On P (first_fitting_or rows (nothing_but end) d).scene.state
@@ -124,7 +125,7 @@ pub quiet : {C : Type 0} (P : Claim) (rows : List (Row C (Unit {0}))) → LeadRo
     → (d : Deed C) → On P d.scene.state → On P (by_rows rows d).scene.state
 quiet P rows k d h = kept_by P rows (λ e. tt) k d h
 
--- it holds of each row where it fits and none before it does, and of what is done where none fits
+-- it holds of each row if that fits and none before it does, and of what is done if none fits
 abbrev pub Guarded : {C F : Type 0} → (Act F → Type 0) → (Deed C → Act F) → Deed C
     → List (Row C F) → Type 0
 Guarded Q otherwise d [] = Q (otherwise d)
@@ -198,7 +199,7 @@ shown n o q c t b h a e =
       ending = e;
     }
 
--- what holds with each clock that panic may leave, and where nothing changes, holds after it
+-- what holds with each clock that panic may leave, and if nothing changes, holds after panic
 pub panicked : (R : State → Type 0) (cave : CaveView) (p : Scene) → R p.state
     → ((n : ℤ) → (n ≡ p.state.closing.second_clock) ⊎ (n ≡ pos 15)
     → R (record (p.state) {
@@ -321,7 +322,7 @@ pub ruleset choices = (state_chosen, deed_chosen, scene_chosen, act_chosen, say_
 
 ruleset plain_effects = (changes_made, choices)
 
--- what rules do that have rows of their own
+-- what rules that have their own rows do
 module _ {game : CaveView} {l : Line} {Q P : Claim} {Other : ℕ → Type 0} (k : IsKept game l Q P)
   where
     pub put : (cave : CaveView) (x : ℕ) (p : Scene) → On (Ready Other P) p.state

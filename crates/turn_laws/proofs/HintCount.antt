@@ -6,7 +6,7 @@ use Rattle.turn_laws.specs.Courses.{HintsNeverFall, taken_hints}
 use Rattle.turn_laws.proofs.Lines.{lasting}
 use Rattle.turn_laws.proofs.View.{Claim, Hints, Keeps, Line}
 
--- no fewer hints are taken where one more is
+-- no fewer hints are taken if one more is
 one_taken : (xs : List Bool) (i : ℕ) → taken_hints xs ≤ taken_hints (slice_set xs i true)
 one_taken [] i = omega arith
 one_taken (true ∷ xs) zero = omega arith
@@ -14,7 +14,7 @@ one_taken (false ∷ xs) zero = omega arith
 one_taken (true ∷ xs) (suc i) = let less = one_taken xs i in omega (arith, less)
 one_taken (false ∷ xs) (suc i) = one_taken xs i
 
--- so many were taken at least
+-- at least this many were taken
 abbrev AtLeast : ℕ → Claim
 AtLeast n v = n ≤ taken_hints v.hints
 

@@ -1,4 +1,4 @@
--- What a line makes of a state depends on its kind and on its words.
+-- What a line does to a state depends on its kind and on its words.
 use Rattle.base_lines.proofs.LogLines.{log_line-only}
 use Rattle.std.proofs.Common.{◌≡◌, ◌∙◌, ◌∷◌, ℕ, List, [], Option, Some, None, ap, refl, sym, inl, inr}
 use Rattle.std.specs.Prelude.{◌%◌, ◌||◌, ◌⊎◌, true, false, if◌then◌else◌, not, option_map}

@@ -1,4 +1,4 @@
--- What a line makes of a claim, which lines change nothing, and which are turns.
+-- What a line does to a claim, which lines change nothing, and which are turns.
 use Rattle.std.proofs.Common.{Bool, List, [], ap, arith, false, inr, pos, refl, subst, sym, true, ℕ}
 use Rattle.std.proofs.Common.{ℤ, ◌∙◌, ◌∷◌, ◌≡◌}
 use Rattle.std.proofs.lemmas.Bool.{false≢true, true≢false}
@@ -90,7 +90,7 @@ unanswered : (cave : CaveView) (line : List ℕ) (q : Question) → answers cave
 unanswered cave line question.Die h = absurd (true≢false h)
 unanswered cave line _ h = refl
 
--- to close a question where none is open changes nothing
+-- closing a question if none is open changes nothing
 closed_same : (s : State) → s.question ≡ None → without_question s ≡ s
 closed_same s none = ap (λ (q : Option Question). record s { question = q }) (sym none)
 
@@ -147,9 +147,9 @@ module _ {cave : CaveView} {l : Line} {Q P : Claim} (k : IsKept cave l Q P) wher
       (subst (λ (s : State). found.step ≡ lair_from cave s.trail.here) same (lair_is d))
       (subst (On (Ready Anywhere P)) same dead)
 
-  -- answers, which are no commands, so that no lamp burns
+  -- answers, which aren't commands, so the lamp doesn't burn
   module _ (unlit : l.is_lit ≡ false) where
-    -- a question but whether to come back is answered, and is closed
+    -- any question except whether to come back is answered, and is closed
     closed_kept : (q : Question) (s : State) → is_die q ≡ false → s.question ≡ Some q
         → s.ending ≡ None → On Q s → On (Ready Anywhere P) (without_question s)
     closed_kept q s other asked goes h =
@@ -219,7 +219,7 @@ module _ {cave : CaveView} {l : Line} {Q P : Claim} (k : IsKept cave l Q P) wher
         choose (λ (p : Scene). On P p.state) (is_of_hint q) r (after_end_of_turn cave r) (λ _. a)
         (λ _. finished_kept k r a)
 
--- a line of a log, where commands, and prices that are paid, are as laws say
+-- a line of a log, if commands, and prices that are paid, are as laws say
 module _ {cave : CaveView} {l : Line} {Q P : Claim} (k : IsKept cave l Q P) (line : List ℕ)
     (s : State) (does : l.is_command ≡ true → On (Ready Anywhere Q) (without_question s)
     → On P (after_command cave line (without_question s)).state)
@@ -320,7 +320,7 @@ pub end_is_quiet : (cave : CaveView) (s : State) (line : List ℕ) → HasEnded 
 unfolding turn_on_line
 end_is_quiet cave s line h = quiet_as cave line (log_line line) s h (IsLogLine-log_line line)
 
--- a seed line changes the random stream alone
+-- a seed line changes only the random stream
 pub seeds_alone : (cave : CaveView) (s : State) (line : List ℕ) (seed : ℕ) → IsSeedLine line seed
     → turn_on_line cave s line ≡ silent_turn (with_seed s seed)
 unfolding turn_on_line
@@ -333,7 +333,7 @@ ticks_if : (b : Bool) (x y : Turn) → x.ticked ≡ false → y.ticked ≡ true
 ticks_if true x y silence turn = silence
 ticks_if false x y silence turn = turn
 
--- input is a turn where it is a command
+-- input is a turn if it is a command
 ticks_played : (cave : CaveView) (line : List ℕ) (e : Option Ending) (q : Option Question)
     (s : State)
     → (turn_of_input cave line e q s).ticked ≡ not (is_some e) && is_no_answer cave line q
@@ -343,7 +343,7 @@ ticks_played cave line None (Some q) s =
     ticks_if (answers cave line q) _ _ refl refl
     ∙ leaves_is (is_dragon q) (is_yes (answer_in cave line))
 
--- a line of any kind is a turn where it is a command
+-- a line of any kind is a turn if it is a command
 ticks_as : (cave : CaveView) (line : List ℕ) (k : LogLine) (s : State)
     → (turn_on_log_line cave line k s).ticked
     ≡ is_input_kind k && not (is_some s.ending) && is_no_answer cave line s.question

@@ -1,4 +1,4 @@
--- What is missing is asked for by no row.
+-- No row asks for what is missing.
 use Rattle.std.proofs.Common.{Bool, List, [], arith, false, negsuc, pos, refl, true, ◌≡◌, ◌∷◌}
 use Rattle.std.proofs.lemmas.Bool.{false≢true}
 use Rattle.std.specs.Prelude.{◌&&◌}
@@ -32,12 +32,12 @@ unfolding squeeze_rows squeeze_through bridge_rows cross_bridge
 no_way_has_an_end =
     record { passage = λ d none. rw none refl; crossing = λ d none. rw none refl }
 
--- of five tests that hold the last two do
+-- if five tests hold, the last two do
 last_two : (a b c n s : Bool) → (a && (b && (c && (n && (s && true))))) ≡ true
     → (n ≡ true) × (s ≡ true)
 last_two a b c n s h = (grind (arith, h), grind (arith, h))
 
--- it holds of what follows each row where it fits, and where none does
+-- it holds of what follows each row if that fits, and if none does
 abbrev Follows : {C F : Type 0} → (F → Type 0) → (Deed C → F) → Deed C → List (Row C F) → Type 0
 Follows Q or_else d [] = Q (or_else d)
 Follows Q or_else d (r ∷ rows) =

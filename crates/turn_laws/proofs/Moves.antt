@@ -1,4 +1,4 @@
--- What motions and places make of a claim.
+-- What motions and places do to a claim.
 use Rattle.std.proofs.Common.{Bool, List, [], arith, false, subst, suc, sym, true, zero, ℕ, ◌+◌}
 use Rattle.std.proofs.Common.{◌-◌, ◌∷◌, ◌≡◌}
 use Rattle.std.specs.Prelude.{if◌then◌else◌, None, Option, Some, is_some, slice_set, ◌==◌}
@@ -61,7 +61,7 @@ module _ {cave : CaveView} {l : Line} {Q P : Claim} (k : IsKept cave l Q P) wher
       let g = drawn_kept m s h in
       state_chosen k (holds m s) (after_go emerald d t) t (gone_kept emerald d t g) g
 
-  -- rows that are tried, where the last try before them led as given
+  -- rows that are tried, if the last try before them led as given
   tries_kept : (emerald : ℕ) (s : State) (failed : Option ℕ) (number : ℕ) (rows : List Going)
       (before : TravelResult) → On R s → On R before.state
       → On R (result_of_last before (tries emerald s failed number rows)).state
@@ -160,7 +160,7 @@ module _ {cave : CaveView} {l : Line} {Q P : Claim} (k : IsKept cave l Q P) wher
   pub describing_kept : (p : Scene) → On R p.state → On P (after_description cave p).state
   describing_kept p h = carried_kept p.left _ _ (seen_kept k p h)
 
-  -- the player looks round
+  -- the player looks around
   looking_round_kept : (d : Deed ℕ) → On R d.scene.state
       → On R (after_all look_round d).scene.state
   unfolding look_round enough_rows without_visits
@@ -170,7 +170,8 @@ module _ {cave : CaveView} {l : Line} {Q P : Claim} (k : IsKept cave l Q P) wher
       let g = quiet R (noted table.Enough enough_rows) (search parts 20) d h in
       state_chosen k (place == 0) s (record s { visits = slice_set s.visits (place - 1) 0 }) g g
 
-  -- where a player who goes back wants to go is found by what is true, and changes nothing
+  -- the place where a player who goes back wants to go is found by what is true, which changes
+  -- nothing
   wanted_same : (d : Deed (Unit {0})) → (place_back d).scene.state ≡ d.scene.state
   unfolding place_back
   wanted_same d = grind arith

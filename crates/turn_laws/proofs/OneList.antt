@@ -31,7 +31,7 @@ choose : {A : Type 0} (Q : A → Type 0) (b : Bool) (x y : A) → (b ≡ true �
 choose Q true x y f g = f refl
 choose Q false x y f g = g refl
 
--- in which list a half is once one, it or another, was put elsewhere
+-- which list a half is in after one half, it or another, was put elsewhere
 listed : (n q : ℕ) (half : Half) (to at : Option ℕ) (hs : List Half)
     → is_listed n hs ≡ is_place q at
     → is_listed n (listed_at q half to hs)
@@ -71,7 +71,7 @@ moved o l n half to lists was first = record {
   first = first;
 }
 
--- where an object says that its first half is, once it, or another, was put elsewhere
+-- where an object says that its first half is, after it, or another, was put elsewhere
 said : (first : List Spot) (x n : ℕ) (s : Spot) (at : Option ℕ) → length first ≡ 100
     → (x == 0) ≡ false → (n == 0) ≡ false → n ≤ 100
     → at ≡ place_of_spot (get_or first (n - 1) spot.Away)

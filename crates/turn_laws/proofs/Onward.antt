@@ -52,7 +52,7 @@ nothing_goes_back cave s line =
     ((λ now. now), (λ now. now), (λ hint now. now), λ now. now) in
     record { closing = t.0; closed = t.1; hints = t.2; awake = t.3 }
 
--- no more treasures are unseen than in a state, and no fewer lost
+-- no more treasures are unseen than in a state, and no fewer are lost
 abbrev Found : State → Claim
 Found s v =
     (v.tallies.unseen ≤ s.tallies.unseen)
@@ -119,11 +119,11 @@ lamp_burns_down cave s line low free same =
     turned cave (Least a) (Least a) s line
     (least_kept a low cave (line_of cave s line) free same) (omega (arith, ints))
 
--- the lamp has a charge, and no more treasures are unseen than were
+-- the lamp has a charge, and no more treasures are unseen than before
 abbrev Level : ℤ → ℕ → Claim
 Level c n v = (v.charge ≡ c) × (v.tallies.unseen ≤ n)
 
--- the lamp has a charge, or 35 at most once a treasure was found
+-- the lamp has a charge, or at most 35 after a treasure was found
 abbrev Ebbs : ℤ → ℕ → ℤ → ℕ → Type 0
 Ebbs c n charge unseen =
     (unseen ≤ n) × ((charge ≡ c) ⊎ ((charge ≡ int_min c (pos 35)) × (unseen < n)))
@@ -131,7 +131,7 @@ Ebbs c n charge unseen =
 abbrev Ebb : ℤ → ℕ → Claim
 Ebb c n v = Ebbs c n v.charge v.tallies.unseen
 
--- a treasure is found, and the charge may be 35 at most then
+-- a treasure is found, and then the charge may be at most 35
 ebb_found : (c : ℤ) (n a : ℕ) (charge : ℤ) → Ebbs c n charge a → Ebbs c n charge (a - 1)
 ebb_found c n a charge (few, inl same) = (omega (arith, few), inl same)
 ebb_found c n a charge (few, inr (short, less)) =
@@ -147,7 +147,7 @@ ebb_short c n a charge more (few, how) =
     short (inl same) = grind (arith, ints, same)
     short (inr (same, found)) = grind (arith, ints, same)
 
--- a turn is burnt of a charge above 0, or none is
+-- a turn of a charge above 0 is burnt, or none is
 burnt_one : (lit : Bool) (b c : ℤ) → pos 1 ≤ℤ b → c ≡ left_of (burnt lit b)
     → c ≡ charge_after lit b
 burnt_one lit b c some is = grind (arith, ints, some, is)

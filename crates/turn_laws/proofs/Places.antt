@@ -1,5 +1,5 @@
--- What the score, the questions and a death make of a claim, and what is shown and met where a
--- player arrives.
+-- What the score, the questions and a death do to a claim, and what a player who arrives sees and
+-- meets.
 use Rattle.std.proofs.Common.{Bool, List, [], arith, false, inl, inr, refl, sym, true, ℕ, ℤ, ◌-◌}
 use Rattle.std.proofs.Common.{◌∙◌, ◌∷◌, ◌≡◌, ◌≤◌, ◌⊎◌}
 use Rattle.std.proofs.lemmas.Bool.{true≢false}
@@ -82,7 +82,7 @@ question_kept P cave q p h = posed_kept P (deed cave q p) h
 abbrev Asked : Claim → Question → Claim
 Asked P q v = P (record v { question = Some q })
 
--- the score may be told before the question
+-- the score may be printed before the question
 pub asking_kept : (P : Claim) (cave : CaveView) (q : Question) (p : Scene)
     → On P (with_question q p.state) → On P (after_ask cave q p).state
 unfolding after_ask ask_question asking_rows
@@ -98,7 +98,7 @@ asking_kept P cave q p h =
 
 module _ {game : CaveView} {l : Line} {Q P : Claim} (k : IsKept game l Q P)
     (cave : CaveView) where
-  -- the player dies where the player now is, and was there before, or is nowhere now
+  -- the player dies at the present place, and was there before, or is nowhere now
   pub dying_kept : (before : ℕ) (p : Scene)
       → (p.state.trail.here ≡ before) ⊎ (p.state.trail.here ≡ 0)
       → On (There P before) p.state → IsCalm (view p.state) → On P (after_die cave p).state
@@ -134,7 +134,7 @@ module _ {game : CaveView} {l : Line} {Q P : Claim} (k : IsKept game l Q P)
 
 -- tables that only print
 module _ (P : Claim) where
-  -- the place of a forced motion is told
+  -- the text of a place of forced motion is printed
   told_kept : (d : Deed (Unit {0})) → On P d.scene.state → On P (after_all tell_place d).scene.state
   unfolding tell_place bear_rows text_rows
   told_kept d h =
@@ -157,11 +157,11 @@ module _ (P : Claim) where
   unfolding with_visit
   visit_kept s place h = choose (On P) (place == 0) s _ (λ _. h) (λ _. h)
 
--- where one more than one is left two were
+-- if one more than one is left, there were two
 two_unseen : (n : ℕ) (b : Bool) → (b && not (n - 1 == 0)) ≡ true → 2 ≤ n
 two_unseen n b left = grind (arith, left)
 
--- place 0 is none
+-- place 0 is no place
 pub none_of : (place : ℕ) → (place == 0) ≡ true → place ≡ 0
 none_of place none = grind (arith, none)
 
@@ -170,19 +170,19 @@ not_shut : (a none b c : Bool) → none ≡ false → (a && (not none && (c && t
     → (a && b && c) ≡ false
 not_shut a none b c some h = grind (arith, some, h)
 
--- where nothing is over no question is open, and the game goes on
+-- if nothing is over, no question is open, and the game goes on
 pub none_over : (q : Option Question) (e : Option Ending) → (is_some q || is_some e) ≡ false
     → (q ≡ None) × (e ≡ None)
 none_over None None h = (refl, refl)
 none_over None (Some how) h = absurd (true≢false h)
 none_over (Some q) e h = absurd (true≢false h)
 
--- where commands can follow nothing is over
+-- if commands can follow, nothing is over
 calm_open : (q : Option Question) (e : Option Ending) → q ≡ None → e ≡ None
     → (is_some q || is_some e) ≡ false
 calm_open q e none goes = rw none (rw goes refl)
 
--- a claim holds once the player has come to a place, unless that is none
+-- a claim holds after the player has come to a place, unless that is no place
 abbrev pub Reaches : Claim → ℕ → State → Type 0
 Reaches P place s = (place == 0) ≡ false → On (There P place) s
 
@@ -294,7 +294,7 @@ module _ {cave : CaveView} {l : Line} {Q P : Claim} (k : IsKept cave l Q P) wher
           let is = fails_alone _ some in
           record { holds = reaches is; calm = calm; at = λ _. from_one place is }
 
-  -- a closing cave or a dwarf keeps the player here, and else the player comes to a place
+  -- a closing cave or a dwarf keeps the player here, and otherwise the player comes to a place
   come_on_kept : (before place : ℕ) (p : Scene) → On (There P before) p.state
       → IsCalm (view p.state) → Reaches P p.state.trail.here p.state
       → (let held = block (deed cave place p) in OnStop P (come_to cave held.step held.scene))

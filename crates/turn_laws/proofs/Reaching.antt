@@ -1,4 +1,4 @@
--- What holds as a game begins and is kept by each line holds of each state that a game comes to.
+-- What holds as a game begins, and each line preserves, holds of each state that a game reaches.
 use Rattle.std.proofs.Common.{List, [], subst, sym, ℕ, ◌∷◌, ◌≡◌, ◌≤◌}
 use Rattle.std.specs.Prelude.{IfSome, None, Option, Some, unwrap_or}
 use Rattle.cave_data.specs.CaveView.{CaveView}
@@ -23,12 +23,12 @@ module _ {Holds : CaveView → State → Type 0} (lasts : Lasts Holds) (cave : C
   pub reached : (s : State) → IsReachable cave s → Holds cave s
   reached s is = subst (Holds cave) is.leads (led is.lines _ (lasts.start cave is.seed))
 
--- a place that is named, or the one that is taken else, isn't place 0
+-- a place that is named, or the one taken otherwise, isn't place 0
 pub place_or : (o r : Option ℕ) (d : ℕ) → 1 ≤ d → r ≡ o → IfSome r IsPlace → 1 ≤ unwrap_or o d
 place_or o None d some same within = rw (sym same) some
 place_or o (Some n) d some same within = rw (sym same) within.0
 
--- the player is somewhere and the dwarves are few, together
+-- the player is somewhere, and the dwarves are few: both at once
 placed : Lasts (λ cave s. HasPlaces cave → IsSomewhere s × HasFewDwarves s)
 placed = record {
   start = λ cave seed places.

@@ -1,4 +1,4 @@
--- To read words keeps each claim: it changes no state.
+-- Reading words keeps each claim, as it changes no state.
 use Rattle.std.proofs.Common.{Bool, ℕ}
 use Rattle.std.specs.Prelude.{None, Option, Some, if◌then◌else◌}
 use Rattle.cave_data.specs.CaveView.{CaveView}

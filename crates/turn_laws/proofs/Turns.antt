@@ -1,4 +1,4 @@
--- What a command makes of a claim.
+-- What a command does to a claim.
 use Rattle.std.proofs.Common.{Bool, List, arith, false, inl, refl, subst, sym, true, ℕ, ℤ, ◌≡◌}
 use Rattle.std.specs.Prelude.{take as first_of, None, Option, Some, drop, is_some, nat_le, ◌&&◌}
 use Rattle.std.specs.Prelude.{◌==◌, ◌||◌}
@@ -62,7 +62,7 @@ use Rattle.turn_laws.proofs.View.{Place, Prop, Puts, Ready, Revives, Somewhere, 
 use Rattle.turn_laws.proofs.View.{choose, view, with_death}
 use Rattle.cave_world.specs.declared.tables.Table.TheVariants as table
 
--- where a row with another test fits one that has that test too doesn't, so that test fails
+-- if a row fits, and with one more test it doesn't, that test fails
 test_fails : (a b : Bool) → (a && true) ≡ true → (a && (b && true)) ≡ false → b ≡ false
 test_fails a b fit other = grind (arith, fit, other)
 
@@ -109,7 +109,7 @@ module _ {cave : CaveView} {l : Line} {Q P : Claim} (k : IsKept cave l Q P) wher
   moves : IsMoved P
   moves v c h = k.keeps (Moves c) v tt h
 
-  -- a hint is offered only where nothing is over
+  -- a hint is offered only if nothing is over
   guarded_kept : (i : ℕ) (p : Scene) → is_some (map.get cave.hints i) ≡ true
       → (is_some p.state.question || is_some p.state.ending) ≡ false → On P p.state
       → On P (by_table table.HintGuards guard_rows (deed cave i p)).scene.state
@@ -165,7 +165,7 @@ module _ {cave : CaveView} {l : Line} {Q P : Claim} (k : IsKept cave l Q P) wher
       ((known cave q other).0, h.calm, (known cave q other).1) h.holds)
   following_kept (next_is.End how) p other h = ending_kept k cave how p h
 
-  -- an action is done, or what the cave says of it is said
+  -- an action is done, or the game says what the cave says of it
   acting_kept : (o : Option Verb) (number x : ℕ) (word : List ℕ) (p : Scene)
       → On (Ready Here P) p.state → On P (do_action cave o number x word p).scene.state
   unfolding do_verb

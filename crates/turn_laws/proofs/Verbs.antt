@@ -1,5 +1,5 @@
--- What verbs do keeps each claim that what happens in a game keeps, and no verb asks whether to
--- come back from death, or about a hint.
+-- Verbs keep each claim that is kept by what happens in a game, and no verb asks whether to come
+-- back from death, or about a hint.
 use Rattle.std.proofs.Common.{Bool, List, [], arith, false, length, refl, suc, true, zero, ℕ, ℤ}
 use Rattle.std.proofs.Common.{◌+◌, ◌∷◌, ◌≡◌, ◌≤◌}
 use Rattle.std.proofs.lemmas.Bool.{true≢false}
@@ -92,7 +92,7 @@ module _ {game : CaveView} {l : Line} {Q P : Claim} (k : IsKept game l Q P) wher
       first_leads (Ready Here P) (Ready Here P) Spared rows (nothing_but stays) each
       (λ e g. (g, refl)) d h
 
-  -- objects are taken where there is room for them, the cage by its bird that is tamed
+  -- objects are taken if there is room for them; a tamed bird takes its cage along
   abbrev Free : Layout → Type 0
   Free o = (nat_le 7 (length (objects_in_hands o)) && true) ≡ false
 
@@ -133,7 +133,7 @@ module _ {game : CaveView} {l : Line} {Q P : Claim} (k : IsKept game l Q P) wher
   abbrev before_full_hands : ℕ
   before_full_hands = 9
 
-  -- from that row on it is known that they aren't full
+  -- from that row on the hands aren't full
   taken_kept : Keep (first_fitting (noted table.Take take_rows))
   unfolding take_rows
   taken_kept d h =
@@ -188,7 +188,7 @@ module _ {game : CaveView} {l : Line} {Q P : Claim} (k : IsKept game l Q P) wher
       stepped o (Done next) is here more = here
       stepped o (GoOn v x) is here more = more v x
 
-  -- what is commanded, which doesn't ask whether to come back
+  -- what a command says, which doesn't ask whether to come back
   pub acted_kept : (cave : CaveView) (command : Command) (p : Scene) → On (Ready Here P) p.state
       → Left (Ready Here P) Spared (act cave command p)
   unfolding act

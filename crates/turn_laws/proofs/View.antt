@@ -102,7 +102,7 @@ Anywhere n = Unit {0}
 pub anywhere : {Here : ℕ → Type 0} {P : Claim} {v : View} → Ready Here P v → Ready Anywhere P v
 anywhere r = record { holds = r.holds; calm = r.calm; at = tt }
 
--- a change of where objects are and what they are, by which none is taken
+-- a change of where objects are and what they are, without taking any
 pub data Change : Type 0 where
   Place : ℕ → ℕ → Change
   Hold : ℕ → Anchor → Change
@@ -123,13 +123,13 @@ after_taking (x ∷ xs) o = after_taking xs (after_carry o x)
 abbrev pub HasRoom : Layout → Type 0
 HasRoom o = length (objects_in_hands o) ≤ 6
 
--- so many of the first dwarves of a list live
+-- this many of the first dwarves of a list live
 abbrev pub living : ℕ → List Dwarf → ℕ
 living n xs = length (filter is_living (take n xs))
 
--- what becomes of the dwarves where the player is at a place: they are as angry, but for what
--- passes the most that is counted; if the place isn't 0, those that are gone stay gone, and those
--- that were killed and those that live aren't more
+-- what happens to the dwarves while the player is at a place: they are as angry, up to the most
+-- that is counted; if the place isn't 0, those that are gone stay gone, and those that were killed
+-- and those that live don't become more
 pub record IsBandAfter (here : ℕ) (a b : Band) : Type 0 where
   pub anger : min a.anger 13 ≤ b.anger
   pub gone : 1 ≤ here → (i : ℕ) → i < 5 → (slice_index_or a.each i no_dwarf).place ≡ 0
@@ -149,12 +149,12 @@ burnt lit c = if lit then int_max (c -ℤ pos 1) (negsuc 0) else c
 abbrev pub left_of : ℤ → ℤ
 left_of c = if int_eq c (pos 0) then negsuc 0 else c
 
--- a place is one that a closing cave keeps the player from
+-- a closing cave keeps the player from the place
 abbrev pub is_shut_off : CaveView → ℕ → View → Bool
 is_shut_off cave place v =
     v.closing.is_closing && nat_le 1 place && nat_le place (outside_place cave)
 
--- between two places; where one is none, the other; where both are none, here
+-- between two places; the other if one is no place; here if neither is a place
 abbrev pub between : ℕ → ℕ → ℕ → ℕ
 between a b here =
     if b == 0 then (if a == 0 then here else a) else (if a == 0 then b else (a + b) / 2)
@@ -212,14 +212,14 @@ pub data Event : Type 0 where
   Burns : ℤ → Event
   Revives : Event
   Buries : Ending → Event
-  -- and then: objects change, two at most are taken, the dwarves act, a price is paid for a charge,
+  -- and then: objects change, at most two are taken, the dwarves act, a price is paid for a charge,
   -- a player who tries to get out panics
   Moves : Change → Event
   Takes : List ℕ → Event
   Bands : Band → Event
   Pays Panics : ℤ → Event
-  -- one treasure more counts as lost; one is found; one is, and those that are left can't all be,
-  -- so that the lamp burns 35 turns more at most; a hint is taken
+  -- one more treasure counts as lost; one is found; one is, and the rest can't all be, so the lamp
+  -- burns at most 35 more turns; a hint is taken
   Loses Finds Shortens : Event
   Hints : ℕ → Event
   -- the game ends; the player dies for good, at the same place or at none; is asked whether to come
@@ -275,7 +275,7 @@ after cave (Asks a) v = record v { question = Some a }
 after cave (Comes place) v = record v { here = place }
 after cave (Puts place) v = record v { here = place }
 
--- where something happens in a line
+-- the conditions for something to happen in a line
 abbrev pub Can : CaveView → Line → Event → View → Type 0
 Can cave l (Closes a) v = (is_die a ≡ false) × (v.question ≡ Some a) × (v.ending ≡ None)
 Can cave l Counts v = int_lt (pos 0) v.closing.first_clock ≡ true
@@ -303,8 +303,8 @@ Can cave l (Comes place) v = ((place == 0) ≡ false) × (is_shut_off cave place
 Can cave l (Puts place) v = ((place == 0) ≡ false) × IsPut cave place v
 Can cave l _ v = Unit {0}
 
--- of two claims the one that holds once something has happened, and the one that holds before: the
--- first as a line begins, and the second from where the lamp was passed
+-- the one of two claims that holds after something has happened, and the one that holds before: the
+-- first holds as a line begins, and the second from when the lamp was passed
 abbrev pub claim_after : Claim → Claim → Event → Claim
 claim_after Q P (Closes a) = Q
 claim_after Q P (Shifts c) = Q
@@ -321,7 +321,7 @@ claim_before Q P Revives = Q
 claim_before Q P (Buries how) = Q
 claim_before Q P e = claim_after Q P e
 
--- whatever happens in a line leads from one claim to the other
+-- anything that happens in a line leads from one claim to the other
 abbrev pub Keeps : CaveView → Line → Claim → Claim → Type 0
 Keeps cave l Q P =
     (e : Event) (v : View) → Can cave l e v → claim_before Q P e v
@@ -330,7 +330,7 @@ Keeps cave l Q P =
 pub record IsKept (cave : CaveView) (l : Line) (Q P : Claim) : Type 0 where
   pub keeps : Keeps cave l Q P
 
--- a claim is kept where objects change
+-- a claim is kept if objects change
 abbrev pub IsMoved : Claim → Type 0
 IsMoved P = (v : View) (c : Change) → P v → P (record v { objects = after_change c v.objects })
 
@@ -346,7 +346,8 @@ pub choose : {A : Type 0} (Q : A → Type 0) (b : Bool) (x y : A) → (b ≡ tru
 choose Q true x y f g = f refl
 choose Q false x y f g = g refl
 
--- what holds of an element of a list holds of it once one of them is another, if of that one too
+-- what holds of an element of a list holds of it after one of them is replaced, if it also holds of
+-- the new one
 pub kept_by_set : {X : Type 0} (P : X → Type 0) (xs : List X) (i y : ℕ) (s d : X)
     → P (get_or xs y d) → (y ≡ i → P s) → P (get_or (set xs i s) y d)
 kept_by_set P [] i y s d old new = old
@@ -363,7 +364,7 @@ from_one n some = grind (arith, nat_tests)
 pub some_place : (n : ℕ) → (n == 0) ≡ false → n ≡ 0 → ⊥
 some_place n some none = let more = from_one n some in omega (arith, more, none)
 
--- no player is asked whether to come back where nothing is asked, or something else
+-- the player isn't asked whether to come back if nothing is asked, or something else
 pub not_asked : {q : Option Question} → q ≡ None → q ≡ Some question.Die → ⊥
 not_asked none asked = true≢false (sym (ap is_some asked) ∙ ap is_some none)
 

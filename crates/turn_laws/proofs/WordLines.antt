@@ -1,4 +1,4 @@
--- Input has a word, and words of a cave that was read name objects that there are.
+-- Input has a word, and words of a cave that was read name objects that exist.
 use Rattle.std.specs.List.{filter_map}
 use Rattle.base_lines.proofs.LogLines.{IsLogLine-log_line}
 use Rattle.std.proofs.Common.{◌≡◌, ◌+◌, ◌∙◌, ◌∷◌, ◌≤◌, ℕ, Bool, true, false, List, []}
@@ -38,7 +38,7 @@ second_holds : (a b : Bool) → (a && b) ≡ true → b ≡ true
 second_holds true b h = h
 second_holds false b h = absurd (false≢true h)
 
--- what isn't blank alone has a run of nonblanks
+-- bytes that aren't all blanks have a run of nonblanks
 has_run : (line : List ℕ) → is_all_blank line ≡ false → is_some (first_word_of line) ≡ true
 unfolding first_word_of
 has_run [] some = absurd (true≢false some)

@@ -1,4 +1,4 @@
--- Laws of what only ever goes one way in a game.
+-- Laws about what only ever goes one way in a game.
 use Rattle.std.specs.Prelude.{◌≡◌, ◌≤◌, ◌<◌, ◌+◌, ◌⊎◌, ℕ, ℤ, pos, negsuc, ◌≤ℤ◌, ◌-ℤ◌, Bool, true}
 use Rattle.std.specs.Prelude.{false, ◌&&◌, if◌then◌else◌, List, Option, Some, None}
 use Rattle.std.specs.Prelude.{length, filter}
@@ -38,7 +38,7 @@ abbrev pub NothingGoesBack : Type 0
 NothingGoesBack =
     (cave : CaveView) (s : State) (line : List ℕ) → IsAfter s (turn_on_line cave s line).state
 
--- so many hints were taken
+-- this many hints were taken
 abbrev pub taken_hints : List Bool → ℕ
 taken_hints is_taken = length (filter (λ taken. taken) is_taken)
 
@@ -48,21 +48,22 @@ HintsNeverFall =
     (cave : CaveView) (s : State) (line : List ℕ)
     → taken_hints s.hints.is_taken ≤ taken_hints (turn_on_line cave s line).state.hints.is_taken
 
--- a closed cave is a closing one, and so is one whose first clock has stopped
+-- a closed cave is also closing, and so is a cave whose first clock has stopped
 pub record ClosesInOrder (s : State) : Type 0 where
   pub closed : s.closing.is_closed ≡ true → s.closing.is_closing ≡ true
   pub stopped : s.closing.first_clock ≡ negsuc 0 → s.closing.is_closing ≡ true
 
--- a game begins so, and each line keeps it so
+-- this holds as a game begins, and each line preserves it
 abbrev pub ClosedIsClosing : Type 0
 ClosedIsClosing = Lasts (λ cave s. ClosesInOrder s)
 
--- no more treasures count as unseen than did, and no fewer as lost, up to the most that are counted
+-- no more treasures than before count as unseen, and no fewer as lost, up to the most that are
+-- counted
 pub record TreasuresAfter (s t : State) : Type 0 where
   pub unseen : t.tallies.unseen ≤ s.tallies.unseen
   pub lost : s.tallies.lost ≤ MAX_LOST → s.tallies.lost ≤ t.tallies.lost
 
--- each line keeps to that
+-- this holds of each line
 abbrev pub TreasuresGoOneWay : Type 0
 TreasuresGoOneWay =
     (cave : CaveView) (s : State) (line : List ℕ)
@@ -72,20 +73,20 @@ TreasuresGoOneWay =
 abbrev pub NoScoreIsGreater : Type 0
 NoScoreIsGreater = (cave : CaveView) (s : State) → score_of cave s ≤ max_score_of cave
 
--- nobody is asked in a closing cave whether to come back from death
+-- a closing cave never asks whether to come back from death
 abbrev pub IsAskedInTime : State → Type 0
 IsAskedInTime s = s.question ≡ Some question.Die → s.closing.is_closing ≡ false
 
--- a game begins so, and each line keeps it so
+-- this holds as a game begins, and each line preserves it
 abbrev pub AskedInTime : Type 0
 AskedInTime = Lasts (λ cave s. IsAskedInTime s)
 
--- deaths don't get fewer, of the three that are counted at most, and rise by one at most
+-- deaths, of which at most three are counted, don't get fewer, and rise by at most one
 pub record DeathsAfter (s t : State) : Type 0 where
   pub no_fewer : s.tallies.deaths ≤ 3 → s.tallies.deaths ≤ t.tallies.deaths
   pub one_more : t.tallies.deaths ≤ s.tallies.deaths + 1
 
--- each line keeps to that where nobody is asked in a closing cave whether to come back
+-- this holds of each line, if a closing cave never asks whether to come back
 abbrev pub DeathsComeOneByOne : Type 0
 DeathsComeOneByOne =
     (cave : CaveView) (s : State) (line : List ℕ) → IsAskedInTime s
@@ -95,14 +96,14 @@ DeathsComeOneByOne =
 abbrev pub IsOutsideCave : CaveView → ℕ → Type 0
 IsOutsideCave cave place = (1 ≤ place) × (place ≤ outside_place cave)
 
--- where the player is put is not outside: the northeast end of the repository, and where the dragon
--- dies, which is between its places
+-- the places where rules put the player aren't outside: the northeast end of the repository, and
+-- where the dragon dies, which is between its places
 pub record PutsInside (cave : CaveView) : Type 0 where
   pub repository : (ne : ℕ) → place_named cave place.Ne ≡ Some ne → ¬ IsOutsideCave cave ne
   pub dragon : ¬ IsOutsideCave cave (home cave (thing cave name.Dragon))
   pub second : ¬ IsOutsideCave cave (second_home cave (thing cave name.Dragon))
 
--- a line that leaves the cave closing leaves nobody outside who wasn't there before
+-- a line that leaves the cave closing leaves the player outside only if the player was there before
 abbrev pub NobodyGetsOut : Type 0
 NobodyGetsOut =
     (cave : CaveView) (s : State) (line : List ℕ) → PutsInside cave → IsAskedInTime s
@@ -120,15 +121,15 @@ burns cave s line =
     is_command cave s line
     && is_lit cave (before_lamp cave (begin_command cave (without_question s)))
 
--- the charge after a turn in which the lamp burns, or doesn't: it goes out as its last turn is
--- burnt
+-- the charge after a turn in which the lamp burns, or doesn't: the lamp goes out as its last turn
+-- is burnt
 abbrev pub charge_after : Bool → ℤ → ℤ
 charge_after burns charge =
     if burns then (if int_eq charge (pos 1) then negsuc 0 else charge -ℤ pos 1) else charge
 
--- a charge above 0 goes down by one in each command in which the lamp burns, and by no other line;
--- to 35 where a treasure is found, too. It rises by nothing but the instructions, a hint and, in a
--- command, new batteries
+-- a charge above 0 goes down by one in each command in which the lamp burns, and in no other line;
+-- it also goes down to 35 if a treasure is found. Only the instructions, a hint and, in a command,
+-- new batteries raise it
 abbrev pub LampBurnsByOne : Type 0
 LampBurnsByOne =
     (cave : CaveView) (s : State) (line : List ℕ) → pos 1 ≤ℤ s.lamp.charge

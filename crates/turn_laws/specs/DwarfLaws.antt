@@ -16,20 +16,20 @@ is_living dwarf = not (dwarf.place == 0)
 abbrev pub living_dwarves : State → List Dwarf
 living_dwarves s = filter is_living (take 5 s.dwarves.each)
 
--- the dwarves that were killed and those that live are five together at most, and none lives once
+-- the dwarves that were killed and those that live are together at most five, and none lives once
 -- the cave is closing
 pub record HasFewDwarves (s : State) : Type 0 where
   pub at_most : s.dwarves.kills + length (living_dwarves s) ≤ 5
   pub none_left : s.closing.is_closing ≡ true → length (living_dwarves s) ≡ 0
 
--- a game begins so, and each line keeps it so where the player is somewhere
+-- this holds as a game begins, and each line preserves it if the player is somewhere
 pub record FewDwarves : Type 0 where
   pub start : (cave : CaveView) (seed : ℕ) → HasFewDwarves (start_of_game cave seed).state
   pub kept :
       (cave : CaveView) (s : State) (line : List ℕ) → IsSomewhere s → HasFewDwarves s
       → HasFewDwarves (turn_on_line cave s line).state
 
--- one of the five dwarves that is gone stays gone at each line where the player is somewhere
+-- one of the five dwarves that is gone stays gone at each line, if the player is somewhere
 abbrev pub GoneForGood : Type 0
 GoneForGood =
     (cave : CaveView) (s : State) (line : List ℕ) (number : ℕ) → IsSomewhere s → number < 5

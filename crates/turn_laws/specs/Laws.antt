@@ -1,4 +1,4 @@
--- Laws of the game: each says what a line makes of any state in any cave.
+-- Laws of the game: each says what a line does to any state in any cave.
 use Rattle.std.specs.Prelude.{◌≡◌, ◌≤◌, ◌⊎◌, ℕ, negsuc, ◌≤ℤ◌, Bool, false, true, ◌&&◌, not, List}
 use Rattle.std.specs.Prelude.{[], Option, None, Some, is_some, if◌then◌else◌}
 use Rattle.cave_data.specs.CaveView.{CaveView}
@@ -24,7 +24,7 @@ HasEnded s = is_some s.ending ≡ true
 abbrev pub IsNoSeedLine : List ℕ → Type 0
 IsNoSeedLine line = (seed : ℕ) → ¬ IsSeedLine line seed
 
--- nothing is said, no turn passes, and nothing changes but the random stream at a seed line
+-- nothing is said, no turn passes, and nothing changes except the random stream at a seed line
 pub record IsQuiet (s : State) (line : List ℕ) (t : Turn) : Type 0 where
   pub says_nothing : t.parts ≡ []
   pub no_turn : t.ticked ≡ false
@@ -37,7 +37,7 @@ EndIsQuiet =
     (cave : CaveView) (s : State) (line : List ℕ) → HasEnded s
     → IsQuiet s line (turn_on_line cave s line)
 
--- a seed line changes the random stream alone, says nothing and is no turn
+-- a seed line changes only the random stream, says nothing and is no turn
 abbrev pub SeedsAlone : Type 0
 SeedsAlone =
     (cave : CaveView) (s : State) (line : List ℕ) (seed : ℕ) → IsSeedLine line seed
@@ -53,7 +53,7 @@ is_input_kind kind.Input = true
 abbrev pub is_input : List ℕ → Bool
 is_input line = is_input_kind (log_line line)
 
--- a line leaves a question unanswered, and is a command: anything but yes, where the player is
+-- a line leaves a question unanswered, and is a command: anything except yes, if the player is
 -- asked whether to fight the dragon
 abbrev pub leaves : CaveView → List ℕ → Question → Bool
 leaves cave line question = is_dragon question && not (is_yes (answer_in cave line))
@@ -80,7 +80,7 @@ CommandsTick =
     (cave : CaveView) (s : State) (line : List ℕ)
     → (turn_on_line cave s line).ticked ≡ is_command cave s line
 
--- a game begins so, and each line keeps it so, in any cave
+-- this holds as a game begins, and each line preserves it, in any cave
 pub record Lasts (Holds : CaveView → State → Type 0) : Type 0 where
   pub start : (cave : CaveView) (seed : ℕ) → Holds cave (start_of_game cave seed).state
   pub kept :
@@ -92,17 +92,17 @@ pub record HasFewDeaths (s : State) : Type 0 where
   pub at_most : s.tallies.deaths ≤ 3
   pub last : s.tallies.deaths ≡ 3 → HasEnded s
 
--- a game begins so, and each line keeps it so
+-- this holds as a game begins, and each line preserves it
 abbrev pub FewDeaths : Type 0
 FewDeaths = Lasts (λ cave s. HasFewDeaths s)
 
--- the player is at place 0, which is none, only where the game has ended, or where the player died
+-- the player is at place 0, which is no place, only if the game has ended, or if the player died
 -- and is asked whether to come back
 abbrev pub IsSomewhere : State → Type 0
 IsSomewhere s = s.trail.here ≡ 0 → HasEnded s ⊎ (s.question ≡ Some question.Die)
 
--- a game begins so in a cave where the first place isn't 0, and each line keeps it so in a cave
--- where the building, to which the dead come back, isn't place 0
+-- this holds as a game begins in a cave whose first place isn't 0, and each line preserves it in a
+-- cave whose building, where the dead come back, isn't place 0
 pub record PlayerIsSomewhere : Type 0 where
   pub start :
       (cave : CaveView) (seed : ℕ) → 1 ≤ start_place cave
@@ -111,7 +111,7 @@ pub record PlayerIsSomewhere : Type 0 where
       (cave : CaveView) (s : State) (line : List ℕ) → 1 ≤ building_place cave → IsSomewhere s
       → IsSomewhere (turn_on_line cave s line).state
 
--- two questions are about a price that the lamp gains by: the instructions, and a hint
+-- the lamp gains by the price of two questions: that for the instructions, and that of a hint
 abbrev pub is_priced : Question → Bool
 is_priced question.Welcome = true
 is_priced (question.Take hint) = true
@@ -122,15 +122,15 @@ abbrev pub pays : CaveView → List ℕ → Option Question → Bool
 pays cave line None = false
 pays cave line (Some question) = is_yes (answer_in cave line) && is_priced question
 
--- the lamp isn't reached where the clocks closed the cave
+-- the lamp isn't reached if the clocks closed the cave
 abbrev pub unless_closed : Bool → Scene → Option Scene
 unless_closed closed p = if closed then None else Some p
 
--- the scene that the clocks leave to the lamp
+-- the scene after the clocks, in which the lamp goes on
 abbrev pub before_lamp : CaveView → Scene → Option Scene
 before_lamp cave p = let a = tick_clocks (deed cave tt p) in unless_closed a.step a.scene
 
--- the lamp is reached, and its batteries are changed: they can be, once a turn is burnt
+-- the lamp is reached, and its batteries are changed: they can be changed after a turn is burnt
 abbrev pub is_changed : CaveView → Option Scene → Bool
 is_changed cave None = false
 is_changed cave (Some p) = all_hold can_change_batteries (burn (deed cave tt p))
@@ -143,8 +143,8 @@ gets_batteries cave s = is_changed cave (before_lamp cave (begin_command cave s)
 abbrev pub brings_batteries : CaveView → State → List ℕ → Bool
 brings_batteries cave s line = is_command cave s line && gets_batteries cave (without_question s)
 
--- a charge of at least -1 that the lamp has rises by nothing but the instructions, a hint and, in
--- a command, new batteries
+-- if the lamp's charge is at least -1, only the instructions, a hint and, in a command, new
+-- batteries raise it
 abbrev pub LampBurnsDown : Type 0
 LampBurnsDown =
     (cave : CaveView) (s : State) (line : List ℕ) → negsuc 0 ≤ℤ s.lamp.charge

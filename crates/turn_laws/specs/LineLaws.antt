@@ -1,4 +1,4 @@
--- Laws of lines that change nothing, and of lines and seeds that play alike.
+-- Laws about lines that change nothing, and about lines and seeds that play alike.
 use Rattle.std.specs.Prelude.{◌≡◌, ◌⊎◌, ℕ, ◌%◌, List}
 use Rattle.base_lines.specs.LogLine.{IsLogLine}
 use Rattle.base_lines.specs.declared.log_line.LogLine.TheVariants as kind

@@ -1,4 +1,4 @@
--- What rows do where something is missing that others ask for, so that those aren't gone to.
+-- What rows do if something is missing that other rows need, which are then never reached.
 use Rattle.std.specs.Prelude.{◌≡◌, ℕ, true, None}
 use Rattle.std.specs.FinMap as map
 use Rattle.turn_clocks.specs.Clocks.{tick_clocks}
@@ -22,19 +22,19 @@ pub record ComesToNothing (cave : CaveView) (hint : ℕ) (p : Scene) : Type 0 wh
   pub price : (by_rows price_rows (deed cave hint p)).scene ≡ p
   pub gift : (by_table table.HintGiven give_rows (deed cave hint p)).scene ≡ p
 
--- so it is with a hint that the cave lacks
+-- this holds of a hint that the cave lacks
 abbrev pub LackedHintsComeToNothing : Type 0
 LackedHintsComeToNothing =
     (cave : CaveView) (hint : ℕ) (p : Scene) → map.get cave.hints hint ≡ None
     → ComesToNothing cave hint p
 
--- no points are wanted where the score has no class
+-- no points are asked for the next class if the score has no class
 abbrev pub NoClassWantsPoints : Type 0
 NoClassWantsPoints =
     (d : Deed (Unit {0})) → class_now d ≡ None
     → by_table table.Classes class_rows d ≡ say role.OffScale (note_row table.Classes 3 d)
 
--- the player stays where the narrow passage, or the bridge, leads nowhere
+-- the player stays if the narrow passage, or the bridge, leads nowhere
 pub record NoWayHasAnEnd : Type 0 where
   pub passage :
       (d : Deed (Unit {0})) → squeeze d ≡ None
@@ -43,7 +43,7 @@ pub record NoWayHasAnEnd : Type 0 where
       (d : Deed (Unit {0})) → bridge d ≡ None
       → cross_bridge d ≡ staying (after_saying role.NoWay (after_row table.Bridge 1 d.scene))
 
--- the cave is closed only where both ends of the repository are places
+-- the cave is closed only if both ends of the repository are places
 abbrev pub ClosesBetweenPlaces : Type 0
 ClosesBetweenPlaces =
     (d : Deed (Unit {0})) → (tick_clocks d).step ≡ true

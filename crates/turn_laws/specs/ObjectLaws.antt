@@ -11,11 +11,11 @@ use Rattle.turn_laws.specs.Laws.{Lasts}
 abbrev pub HasFewInHands : State → Type 0
 HasFewInHands s = length (objects_in_hands s.objects) ≤ 8
 
--- a game begins so, and each line keeps it so
+-- this holds as a game begins, and each line preserves it
 abbrev pub FewInHands : Type 0
 FewInHands = Lasts (λ cave s. HasFewInHands s)
 
--- an object is in one place: the first half of one in the hands is in no list, and each half is
+-- an object is in one place: if it is in the hands its first half is in no list, and each half is
 -- in the list of the place where its object says it is, and in no other
 pub record IsInOnePlace (o : Layout) (object : ℕ) : Type 0 where
   pub in_hands :
@@ -28,7 +28,7 @@ pub record IsInOnePlace (o : Layout) (object : ℕ) : Type 0 where
       → is_listed (100 + object) (halves_at place o.lists)
       ≡ is_place place (place_of_anchor (anchor_of o object))
 
--- each half of an object is in the list of one place and of no other, or in none, and a first half
--- where its object says: a game begins so, and each line keeps it so
+-- each half of an object is in the list of just one place, or in none, and a first half is where
+-- its object says: this holds as a game begins, and each line preserves it
 abbrev pub StayInOnePlace : Type 0
 StayInOnePlace = Lasts (λ cave s. AreInOneList s.objects)

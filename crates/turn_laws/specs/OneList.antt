@@ -1,4 +1,4 @@
--- Each half of an object is in one list at most, as a game begins and whatever is done to objects.
+-- Each half of an object is in at most one list, as a game begins and after each change of objects.
 use Rattle.std.specs.Prelude.{◌≡◌, ℕ, ℤ, ◌≤◌, Option, length}
 use Rattle.turn_ends.specs.Begin.{starting_objects}
 use Rattle.cave_data.specs.CaveView.{CaveView}
@@ -8,19 +8,19 @@ use Rattle.world_objects.specs.Objects.{place_of_spot, spot_of, with_anchor, wit
 use Rattle.world_objects.specs.declared.spot.Anchor.{Anchor}
 use Rattle.world_objects.specs.declared.spot.Spot.{Spot}
 
--- the half of a number is in the list of one place and of no other, or in none; a first half, which
--- has its object's number, is where the object says
+-- the half with this number is in the list of just one place, or in none; a first half, which has
+-- its object's number, is where the object says
 pub record IsInOneList (o : Layout) (number : ℕ) : Type 0 where
   pub place : Option ℕ
   pub only : (p : ℕ) → is_listed number (halves_at p o.lists) ≡ is_place p place
   pub first : 1 ≤ number → number ≤ 100 → place ≡ place_of_spot (spot_of o number)
 
--- each half is, of a hundred objects
+-- each half of a hundred objects is
 pub record AreInOneList (o : Layout) : Type 0 where
   pub all : length o.first ≡ 100
   pub halves : (number : ℕ) → IsInOneList o number
 
--- whatever is done to an object leaves it so
+-- each change of an object preserves this
 pub record HalvesStay : Type 0 where
   pub spot : (o : Layout) (x : ℕ) (s : Spot) → AreInOneList o → AreInOneList (with_spot o x s)
   pub anchor :
@@ -29,6 +29,6 @@ pub record HalvesStay : Type 0 where
   pub carry : (o : Layout) (x : ℕ) → AreInOneList o → AreInOneList (after_carry o x)
   pub juggle : (o : Layout) (x : ℕ) → AreInOneList o → AreInOneList (after_juggle o x)
 
--- so it is as a game begins
+-- this holds as a game begins
 abbrev pub GamesBeginSo : Type 0
 GamesBeginSo = (cave : CaveView) → AreInOneList (starting_objects cave)

@@ -1,4 +1,4 @@
--- What holds of each state that a game comes to.
+-- What holds of each state that a game reaches.
 use Rattle.std.specs.Prelude.{◌≡◌, ◌≤◌, ◌⊎◌, ℕ, ℤ, pos, negsuc, ◌≤ℤ◌, true, List, [], ◌∷◌}
 use Rattle.std.specs.Prelude.{Option, None, Some, is_some}
 use Rattle.std.specs.FinMap as map
@@ -20,7 +20,7 @@ abbrev pub after_lines : CaveView → State → List (List ℕ) → State
 after_lines cave s [] = s
 after_lines cave s (line ∷ lines) = after_lines cave (turn_on_line cave s line).state lines
 
--- a state is one that a game comes to: a start of some seed, and then lines, lead to it
+-- a game reaches a state: the start with some seed, followed by lines, leads to it
 pub record IsReachable (cave : CaveView) (s : State) : Type 0 where
   pub seed : ℕ
   pub lines : List (List ℕ)
@@ -39,7 +39,7 @@ HasBoundedNumbers s =
     IsWithin s.closing.first_clock s.closing.second_clock s.lamp.charge s.tallies.unseen
     s.tallies.lost
 
--- a game begins so, and each line keeps it so
+-- this holds as a game begins, and each line preserves it
 abbrev pub StaysBounded : Type 0
 StaysBounded = Lasts (λ cave s. HasBoundedNumbers s)
 
@@ -47,11 +47,11 @@ StaysBounded = Lasts (λ cave s. HasBoundedNumbers s)
 abbrev pub AsksOrEnds : State → Type 0
 AsksOrEnds s = (s.question ≡ None) ⊎ (s.ending ≡ None)
 
--- a game begins so, and each line keeps it so
+-- this holds as a game begins, and each line preserves it
 abbrev pub NeverBoth : Type 0
 NeverBoth = Lasts (λ cave s. AsksOrEnds s)
 
--- a hint that a question is about is one that the cave has
+-- the cave has each hint that a question is about
 abbrev pub IsKnown : CaveView → Question → Type 0
 IsKnown cave (question.Hint hint) = is_some (map.get cave.hints hint) ≡ true
 IsKnown cave (question.Take hint) = is_some (map.get cave.hints hint) ≡ true
@@ -61,7 +61,7 @@ abbrev pub IsOpenKnown : CaveView → Option Question → Type 0
 IsOpenKnown cave None = Unit {0}
 IsOpenKnown cave (Some asked) = IsKnown cave asked
 
--- a game begins so, and each line keeps it so
+-- this holds as a game begins, and each line preserves it
 abbrev pub HintsAreKnown : Type 0
 HintsAreKnown = Lasts (λ cave s. IsOpenKnown cave s.question)
 
@@ -83,7 +83,7 @@ pub record IsLawful (cave : CaveView) (s : State) : Type 0 where
   pub place : IsSomewhere s
   pub dwarves : HasFewDwarves s
 
--- it holds of each state that a game comes to in a cave with those places
+-- it holds of each state that a game reaches in a cave with those places
 abbrev pub ReachableIsLawful : Type 0
 ReachableIsLawful =
     (cave : CaveView) (s : State) → HasPlaces cave → IsReachable cave s → IsLawful cave s

@@ -1,4 +1,4 @@
--- What no game comes to, though definitions have a line for it.
+-- What no game reaches, although definitions have a line for it.
 use Rattle.std.specs.Prelude.{◌≡◌, ℕ, true, List, Option, Some, is_some, unwrap_or}
 use Rattle.base_lines.specs.LogLine.{log_line}
 use Rattle.base_lines.specs.declared.log_line.LogLine.TheVariants as kind
@@ -22,7 +22,8 @@ InputHasAWord =
 abbrev pub NamesAnObject : Option ℕ → Type 0
 NamesAnObject number = or_no_object number ≡ unwrap_or number 0
 
--- in a cave that was read no word that is said and no name of a rule is of an object above the last
+-- in a cave that was read, neither a word that is said nor a name of a rule is that of an object
+-- above the last
 pub record WordsNameObjects (cave : CaveView) : Type 0 where
   pub said : (word : List ℕ) (m : Meaning) → meaning cave word ≡ Some m → m.class ≡ class.Object
       → NamesAnObject (Some m.number)

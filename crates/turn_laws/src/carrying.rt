@@ -1,4 +1,4 @@
-//! Laws of what is in the hands.
+//! Laws about what is in the hands.
 
 ghost use Rattle.turn_laws.specs.ObjectLaws.{FewInHands};
 

@@ -1,4 +1,4 @@
-//! Laws of what only ever goes one way in a game.
+//! Laws about what only ever goes one way in a game.
 ghost use Rattle.turn_laws.specs.Courses.{AskedInTime, ClosedIsClosing, DeathsComeOneByOne};
 ghost use Rattle.turn_laws.specs.Courses.{HintsNeverFall};
 ghost use Rattle.turn_laws.specs.Courses.{LampBurnsByOne, NoScoreIsGreater, NobodyGetsOut};
@@ -11,13 +11,13 @@ pub fn nothing_goes_back()
     ensures { NothingGoesBack }
 {}
 
-/// A closed cave is a closing one: a game begins so, and each line keeps it so.
+/// A closed cave is also closing: this holds as a game begins, and each line preserves it.
 #[tactic(auto, using(crate::proofs::Onward::closed_is_closing))]
 pub fn closed_is_closing()
     ensures { ClosedIsClosing }
 {}
 
-/// No more treasures count as unseen than did, and no fewer count as lost.
+/// No line makes the treasures that count as unseen more, or those that count as lost fewer.
 #[tactic(auto, using(crate::proofs::Onward::treasures_go_one_way))]
 pub fn treasures_go_one_way()
     ensures { TreasuresGoOneWay }
@@ -29,33 +29,34 @@ pub fn no_score_is_greater()
     ensures { NoScoreIsGreater }
 {}
 
-/// Nobody is asked in a closing cave whether to come back from death: a game begins so, and each
-/// line keeps it so.
+/// A closing cave never asks whether to come back from death: this holds as a game begins, and each
+/// line preserves it.
 #[tactic(auto, using(crate::proofs::Bounds::asked_in_time))]
 pub fn asked_in_time()
     ensures { AskedInTime }
 {}
 
-/// Deaths rise by one a line at most, where nobody is asked in a closing cave whether to come back.
+/// Deaths rise by at most one a line, if a closing cave never asks whether to come back.
 #[tactic(auto, using(crate::proofs::Bounds::deaths_come_one_by_one))]
 pub fn deaths_come_one_by_one()
     ensures { DeathsComeOneByOne }
 {}
 
-/// While the cave is closing nobody comes to a place outside it, in a cave that puts nobody there.
+/// While the cave is closing the player can't get to a place outside it, unless the cave itself
+/// puts the player there.
 #[tactic(auto, using(crate::proofs::Bounds::nobody_gets_out))]
 pub fn nobody_gets_out()
     ensures { NobodyGetsOut }
 {}
 
-/// A charge above 0 that the lamp has goes down by one in each command in which it burns, and by
-/// no other line, but to 35 at most where a treasure is found.
+/// If the lamp's charge is above 0, it goes down by one in each command in which the lamp burns,
+/// and in no other line; it also goes down to at most 35 if a treasure is found.
 #[tactic(auto, using(crate::proofs::Onward::lamp_burns_by_one))]
 pub fn lamp_burns_by_one()
     ensures { LampBurnsByOne }
 {}
 
-/// No line makes the hints fewer that were taken.
+/// No line makes the hints that were taken fewer.
 #[tactic(auto, using(crate::proofs::HintCount::hints_never_fall))]
 pub fn hints_never_fall()
     ensures { HintsNeverFall }

@@ -1,5 +1,5 @@
-//! Laws of lines that change nothing, and of lines and seeds that play alike. Each is the contract of
-//! a function that does nothing.
+//! Laws about lines that change nothing, and about lines and seeds that play alike. Each is the
+//! contract of a function that does nothing.
 
 ghost use Rattle.turn_laws.specs.LineLaws.{CommentsChangeNothing, EqualSeedsPlayAlike};
 ghost use Rattle.turn_laws.specs.LineLaws.{EqualWordsPlayAlike};

@@ -1,4 +1,4 @@
-//! Laws of each state that a game comes to.
+//! Laws about each state that a game reaches.
 
 ghost use Rattle.turn_laws.specs.Reachable.{HasPlaces, HintsAreKnown, NeverBoth};
 ghost use Rattle.turn_laws.specs.Reachable.{ReachableIsLawful, StaysBounded};
@@ -6,37 +6,38 @@ ghost use Rattle.turn_laws.specs.Reachable.{ReachableIsLawful, StaysBounded};
 use cave_data::Cave;
 use data_rows::PlaceRole;
 
-/// The clocks, the lamp and the counts of treasures are within their bounds: a game begins so, and
-/// each line keeps it so.
+/// The clocks, the lamp and the counts of treasures are within their bounds: this holds as a game
+/// begins, and each line preserves it.
 #[tactic(auto, using(crate::proofs::Onward::stays_bounded))]
 pub fn bounds_are_kept()
     ensures { StaysBounded }
 {}
 
-/// A question is open or the game has ended, or neither: a game begins so, and each line keeps it
-/// so.
+/// A question is open, or the game has ended, or neither: this holds as a game begins, and each
+/// line preserves it.
 #[tactic(auto, using(crate::proofs::Bounds::never_both))]
 pub fn asks_or_ends()
     ensures { NeverBoth }
 {}
 
-/// A hint that a question is about is one that the cave has: a game begins so, and each line keeps
-/// it so.
+/// The cave has each hint that a question is about: this holds as a game begins, and each line
+/// preserves it.
 #[tactic(auto, using(crate::proofs::Bounds::hints_are_known))]
 pub fn hints_are_known()
     ensures { HintsAreKnown }
 {}
 
-/// In each cave the place where a game begins, and that where the dead come back, are places.
+/// In each cave the place where a game begins isn't place 0, nor is the one where the dead come
+/// back.
 pub fn caves_have_places(cave: &Cave)
     ensures { HasPlaces cave.now }
 {
-    // What these two promise is the law.
+    // These two contracts together are the law.
     let _start = cave.place(PlaceRole::Start);
     let _building = cave.place(PlaceRole::Building);
 }
 
-/// Each state that a game comes to, from any seed by any lines, is lawful, in a cave with those
+/// Each state that a game reaches, from any seed by any lines, is lawful, in a cave with those
 /// places.
 pub fn reachable_states_are_lawful()
     ensures { ReachableIsLawful }
