@@ -46,7 +46,7 @@ module _ {T : Type 0} where
             (subst (λ n. AreLaid n ys) here others),
       )
 
-  -- where the blocks after `gone` items begin once `come` are there in place of these
+  -- where the blocks after `gone` items begin after `come` items have replaced these
   pub laid_moved : (start gone come : ℕ) (ys : List (Block T)) → gone ≤ start → AreLaid start ys
       → AreLaid (start - gone + come) (map (moved_block gone come) ys)
   laid_moved start gone come [] after laid = tt
@@ -163,7 +163,7 @@ module _ {T : Type 0} where
         (omega arith))
         ∙ ap (λ l. set l place item) (sym (items_around old below read))
 
-    -- ---- another stretch in a block, where those after it move
+    -- ---- another stretch in a block, with those after it moved
 
     module _ (old new : Block T) (from to gone come : ℕ) (middle : List T)
         (below : index < length blocks) (read : old ≡ get_or blocks index old)
@@ -272,7 +272,7 @@ module _ {T : Type 0} where
         (read : old ≡ get_or blocks index old)
         (inside : index + 1 < length blocks)
         (read' : next ≡ get_or (set blocks index wide) (index + 1) next) where
-      -- what comes after the first is the second, and then the others
+      -- the first is followed by the second, and then by the others
       after_next : drop (index + 1) blocks ≡ next ∷ drop (suc (index + 1)) blocks
       after_next =
           let count = length-set blocks index wide in

@@ -28,7 +28,7 @@ module _ {T : Type 0} where
       ap (λ l. block_items block ++ l)
       (set_starts blocks index old new (omega arith) read same k)
 
-  -- a block that isn't moved yet
+  -- a block that hasn't been moved yet
   pub unmoved : (gone come i : ℕ) (blocks now : List (Block T)) (other : Block T)
       → i < length blocks
       → now ≡ map (moved_block gone come) (take i blocks) ++ drop i blocks
@@ -43,7 +43,7 @@ module _ {T : Type 0} where
       ∙ ap (λ n. get_or (drop i blocks) n other) none
       ∙ get_or-drop i blocks 0 other ∙ ap (λ n. get_or blocks n other) (add-zero i)
 
-  -- and where they have as many items
+  -- and if they have as many items
   pub set_lengths : (blocks : List (Block T)) (index : ℕ) (old new : Block T)
       → index < length blocks → old ≡ get_or blocks index old
       → length (block_items new) ≡ length (block_items old)
@@ -77,7 +77,7 @@ module _ {T : Type 0} where
       take-take i k blocks later in
       rw (← first) (start-within (take k blocks) i)
 
-  -- what is known of a block, where another one comes in the place of one
+  -- what is known of a block after another one was replaced
   pub known_after : (P : Block T → Type 0) (blocks : List (Block T)) (index k : ℕ)
       (old new : Block T) → index < length blocks → old ≡ get_or blocks index old → (P old → P new)
       → ((other : Block T) → P (get_or blocks k other))
@@ -90,7 +90,7 @@ module _ {T : Type 0} where
   known_after P (block ∷ blocks) (suc index) (suc k) old new below read same known other =
       known_after P blocks index k old new (omega arith) read same known other
 
-  -- a stretch lies in its block as before where one has another item
+  -- a stretch lies in its block as before if one block has another item
   pub holds_after : (blocks : List (Block T)) (index : ℕ) (old new : Block T)
       → index < length blocks → old ≡ get_or blocks index old
       → length (block_items new) ≡ length (block_items old)

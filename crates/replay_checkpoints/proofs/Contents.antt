@@ -1,4 +1,4 @@
--- What is kept, where the items of a list come in the place of others.
+-- What is kept if the items of a list replace others.
 use Rattle.std.proofs.Common.{◌≡◌, ℕ, ◌+◌, ◌<◌, List, [], ◌∷◌, ◌++◌, map, length, get_or, take}
 use Rattle.std.proofs.Common.{refl, ap, sym, ◌∙◌}
 use Rattle.std.specs.List.{splice}
@@ -9,7 +9,7 @@ pub map-splice : {X Y : Type 0} (f : X → Y) (xs ms : List X) (from to : ℕ)
 map-splice f xs ms from to =
     simp (map-append, take-map, drop-map) refl
 
--- a copy of one item more
+-- a copy of one more item
 pub one_more : {X Y : Type 0} (f : X → Y) (xs ys : List X) (i : ℕ) (x y : X)
     → map f ys ≡ take i (map f xs) → i < length xs → x ≡ get_or xs i x → f y ≡ f x
     → map f (ys ++ y ∷ []) ≡ take (i + 1) (map f xs)

@@ -29,7 +29,7 @@ module _ (places middle spliced : List ℕ) (head rest tail : ℕ) (within : hea
   regrouped : spliced ≡ (take head places ++ middle) ++ drop rest places
   regrouped = spliced_is ∙ sym (append_assoc (take head places) middle (drop rest places))
 
-  -- after what was put in come the old places from `rest` on
+  -- what was put in is followed by the old places from `rest` on
   pub spliced_after : (i : ℕ) → tail ≤ i → i < length spliced
       → (rest + (i - tail) < length places)
       × (slice_index spliced i ≡ slice_index places (rest + (i - tail)))

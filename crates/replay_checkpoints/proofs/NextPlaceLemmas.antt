@@ -1,5 +1,5 @@
--- For those who keep states that a play gives: the states kept are those at the places kept,
--- through each change.
+-- For those who keep the states of a play: through each change, the kept states are those at the
+-- kept places.
 use Rattle.std.proofs.Common.{◌≡◌, ℕ, ◌+◌, ◌-◌, ◌<◌, ◌≤◌, suc, Bool, true, false, List, [], ◌∷◌}
 use Rattle.std.proofs.Common.{◌++◌, map, length, take, drop, arith, refl, ap, sym, ◌∙◌}
 use Rattle.std.specs.Prelude.{slice_index, if◌then◌else◌}

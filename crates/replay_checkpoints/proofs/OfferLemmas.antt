@@ -1,4 +1,4 @@
--- What going on to a place makes of marks.
+-- What going on to a place does to marks.
 use Rattle.std.proofs.Common.{◌≡◌, ℕ, ◌+◌, ◌-◌, ◌<◌, ◌≤◌, Bool, true, false, List, [], ◌∷◌, ◌++◌}
 use Rattle.std.proofs.Common.{length, arith, refl, ap}
 use Rattle.std.specs.Prelude.{slice_index, if◌then◌else◌}
@@ -43,7 +43,7 @@ thinned_before start from every places next place t up near places' p =
     before_at start from every places next place t up near (is_far every places place) refl places'
     p
 
--- marks stay sound where the open place is kept, with room for the next one
+-- marks stay sound if the open place is kept, with room for the next one
 pub sound_kept : {S : Type 0} (every end from : ℕ) (places : List ℕ) (states : List S) (next : ℕ)
     (state : S) (room place : ℕ) (places' : List ℕ) (states' : List S) (room' : ℕ)
     → IsSound every end from places (length states) next room → next ≤ place → place ≤ next + every
@@ -65,7 +65,7 @@ sound_kept every end from places states next state room place places' states' ro
       enough = omega (arith, length_push places next);
     })
 
--- marks stay sound where the open place is passed
+-- marks stay sound if the open place is passed
 pub sound_passed : (every end from : ℕ) (places : List ℕ) (states next room place : ℕ)
     → IsSound every end from places states next room → next ≤ place → place ≤ end
     → is_far every places place ≡ false → IsSound every end from places states place room

@@ -1,4 +1,4 @@
--- Places that rise: what a search among them finds.
+-- Ascending places: what a search among them finds.
 use Rattle.std.proofs.Common.{◌≡◌, ℕ, ◌+◌, ◌<◌, ◌≤◌, false, leb, List, length, get_or, arith}
 use Rattle.std.proofs.Common.{⊎_elim}
 use borrow.Author.Tests.{leb-false}
@@ -15,7 +15,7 @@ non_decreasing xs up = IsNonDecreasingBy-from_all_adjacent (λ x. x) xs (λ k d 
     let high : get_or xs (k + 1) d ≡ get_or xs (k + 1) 0 = get_or_default xs (k + 1) d 0 h in
     omega (arith, up k h))
 
--- where the first place isn't past the limit, a search for the limit passes it
+-- if the first place isn't past the limit, a search for the limit passes it
 pub found_one : (xs : List ℕ) (limit found : ℕ) → 0 < length xs → slice_index xs 0 ≤ limit
     → AllWithin (λ y. leb y limit ≡ false) xs found (length xs) → 0 < found
 found_one xs limit found some begun past =

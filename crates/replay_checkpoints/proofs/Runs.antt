@@ -1,4 +1,4 @@
--- Places whose gaps are spaced, whatever they begin and end with: in parts, joined and moved.
+-- Places whose gaps are spaced, with any beginning and end: in parts, joined and moved.
 use Rattle.std.proofs.Common.{◌≡◌, ℕ, ◌+◌, ◌-◌, ◌<◌, ◌≤◌, List, ◌++◌, length, get_or, take, drop}
 use Rattle.std.proofs.Common.{arith, ⊎_elim, refl, ap, ◌∙◌}
 use Rattle.std.specs.Prelude.{slice_index}
@@ -208,7 +208,7 @@ back K xs rest old new above run =
           );
     }
 
--- nothing moves where `old` stays
+-- nothing moves if `old` stays
 pub moved_same : (xs : List ℕ) (rest old : ℕ)
     → ((j : ℕ) → rest ≤ j → j < length xs → old ≤ slice_index xs j)
     → after_shift xs rest old old ≡ drop rest xs

@@ -36,7 +36,7 @@ one_run K place = record {
   apart = λ i h. absurd (omega arith);
 }
 
--- the place reached last is kept, since the next one lies too far after the last place kept
+-- the place reached last is kept, since the next one lies too far after the last kept place
 pub thinned_keep : (start from K : ℕ) (places : List ℕ) (next place : ℕ)
     → IsThinned start from K places next
     → ((i : ℕ) → i + 1 ≡ length places → slice_index places i + K < place) → next ≤ place
@@ -94,7 +94,7 @@ rises : (xs : List ℕ) → IsStrictlyIncreasing xs → (i j : ℕ) → i ≤ j 
     → slice_index xs i ≤ slice_index xs j
 rises xs up i j le h = non_decreasing xs up i j 0 le h
 
--- after a checkpoint the others follow
+-- the others follow a checkpoint
 pub rest_behind : (K : ℕ) (places : List ℕ) (lines at : ℕ) → IsSpaced K places lines
     → at < length places → IsRest K places lines (slice_index places at) (at + 1)
 rest_behind K places lines at s h = record {
@@ -110,7 +110,7 @@ rest_behind K places lines at s h = record {
   beyond = λ more. let two : at + 1 + 1 ≡ at + 2 = omega arith in rw two (s.apart at (omega arith));
 }
 
--- after the end of the log none does
+-- none follows the end of the log
 pub rest_none : (K : ℕ) (places : List ℕ) (lines : ℕ) → IsRest K places lines lines (length places)
 rest_none K places lines = record {
   inside = omega arith;

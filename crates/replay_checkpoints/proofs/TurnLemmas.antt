@@ -1,5 +1,5 @@
--- A list in four parts, and what rotating its middle makes of it; a stretch of a list that comes in
--- the place of another.
+-- A list in four parts, and what rotating its middle does to it; a stretch of a list that replaces
+-- another.
 use Rattle.std.proofs.Common.{◌≡◌, ℕ, ◌+◌, ◌-◌, ◌≤◌, List, [], ◌++◌, length, take, drop, arith, sym}
 use Rattle.std.proofs.Common.{refl, ◌∙◌, ap, append_assoc, length-append}
 use Rattle.std.proofs.lemmas.List.{take_at, drop_at, take-append-le, take-take, append-nil}
@@ -75,7 +75,7 @@ brought_in xs ms ys at within turn =
 pub lent_items : {X : Type 0} (n : ℕ) (ys zs : List X) → length ys ≡ n → take n (ys ++ zs) ≡ ys
 lent_items n ys zs e = take_at ys zs n e
 
--- what is from `a` on, once the items from `a` up to `to` are others
+-- what is from `a` on, after the items from `a` up to `to` were replaced
 pub put_back : {X : Type 0} (xs ys : List X) (a to : ℕ) → a ≤ to → to ≤ length xs
     → drop a (put_mid a (to - a) xs ys) ≡ ys ++ drop to xs
 put_back xs ys a to ordered within =
@@ -87,8 +87,8 @@ pub length-put_back : {X : Type 0} (xs ys : List X) (a to : ℕ) → a ≤ to �
 length-put_back xs ys a to ordered within same =
     same_len_mid a (to - a) xs ys (same ∙ sym (mid_len a to xs within))
 
--- The last of a stretch are those of `ms` after its first `more`, which come before them in the
--- place of the stretch's others.
+-- The last items of a stretch are those of `ms` after its first `more`; these come before them, in
+-- the place of the stretch's other items.
 pub spliced : {X : Type 0} (xs ms ws taken : List X) (from to last more : ℕ) → from ≤ last
     → last ≤ to → to ≤ length xs → ws ≡ put_mid last (to - last) xs (drop more ms)
     → taken ≡ take from ws ++ drop last ws

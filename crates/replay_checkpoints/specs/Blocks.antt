@@ -11,7 +11,7 @@ pub record BlocksView (T : Type 0) : Type 0 where
   pub items : List T
   pub stretch : Option Stretch
 
--- the stretch from `from` up to `to` is open, for so many items in its place
+-- the stretch from `from` up to `to` is open, for this many items in its place
 pub record IsOpenAt {T : Type 0} (blocks : BlocksView T) (from to count : ℕ) : Type 0 where
   pub stretch : Stretch
   pub stretch_is : blocks.stretch ≡ Some stretch
@@ -35,17 +35,18 @@ AreLaid start [] = Unit {0}
 AreLaid start (block ∷ blocks) =
     (block.start ≡ start) × AreLaid (start + length block.items.items) blocks
 
--- a block after `gone` items went before it and `come` came
+-- a block after `come` items have replaced `gone` items before it
 abbrev pub moved_block : {T : Type 0} → ℕ → ℕ → Block T → Block T
 moved_block gone come block = record { start = block.start - gone + come; items = block.items }
 
--- a place is in the block of this index, or after all items, and the block is the last one
+-- a place is in the block of this index, or the place is after all items, and the block is the last
+-- one
 pub record IsBlockOf {T : Type 0} (blocks : List (Block T)) (place index : ℕ) : Type 0 where
   pub inside : index < length blocks
   pub begun : start_at blocks index ≤ place
   pub ended : index + 1 < length blocks → place < start_at blocks (index + 1)
 
--- there is room for so many items where as many go
+-- there is room for `count` items if `gone` items go
 abbrev pub HasRoom : {T : Type 0} → Vec T → ℕ → ℕ → Type 0
 HasRoom items gone count = vec_len items + count ≤ vec_capacity items + gone
 
@@ -60,7 +61,7 @@ pub record HoldsStretch {T : Type 0} (blocks : List (Block T)) (from to count in
     pub room : (other : Block T) → HasRoom (slice_index_or blocks index other).items (to - from)
         count
 
--- The blocks of a list of so many items, and of its open stretch.
+-- The blocks of a list of this many items, and of its open stretch.
 pub record AreBlocks {T : Type 0} (blocks : List (Block T)) (len : ℕ) (stretch : Option Stretch) :
     Type 0 where
   pub some : 0 < length blocks

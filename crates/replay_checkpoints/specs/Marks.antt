@@ -8,7 +8,7 @@ pub record PlacedView (S : Type 0) : Type 0 where
   pub states : List S
   pub room : ℕ
 
--- The places kept of a stream that began with `start` and `from`, and whose last place, `next`, may
+-- The kept places of a stream that began with `start` and `from`, and whose last place, `next`, may
 -- still be kept.
 pub record IsThinned (start from K : ℕ) (places : List ℕ) (next : ℕ) : Type 0 where
   pub spaced : IsSpacedFrom start K places next
@@ -20,8 +20,8 @@ pub record IsThinned (start from K : ℕ) (places : List ℕ) (next : ℕ) : Typ
 abbrev pub after_shift : List ℕ → ℕ → ℕ → ℕ → List ℕ
 after_shift places rest old new = map (λ place. place - old + new) (drop rest places)
 
--- The old place `old`, of a log of `lines` lines, is where the new places end, and the checkpoints
--- from the index `rest` on follow it as spaced places do.
+-- The new places end at the old place `old`, in a log of `lines` lines, and the checkpoints from
+-- the index `rest` on follow it as spaced places do.
 pub record IsRest (K : ℕ) (places : List ℕ) (lines old rest : ℕ) : Type 0 where
   pub inside : old ≤ lines
   pub within : rest ≤ length places
@@ -41,7 +41,7 @@ pub record MarksView (S : Type 0) : Type 0 where
   pub next : ℕ
   pub state : S
 
--- the checkpoints of a log of so many lines
+-- the checkpoints of a log of this many lines
 pub record CheckpointsView (S : Type 0) : Type 0 where
   pub every : ℕ
   pub lines : ℕ
@@ -57,7 +57,7 @@ marks_with_state marks state = record marks { state = state }
 abbrev pub is_far : ℕ → List ℕ → ℕ → Bool
 is_far every places place = nat_lt (slice_index places (length places - 1) + every) place
 
--- the places kept where `place` follows the one that is still open, and their states
+-- the kept places if `place` follows the one that is still open, and their states
 abbrev pub places_before : {S : Type 0} → MarksView S → ℕ → List ℕ
 places_before marks place =
     if is_far marks.every marks.places place then marks.places ++ marks.next ∷ [] else marks.places
@@ -66,7 +66,7 @@ abbrev pub states_before : {S : Type 0} → MarksView S → ℕ → List S
 states_before marks place =
     if is_far marks.every marks.places place then marks.states ++ marks.state ∷ [] else marks.states
 
--- what marks keep true as they go on
+-- what stays true of marks as they go on
 pub record IsSound (every end from : ℕ) (places : List ℕ) (states next room : ℕ) : Type 0 where
   pub thinned : IsThinned (slice_index places 0) from every places next
   pub within : next ≤ end
@@ -81,7 +81,7 @@ pub record IsBegunAt {S : Type 0} (checkpoints : CheckpointsView S) (at : ℕ) (
   pub start : slice_index marks.places 0 ≡ slice_index checkpoints.places (at - 1)
   pub from : marks.from ≡ slice_index checkpoints.places at
 
--- what comes after the new place `new`, which was the old place `old`: the checkpoint of the index
+-- what follows the new place `new`, which was the old place `old`: the checkpoint of the index
 -- `rest`, moved as that place was, or the end
 abbrev pub next_place : List ℕ → ℕ → ℕ → ℕ → ℕ → ℕ
 next_place places rest old new end =

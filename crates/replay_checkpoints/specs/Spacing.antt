@@ -2,8 +2,8 @@
 use Rattle.std.specs.Prelude.{◌≡◌, ℕ, ◌+◌, ◌*◌, ◌/◌, ◌<◌, ◌≤◌, List, length, slice_index}
 use Rattle.std.specs.List.Sorted.{IsStrictlyIncreasing}
 
--- From `start` on the places rise and none is past n. Neighbours, and the last one and n, are at
--- most K apart; two gaps that follow one another together exceed K.
+-- From `start` on the places ascend, and none is past n. Neighbours are at most K apart, and so are
+-- the last one and n; two adjacent gaps together exceed K.
 pub record IsSpacedFrom (start K : ℕ) (places : List ℕ) (n : ℕ) : Type 0 where
   pub some : 0 < length places
   pub first : slice_index places 0 ≡ start
@@ -15,10 +15,10 @@ pub record IsSpacedFrom (start K : ℕ) (places : List ℕ) (n : ℕ) : Type 0 w
   pub within : (i : ℕ) → i + 1 ≡ length places → slice_index places i ≤ n
   pub end : (i : ℕ) → i + 1 ≡ length places → n ≤ slice_index places i + K
 
--- places are so spaced from the start of a log of n lines
+-- places are spaced like this from the start of a log of n lines
 abbrev pub IsSpaced : ℕ → List ℕ → ℕ → Type 0
 IsSpaced K places n = IsSpacedFrom 0 K places n
 
--- as many places as spacing leaves room for, from the first one on over n lines
+-- the most places that spacing leaves room for over n lines, from the first place on
 abbrev pub most_spaced : ℕ → ℕ → ℕ
 most_spaced K n = 2 * (n / (K + 1)) + 2

@@ -5,19 +5,19 @@ ghost use Rattle.replay_checkpoints.specs.Blocks.{HasRoom, IsBlockOf, moved_bloc
 
 use std::alloc::AllocError;
 
-/// How many items a block has where a list is cut. One that has twice as many is cut again, and two
-/// that have no more together are joined.
+/// How many items a block has after a list is cut. A block with twice as many is cut again, and two
+/// blocks that together have no more are joined.
 const BLOCK_ITEMS: usize = 512;
 
-/// Items of a list that lie together, and where the first of them is in the list.
+/// Items of a list that lie together, and the place of the first of them in the list.
 #[derive(Drop)]
 pub(crate) struct Block<T> {
     pub(crate) start: usize,
     pub(crate) items: Vec<T>,
 }
 
-/// The index of the block that has the item at a place, or that of the last block. As a rule that
-/// is where it would be among blocks that are full.
+/// The index of the block that has the item at a place, or that of the last block. The search
+/// begins where it would be if all blocks were full.
 pub(crate) fn find_block<T>(blocks: &[Block<T>], place: usize) -> usize
     requires some { 0 < length blocks.now }
     requires laid { AreLaid 0 blocks.now }
@@ -49,7 +49,7 @@ fn cut_items<T: Drop>(blocks: &mut Vec<Block<T>>, index: usize) -> Result<(), Al
     cut_all_items(blocks, index)
 }
 
-/// Cuts a block into full ones and one that has the rest.
+/// Cuts a block into full ones and one with the rest.
 pub(crate) fn cut_all_items<T: Drop>(
     blocks: &mut Vec<Block<T>>,
     index: usize,
@@ -69,7 +69,7 @@ pub(crate) fn cut_all_items<T: Drop>(
     Ok(())
 }
 
-/// Gives back the room of a block for more items than a full one has.
+/// Gives back the room that a block has for more items than a full one.
 fn fit_items<T: Drop>(blocks: &mut Vec<Block<T>>, index: usize)
     requires inside { index < length blocks.old.items }
     requires laid { AreLaid 0 blocks.old.items }
@@ -80,8 +80,8 @@ fn fit_items<T: Drop>(blocks: &mut Vec<Block<T>>, index: usize)
     blocks[index].items.shrink_to(BLOCK_ITEMS);
 }
 
-/// Cuts the last items of a block off it, at a place where a full block may end. They are a block
-/// of their own then, after it.
+/// Cuts off the last items of a block, at a place where a full block may end. They then are a block
+/// of their own, after it.
 fn cut_last_items<T: Drop>(blocks: &mut Vec<Block<T>>, index: usize) -> Result<(), AllocError>
     requires inside { index < length blocks.old.items }
     requires laid { AreLaid 0 blocks.old.items }
@@ -120,8 +120,8 @@ fn join_next_items<T: Drop>(blocks: &mut Vec<Block<T>>, index: usize) -> Result<
     }
 }
 
-/// Whether a block is to be joined with the one after it, so that it has all items up to `to`, or
-/// since both have few.
+/// Whether a block must be joined with the one after it, so that it has all items up to `to`, or
+/// because both have few.
 fn is_short<T>(blocks: &[Block<T>], index: usize, to: usize) -> bool
     requires inside { index < length blocks.now }
     requires laid { AreLaid 0 blocks.now }
@@ -140,7 +140,7 @@ fn is_short<T>(blocks: &[Block<T>], index: usize, to: usize) -> bool
 }
 
 /// The index of a block with all items from `from` up to `to` and room for `count` others in their
-/// place: those that have them are joined for that.
+/// place. The blocks that have these items are joined for that.
 pub(crate) fn gather_items<T: Drop>(
     blocks: &mut Vec<Block<T>>,
     from: usize,
@@ -167,7 +167,7 @@ pub(crate) fn gather_items<T: Drop>(
     Ok(index)
 }
 
-/// Takes room in a block for so many more items.
+/// Reserves room in a block for this many more items.
 fn reserve_items<T: Drop>(
     blocks: &mut Vec<Block<T>>,
     index: usize,
@@ -185,8 +185,8 @@ fn reserve_items<T: Drop>(
     blocks[index].items.reserve(more)
 }
 
-/// Moves the starts of the blocks from the index `first` on, where `gone` items before them went
-/// and `come` came.
+/// Moves the starts of the blocks from the index `first` on, after `come` items have replaced
+/// `gone` items before them.
 pub(crate) fn move_later<T>(blocks: &mut Vec<Block<T>>, first: usize, gone: usize, come: usize)
     requires within { first ≤ length blocks.old.items }
     requires late { (i : ℕ) (other : Block T) → first ≤ i → i < length blocks.old.items

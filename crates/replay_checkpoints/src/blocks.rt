@@ -10,7 +10,7 @@ use std::alloc::{AllocError, Global};
 use std::marker::Model;
 use std::mem;
 
-/// A stretch of a list. It lies in the block of an index, which has room for so many items in its
+/// A stretch of a list. It lies in the block of an index, which has room for this many items in its
 /// place.
 #[derive(Clone, Copy, Drop)]
 pub struct Stretch {
@@ -20,11 +20,11 @@ pub struct Stretch {
     room: usize,
 }
 
-/// A list that lies in blocks. If items of it go and others come, those of one block move, and of
-/// each block after it only the place where it begins is changed.
+/// A list that lies in blocks. If others replace some of its items, the items of one block move,
+/// and each block after it only changes the place where it begins.
 ///
-/// First a stretch is opened, which may take memory. Then other items come in its place, which
-/// takes none: once an edit is made nothing may be refused.
+/// First a stretch is opened, which may take memory. Then other items replace it, which takes none:
+/// once an edit is made no memory may be refused.
 #[derive(Drop)]
 pub struct Blocks<T> {
     blocks: Vec<Block<T>>,
@@ -94,7 +94,7 @@ impl<T: Drop> Blocks<T> {
         Items::of(&self.blocks)
     }
 
-    /// Puts another item in the place of one, and gives that.
+    /// Replaces an item, and returns the old one.
     pub fn put(&mut self, place: usize, item: T) -> T
         requires { place < length self.old.items }
         ensures item { result ≡ slice_index_or self.old.items place result }
@@ -104,8 +104,8 @@ impl<T: Drop> Blocks<T> {
         put_item(&mut self.blocks, place, item)
     }
 
-    /// Opens the stretch from `from` up to `to`, and takes room for `count` items in its place. The
-    /// list stays as it is.
+    /// Opens the stretch from `from` up to `to`, and reserves room for `count` items in its place.
+    /// The list stays as it is.
     pub fn open(&mut self, from: usize, to: usize, count: usize) -> Result<(), AllocError>
         requires ordered { from ≤ to }
         requires within { to ≤ length self.old.items }
@@ -126,7 +126,7 @@ impl<T: Drop> Blocks<T> {
         Ok(())
     }
 
-    /// Puts `middle` in the place of the open stretch, whose items are dropped. No memory is taken.
+    /// Replaces the open stretch by `middle`, and drops its items. This takes no memory.
     pub fn replace(&mut self, from: usize, to: usize, middle: &mut Vec<T>)
         requires { IsOpenAt self.old from to (vec_len middle.old) }
         ensures { self.new.items ≡ splice self.old.items from to middle.old.items }

@@ -11,7 +11,7 @@ use crate::placed_states::PlacedStates;
 use std::alloc::{AllocError, Global};
 use std::marker::Model;
 
-/// The checkpoints of a log, spaced: places of which the states are kept.
+/// The checkpoints of a log: spaced places, whose states are kept.
 #[derive(Drop)]
 pub struct Checkpoints<K: KeptState> {
     every: u32,
@@ -37,7 +37,7 @@ impl<K: KeptState> Model for Checkpoints<K> {
 }
 
 impl<K: KeptState> Checkpoints<K> {
-    /// Those of a log whose last place was reached last.
+    /// The checkpoints of a log whose last place was reached last.
     pub fn of(marks: Marks<K>) -> Self
         requires begun { slice_index marks.places 0 ≡ 0 }
         requires done { marks.next ≡ marks.end }
@@ -55,7 +55,7 @@ impl<K: KeptState> Checkpoints<K> {
         }
     }
 
-    /// The greatest distance of neighbours.
+    /// The greatest distance between neighbours.
     pub fn every(&self) -> u32
         ensures { result ≡ self.now.every }
     {
@@ -70,7 +70,7 @@ impl<K: KeptState> Checkpoints<K> {
         self.lines
     }
 
-    /// The places of the checkpoints, in rising order.
+    /// The places of the checkpoints, in ascending order.
     pub fn places(&self) -> &[u32]
         ensures places { result.now ≡ self.now.places }
         ensures spaced { IsSpaced self.now.every self.now.places self.now.lines }
@@ -88,7 +88,7 @@ impl<K: KeptState> Checkpoints<K> {
         self.kept.state(index)
     }
 
-    /// Takes room for so many more.
+    /// Reserves room for this many more.
     pub fn reserve(&mut self, additional: usize) -> Result<(), AllocError>
         ensures settings { (self.new.every ≡ self.old.every) × (self.new.lines ≡ self.old.lines) }
         ensures places { self.new.places ≡ self.old.places }

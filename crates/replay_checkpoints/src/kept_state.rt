@@ -4,7 +4,7 @@ use std::alloc::{AllocError, Global};
 
 /// A form in which a checkpoint keeps a state.
 pub trait KeptState: Drop {
-    /// What is kept so.
+    /// The type of states that are kept like this.
     type State: Copy;
 
     ghost state_of: { Self → Self.State };
@@ -13,12 +13,12 @@ pub trait KeptState: Drop {
     fn keep(alloc: Global, state: &Self::State, last: Option<&Self>) -> Result<Self, AllocError>
         ensures { IfOk result (λ kept. state_of kept ≡ state.now) };
 
-    /// The state that is kept.
+    /// The kept state.
     fn state(&self) -> Self::State
         ensures { result ≡ state_of self.now };
 }
 
-/// A state that is kept whole, in a Box of its own.
+/// A state that is kept whole, in its own Box.
 #[derive(Drop)]
 pub struct Whole<S: Copy> {
     whole: Box<S>,

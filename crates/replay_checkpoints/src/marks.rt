@@ -8,17 +8,17 @@ use crate::placed_states::PlacedStates;
 use std::alloc::{AllocError, Global};
 use std::marker::Model;
 
-/// A place, and the state at it as it is kept.
+/// A place, and the kept state at it.
 #[derive(Drop)]
 pub(crate) struct Mark<'a, K: KeptState> {
     pub(crate) place: u32,
     pub(crate) kept: &'a K,
 }
 
-/// Places in rising order, of which those are kept that a log's checkpoints need.
+/// Places in ascending order. Those that a log's checkpoints need are kept.
 ///
-/// The place reached last stays open: it is kept only where the next one lies more than `every`
-/// past the last one kept. There is always room to keep the open one.
+/// The place reached last stays open: it is kept only if the next one lies more than `every` past
+/// the last one kept. There is always room to keep the open one.
 #[derive(Drop)]
 pub struct Marks<K: KeptState> {
     every: u32,
@@ -54,8 +54,8 @@ impl<K: KeptState> Marks<K> {
     ghost use Rattle.replay_checkpoints.specs.contracts.marks.Marks.{the_row};
     ghost use Rattle.replay_checkpoints.specs.Marks.{marks_with_state};
 
-    /// Begins with the start of a log of `end` lines, with room for all the places that it can
-    /// keep.
+    /// Begins with the start of a log of `end` lines, with room for all the places that may be
+    /// kept.
     pub fn open(alloc: Global, every: u32, end: u32, state: K::State) -> Result<Self, AllocError>
         ensures settings { IfOk result (λ marks. (marks.every ≡ every) × (marks.end ≡ end)) }
         ensures begins { IfOk result (λ marks. (marks.from ≡ 0) × (marks.next ≡ 0)
@@ -76,8 +76,7 @@ impl<K: KeptState> Marks<K> {
         })
     }
 
-    /// Begins with a checkpoint that is kept, `start`, and the one after it, `from`, which is still
-    /// open.
+    /// Begins with a kept checkpoint, `start`, and the one after it, `from`, which is still open.
     pub(crate) fn begin(
         alloc: Global,
         every: u32,
@@ -106,9 +105,8 @@ impl<K: KeptState> Marks<K> {
         })
     }
 
-    /// Goes on to the next place. The one before it, which was open until now, is kept if it has
-    /// to be; its state is also the one that the caller finds at the next place, to change it
-    /// there.
+    /// Goes on to the next place. The one before it, which was open until now, is kept if it has to
+    /// be. The caller also finds its state at the next place, and changes it there.
     pub fn advance(&mut self, place: u32) -> Result<(), AllocError>
         requires later { self.old.next < place }
         requires near { place ≤ self.old.next + self.old.every }
@@ -138,7 +136,7 @@ impl<K: KeptState> Marks<K> {
         self.kept.keep(*Box::allocator(&self.state), &self.state)
     }
 
-    /// The state at the place reached last, to be changed there.
+    /// The state at the place reached last, for the caller to change.
     pub fn state_mut(&mut self) -> &mut K::State
         ensures* lends { sem 𝓛 (Lends (the_row K.row K.State.row K.KeptState) K.State.row
             self.entry result (marks_with_state self.old)) }
@@ -184,7 +182,7 @@ impl<K: KeptState> Marks<K> {
         self.end
     }
 
-    /// What is kept where `place` comes after the open place, whose `state` is kept already.
+    /// What is kept if `place` follows the open place, whose `state` is already kept.
     pub(crate) fn close(self, state: K, place: u32) -> PlacedStates<K>
         requires state { K.state_of state ≡ self.state }
         requires after { self.next ≤ place }
@@ -210,7 +208,7 @@ impl<K: KeptState> Marks<K> {
         kept
     }
 
-    /// What is kept where nothing comes after the open place.
+    /// What is kept if nothing follows the open place.
     pub(crate) fn finish(self) -> PlacedStates<K>
         ensures places { result.places ≡ self.places }
         ensures states { result.states ≡ self.states }
@@ -230,7 +228,7 @@ impl<K: KeptState> Marks<K> {
     }
 }
 
-/// As many places as spacing leaves room for in a log of `end` lines.
+/// The most places that spacing leaves room for in a log of `end` lines.
 fn most_spaced(every: u32, end: u32) -> usize
     ensures { result ≡ most_spaced every end }
 {

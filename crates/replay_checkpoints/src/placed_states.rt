@@ -32,7 +32,7 @@ impl<K: KeptState> Model for PlacedStates<K> {
 }
 
 impl<K: KeptState> PlacedStates<K> {
-    /// None yet, with room for so many that no `push` into it can be refused.
+    /// No places yet, with room for enough of them that no `push` can be refused.
     pub fn with_room(alloc: Global, room: usize) -> Result<Self, AllocError>
         ensures places { IfOk result (λ made. made.places ≡ []) }
         ensures states { IfOk result (λ made. made.states ≡ []) }
@@ -84,14 +84,14 @@ impl<K: KeptState> PlacedStates<K> {
         &self.states[index]
     }
 
-    /// Keeps a state that may come after the last one here.
+    /// Keeps a state that may follow the last one here.
     pub fn keep(&self, alloc: Global, state: &K::State) -> Result<K, AllocError>
         ensures { IfOk result (λ kept. K.state_of kept ≡ state.now) }
     {
         K::keep(alloc, state, self.states.last())
     }
 
-    /// Takes room for so many more.
+    /// Reserves room for this many more.
     pub fn reserve(&mut self, additional: usize) -> Result<(), AllocError>
         ensures places { self.new.places ≡ self.old.places }
         ensures states { self.new.states ≡ self.old.states }
@@ -141,7 +141,7 @@ impl<K: KeptState> PlacedStates<K> {
         }
     }
 
-    /// Puts `middle` in the place of those from the index `from` up to `to`.
+    /// Replaces the places from the index `from` up to `to` by `middle`.
     pub fn splice(&mut self, from: usize, to: usize, mut middle: PlacedStates<K>)
         requires ordered { from ≤ to }
         requires within { to ≤ length self.old.places }

@@ -1,7 +1,7 @@
 ghost use Rattle.std.specs.Prelude.{ℕ, ◌<◌, ◌≤◌, length, slice_index};
 ghost use Rattle.std.specs.List.Sorted.{IsStrictlyIncreasing};
 
-/// The index of the first of the rising places that is not before `place`, or how many there are.
+/// The index of the first of the ascending places that isn't before `place`, or how many there are.
 pub fn first_from(places: &[u32], place: u32) -> usize
     requires rising { IsStrictlyIncreasing places.now }
     ensures within { result ≤ length places.now }
@@ -12,7 +12,7 @@ pub fn first_from(places: &[u32], place: u32) -> usize
     places.partition_point(|other| *other < place)
 }
 
-/// The index of the last of the rising places that is not after `place`.
+/// The index of the last of the ascending places that isn't after `place`.
 pub fn last_to(places: &[u32], place: u32) -> usize
     requires rising { IsStrictlyIncreasing places.now }
     requires some { 0 < length places.now }

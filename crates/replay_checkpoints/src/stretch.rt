@@ -2,13 +2,13 @@ ghost use Rattle.std.specs.Prelude.{◌≡◌, ◌+◌, ◌-◌, ◌≤◌, List
 ghost use Rattle.std.specs.Prelude.{vec_len, vec_capacity};
 ghost use Rattle.std.specs.List.{splice};
 
-/// Puts `middle` in the place of the items from `from` up to `to`, which are dropped, and leaves it
-/// empty.
+/// Replaces the items from `from` up to `to`, which are dropped, by those of `middle`, which is
+/// left empty.
 ///
-/// Unlike `Vec::splice` it takes no memory: once an edit is made nothing may be refused. Room for
-/// what `items` comes to hold is the caller's to reserve. The last items of both change places one
-/// by one, as many as both have; then one turn moves these, and what comes after them, by what the
-/// lengths differ.
+/// Unlike `Vec::splice` it takes no memory: once an edit is made no memory may be refused. The
+/// caller has to reserve room for what `items` will hold. As many last items as both have are
+/// exchanged one by one; then one turn moves these, and what follows them, by the difference in
+/// length.
 pub fn splice<T: Drop>(items: &mut Vec<T>, from: usize, to: usize, middle: &mut Vec<T>)
     requires ordered { from ≤ to }
     requires within { to ≤ vec_len items.old }
@@ -60,7 +60,7 @@ fn bring_in<T>(items: &mut Vec<T>, from: usize, middle: &mut Vec<T>)
     turn(items.as_mut_slice(), from, len, old - from);
 }
 
-/// The first `count` of the items from `from` up to `to` go after the others of them.
+/// Moves the first `count` of the items from `from` up to `to` behind the others of them.
 fn turn<T>(items: &mut [T], from: usize, to: usize, count: usize)
     requires ordered { from + count ≤ to }
     requires within { to ≤ length items.old }

@@ -1,4 +1,4 @@
-//! The edits that make one log of another: few where that is possible, and proved to give it.
+//! The edits that turn one log into another: few if possible, and proved to do so.
 #![tactic(auto)]
 
 mod anchors;

@@ -1,5 +1,5 @@
-//! Differences that are found, beside what a search of all ways finds, and scripts as they are
-//! written.
+//! Differences that are found, compared with those that a search of all ways finds, and the scripts
+//! that are written.
 
 use crate::difference::find_edits;
 use crate::open::is_log;
@@ -17,7 +17,7 @@ fn log_of_bytes(alloc: Global, bytes: &[u8]) -> Result<Vec<LineText>, AllocError
     Ok(log)
 }
 
-/// A log of so many numbers, in which a line comes after each of the first ones.
+/// A log of this many numbers, with a line after each of the first ones.
 fn numbered_log(alloc: Global, numbers: usize, more: usize) -> Result<Vec<LineText>, AllocError> {
     let mut log = Vec::new(alloc);
     for number in 0..numbers {
@@ -116,8 +116,8 @@ fn no_other_edits_are_fewer(rt: HostRuntime) -> Result<(), Fail> {
 fn long_logs_have_few_edits(rt: HostRuntime) -> Result<(), Fail> {
     let alloc = rt.alloc();
     let old = numbered_log(alloc, 4000, 0)?;
-    // 2,000 edits are the most of which no others are fewer; of more, lines that each log has once
-    // are kept.
+    // Up to 2,000 edits no others are fewer; if there are more, lines that each log has once are
+    // kept.
     for more in [1, 2000, 2001, 4000] {
         let new = numbered_log(alloc, 4000, more)?;
         assert_eq!(rt; changed_lines(alloc, &old, &new)?, more);
@@ -132,7 +132,7 @@ fn full_logs_have_few_edits(rt: HostRuntime) -> Result<(), Fail> {
     let old = full_log(alloc, 0)?;
     let new = full_log(alloc, 1)?;
     assert_eq!(rt; changed_lines(alloc, &old, &new)?, 2);
-    // A line comes at the front, for which there is no room until the last one goes.
+    // A line is inserted at the front, for which there is no room until the last one goes.
     assert_eq!(rt; changed_lines(alloc, &new, &old)?, 2);
     Ok(())
 }

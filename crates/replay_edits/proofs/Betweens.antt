@@ -1,4 +1,4 @@
--- One item more, one less or another one in a list that is between two others.
+-- An item that is added, removed or replaced in a list that is between two others.
 use Rattle.std.proofs.Common.{◌≡◌, ℕ, ◌+◌, ◌-◌, ◌<◌, ◌≤◌, List, ◌++◌, length, get_or, insert, remove}
 use Rattle.std.proofs.Common.{set, refl, ap, ◌∙◌, arith}
 use Rattle.std.proofs.lemmas.List.{get_or_append_left, get_or-append_right, set-append_left}

@@ -1,4 +1,4 @@
--- Numbers that lie in chunks, and one more, one less or another one of them.
+-- Numbers that lie in chunks, and one that is added, removed or replaced.
 use Rattle.std.proofs.Common.{◌≡◌, ℕ, ◌+◌, ◌<◌, ◌≤◌, List, [], ◌∷◌, ◌++◌, length, get_or, take}
 use Rattle.std.proofs.Common.{drop, insert, remove, set, zero, suc, refl, sym, ap, ◌∙◌, arith}
 use Rattle.std.proofs.Common.{◌⊎◌, inl, inr, subst, add-one}
@@ -39,7 +39,7 @@ numbers_in-set (first ∷ chunks) (suc index) chunk below =
     ap (λ l. first.items ++ l) (numbers_in-set chunks index chunk (omega arith))
     ∙ sym (append_assoc first.items (numbers_in (take index chunks)) _)
 
--- one chunk more of the first ones
+-- one more chunk of the first ones
 pub numbers_in-more : (chunks : List (Vec ℕ)) (index : ℕ) (other : Vec ℕ) → index < length chunks
     → numbers_in (take (index + 1) chunks) ≡ numbers_in (take index chunks)
     ++ (get_or chunks index other).items
@@ -116,7 +116,7 @@ number_at chunks place index within number old found read below item =
     ∙ sym (ap (λ l. get_or l place 0) (numbers_around chunks index old found.inside read)
     ∙ get_between before old.items after within place 0 found.place_is fits)
 
--- so it is where the place is not known to be within
+-- this also holds if the place isn't known to be within
 pub number_sought : (chunks : List (Vec ℕ)) (place index within number : ℕ) (old : Vec ℕ)
     → index < length chunks → length (numbers_in (take index chunks)) + within ≡ place
     → old ≡ get_or chunks index old → within < length old.items

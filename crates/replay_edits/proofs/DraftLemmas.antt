@@ -86,7 +86,7 @@ module _ (stock : Stock) (numbers : List ℕ) (place : ℕ) (stays : StaysIn sto
       let n = length-log_by stock numbers stays in
       slice_get_past (log_by stock numbers) place (omega arith)
 
--- ---- one edit more
+-- ---- one more edit
 
 pub log_after_all-more : (changes : List Change) (change : Change) (log : List (List ℕ))
     → log_after_all (changes ++ change ∷ []) log ≡ log_after change (log_after_all changes log)

@@ -24,8 +24,8 @@ pub changes_of-drop_all : (edits : List Edit) (i : ℕ) → length edits ≤ i
     → changes_of (drop i edits) ≡ []
 changes_of-drop_all edits i past = ap changes_of (drop_all i edits past)
 
--- of `all` the changes in a log those of `rest` are left, from the number on, in a log of so many
--- lines; those before leave the margins alone
+-- `rest`, from the number on, remains of `all` changes, in a log of this many lines; those before
+-- leave the margins alone
 pub record IsReached (all : List Change) (log : List (List ℕ)) (rest : List Change)
     (number lines : ℕ) (margins : Margins) : Type 0 where
   pub now : List (List ℕ)
@@ -73,13 +73,13 @@ IsReached-fault all log change rest number before margins fault reached found =
     ∙ ap (λ f.
     first_of_two f number (fault_of_all rest (log_after change reached.now) (number + 1))) found
 
--- a change is free of faults where those from it on are, and so are the ones after it
+-- if the changes from one on are free of faults, so is that one, and so are the ones after it
 pub first_is_free : (f : Option EditFault) (number : ℕ) (later : Option GroupFault)
     → first_of_two f number later ≡ None → (f ≡ None) × (later ≡ None)
 first_is_free None number later free = (refl, free)
 first_is_free (Some fault) number later free = cc
 
--- edits of a log as it is kept
+-- edits of a kept log
 pub log_of-insert : (log : List LineText) (place : ℕ) (line : LineText)
     → log_of (insert log place line) ≡ insert (log_of log) place line.items
 log_of-insert log place line =

@@ -25,7 +25,7 @@ use Rattle.replay_edits.proofs.Groups.{first_is_free}
 abbrev full_meter : GroupFault
 full_meter = record { cause = MeterFull; at = 0 }
 
--- where a choice gives no fault, the test failed and the rest gives none
+-- if a choice gives no fault, the test failed and the rest gives none
 free_choice : (b : Bool) (fault : EditFault) (rest : Option EditFault)
     → cond b (Some fault) rest ≡ None → (b ≡ false) × (rest ≡ None)
 free_choice true fault rest free = cc
@@ -160,7 +160,7 @@ apply_all-inverses_of (change ∷ changes) game free =
     )
     (apply-inverse_of change game free.0)
 
--- a change without a fault leaves a game that may be held
+-- a change without a fault leaves a game that a session may hold
 pub IsGame-apply : (change : Change) (game : Game) → IsGame game → fault_of change game.log ≡ None
     → IsGame (apply change game)
 IsGame-apply (inserts place line) game good free =

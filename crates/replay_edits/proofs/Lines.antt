@@ -1,4 +1,4 @@
--- The lines of a log, as they are kept and by their bytes.
+-- The kept lines of a log, and their bytes.
 use Rattle.std.proofs.Common.{◌≡◌, ℕ, ◌+◌, ◌<◌, List, [], ◌∷◌, ◌++◌, length, get_or, take, All}
 use Rattle.std.proofs.Common.{IsTrue, sym, ap, ◌∙◌, subst, arith}
 use Rattle.replay_edits.specs.LineText.{LineText}

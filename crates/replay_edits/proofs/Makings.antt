@@ -5,8 +5,8 @@ use Rattle.replay_edits.specs.Edit.{Game, Change, apply, apply_all, inverse_of, 
 use Rattle.replay_edits.specs.Faults.{fault_of}
 use Rattle.replay_edits.proofs.Inverses.{IsFree}
 
--- of all the changes of a game those of `left` are left to be made in the game `now`; `back` takes
--- the others back
+-- `left` remains of all changes of a game, to be made in the game `now`; `back` takes the others
+-- back
 pub record IsMaking (all left : List Change) (game now : Game) (back : List Change) : Type 0 where
   pub free : IsFree left now.log
   pub ends : apply_all left now ≡ apply_all all game
@@ -25,7 +25,7 @@ pub IsMaking-next : (all left : List Change) (change : Change) (game now : Game)
     → fault_of change now.log ≡ None
 IsMaking-next all left change game now back making = making.free.0
 
--- one change more
+-- one more change
 pub IsMaking-more : (all left : List Change) (change inverse : Change) (game now next : Game)
     (back back' : List Change) → IsMaking all (change ∷ left) game now back
     → next ≡ apply change now → inverse ≡ inverse_of change now → back' ≡ back ++ inverse ∷ []

@@ -70,7 +70,7 @@ leave_alone (change ∷ changes) log margins free =
       leave_alone changes (log_after change log) next free.1,
     )
 
--- where there is a prefix, the seed stays
+-- if there is a prefix, the seed stays
 pub seed_stays : (changes : List Change) (game : Game) (margins : Margins)
     → LeaveAlone changes game.log margins → 0 < margins.head
     → (apply_all changes game).seed ≡ game.seed

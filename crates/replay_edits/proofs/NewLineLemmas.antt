@@ -48,8 +48,8 @@ rising-own from to own (Own line ∷ lines) rising = rising-own from to own line
 
 -- ---- taking lines out
 
--- Of new lines those of `left` are left to be taken out of the log, which was `old` and is `now`;
--- the texts of the others are `taken`.
+-- `left` remains of the new lines, to be taken out of the log, which was `old` and is `now`; the
+-- texts of the others are `taken`.
 pub record IsTaking (head rest : ℕ) (old : List (List ℕ)) (all : List NewLine)
     (now : List (List ℕ)) (left : List NewLine) (taken : List (List ℕ)) : Type 0 where
   pub from : ℕ
@@ -91,7 +91,7 @@ taking_within (Old place) lines from rest length rising within =
     let later = rising_within (place + 1) rest lines rising.1 in omega arith
 taking_within (Own line) lines from rest length rising within = tt
 
--- one line more
+-- one more line
 pub IsTaking-more : (head rest : ℕ) (old now next : List (List ℕ)) (all left : List NewLine)
     (line : NewLine) (text : List ℕ) (taken : List (List ℕ))
     → IsTaking head rest old all now (line ∷ left) taken
@@ -186,7 +186,7 @@ old_within from to length' (suc k) (Old place ∷ lines) line rising within belo
 old_within from to length' (suc k) (Own own ∷ lines) line rising within below read =
     old_within from to length' k lines line rising within (omega arith) read
 
--- the first of the lines that are left
+-- the first of the remaining lines
 pub left_more : (lines : List NewLine) (index : ℕ) (line item : NewLine) → index < length lines
     → line ≡ get_or lines index item → drop index lines ≡ line ∷ drop (index + 1) lines
 left_more lines index line item below read =

@@ -153,7 +153,7 @@ AreNumbers-replace stock numbers place number known new =
     All-set (λ k. k < length stock.log.now.items + length stock.edits.now) numbers place number new
     known
 
--- ---- the numbers that a stock begins with
+-- ---- the numbers with which a stock begins
 
 pub numbered_start : (stock : Stock)
     → lines_by stock []

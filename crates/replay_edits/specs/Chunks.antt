@@ -12,8 +12,8 @@ numbers_in chunks = flat_map (λ chunk. chunk.items) chunks
 abbrev pub count_at : List (Vec ℕ) → ℕ → Vec ℕ → ℕ
 count_at chunks index other = length (slice_index_or chunks index other).items
 
--- A place among all numbers is so far within the chunk of the index; that of a number is before the
--- end of that chunk.
+-- A place among all numbers is this far within the chunk of the index. The place of a number is
+-- before the end of that chunk.
 pub record IsWithinChunk (chunks : List (Vec ℕ)) (place index within : ℕ) : Type 0 where
   pub inside : index < length chunks
   pub place_is : length (numbers_in (take index chunks)) + within ≡ place

@@ -14,7 +14,7 @@ use Rattle.replay_edits.specs.declared.stock.Stock.{Stock}
 abbrev pub staying_lines : Stock → Margins
 staying_lines stock = record { head = stock.head; tail = length stock.log.now.items - stock.rest }
 
--- the edits that are made in a draft, the log before them, and how many are made
+-- the edits that are made in a draft, the log before them, and how many have been made
 abbrev pub edits_in : Draft → List Edit
 edits_in draft = draft.stock.edits.now
 
@@ -24,8 +24,8 @@ log_before draft = draft.stock.log.now.items
 abbrev pub made_in : Draft → ℕ
 made_in draft = draft.made
 
--- The log that so many of the edits leave, of which none is refused; those that are left are to be
--- made among its numbers.
+-- The log after this many of the edits, none of which is refused; the rest is still to be made
+-- among its numbers.
 pub record IsDraft (edits : List Edit) (log : List LineText) (made : ℕ) (draft : Draft) : Type 0
   where
     pub edits_are : edits_in draft ≡ edits

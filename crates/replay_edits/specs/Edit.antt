@@ -1,4 +1,4 @@
--- A game, what edits change of it and leave alone, and what takes them back.
+-- A game, what edits change and leave alone, and what takes them back.
 use Rattle.std.specs.Prelude.{ℕ, List, [], ◌∷◌, map, reverse, insert, remove, slice_set, ◌≤◌}
 use Rattle.std.specs.Prelude.{IsTrue, length, All, ◌-◌, min, ◌≡◌, ◌<◌, Option, MatchOption}
 use Rattle.std.specs.List.{slice_index_or}
@@ -67,11 +67,11 @@ abbrev pub seed_after : Change → ℕ → ℕ
 seed_after (reseeds new) seed = new
 seed_after _ seed = seed
 
--- what a change makes of a game
+-- what a change does to a game
 abbrev pub apply : Change → Game → Game
 apply change game = game_of (seed_after change game.seed) (log_after change game.log)
 
--- what several changes make of a game, one after another
+-- what several changes do to a game, one after another
 abbrev pub apply_all : List Change → Game → Game
 apply_all [] game = game
 apply_all (change ∷ changes) game = apply_all changes (apply change game)
@@ -93,13 +93,13 @@ inverse_of_each (change ∷ changes) game =
 abbrev pub inverses_of : List Change → Game → List Change
 inverses_of changes game = reverse (inverse_of_each changes game)
 
--- at most so many at the start, and at most so many at the end
+-- margins of at most this many lines at the start, and at most this many at the end
 abbrev pub narrowed_margins : Margins → ℕ → ℕ → Margins
 narrowed_margins margins head tail =
     record { head = min margins.head head; tail = min margins.tail tail }
 
--- what a change of a log of so many lines leaves alone of margins; another seed is felt from the
--- first line on
+-- what a change of a log of this many lines leaves of margins; another seed is felt from the first
+-- line on
 abbrev pub margins_after : Change → ℕ → Margins → Margins
 margins_after (inserts place line) lines margins = narrowed_margins margins place (lines - place)
 margins_after (deletes place) lines margins = narrowed_margins margins place (lines - place - 1)
@@ -123,8 +123,8 @@ pub record IsOldLine (change : Change) (log : List (List ℕ)) (place old : ℕ)
   pub inside : old < length log
   pub same : line_at (log_after change log) place ≡ line_at log old
 
--- The line at a place of a log after a change is the one that was at the place `before`; where that
--- is none, it is the change's own.
+-- The line at a place of a log after a change is the one that was at the place `before`, or the
+-- change's own if that is none.
 abbrev pub ComesFrom : Change → List (List ℕ) → ℕ → Option ℕ → Type 0
 ComesFrom change log place before =
     MatchOption before (line_at (log_after change log) place ≡ own_line change)

@@ -22,7 +22,7 @@ added_fault line log =
     if not (is_line line) then Some BadLine
     else (if nat_le MAX_LOG_LINES (length log) then Some LogFull else None)
 
--- the first fault that a change meets in a log, memory and the meter aside
+-- the first fault that a change meets in a log, if memory and the meter suffice
 abbrev pub fault_of : Change → List (List ℕ) → Option EditFault
 fault_of (inserts place line) log =
     if nat_lt (length log) place then Some NoSuchPlace else added_fault line log
@@ -31,12 +31,12 @@ fault_of (replaces place line) log =
     if nat_le (length log) place then Some NoSuchPlace else replaced_fault line
 fault_of (reseeds seed) log = if nat_lt MAX_SEED seed then Some BadSeed else None
 
--- a fault, with the number of the change that met it, or else the fault of a later one
+-- a fault, with the number of the change that met it, or otherwise the fault of a later one
 abbrev pub first_of_two : Option EditFault → ℕ → Option GroupFault → Option GroupFault
 first_of_two (Some cause) number later = Some (record { cause = cause; at = number })
 first_of_two None number later = later
 
--- the first fault that one of several changes meets in the log as those before it left it; they are
+-- the first fault that one of several changes meets in the log that those before it left; they are
 -- numbered from `number` on
 abbrev pub fault_of_all : List Change → List (List ℕ) → ℕ → Option GroupFault
 fault_of_all [] log number = None
@@ -48,13 +48,14 @@ abbrev pub log_after_all : List Change → List (List ℕ) → List (List ℕ)
 log_after_all [] log = log
 log_after_all (change ∷ changes) log = log_after_all changes (log_after change log)
 
--- the fault of a group that was found, or else that the meter has no room for the new log
+-- the fault of a group, if one was found, or otherwise that the meter has no room for the new log
 abbrev pub or_group_meter_full : Option GroupFault → List (List ℕ) → ℕ → Option GroupFault
 or_group_meter_full (Some fault) log left = Some fault
 or_group_meter_full None log left =
     if nat_lt left (length log) then Some (record { cause = MeterFull; at = 0 }) else None
 
--- the fault of a group of changes of a log where the meter has so many steps left, memory aside
+-- the fault of a group of changes of a log if the meter has this many steps left, and memory
+-- suffices
 abbrev pub group_fault : List Change → List (List ℕ) → ℕ → Option GroupFault
 group_fault [] log left = Some (record { cause = EmptyGroup; at = 0 })
 group_fault (change ∷ changes) log left =
@@ -62,7 +63,7 @@ group_fault (change ∷ changes) log left =
     (log_after_all (change ∷ changes) log)
     left
 
--- A result is this fault, if there is one; else it is an error only by running out of memory.
+-- A result is this fault, if there is one; otherwise it is an error only if memory runs out.
 abbrev pub IsFaultOr : {A F : Type 0} → F → Option F → Result A F → Type 0
 IsFaultOr memory fault result =
     MatchOption fault (IfErr result (λ refused. refused ≡ memory)) (λ found. result ≡ Err found)
@@ -71,23 +72,23 @@ IsFaultOr memory fault result =
 abbrev pub IsAnswerTo : {A : Type 0} → Option GroupFault → Result A GroupFault → Type 0
 IsAnswerTo fault result = IsFaultOr (record { cause = Memory; at = 0 }) fault result
 
--- Changes take others back that were made in the game `old`: they are the inverses of these, meet
+-- Changes take back others that were made in the game `old`: they are the inverses of these, meet
 -- no fault in the game `new`, and give the old one.
 pub record TakesBack (inverse changes : List Change) (old new : Game) : Type 0 where
   pub inverses : inverse ≡ inverses_of changes old
   pub accepted : fault_of_all inverse new.log 0 ≡ None
   pub back : apply_all inverse new ≡ old
 
--- how many steps a meter has left that has counted so many: it counts in 64 bits
+-- how many steps a meter that has counted this many has left: it counts in 64 bits
 abbrev pub steps_left : ℕ → ℕ
 steps_left count = 2 ^ 64 - 1 - count
 
--- the fault of one edit that was found, or else that the meter has no room for the new log
+-- the fault of one edit, if one was found, or otherwise that the meter has no room for the new log
 abbrev pub or_edit_meter_full : Option EditFault → List (List ℕ) → ℕ → Option EditFault
 or_edit_meter_full (Some fault) log left = Some fault
 or_edit_meter_full None log left = if nat_lt left (length log) then Some MeterFull else None
 
--- the fault of one change of a log where the meter has so many steps left, memory aside
+-- the fault of one change of a log if the meter has this many steps left, and memory suffices
 abbrev pub edit_fault : Change → List (List ℕ) → ℕ → Option EditFault
 edit_fault change log left = or_edit_meter_full (fault_of change log) (log_after change log) left
 
@@ -99,7 +100,7 @@ abbrev pub IsLinesOrFault : Change → List (List ℕ) → Result ℕ EditFault 
 IsLinesOrFault change log result =
     MatchResult result (HasLinesAfter change log) (λ fault. fault_of change log ≡ Some fault)
 
--- what changes make of a log where this is their fault: none
+-- what changes do to a log, if this is their fault: none
 pub record IsPlan (changes : List Change) (log : List (List ℕ)) (fault : Option GroupFault)
     (plan : Plan) : Type 0 where
   pub free : fault ≡ None

@@ -3,14 +3,15 @@ use Rattle.std.specs.Prelude.{ℕ, ◌+◌, ◌≤◌, List, [], ◌∷◌, leng
 use Rattle.replay_edits.specs.Edit.{Change, inserts, deletes, replaces, reseeds, log_after}
 use Rattle.replay_edits.specs.declared.margins.Margins.{Margins}
 
--- a change of a log of so many lines leaves so many at its start, and so many at its end, alone
+-- a change leaves `head` lines at the start and `tail` lines at the end of a log of this many lines
+-- alone
 abbrev pub LeavesAlone : Change → ℕ → ℕ → ℕ → Type 0
 LeavesAlone (inserts place line) lines head tail = (head ≤ place) × (place + tail ≤ lines)
 LeavesAlone (deletes place) lines head tail = (head ≤ place) × (place + 1 + tail ≤ lines)
 LeavesAlone (replaces place line) lines head tail = (head ≤ place) × (place + 1 + tail ≤ lines)
 LeavesAlone (reseeds seed) lines head tail = head ≤ 0
 
--- so do several changes, each of the log as those before it left it
+-- so do several changes, each of the log that those before it left
 abbrev pub LeaveAlone : List Change → List (List ℕ) → Margins → Type 0
 LeaveAlone [] log margins = Unit {0}
 LeaveAlone (change ∷ changes) log margins =

@@ -15,7 +15,7 @@ abbrev pub line_in : List LineBytes → LineText
 line_in [] = record { items = [] }
 line_in (bytes ∷ more) = record { items = bytes_of bytes }
 
--- a short line has no more bytes than lie there
+-- a short line has at most the bytes that lie there
 abbrev pub AreSoundBytes : LineBytes → Type 0
 AreSoundBytes (Short len bytes) = len ≤ MAX_SHORT_LINE
 AreSoundBytes (Long bytes) = Unit {0}

@@ -1,5 +1,4 @@
--- What edits make of a game: the lines between those that they leave alone, and what takes them
--- back.
+-- What edits do to a game: the lines between those that they leave alone, and what takes them back.
 use Rattle.std.specs.Prelude.{◌≡◌, ℕ, ◌+◌, ◌<◌, ◌≤◌, List, [], ◌∷◌, ◌++◌, length, map, take}
 use Rattle.std.specs.Prelude.{drop, slice_set, All}
 use Rattle.replay_edits.specs.declared.new_line.NewLine.{NewLine}
@@ -10,7 +9,7 @@ use Rattle.replay_edits.specs.declared.stock.NumberedGame.{NumberedGame}
 use Rattle.replay_edits.specs.Edit.{Game, game_of, log_of, Change, changes_of, apply_all}
 use Rattle.replay_edits.specs.Edit.{inverses_of, line_at, own_line}
 
--- the bytes of a new line, where this is the log before the edits
+-- the bytes of a new line, if this is the log before the edits
 abbrev pub text_of : List (List ℕ) → NewLine → List ℕ
 text_of log (Old place) = line_at log place
 text_of log (Own line) = line.items
@@ -18,16 +17,16 @@ text_of log (Own line) = line.items
 abbrev pub new_texts : List (List ℕ) → List NewLine → List (List ℕ)
 new_texts log lines = map (text_of log) lines
 
--- the log in which new lines come in the place of those from `head` up to `rest`
+-- the log in which new lines replace those from `head` up to `rest`
 abbrev pub log_with : List (List ℕ) → ℕ → ℕ → List NewLine → List (List ℕ)
 log_with log head rest lines = take head log ++ (new_texts log lines ++ drop rest log)
 
--- if the line is an old one, its place is before the end of a log of so many lines
+-- if the line is an old one, its place is before the end of a log of this many lines
 abbrev pub IsOldWithin : ℕ → NewLine → Type 0
 IsOldWithin lines (Old place) = place < lines
 IsOldWithin lines (Own line) = Unit {0}
 
--- the places of the old lines rise; they are not before `from`, and before `to`
+-- the places of the old lines ascend, from `from` on and before `to`
 abbrev pub AreRising : ℕ → ℕ → List NewLine → Type 0
 AreRising from to [] = from ≤ to
 AreRising from to (Old place ∷ lines) = (from ≤ place) × AreRising (place + 1) to lines
@@ -38,7 +37,7 @@ abbrev pub log_without : List (List ℕ) → NewLine → List (List ℕ)
 log_without log (Old place) = slice_set log place []
 log_without log (Own line) = log
 
--- What changes make of a game of which they leave the lines before `head`, and those from `rest` on,
+-- What changes do to a game, if they leave its lines before `head`, and those from `rest` on,
 -- alone.
 pub record IsOutcome (changes : List Change) (seed : ℕ) (log : List (List ℕ)) (head rest : ℕ)
     (outcome : EditOutcome) : Type 0 where
@@ -61,7 +60,7 @@ AreNumbers stock numbers =
 abbrev pub lines_by : Stock → List ℕ → List (List ℕ)
 lines_by stock numbers = map (line_at (lines_of stock)) numbers
 
--- the log in which the lines of these numbers come between those that stay
+-- the log in which the lines with these numbers come between those that stay
 abbrev pub log_by : Stock → List ℕ → List (List ℕ)
 log_by stock numbers = take stock.head (log_of stock.log.now.items)
     ++ (lines_by stock numbers ++ drop stock.rest (log_of stock.log.now.items))

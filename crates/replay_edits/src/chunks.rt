@@ -5,10 +5,10 @@ ghost use Rattle.replay_edits.specs.Chunks.{numbers_in, IsSought, IsWithinChunk}
 use std::alloc::{AllocError, Global};
 use std::mem;
 
-/// How many numbers a chunk is filled with; where they are twice as many it is halved.
+/// How many numbers fill a chunk. One with twice as many is halved.
 const HALF_CHUNK: usize = 512;
 
-/// One number more, at the end.
+/// Adds a number at the end.
 pub(crate) fn push_number(
     alloc: Global,
     chunks: &mut Vec<Vec<usize>>,
@@ -30,7 +30,7 @@ pub(crate) fn push_number(
     Ok(())
 }
 
-/// One number more, at a place.
+/// Adds a number at a place.
 pub(crate) fn insert_number(
     alloc: Global,
     chunks: &mut Vec<Vec<usize>>,
@@ -51,7 +51,7 @@ pub(crate) fn insert_number(
     halve(alloc, chunks, index)
 }
 
-/// Parts the chunk of an index in two.
+/// Splits the chunk of an index in two.
 fn halve(alloc: Global, chunks: &mut Vec<Vec<usize>>, index: usize) -> Result<(), AllocError>
     requires { index < length chunks.old.items }
     ensures some { 0 < length chunks.new.items }
@@ -65,7 +65,7 @@ fn halve(alloc: Global, chunks: &mut Vec<Vec<usize>>, index: usize) -> Result<()
     Ok(())
 }
 
-/// Takes the number at a place out.
+/// Removes the number at a place, and returns it.
 pub(crate) fn remove_number(chunks: &mut Vec<Vec<usize>>, place: usize) -> usize
     requires some { 0 < length chunks.old.items }
     requires within { place < length (numbers_in chunks.old.items) }
@@ -77,7 +77,7 @@ pub(crate) fn remove_number(chunks: &mut Vec<Vec<usize>>, place: usize) -> usize
     chunks[index].remove(within)
 }
 
-/// Puts another number in the place of one, and gives that.
+/// Replaces the number at a place, and returns the old one.
 pub(crate) fn replace_number(chunks: &mut Vec<Vec<usize>>, place: usize, number: usize) -> usize
     requires some { 0 < length chunks.old.items }
     requires within { place < length (numbers_in chunks.old.items) }
@@ -105,7 +105,7 @@ pub(crate) fn seek_number(chunks: &[Vec<usize>], place: usize) -> Result<usize, 
     Err(past)
 }
 
-/// In which chunk a place is, and where within it.
+/// The chunk that a place is in, and where it is within that.
 fn find_place(chunks: &[Vec<usize>], place: usize) -> (usize, usize)
     requires some { 0 < length chunks.now }
     requires within { place ≤ length (numbers_in chunks.now) }

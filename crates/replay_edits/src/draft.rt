@@ -11,8 +11,8 @@ use crate::stock::{NumberedGame, Stock};
 use replay_checkpoints::Blocks;
 use std::alloc::{AllocError, Global};
 
-/// A log as the first of edits leave it, which are made in it one after another. No line is moved
-/// for that, and none is copied but those that go.
+/// A log after the first of some edits, which are made in it one after another. No line is moved
+/// for that, and only lines that go are copied.
 #[derive(Drop)]
 pub struct Draft<'a> {
     stock: Stock<'a>,
@@ -48,7 +48,7 @@ impl<'a> Draft<'a> {
         })
     }
 
-    /// How many of the edits are made.
+    /// How many of the edits have been made.
     pub fn made(&self) -> usize
         ensures { result ≡ made_in self.now }
     {

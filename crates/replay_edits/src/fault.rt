@@ -4,8 +4,8 @@ use std::alloc::AllocError;
 use std::fmt;
 use thiserror::Error;
 
-/// Why an edit was refused. The first of these that holds is answered; `EmptyGroup` is a group's
-/// alone and comes first.
+/// Why an edit was refused. The first of these that holds is returned. Only a group can have
+/// `EmptyGroup`, which comes first.
 #[derive(Clone, Copy, Debug, Drop, PartialEq, Eq, Error)]
 pub enum EditFault {
     #[error("the place is past the end of the log")]
@@ -24,7 +24,7 @@ pub enum EditFault {
     EmptyGroup,
 }
 
-/// Why a group of edits was refused, and at which of its edits, counted from 0; 0 where none is to
+/// Why a group of edits was refused, and at which of its edits, counted from 0, or 0 if none is to
 /// blame.
 #[derive(Clone, Copy, Debug, Drop, PartialEq, Eq)]
 pub struct GroupFault {

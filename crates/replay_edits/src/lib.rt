@@ -1,4 +1,4 @@
-//! Edits of a log of lines and of its seed: what they make of a game, what takes them back, and why
+//! Edits of a log of lines and of its seed: what they do to a game, what takes them back, and why
 //! they are refused.
 #![tactic(auto)]
 

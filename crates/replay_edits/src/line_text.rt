@@ -5,18 +5,18 @@ use std::fmt;
 use std::marker::Model;
 use std::ops::DerefSlice;
 
-/// How long a line is at most that takes no memory of its own.
+/// The greatest length of a line that takes no memory of its own.
 const MAX_SHORT_LINE: usize = 14;
 
 /// Where the bytes of a line lie.
 #[derive(Drop)]
 enum LineBytes {
-    /// The first of these bytes, so many.
+    /// The first of these bytes, this many.
     Short(u8, [u8; MAX_SHORT_LINE]),
     Long(Box<Vec<u8>>),
 }
 
-/// The bytes of a line of a log. Few of them lie in the value itself, so that a short line takes no
+/// The bytes of a line of a log. A few bytes lie in the value itself, so a short line takes no
 /// memory of its own.
 ///
 /// They are the one item of an array, since lists of arrays move as blocks, and lists of enums item

@@ -1,6 +1,6 @@
 ghost use Rattle.std.specs.Prelude.{◌≡◌};
 
-/// How many lines at the start of a log, and how many at its end, changes leave alone.
+/// How many lines changes leave alone at the start of a log, and how many at its end.
 #[derive(Clone, Copy)]
 pub struct Margins {
     pub head: usize,
@@ -10,7 +10,8 @@ pub struct Margins {
 impl Margins {
     ghost use Rattle.replay_edits.specs.Edit.{narrowed_margins};
 
-    /// Leaves alone at most so many at the start, and at most so many at the end.
+    /// These margins, cut to at most this many lines at the start, and at most this many at the
+    /// end.
     pub fn narrow(self, head: usize, tail: usize) -> Margins
         ensures { result ≡ narrowed_margins self head tail }
     {

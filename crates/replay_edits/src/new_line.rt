@@ -8,7 +8,7 @@ use crate::line_text::LineText;
 use replay_checkpoints::Blocks;
 use std::mem;
 
-/// A line of a log after edits, where these don't leave it alone.
+/// A line of a log after edits that don't leave it alone.
 #[derive(Drop)]
 pub enum NewLine {
     /// The line at this place of the log before them.
@@ -18,7 +18,7 @@ pub enum NewLine {
 }
 
 impl NewLine {
-    /// The bytes of the line, where this is the log before the edits.
+    /// The bytes of the line, if this is the log before the edits.
     pub fn text<'a>(&'a self, log: &'a Blocks<LineText>) -> &'a [u8]
         requires { IsOldWithin (length log.now.items) self.now }
         ensures { result.now ≡ text_of (log_of log.now.items) self.now }
@@ -30,8 +30,8 @@ impl NewLine {
     }
 }
 
-/// Appends new lines to `taken`. The old ones among them are taken out of the log, which has empty
-/// lines in their places then.
+/// Appends new lines to `taken`. The old ones among them are taken out of the log, which then has
+/// empty lines in their places.
 pub fn take_lines(
     lines: &mut [NewLine],
     log: &mut Blocks<LineText>,
@@ -58,7 +58,7 @@ pub fn take_lines(
     }
 }
 
-/// A new line. An old one is taken out of the log, which has an empty line in its place then.
+/// A new line. An old one is taken out of the log, which then has an empty line in its place.
 fn take_line(line: NewLine, log: &mut Blocks<LineText>) -> LineText
     requires { IsOldWithin (length log.old.items) line }
     ensures line { result.items ≡ text_of (log_of log.old.items) line }

@@ -8,7 +8,7 @@ use crate::chunks::{
 use std::alloc::{AllocError, Global};
 use std::marker::Model;
 
-/// Numbers in a row. They lie in chunks, so that one more or one less moves few of the others.
+/// Numbers in a row. They lie in chunks, so adding or removing one moves few of the others.
 #[derive(Drop)]
 pub(crate) struct Numbers {
     chunks: Vec<Vec<usize>>,
@@ -42,14 +42,14 @@ impl Numbers {
         seek_number(&self.chunks, place)
     }
 
-    /// One number more, at the end.
+    /// Adds a number at the end.
     pub(crate) fn push(&mut self, alloc: Global, number: usize) -> Result<(), AllocError>
         ensures { OnOk result (self.new ≡ self.old ++ number ∷ []) }
     {
         push_number(alloc, &mut self.chunks, number)
     }
 
-    /// One number more, at a place; those from there on move back by one.
+    /// Adds a number at a place; those from there on move back by one.
     pub(crate) fn insert(
         &mut self,
         alloc: Global,
@@ -62,7 +62,7 @@ impl Numbers {
         insert_number(alloc, &mut self.chunks, place, number)
     }
 
-    /// Takes the number at a place out; those after it move forward by one.
+    /// Removes the number at a place, and returns it; those after it move forward by one.
     pub(crate) fn remove(&mut self, place: usize) -> usize
         requires { place < length self.old }
         ensures number { result ≡ slice_index self.old place }
@@ -71,7 +71,7 @@ impl Numbers {
         remove_number(&mut self.chunks, place)
     }
 
-    /// Puts another number in the place of one, and gives that.
+    /// Replaces the number at a place, and returns the old one.
     pub(crate) fn replace(&mut self, place: usize, number: usize) -> usize
         requires { place < length self.old }
         ensures number { result ≡ slice_index self.old place }

@@ -11,8 +11,8 @@ use crate::stock::{NumberedGame, Stock};
 use replay_checkpoints::Blocks;
 use std::alloc::{AllocError, Global};
 
-/// What edits make of a game: its seed, the lines between those that the edits leave alone, and the
-/// edits that take them back, the last one first.
+/// What edits do to a game: its new seed, the lines between those that the edits leave alone, and
+/// the edits that take them back, the last one first.
 #[derive(Drop)]
 pub struct EditOutcome {
     pub seed: u32,
@@ -20,8 +20,8 @@ pub struct EditOutcome {
     pub inverse: Vec<Edit>,
 }
 
-/// What edits make of a game where they leave these margins alone. Each edit is made once, among
-/// numbers of lines: no line is moved, and none is copied but those that come in or go.
+/// What edits that leave these margins alone do to a game. Each edit is made once, among numbers of
+/// lines: no line is moved, and only lines that come in or go are copied.
 pub fn find_outcome(
     alloc: Global,
     edits: &[Edit],

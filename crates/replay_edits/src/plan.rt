@@ -9,15 +9,15 @@ use crate::margins::Margins;
 use base_lines::check_line;
 use base_lines::limits::{is_full_log, is_large_seed};
 
-/// What edits make of a log: how many lines it has then, and what they leave alone.
+/// What edits do to a log: how many lines it then has, and what they leave alone.
 #[derive(Clone, Copy)]
 pub struct Plan {
     pub lines: usize,
     pub margins: Margins,
 }
 
-/// What a group of edits makes of a log of `lines` lines, or the first fault of the group, memory
-/// aside. The meter has `left` steps left.
+/// What a group of edits does to a log of `lines` lines, or the first fault of the group other than
+/// running out of memory. The meter has `left` steps left.
 pub fn plan_group(edits: &[Edit], lines: usize, left: u64) -> Result<Plan, GroupFault>
     ensures { let changes = changes_of edits.now in
         (log : List (List ℕ)) → length log ≡ lines
@@ -39,7 +39,7 @@ pub fn plan_group(edits: &[Edit], lines: usize, left: u64) -> Result<Plan, Group
     Ok(plan)
 }
 
-/// What the edits make of a log of `lines` lines, or the first fault that one of them meets.
+/// What the edits do to a log of `lines` lines, or the first fault that one of them meets.
 pub fn plan_edits(edits: &[Edit], lines: usize) -> Result<Plan, GroupFault>
     ensures { let changes = changes_of edits.now in
         (log : List (List ℕ)) → length log ≡ lines
@@ -110,7 +110,7 @@ fn lines_after(edit: &Edit, lines: usize) -> Result<usize, EditFault>
     }
 }
 
-/// What the edit of a log of `lines` lines leaves alone of margins.
+/// What the edit of a log of `lines` lines leaves of margins.
 fn narrow(edit: &Edit, lines: usize, margins: Margins) -> Margins
     ensures { result ≡ margins_after (change_of edit.now) lines margins }
 {

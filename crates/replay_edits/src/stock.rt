@@ -15,8 +15,8 @@ use replay_checkpoints::Blocks;
 use std::alloc::{AllocError, Global};
 use std::mem;
 
-/// The lines that a log may have once edits are made, by numbers: first its own, and then that of
-/// each edit. Of its own lines those before `head`, and those from `rest` on, stay.
+/// The lines that a log may have after edits, by numbers: first its own, and then that of each
+/// edit. Its own lines before `head`, and those from `rest` on, stay.
 #[derive(Drop)]
 pub(crate) struct Stock<'a> {
     pub(crate) log: &'a Blocks<LineText>,
@@ -33,7 +33,7 @@ pub(crate) struct NumberedGame {
 }
 
 impl<'a> Stock<'a> {
-    /// The line of a number.
+    /// The line with a number.
     pub(crate) fn line(&self, number: usize) -> &[u8]
         requires { number < length self.now.log.now.items + length self.now.edits.now }
         ensures { result.now ≡ line_at (lines_of self.now) number }
@@ -85,7 +85,7 @@ impl<'a> Stock<'a> {
         Ok(numbers)
     }
 
-    /// Makes an edit, whose own line has the number `own`, and gives the one that takes it back.
+    /// Makes an edit, whose own line has the number `own`, and returns the edit that takes it back.
     pub(crate) fn make(
         &self,
         alloc: Global,
@@ -130,7 +130,7 @@ impl<'a> Stock<'a> {
         }
     }
 
-    /// The lines of numbers.
+    /// The lines with these numbers.
     pub(crate) fn new_lines(
         &self,
         alloc: Global,
@@ -152,8 +152,8 @@ impl<'a> Stock<'a> {
         Ok(lines)
     }
 
-    /// Appends the line of a number, and gives the place from which on the next old one may be. A
-    /// line of the log that comes after those before it is named by its place, and moves later; any
+    /// Appends the line with a number, and returns the first place where the next old one may be. A
+    /// line of the log that follows those before it is named by its place, and moves later; any
     /// other is copied.
     fn push_line(
         &self,
@@ -182,7 +182,7 @@ impl<'a> Stock<'a> {
     }
 }
 
-/// The line that an edit brings in, if it brings one.
+/// The line that an edit brings in, if it brings one in.
 fn own_line(edit: &Edit) -> &[u8]
     ensures { result.now ≡ own_line (change_of edit.now) }
 {

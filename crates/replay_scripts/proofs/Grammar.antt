@@ -1,4 +1,4 @@
--- What the lines of a script come to is what they spell.
+-- What reading the lines of a script gives is what they spell.
 use Rattle.std.proofs.Common.{◌≡◌, ℕ, ◌+◌, List, [], ◌∷◌, ◌++◌, length, Option, Some, None, Result}
 use Rattle.std.proofs.Common.{Ok, Err, MatchResult, IfErr, IfOk, codes, refl, sym, ap, ap₂, ◌∙◌}
 use Rattle.std.proofs.Common.{◌⊎◌, inl, inr, append_assoc, append-nil, arith}
@@ -17,7 +17,7 @@ use Rattle.replay_scripts.specs.Script.{reading_outside_group, read_from, script
 use Rattle.replay_scripts.specs.Views.{IsFaultOf, items_of}
 use Rattle.replay_scripts.proofs.Lines.{IsKind-kind_of_script_line, kind_of_script_line-only}
 
--- ---- what the lines spell is what they come to
+-- ---- reading gives what the lines spell
 
 -- the group with more changes, on the lines of these numbers
 abbrev extended : Applied → List Change → List ℕ → Applied
@@ -97,7 +97,7 @@ pub script_of-only : (text : List ℕ) (items : List Applied) → IsScript 1 (li
     → script_of text ≡ Ok items
 script_of-only text items is = script_read is []
 
--- ---- what the lines come to they spell
+-- ---- the lines spell what reading gives
 
 -- after what was read outside a group
 record SpellsOn (number : ℕ) (whole : List (List ℕ)) (before out : List Applied) : Type 0 where
@@ -240,7 +240,7 @@ pub IsScript-script_of : (text : List ℕ) (items : List Applied) → script_of 
     → IsScript 1 (lines text) items
 IsScript-script_of text items is = IsScript-read_from (lines text) items is
 
--- what is promised of an answer that is what the lines come to
+-- what is promised of an answer that is what reading gives
 abbrev IsAnswer : List ℕ → Result Script ScriptRefusal → Type 0
 IsAnswer text answer =
     MatchResult answer (λ script. script_of text ≡ Ok (items_of script.items))

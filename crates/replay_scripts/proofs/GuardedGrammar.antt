@@ -22,7 +22,7 @@ use Rattle.replay_scripts.proofs.Malformed.{IsMalformedAt-read_from}
 abbrev blank_group : Option Applied → Option Applied
 blank_group group = option_map (guarded_by []) group
 
--- what a script gives with guards comes of what it gives with its guards taken as blank
+-- what a script gives with guards follows from what it gives with its guards taken as blank
 abbrev ComesOf : Result (List Applied) ScriptRefusal → Result (List Applied) ScriptRefusal → Type 0
 ComesOf (Ok out) plain = plain ≡ Ok (unguarded_items out)
 ComesOf (Err (Malformed at flaw_is.NoneGuarded)) plain =
@@ -80,7 +80,7 @@ comes_of (line ∷ rest) number items group guards =
     (kind_of_script_line (unguarded_line (expected_in line) line)) items group
     (with_expected number (expected_in line) group guards)
 
--- ---- so it is spelled, and refused for its first malformed line
+-- ---- a script with guards is spelled, and refused for its first malformed line
 
 abbrev IsAnswer : List ℕ → Result Script ScriptRefusal → Type 0
 IsAnswer text answer =
@@ -121,7 +121,7 @@ module _ (whole : List (List ℕ)) where
       by_refusal (Malformed at flaw_is.NoEnd) given =
           IsMalformedAt-read_from (unguarded whole) at flaw_is.NoEnd given
 
--- what the lines come to, by whether some may be guards, they spell
+-- the lines spell what reading gives, by whether some may be guards
 pub IsScriptBy-script_by : (guarded : Bool) (text : List ℕ) (items : List Applied)
     → script_by guarded text ≡ Ok items → IsScriptBy guarded text items
 IsScriptBy-script_by false text items is = IsScript-script_of text items is

@@ -1,4 +1,4 @@
--- A line is of the kind that is reported of it, and of no other.
+-- A line is of the kind that is reported for it, and of no other.
 use Rattle.std.proofs.Common.{◌≡◌, ℕ, Bool, true, false, cond, List, length, take, Option, Some}
 use Rattle.std.proofs.Common.{None, option_map, codes, bytes_eq, IsTrue, refl, sym, subst, ◌∙◌, ◌⊎◌}
 use Rattle.std.proofs.Common.{inl, inr}
@@ -57,7 +57,7 @@ edit_of-from_line line (reseeds seed) (rest, is, blank) =
     let no_replace = missed (codes "replace") line (rw parts refl) in
     rw (no_insert, no_delete, no_replace, found, blank) refl
 
--- the change is made of a number that was found and the text after it
+-- the change has the number that was found and the text after it
 record IsOfText (make : ℕ → List ℕ → Change) (found : Option (ℕ × List ℕ)) (change : Change) : Type
     0 where
   number : ℕ
@@ -67,7 +67,7 @@ record IsOfText (make : ℕ → List ℕ → Change) (found : Option (ℕ × Lis
   is_text : IsText rest text
   made : make number text ≡ change
 
--- the change is made of a number that was found, with blanks after it
+-- the change has the number that was found, with blanks after it
 record IsAlone (make : ℕ → Change) (found : Option (ℕ × List ℕ)) (change : Change) : Type 0 where
   number : ℕ
   rest : List ℕ

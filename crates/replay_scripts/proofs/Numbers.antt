@@ -1,4 +1,4 @@
--- Numbers that are held below a greatest one.
+-- Numbers that are cut to a greatest one.
 use Rattle.std.proofs.Common.{◌≡◌, ℕ, ◌+◌, ◌-◌, ◌*◌, List, [], ◌∷◌, fold, min, refl, arith}
 use Rattle.base_lines.specs.Bytes.{number_of}
 
@@ -6,7 +6,7 @@ capped_step : (most number digit : ℕ)
     → min (10 * min number most + (digit - 48)) most ≡ min (10 * number + (digit - 48)) most
 capped_step most number digit = omega arith
 
--- held at each digit, a number is what it is when it is held at the end
+-- a number that is cut at each digit is the same as one that is cut at the end
 fold-capped : (most : ℕ) (digits : List ℕ) (from : ℕ)
     → fold (λ number digit. min (10 * number + (digit - 48)) most) (min from most) digits
     ≡ min (fold (λ number digit. 10 * number + (digit - 48)) from digits) most

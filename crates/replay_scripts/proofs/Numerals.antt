@@ -1,4 +1,4 @@
--- What is written of a number is digits that write it.
+-- What is written for a number is digits that write it.
 use Rattle.std.proofs.Common.{◌≡◌, ℕ, ◌≤◌, List, length, fold, IsTrue, min, refl}
 use Rattle.std.proofs.Common.{ap, arith, true}
 use Rattle.std.specs.Fmt.{decimal}

@@ -1,4 +1,4 @@
--- Leading digits of what goes on with something else.
+-- Leading digits of bytes that go on with something else.
 use Rattle.std.proofs.Common.{◌≡◌, ℕ, false, List, [], ◌∷◌, ◌++◌, IsTrue, refl, ap, arith}
 use Rattle.std.specs.List.{list_all}
 use Rattle.std.proofs.lemmas.Bool.{and_parts}
@@ -13,7 +13,7 @@ NoDigitFirst (byte ∷ bytes) = IsTrue (is_blank byte)
 blank_no_digit : (byte : ℕ) → IsTrue (is_blank byte) → is_digit byte ≡ false
 blank_no_digit byte blank = grind (arith, nat_tests)
 
--- digits end where a blank comes
+-- digits end where a blank follows
 pub prefix_while-digits : (digits rest : List ℕ) → IsTrue (list_all is_digit digits)
     → NoDigitFirst rest → prefix_while is_digit (digits ++ rest) ≡ digits
 prefix_while-digits [] [] all first = refl

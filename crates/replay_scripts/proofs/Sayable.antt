@@ -1,4 +1,4 @@
--- What a log takes, a script can say.
+-- A script can say what a log takes.
 use Rattle.std.proofs.Common.{◌≡◌, ℕ, ◌≤◌, List, length}
 use Rattle.std.proofs.Common.{refl, arith, true}
 use Rattle.std.specs.Prelude.{Bool, false, None, Some, if◌then◌else◌, is_none, nat_lt}

@@ -1,4 +1,4 @@
--- What is wrong with a line of a script that is no edit: the first of these that holds.
+-- What is wrong with a line of a script that isn't an edit: the first of these that holds.
 use Rattle.std.specs.Prelude.{ℕ, ◌+◌, Bool, false, ◌&&◌, ◌||◌, ◌==◌, nat_lt, bytes_eq, List, []}
 use Rattle.std.specs.Prelude.{◌∷◌, length, drop, Option, None, Some, codes, if◌then◌else◌}
 use Rattle.std.specs.Option.{option_and_then}
@@ -34,7 +34,7 @@ script_word_named text =
     else (if bytes_eq text (codes "end") then Some word.End
     else (if bytes_eq text (codes "expect") then Some word.Expect else None))))))
 
--- the only word of scripts that a text is near to, if one alone is
+-- the only word of scripts that a text is near to, if just one is
 abbrev pub near_script_word : List ℕ → Option ScriptWord
 near_script_word text = option_and_then script_word_named
     (near_name text (codes "insert" ∷ codes "delete" ∷ codes "replace" ∷ codes "seed"
@@ -48,8 +48,8 @@ begins_blank (byte ∷ bytes) = is_blank byte
 abbrev pub is_sign : ℕ → Bool
 is_sign byte = byte == 43 || byte == 45
 
--- the word and the number are right: the line is a guard where none may be, or has a text that its
--- word doesn't have
+-- the word and the number are right: the line is a guard in a script in which none may be, or has a
+-- text, which its word doesn't take
 abbrev pub flaw_after_number : ScriptWord → EditFlaw
 flaw_after_number word.Expect = Guard
 flaw_after_number named = MoreText named

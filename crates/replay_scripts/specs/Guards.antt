@@ -1,5 +1,5 @@
--- Scripts in which lines may be guards, `expect N TEXT`. To the grammar of scripts such a line is
--- blank: it guards the item whose last line comes next.
+-- Scripts in which lines may be guards, `expect N TEXT`. The grammar of scripts takes such a line
+-- as blank: it guards the item whose last line comes next.
 use Rattle.std.specs.Prelude.{ℕ, ◌+◌, Bool, true, false, List, [], ◌∷◌, ◌++◌, length, map, Option}
 use Rattle.std.specs.Prelude.{◌≡◌, ◌↔◌, Some, None, Result, Ok, ⊤}
 use Rattle.std.specs.Str.Lines.{lines}
@@ -12,7 +12,7 @@ use Rattle.replay_scripts.specs.declared.fault.ScriptFlaw.TheVariants as flaw_is
 use Rattle.replay_scripts.specs.declared.fault.ScriptRefusal.{ScriptRefusal}
 use Rattle.replay_scripts.specs.declared.fault.ScriptRefusal.TheVariants.{Malformed, Memory}
 
--- a line is a guard exactly where it is spelled as one
+-- a line is a guard exactly if it is spelled as one
 abbrev pub GuardsAreSpelled : Type 0
 GuardsAreSpelled =
     (line : List ℕ) (place : ℕ) (text : List ℕ)
@@ -46,7 +46,7 @@ expectation_of number expected open_group = record {
   after = changes_so_far open_group;
 }
 
--- the guards with the one that a line is, if it is one
+-- the guards, with the line if it is one
 abbrev pub with_expected : ℕ → Option (ℕ × List ℕ) → Option Applied → List Expectation
     → List Expectation
 with_expected number (Some expected) open_group guards =
@@ -72,8 +72,8 @@ read_guarded_from number (line ∷ rest) items open_group guards =
 abbrev pub guarded_script_of : List ℕ → Result (List Applied) ScriptRefusal
 guarded_script_of text = read_guarded_from 1 (lines text) [] None []
 
--- the script is refused for a line at which its lines, the guards taken as blank, are malformed
--- first, or for a guard with no item after it, unless memory ran out
+-- the script is refused for the line at which its lines, with guards taken as blank, are first
+-- malformed, or for a guard with no item after it, unless memory ran out
 abbrev pub IsRefusedByGuards : List (List ℕ) → ScriptRefusal → Type 0
 IsRefusedByGuards whole Memory = ⊤
 IsRefusedByGuards whole (Malformed at flaw_is.NoneGuarded) =
@@ -87,7 +87,7 @@ abbrev pub script_by : Bool → List ℕ → Result (List Applied) ScriptRefusal
 script_by false text = script_of text
 script_by true text = guarded_script_of text
 
--- a script gives these items: its lines spell them, or those that are no guards do
+-- a script gives these items: its lines spell them, or those that aren't guards do
 abbrev pub IsScriptBy : Bool → List ℕ → List Applied → Type 0
 IsScriptBy false text items = IsScript 1 (lines text) items
 IsScriptBy true text items =

@@ -100,13 +100,13 @@ abbrev pub expected_after : Option (ℕ × List ℕ) → Option (ℕ × List ℕ
 expected_after (Some found) = option_map (λ text. (found.0, text)) (text_of_edit found.1)
 expected_after None = None
 
--- the change with a number and the text after it, where the number was found, and else what comes
+-- the change with a number and the text after it, if the number was found, and otherwise what comes
 -- later
 abbrev pub with_text : (ℕ → List ℕ → Change) → Option (ℕ × List ℕ) → Option Change → Option Change
 with_text change (Some found) later = option_map (change found.0) (text_of_edit found.1)
 with_text change None later = later
 
--- the change with a number and blanks after it, where the number was found, and else what comes
+-- the change with a number and blanks after it, if the number was found, and otherwise what comes
 -- later
 abbrev pub change_without_text : (ℕ → Change) → Option (ℕ × List ℕ) → Option Change → Option Change
 change_without_text change (Some found) later = if list_all is_blank found.1
@@ -135,7 +135,7 @@ kind_of_script_line line =
     else (if is_word_line (codes "end") line then end
     else edit_or_nonsense (edit_of line) (edit_flaw_of line)))
 
--- what is said of a line, as its kind
+-- the kind that is reported for a line
 abbrev pub kind_said : ScriptLine → LineKind
 kind_said line_is.Nothing = nothing
 kind_said line_is.Begin = begin

@@ -1,4 +1,4 @@
--- Where a script is malformed first: all lines before are well formed.
+-- Where a script is first malformed: all lines before are well formed.
 use Rattle.std.specs.Prelude.{◌≡◌, ◌⊎◌, ℕ, ◌+◌, List, ◌∷◌, ◌++◌, length, codes}
 use Rattle.replay_edits.specs.Edit.{Change}
 use Rattle.replay_scripts.specs.Line.{IsKind, IsWord, nonsense}
@@ -13,8 +13,7 @@ pub record AreWholeItems (number : ℕ) (whole : List (List ℕ)) : Type 0 where
   pub items : List Applied
   pub is_script : IsScript number whole items
 
--- the lines are whole items, and then a group that begins on the line of number `begun` and isn't
--- closed
+-- the lines are whole items, and then a group that begins on the line `begun` and isn't closed
 pub record IsOpen (number : ℕ) (whole : List (List ℕ)) (begun : ℕ) : Type 0 where
   pub before : List (List ℕ)
   pub first : List ℕ
@@ -34,7 +33,7 @@ pub record IsLineAt (number : ℕ) (whole : List (List ℕ)) (at : ℕ) (before 
   pub parts : whole ≡ before ++ line ∷ rest
   pub here : at ≡ number + length before
 
--- the line of number `at` is the first malformed one, and has this flaw
+-- the line `at` is the first malformed one, and has this flaw
 abbrev pub IsMalformedAt : ℕ → List (List ℕ) → ℕ → ScriptFlaw → Type 0
 IsMalformedAt number whole at (flaw_is.NoEdit flaw) =
     (before : List (List ℕ)) × (line : List ℕ) × IsLineAt number whole at before line

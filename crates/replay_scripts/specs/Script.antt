@@ -10,16 +10,16 @@ use Rattle.replay_scripts.specs.declared.fault.ScriptFlaw.TheVariants as flaw_is
 use Rattle.replay_scripts.specs.declared.fault.ScriptRefusal.{ScriptRefusal}
 use Rattle.replay_scripts.specs.declared.fault.ScriptRefusal.TheVariants.{Malformed}
 
--- a guard: a line of a script that says which text a log is to have at a place, after so many
--- changes of the item that it guards
+-- a guard: a line of a script that says which text a log must have at a place, after this many
+-- changes of its item
 pub record Expectation : Type 0 where
   pub line : ℕ
   pub place : ℕ
   pub text : List ℕ
   pub after : ℕ
 
--- what a script applies as a whole: one change, or a group of them. It has a line by which it is
--- reported, each of its changes has its own line, and it has guards
+-- what a script applies as a whole: one change, or a group of them. Reports name one line for it,
+-- each of its changes has its own line, and it has guards
 pub record Applied : Type 0 where
   pub line : ℕ
   pub changes : List Change
@@ -50,13 +50,13 @@ abbrev pub guarded_by : List Expectation → Applied → Applied
 guarded_by guards item =
     record { line = item.line; changes = item.changes; lines = item.lines; guards = guards }
 
--- the line by which a refusal of the change of this number, from 0, is reported
+-- the line that a refusal of the change with this number, from 0, names
 abbrev pub line_of_refusal : Applied → ℕ → ℕ
 line_of_refusal item at = unwrap_or (slice_get item.lines at) item.line
 
 -- ---- the grammar
 
--- what is in a group: the lines, numbered from `number` on, spell these changes on the lines of
+-- what is in a group: the lines, numbered from `number` on, spell these changes, on the lines with
 -- these numbers
 pub data IsBody : ℕ → List (List ℕ) → List Change → List ℕ → Type 0 where
   body_done : {number : ℕ} → IsBody number [] [] []
@@ -100,7 +100,7 @@ abbrev pub reading_with : List Applied → Option Applied → List Expectation �
 reading_with items open_group guards =
     record { items = items; open_group = open_group; guards = guards }
 
--- the item is whole, and has the guards that were read since the item before it
+-- the item is whole, and gets the guards that were read since the item before it
 abbrev pub reading_with_item : List Applied → Applied → List Expectation → ScriptReading
 reading_with_item items item guards =
     reading_with (items ++ guarded_by guards item ∷ []) None []
@@ -126,21 +126,21 @@ reading_in_group number (edit change) items group guards =
 reading_in_group number (nonsense flaw) items group guards =
     Err (Malformed number (flaw_is.NoEdit flaw))
 
--- what a line of this kind and this number makes of what was read
+-- what was read, after a line of this kind and this number
 abbrev pub reading_after_line : ℕ → LineKind → List Applied → Option Applied → List Expectation
     → Result ScriptReading ScriptRefusal
 reading_after_line number kind items None guards = reading_outside_group number kind items guards
 reading_after_line number kind items (Some group) guards =
     reading_in_group number kind items group guards
 
--- at the end no group is open, and each guard is of an item
+-- at the end no group is open, and each guard belongs to an item
 abbrev pub items_at_end : List Applied → Option Applied → List Expectation
     → Result (List Applied) ScriptRefusal
 items_at_end items (Some group) guards = Err (Malformed group.line flaw_is.NoEnd)
 items_at_end items None [] = Ok items
 items_at_end items None (guard ∷ guards) = Err (Malformed guard.line flaw_is.NoneGuarded)
 
--- what comes of reading on from a line's answer
+-- the answer of a line, and then of reading on
 abbrev pub onward : Result ScriptReading ScriptRefusal
     → (List Applied → Option Applied → List Expectation → Result (List Applied) ScriptRefusal)
     → Result (List Applied) ScriptRefusal

@@ -12,8 +12,8 @@ use Rattle.replay_scripts.specs.Guards.{IsScriptBy}
 use Rattle.replay_scripts.specs.Script.{Applied, Expectation, guarded_by, single}
 use Rattle.replay_scripts.specs.declared.script_text.BackEdit.{BackEdit}
 
--- a change that takes another one back, and the line that is expected at its place before it is
--- made, if one is
+-- a change that takes another one back, and the line expected at its place before it is made, if
+-- any is
 pub record Back : Type 0 where
   pub change : Change
   pub expected : Option (List ℕ)
@@ -32,7 +32,7 @@ groups_in groups = map (λ backs. backs_in backs.items) groups
 
 -- ---- the text
 
--- the number that a change has
+-- the number of a change
 abbrev pub number_in : Change → ℕ
 number_in (inserts place line) = place
 number_in (deletes place) = place
@@ -56,7 +56,7 @@ guard_lines place (Some line) = (codes "expect " ++ (decimal place ++ (codes " "
 abbrev pub back_lines : Back → List (List ℕ)
 back_lines back = guard_lines (number_in back.change) back.expected ++ change_line back.change ∷ []
 
--- changes that are made as a whole: one alone, or a group
+-- changes that are made as a whole: just one, or a group
 abbrev pub group_lines : List Back → List (List ℕ)
 group_lines (back ∷ []) = back_lines back
 group_lines backs = codes "begin" ∷ (flat_map back_lines backs ++ codes "end" ∷ [])
@@ -73,18 +73,18 @@ script_text groups = flat_map group_text groups
 
 -- ---- what it spells
 
--- the number of a change's line, where the lines of it and of its guard begin with this one
+-- the number of a change's line, if its guard and it begin on this line
 abbrev pub line_after : ℕ → Option (List ℕ) → ℕ
 line_after number None = number
 line_after number (Some line) = number + 1
 
--- a guard on the line of this number, after so many changes
+-- a guard on the line with this number, after this many changes
 abbrev pub guards_at : ℕ → ℕ → ℕ → Option (List ℕ) → List Expectation
 guards_at number after place None = []
 guards_at number after place (Some line) =
     record { line = number; place = place; text = line; after = after } ∷ []
 
--- of changes whose lines begin with the line of this number: the lines, the guards, where so many
+-- changes whose lines begin with the line of this number: their lines, their guards, if this many
 -- changes come before, and the number of the line after them
 abbrev pub lines_from : ℕ → List Back → List ℕ
 lines_from number [] = []
@@ -124,7 +124,8 @@ spelled_items number [] = []
 spelled_items number (backs ∷ groups) =
     spelled_item number backs ∷ spelled_items (number_after number backs) groups
 
--- a script can expect the line, if any is expected: where lines may be guards, and it is one line
+-- a script can expect the line, if any is expected: its lines may be guards, and the expected text
+-- is one line
 abbrev pub CanExpect : Bool → Option (List ℕ) → Type 0
 CanExpect guarded None = ⊤
 CanExpect false (Some line) = ⊥
@@ -136,7 +137,7 @@ pub record IsSpellable (guarded : Bool) (back : Back) : Type 0 where
   pub bytes : list_all is_line_byte (own_line back.change) ≡ true
   pub guard : CanExpect guarded back.expected
 
--- what is written of such changes reads back, by whether lines of it may be guards
+-- what is written for such changes reads back, by whether its lines may be guards
 abbrev pub ReadsBack : Bool → List (List Back) → Type 0
 ReadsBack guarded groups = All (All (IsSpellable guarded)) groups
     → IsScriptBy guarded (script_text groups) (spelled_items 1 groups)

@@ -45,7 +45,7 @@ abbrev pub step_of : ℕ → LineKind → ScriptReading → Result ScriptReading
 step_of number kind now =
     reading_after_line number kind now.items now.open_group now.guards
 
--- memory ran out, or this is the fault that was to come
+-- memory ran out, or this is the fault that was expected
 abbrev pub IsFaultOf : {T : Type 0} → ScriptRefusal → Result T ScriptRefusal → Type 0
 IsFaultOf Memory answer = Unit {0}
 IsFaultOf (Malformed number flaw) answer = answer ≡ Err (Malformed number flaw)

@@ -1,4 +1,4 @@
-//! What is wrong with a line of a script that is no edit.
+//! What is wrong with a line of a script that isn't an edit.
 
 ghost use Rattle.std.specs.Prelude.{◌≡◌, ◌≤◌, drop, length};
 ghost use Rattle.replay_scripts.specs.EditFlaw.{begins_blank, edit_flaw_of, flaw_after_digits};
@@ -53,7 +53,7 @@ impl ScriptWord {
         }
     }
 
-    /// The only word that this text is near to, if one alone is.
+    /// The only word that this text is near to, if just one is.
     fn near(text: &[u8]) -> Option<ScriptWord>
         ensures { result ≡ near_script_word text.now }
     {
@@ -78,7 +78,7 @@ impl ScriptWord {
         }
     }
 
-    /// What a line with the word has after it.
+    /// What follows the word on its line.
     fn rest(self) -> &'static str {
         match self {
             ScriptWord::Insert | ScriptWord::Replace | ScriptWord::Expect => " N TEXT",
@@ -96,14 +96,14 @@ impl fmt::Display for ScriptWord {
     }
 }
 
-/// Why a line of a script is no edit.
+/// Why a line of a script isn't an edit.
 #[derive(Clone, Copy, Debug, PartialEq, Eq)]
 pub enum EditFlaw {
     /// It begins with a byte order mark.
     ByteOrderMark,
     /// It begins with a blank.
     Indented,
-    /// It begins with none of the words, and one alone is near.
+    /// It begins with none of the words, and exactly one is near.
     NearWord(ScriptWord),
     /// It begins with none of the words.
     NoWord,
@@ -113,15 +113,15 @@ pub enum EditFlaw {
     TwoBlanks(ScriptWord),
     /// The number has a sign.
     Signed,
-    /// The number has so many digits.
+    /// The number has this many digits.
     LongNumber(usize),
     /// The number is the first of a range.
     Range,
-    /// The number has this byte, which is no digit, in this column, from 1.
+    /// The number has this byte, which isn't a digit, in this column, from 1.
     NoDigit(u8, usize),
     /// Something follows that isn't blank.
     MoreText(ScriptWord),
-    /// It is a guard, and no line may be one.
+    /// It is a guard, in a script in which no line may be one.
     Guard,
 }
 
@@ -250,7 +250,7 @@ fn flaw_after_word(word: ScriptWord, rest: &[u8]) -> EditFlaw
     }
 }
 
-/// What is wrong with a line that begins with this word, which no blank precedes.
+/// What is wrong with a line that begins with this word, without a blank before it.
 fn flaw_of_word(word: &[u8], rest: &[u8]) -> EditFlaw
     ensures { result ≡ flaw_of_word word.now rest.now }
 {
@@ -261,7 +261,7 @@ fn flaw_of_word(word: &[u8], rest: &[u8]) -> EditFlaw
     }
 }
 
-/// What is wrong with a line that is no edit.
+/// What is wrong with a line that isn't an edit.
 #[tactic(auto, unfolding(crate::specs::EditFlaw::edit_flaw_of))]
 pub(crate) fn edit_flaw_of(line: &[u8]) -> EditFlaw
     ensures { result ≡ edit_flaw_of line.now }

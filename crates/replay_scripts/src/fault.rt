@@ -9,7 +9,7 @@ use thiserror::Error;
 /// What is wrong with a line of a script.
 #[derive(Clone, Copy, Debug, PartialEq, Eq, Error)]
 pub enum ScriptFlaw {
-    /// It is nothing that a script has, for this reason.
+    /// A script can't have such a line, for this reason.
     #[error("{0}")]
     NoEdit(EditFlaw),
     #[error("`begin` inside a group: a group can't hold another")]

@@ -1,6 +1,6 @@
 use replay_edits::LineText;
 
-/// A line of a script that says which line the log is to have at a place.
+/// A line of a script that says which line the log must have at a place.
 #[derive(Debug, Drop)]
 pub struct Guard {
     /// The number of the line.
@@ -8,6 +8,6 @@ pub struct Guard {
     /// The place in the log, from 0.
     pub place: u32,
     pub text: LineText,
-    /// How many edits of the item that it guards come before it.
+    /// How many edits of its item come before it.
     pub after: usize,
 }

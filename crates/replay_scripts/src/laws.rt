@@ -1,8 +1,8 @@
-//! Laws of scripts. Each is the contract of a function that does nothing.
+//! Laws about scripts. Each is the contract of a function that does nothing.
 
 ghost use Rattle.replay_scripts.specs.Guards.{GuardsAreSpelled};
 
-/// A line is a guard exactly where it is spelled as one.
+/// A line is a guard exactly if it is spelled as one.
 pub fn guards_are_spelled()
     ensures { GuardsAreSpelled }
 {}

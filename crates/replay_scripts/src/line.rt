@@ -22,7 +22,7 @@ pub(crate) enum ScriptLine {
     Begin,
     End,
     Edit(Edit),
-    /// Nothing that a script has, for this reason.
+    /// A script can't have it, for this reason.
     Nonsense(EditFlaw),
 }
 
@@ -94,7 +94,7 @@ fn text_in(rest: &[u8]) -> Option<&[u8]>
     }
 }
 
-/// The place and the text after the word `expect`, where a line is a guard.
+/// The place and the text after the word `expect`, if the line is a guard.
 #[tactic(auto, unfolding(crate::specs::Line::expected_in))]
 pub(crate) fn expected_in(line: &[u8]) -> Option<(u32, &[u8])>
     ensures { MatchOption result (expected_in line.now ≡ None)

@@ -23,7 +23,7 @@ use std::mem;
 /// What a script applies as a whole: one edit, or a group of them.
 #[derive(Debug, Drop)]
 pub struct Item {
-    /// The number of the line by which the item is reported: that of its only edit, or of the
+    /// The number of the line that reports name for the item: that of its only edit, or of the
     /// group's `begin`.
     pub line: usize,
     pub edits: Vec<Edit>,
@@ -34,8 +34,8 @@ pub struct Item {
 }
 
 impl Item {
-    /// The number of the line by which a refusal of an edit is reported, by the edit's number from
-    /// 0: its own line, or the item's where there is no such edit.
+    /// The number of the line that a refusal names for the edit with this number, from 0: the
+    /// edit's own line, or the item's if there is no such edit.
     pub fn line_of(&self, at: usize) -> usize
         ensures { result ≡ line_of_refusal (applied_item self.now) at }
     {
@@ -81,7 +81,8 @@ impl Script {
             (λ script. script_of text.now ≡ Ok (items_of script.items))
             (λ fault. IsFaultOf fault (script_of text.now)) }
 
-        // The grammar spells what was read, nothing else, and nothing where the script is refused.
+        // By the grammar the script spells what was read, and nothing else; a refused script spells
+        // nothing.
         ensures grammar { IfOk result
             (λ script. IsScript 1 (lines text.now) (items_of script.items)) }
         ensures only { IfOk result
@@ -94,8 +95,8 @@ impl Script {
         read_lines(alloc, text)
     }
 
-    /// Reads a script in which lines may be guards, `expect N TEXT`. To the grammar such a line is
-    /// blank.
+    /// Reads a script in which lines may be guards, `expect N TEXT`. The grammar takes such a line
+    /// as blank.
     #[tactic(auto, using(crate::proofs::GuardedGrammar::answers))]
     pub fn read_guarded(alloc: Global, text: &[u8]) -> Result<Script, ScriptRefusal>
         ensures script { MatchResult result
@@ -161,7 +162,7 @@ impl ScriptReader {
         }
     }
 
-    /// Keeps the guard that a line is, if it is one, and returns what the line is to the grammar.
+    /// Keeps the line if it is a guard, and returns what the grammar takes it as.
     fn set_guard<'a>(
         &mut self,
         alloc: Global,
@@ -192,7 +193,7 @@ impl ScriptReader {
         Ok(&[])
     }
 
-    /// Adds an item, which has the guards that no item has yet.
+    /// Adds an item, which gets the guards that no item has yet.
     fn close(&mut self, alloc: Global, item: Item) -> Result<(), ScriptRefusal>
         ensures { MatchResult result
             (λ _. reading_of self.new ≡ reading_with_item (items_of self.old.items)

@@ -10,8 +10,8 @@ ghost use Rattle.replay_scripts.specs.ScriptText.{script_text, text_of_lines};
 use replay_edits::{Edit, LineText};
 use std::alloc::{AllocError, Global};
 
-/// An edit that takes another one back, and the line that is expected at its place before it is
-/// made, if one is.
+/// An edit that takes another one back, and the line expected at its place before it is made, if
+/// any is.
 #[derive(Debug, Drop)]
 pub struct BackEdit {
     pub edit: Edit,
@@ -28,7 +28,7 @@ fn push_line(text: &mut Vec<u8>, words: &str, line: &[u8]) -> Result<(), AllocEr
     text.extend_from_slice(b"\n")
 }
 
-/// The number that an edit has.
+/// The number of an edit.
 fn number_in(edit: &Edit) -> u32
     ensures { result ≡ number_in (change_of edit.now) }
 {
@@ -103,7 +103,7 @@ fn push_backs(alloc: Global, text: &mut Vec<u8>, backs: &[BackEdit]) -> Result<(
     Ok(())
 }
 
-/// Appends edits that are made as a whole: one alone, or a group.
+/// Appends edits that are made as a whole: just one, or a group.
 fn push_group(alloc: Global, text: &mut Vec<u8>, backs: &[BackEdit]) -> Result<(), AllocError>
     ensures { OnOk result (text.new.items
         ≡ text.old.items ++ group_text (backs_in backs.now)) }

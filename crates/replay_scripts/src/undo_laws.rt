@@ -1,4 +1,4 @@
-//! That what is written reads back. It is the contract of a function that does nothing.
+//! A law: what is written reads back. It is the contract of a function that does nothing.
 
 ghost use Rattle.std.specs.Prelude.{Bool, List};
 ghost use Rattle.replay_scripts.specs.ScriptText.{Back, ReadsBack};

@@ -9,7 +9,7 @@ use crate::marks::Marks;
 use crate::placed_states::PlacedStates;
 
 /// Where new checkpoints join the old ones: those before the index `at` stay, and those from the
-/// index `rest` on move as the place `old` to `new`.
+/// index `rest` on move as the place `old` moves to `new`.
 #[derive(Clone, Copy)]
 struct Seam {
     at: usize,
@@ -20,8 +20,7 @@ struct Seam {
 
 impl<K: KeptState> Checkpoints<K> {
     /// Takes over marks of the edited log that ended at the checkpoint of the index `met`: those
-    /// before `at` stay, and those after `met` move with it. `state` is kept of their
-    /// open place.
+    /// before `at` stay, and those after `met` move with it. `state` is kept for their open place.
     pub fn meet(&mut self, marks: Marks<K>, state: K, at: usize, met: usize)
         requires state { K.state_of state ≡ marks.state }
         requires begun { IsBegunAt self.old at marks }
@@ -42,8 +41,8 @@ impl<K: KeptState> Checkpoints<K> {
         self.join(marks.close(state, place), Seam { at, rest, old, new }, end);
     }
 
-    /// What comes after the checkpoint of the index `met` where that moves to `new`: the next one,
-    /// or the end.
+    /// What follows the checkpoint of the index `met` as that moves to `new`: the next one, or the
+    /// end.
     fn next_place(&self, met: usize, new: u32, end: u32) -> u32
         requires met { met < length self.now.places }
         requires end { self.now.lines - slice_index self.now.places met + new ≡ end }
@@ -80,7 +79,7 @@ impl<K: KeptState> Checkpoints<K> {
         self.join(marks.finish(), Seam { at, rest, old, new }, end);
     }
 
-    /// Puts `middle` at the seam; the log ends at `end` now.
+    /// Puts `middle` at the seam; the log then ends at `end`.
     fn join(&mut self, middle: PlacedStates<K>, seam: Seam, end: u32)
         requires among { seam.at < length self.old.places }
         requires ordered { seam.at ≤ seam.rest }

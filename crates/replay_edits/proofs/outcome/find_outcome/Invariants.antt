@@ -1,4 +1,4 @@
--- The edits that are left are to be made in the game as the numbers have it.
+-- The remaining edits are to be made in the game that the numbers describe.
 use Rattle.std.proofs.Common.{◌-◌, drop}
 use Rattle.replay_edits.specs.Edit.{game_of, log_of, changes_of}
 use Rattle.replay_edits.specs.Outcome.{log_by, game_by, AreNumbers}

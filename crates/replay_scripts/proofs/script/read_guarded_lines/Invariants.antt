@@ -5,7 +5,7 @@ use Rattle.replay_scripts.specs.Views.{expectations_of, items_of, open_of}
 use Rattle.replay_scripts.proofs.script.read_guarded_lines.Given as goal
 
 -- the rest of the script gives, after what was read, what the whole script gives; each line that
--- was counted took a byte at least
+-- was counted took at least one byte
 abbrev pub invariant-loop-line : goal.invariant-loop-line
 invariant-loop-line l =
     (guarded_script_of l.text
