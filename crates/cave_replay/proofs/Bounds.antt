@@ -10,7 +10,7 @@ use Rattle.cave_replay.proofs.Revisions.{HasCheckpoints, IsLastIndex, IsUnderway
 use Rattle.cave_replay.proofs.Revisions.{image_in}
 use Rattle.cave_replay.proofs.Shifts.{agrees_later}
 
--- a checkpoint that isn't before a place, and less than K past it; or else the log's end is so near
+-- a checkpoint that isn't before a place, and less than K past it, unless the log's end is as near
 abbrev IsNearAfter : ℕ → List ℕ → ℕ → ℕ → Type 0
 IsNearAfter K C n i = ((k : ℕ) × (k < length C) × (i ≤ slice_index C k) × (slice_index C k < i + K))
     ⊎ (n < i + K)
@@ -76,7 +76,7 @@ near_last {C} {at} spaced is within =
           omega arith
     ]
 
--- steps up to a place are within the bound where no checkpoint before it agrees
+-- steps up to a place are within the bound if no checkpoint before it agrees
 pub bounded_to : {S T : Type 0} {revision : Revision S T} {K : ℕ} {C : List ℕ}
     → HasCheckpoints revision K C → (from : ℕ) → revision.head ≤ from + K → (limit : ℕ)
     → limit ≤ length revision.new.log → NoneMetBefore revision C limit
@@ -87,7 +87,7 @@ bounded_to {revision} {K} checkpoints from near limit within none steps few = re
   end = omega arith;
 }
 
--- underway, no checkpoint that agrees is passed
+-- on the way no checkpoint that agrees is passed
 pub underway_none : {S T : Type 0} {revision : Revision S T} {C : List ℕ} {index place : ℕ}
     → IsUnderway revision C index place → NoneMetBefore revision C place
 underway_none {revision} {C} {index} underway at (k, below, read) agrees =

@@ -1,4 +1,4 @@
--- How many lines ticked up to each line and with it.
+-- How many lines ticked up to and including each line.
 use Rattle.std.proofs.Common.{◌≡◌, ℕ, ◌+◌, ◌-◌, ◌<◌, ◌≤◌, zero, suc, Bool, List, [], ◌∷◌, ◌++◌, length}
 use Rattle.std.proofs.Common.{take, drop, count_by, arith, refl, ap, sym, ◌∙◌}
 use Rattle.std.specs.List.{splice}
@@ -19,7 +19,7 @@ total-parts ts i =
     sym (sum_by-append (λ x. if x then 1 else 0) (take i ts) (drop i ts))
     ∙ ap total (take-append-drop i ts)
 
--- those of a stretch too
+-- those of a stretch as well
 pub total-stretch : (ts : List Bool) (i j : ℕ) → i ≤ j
     → total (take i ts) + total (take (j - i) (drop i ts)) + total (drop j ts) ≡ total ts
 total-stretch ts i j ordered =

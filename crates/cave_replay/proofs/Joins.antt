@@ -1,4 +1,4 @@
--- What is kept once a replay is taken over: the play of the new game, and the states at its
+-- What is kept after a replay is taken over: the play of the new game, and the states at its
 -- checkpoints.
 use Rattle.std.proofs.Common.{◌≡◌, ℕ, ◌+◌, ◌-◌, ◌<◌, ◌≤◌, Bool, List, [], ◌++◌, length, take, drop}
 use Rattle.std.proofs.Common.{map, All, refl, sym, ap, ◌∙◌, arith, Some, None, zero, suc, inl, inr}
@@ -53,7 +53,7 @@ module _ {S T : Type 0} (rules : MachineRules S T) {old new : Game} {head tail :
       take-ticks rules old (suc from) (omega arith)
       ∙ sym (ticks_at-prefix rules shift (shift.seed (omega arith)) (suc from) within)
 
-  -- pieces of the whole new play, where it met the old one
+  -- pieces of the whole new play, if it met the old one
   pub met_texts : (from place next : ℕ) (old_pieces pieces : List T) → from ≤ head
       → old_pieces ≡ texts_of rules (rules.begun old.seed) old.log
       → texts_at rules new from ++ pieces ≡ texts_at rules new next
@@ -86,7 +86,7 @@ module _ {S T : Type 0} (rules : MachineRules S T) {old new : Game} {head tail :
       last_state_from rules old place
       ∙ sym (last_state_from rules new (image old new place) ∙ rw (agrees.same, rest) refl)
 
-  -- pieces of the whole new play, where it was played to its end
+  -- pieces of the whole new play, if it was played to its end
   pub end_texts : (from to next : ℕ) (old_pieces pieces : List T) → from ≤ head
       → old_pieces ≡ texts_of rules (rules.begun old.seed) old.log
       → texts_at rules new from ++ pieces ≡ texts_at rules new next → length old_pieces ≤ to
@@ -129,7 +129,7 @@ module _ {State S T : Type 0} {meaning : State → S} {is_state : State → Type
     (at : ℕ) (among : at < length C.places) (not_after : slice_index C.places at ≤ revision.head)
     (marks : MarksView State)
     (marking : IsMarking meaning is_state (states_of_new revision) marks) where
-  -- before the checkpoint of the index `at` the states are those of the new play too
+  -- before the checkpoint of the index `at` the states are also those of the new play
   prefix_states : (i : ℕ) → i < at - 1
       → states_of_old revision (slice_index C.places i)
       ≡ states_of_new revision (slice_index C.places i)

@@ -129,7 +129,7 @@ states_of_before meaning is_state by_place marks place marking = record {
       marking.kept.made marking.next_made;
 }
 
--- one place more
+-- one more place
 pub marking_more : {S M : Type 0} (meaning : S → M) (is_state : S → Type 0) (by_place : ℕ → M)
     (marks marks' : MarksView S) (place : ℕ) → IsMarking meaning is_state by_place marks
     → marks'.places ≡ places_before marks place → marks'.states ≡ states_before marks place

@@ -1,4 +1,4 @@
--- What a session may be opened with.
+-- What may be given to open a session.
 use Rattle.std.proofs.Common.{◌≡◌, ℕ, ◌+◌, List, [], ◌∷◌, length, refl, arith, Option, Some, None}
 use Rattle.std.proofs.Common.{Bool, true, false, cond, All, IsTrue, eqb, ltb, ◌||◌}
 use Rattle.std.proofs.lemmas.List.Elements.{All-nil, All-cons}
@@ -41,7 +41,7 @@ no_bad_line : (bad : Option (ℕ × LineFlaw)) (log : List (List ℕ)) (seed : �
 no_bad_line None log seed free = (refl, free)
 no_bad_line (Some (number, flaw)) log seed free = cc
 
--- where no fault is met, the distance and the game are good
+-- if no fault is met, the distance and the game are good
 pub IsDistance-from_no_fault : (every : ℕ) (log : List (List ℕ)) (seed : ℕ)
     → open_fault every log seed ≡ None → IsDistance every
 IsDistance-from_no_fault every log seed free =

@@ -6,8 +6,8 @@ use Rattle.replay_edits.specs.Edit.{line_at}
 use Rattle.cave_replay.specs.PlayedRow.{PlayedRow, rows_from, IsRowAt}
 use Rattle.cave_replay.proofs.Counting.{total, total-cons}
 
--- the row is that of the place `k` of these lines, where the first has the place `first`, and
--- `count` lines before it ticked
+-- the row is that of the place `k` of these lines, if the first has the place `first`, and `count`
+-- lines before it ticked
 record IsRowFrom {Piece : Type 0} (first count : ℕ) (log : List (List ℕ)) (pieces : List Piece)
     (ticks : List Bool) (k : ℕ) (row : PlayedRow Piece) : Type 0 where
   place_is : row.place ≡ first + k
@@ -88,7 +88,7 @@ length-rows_from first count (line ∷ log) (piece ∷ pieces) (ticked ∷ ticks
     ap suc (length-rows_from (first + 1) (count + (if ticked then 1 else 0)) log pieces ticks
     (omega arith) (omega arith))
 
--- without pieces there are no rows, and without ticks
+-- without pieces there are no rows, nor without ticks
 pub no_pieces : {Piece : Type 0} (first count : ℕ) (log : List (List ℕ)) (ticks : List Bool)
     → rows_from {Piece = Piece} first count log [] ticks ≡ []
 no_pieces first count [] ticks = refl

@@ -38,7 +38,7 @@ ticks_of-append rules state [] ys = refl
 ticks_of-append rules state (x ∷ xs) ys =
     ap (λ rest. rules.ticked state x ∷ rest) (ticks_of-append rules (rules.after state x) xs ys)
 
--- the pieces and the ticks of a play are as many as the lines
+-- a play has one piece and one tick for each line
 pub length-pieces : {S T : Type 0} {rules : MachineRules S T} {game : Game} {opening : T}
     {pieces : List T} {ticks : List Bool} {state : S}
     → IsPlay rules game opening pieces ticks state → length pieces ≡ length game.log
@@ -51,7 +51,7 @@ pub length-ticks : {S T : Type 0} {rules : MachineRules S T} {game : Game} {open
 length-ticks {rules = rules} {game = game} played =
     ap length played.ticks_are ∙ length-ticks_of rules (rules.begun game.seed) game.log
 
--- one line more
+-- one more line
 pub IsPlay-push : {S T : Type 0} (rules : MachineRules S T) (seed : ℕ) (log : List (List ℕ))
     (line : List ℕ) (opening : T) (pieces : List T) (ticks : List Bool) (state : S)
     → IsPlay rules (game_of seed log) opening pieces ticks state
@@ -68,7 +68,7 @@ IsPlay-push rules seed log line opening pieces ticks state played =
       state_is = rw (state_after-append rules (rules.begun seed) log (line ∷ []), ← s) refl;
     }
 
--- one line more of a log that is played from its prefix on
+-- one more line of a log that is played from its prefix on
 pub IsPlay-more : {S T : Type 0} (rules : MachineRules S T) (seed : ℕ) (log : List LineText) (i : ℕ)
     (line : LineText) (opening : T) (pieces pieces' : List T) (ticks ticks' : List Bool)
     (state state' : S)

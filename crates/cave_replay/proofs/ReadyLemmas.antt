@@ -94,7 +94,7 @@ no_steps rules changes old every None count =
     (omega arith, record { agreement = λ place agrees. omega arith; end = omega arith })
 no_steps rules changes old every (Some fault) count = refl
 
--- the steps of a replay, by the changes that it is of
+-- the steps of a replay, by its changes
 pub steps_within : {S T F : Type 0} (rules : MachineRules S T) {changes : List Change} {seed : ℕ}
     {log : List LineText} {ready : ReadyEdits} (every : ℕ) (fault : Option F) (before after : ℕ)
     → AreEditsOf changes seed log ready → fault ≡ None → before ≤ after
@@ -139,7 +139,7 @@ class_alone rules change old every left before after None bounded =
     alone_full rules (change ∷ []) old every before after
     (ltb left (length (log_after change old.log))) bounded
 
--- the steps of one change, as those of the group of it
+-- the steps of one change, as those of its group
 pub bounded_alone : {S T : Type 0} (rules : MachineRules S T) (change : Change) (old : Game)
     (every left before after : ℕ)
     → AreStepsBounded rules (change ∷ []) old every (group_fault (change ∷ []) old.log left) before

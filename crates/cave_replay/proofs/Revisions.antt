@@ -5,7 +5,8 @@ use Rattle.replay_checkpoints.specs.Spacing.{IsSpaced}
 use Rattle.cave_replay.specs.Agreement.{AgreesAt, image}
 use Rattle.cave_replay.specs.Replay.{Revision, IsShift}
 
--- the logs share their prefix and their end, and the old one has checkpoints that are so far apart
+-- the logs share their prefix and their end, and the old one has checkpoints that are this far
+-- apart
 pub record HasCheckpoints {S T : Type 0} (revision : Revision S T) (every : ℕ)
     (checkpoints : List ℕ) : Type 0 where
   pub some : 0 < every
@@ -32,8 +33,8 @@ pub record IsLastIndex (checkpoints : List ℕ) (place at : ℕ) : Type 0 where
   pub before : slice_index checkpoints at ≤ place
   pub after : (k : ℕ) → at < k → k < length checkpoints → place < slice_index checkpoints k
 
--- Of the old checkpoints those before `index` don't agree; the others are in the unchanged end, and
--- not before the new place `place`.
+-- The old checkpoints before `index` don't agree; the others are in the unchanged end, and not
+-- before the new place `place`.
 pub record IsUnderway {S T : Type 0} (revision : Revision S T) (checkpoints : List ℕ)
     (index place : ℕ) : Type 0 where
   pub passed : (k : ℕ) → k < index → k < length checkpoints

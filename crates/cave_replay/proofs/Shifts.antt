@@ -126,7 +126,7 @@ state_at-later rules game place more within =
     ∙ state_after-append rules (rules.begun game.seed) (take place game.log)
     (take more (drop place game.log))
 
--- where the plays agree, they agree at each later place
+-- if the plays agree at a place, they agree at each later place
 pub agrees_later : {S T : Type 0} {rules : MachineRules S T} {old new : Game} {head tail : ℕ}
     {place : ℕ} → IsShift old new head tail → AgreesAt rules old new tail place → (later : ℕ)
     → place ≤ later → later ≤ length old.log → AgreesAt rules old new tail later
@@ -148,7 +148,7 @@ agrees_later {rules} {old} {new} {place} shift agrees later after within =
           ∙ ap (state_at rules old) e';
     }
 
--- one line more
+-- one more line
 pub state_at-more : {S T : Type 0} (rules : MachineRules S T) (game : Game) (place : ℕ)
     → place < length game.log
     → state_at rules game (place + 1)
@@ -174,7 +174,7 @@ ticks_at-more rules game place below =
     ∙ ticks_of-append rules (rules.begun game.seed) (take place game.log)
     (line_at game.log place ∷ [])
 
--- what was said from a place on, with one line more
+-- what was said from a place on, with one more line
 pub texts_on : {S T : Type 0} (rules : MachineRules S T) (game : Game) (from place place' : ℕ)
     (state : S)
     (line : List ℕ) (pieces pieces' : List T) → place < length game.log

@@ -1,4 +1,4 @@
--- What one change leaves alone of a log.
+-- What one change of a log leaves alone.
 use Rattle.std.proofs.Common.{refl, arith}
 use Rattle.std.proofs.lemmas.Bool.{ltb-false, leb-false}
 use Rattle.std.proofs.lemmas.List.{length-set}

@@ -1,4 +1,4 @@
--- Equal states have equal tails, and lines play alike whatever comes after them.
+-- Equal states have equal tails, and lines play alike for any lines after them.
 use Rattle.std.proofs.Common.{◌≡◌, ◌++◌, ◌∷◌, ℕ, List, [], ap, refl}
 use Rattle.cave_replay.specs.Play.{MachineRules, state_after, texts_of, ticks_of}
 use Rattle.cave_replay.specs.Tails.{HaveEqualTails, AgreedTails, PrefixesPlayAlike}

@@ -1,4 +1,4 @@
--- What is kept and reported once a replay is taken over.
+-- What is kept and reported after a replay is taken over.
 use Rattle.std.proofs.Common.{◌≡◌, ℕ, ◌+◌, ◌-◌, ◌<◌, ◌≤◌, inl, inr, Bool, List, length, refl, sym}
 use Rattle.std.proofs.Common.{ap, ◌∙◌, arith, Option, Some, None}
 use Rattle.std.specs.Prelude.{slice_index, MatchOption, unwrap_or}
@@ -46,7 +46,7 @@ pub record IsReplay {State S T : Type 0} (meaning : State → S) (is_state : Sta
   pub new_is : IsGame revision.new
   pub new_play : IsRerun meaning is_state revision C rerun
 
--- those that edits are made of
+-- the changes that edits are made of
 pub replay_of : {State S T : Type 0} {meaning : State → S} {is_state : State → Type 0}
     {rules : MachineRules S T} {changes : List Change} {seed : ℕ} {log : List LineText}
     {ready : ReadyEdits} {opening : T} {pieces : List T} {ticks : List Bool} {state : State}
@@ -74,7 +74,7 @@ pub stretch_same : {State : Type 0} (C1 C : CheckpointsView State) → C1.lines 
 stretch_same C1 C lines places None = lines
 stretch_same C1 C lines places (Some index) = ap (λ p. slice_index p index) places
 
--- the lines that go are as many where only the room of the checkpoints has changed
+-- as many lines go if only the room of the checkpoints has changed
 pub gone_same : {State : Type 0} (C1 C : CheckpointsView State) → C1.lines ≡ C.lines
     → C1.places ≡ C.places → (at : ℕ) (met : Option ℕ) → lines_gone C1 at met ≡ lines_gone C at met
 gone_same C1 C lines places at None = rw (lines, places) refl
@@ -88,7 +88,7 @@ module _ {State S T : Type 0} {meaning : State → S} {is_state : State → Type
   abbrev from : ℕ
   from = slice_index C.places rerun.at
 
-  -- the replay met the old play at this checkpoint, or nowhere
+  -- the replay met the old play at this checkpoint, or not at all
   abbrev Met : Option ℕ → Type 0
   Met met = HasMet revision C.places rerun.marks.next (length revision.new.log) met
 
@@ -305,7 +305,7 @@ module _ {State S T : Type 0} {meaning : State → S} {is_state : State → Type
       let low = replay.new_play.not_after in
       omega arith
 
-  -- what comes in is a stretch of the checkpoints that are kept, also once these have more room
+  -- what comes in is a stretch of the kept checkpoints, even after these have more room
   pub stretch_ready : (C1 : CheckpointsView State) → C1.every ≡ C.every → C1.lines ≡ C.lines
       → C1.places ≡ C.places → IsStretch C1 rerun.marks rerun.at rerun.met
   stretch_ready C1 every lines places = record {
@@ -332,7 +332,7 @@ pub states_same : {State : Type 0} (C1 C : CheckpointsView State) → C1.places 
 states_same C1 C places states marks at None = rw states refl
 states_same C1 C places states marks at (Some index) = rw (places, states) refl
 
--- the room that was taken is there for the checkpoints as they are
+-- the reserved room is there for the present checkpoints
 pub room_ready : {State : Type 0} (C1 C : CheckpointsView State) → C1.places ≡ C.places
     → (marks : MarksView State) (at : ℕ) (met : Option ℕ)
     → FitsMarks C1 marks at (checkpoints_passed C met)

@@ -10,7 +10,7 @@ use Rattle.cave_replay.specs.Replay.{MetAt, MetNowhere}
 use Rattle.cave_replay.proofs.Bounds.{underway_none}
 use Rattle.cave_replay.proofs.Revisions.{HasCheckpoints, HasEndAt, IsUnderway, AgreesIn, image_in}
 
--- later of rising places are greater
+-- later ones among ascending places are greater
 rising_by : (xs : List ℕ) → IsStrictlyIncreasing xs → (i more : ℕ) → i + more + 1 < length xs
     → slice_index xs i < slice_index xs (i + more + 1)
 rising_by xs rising i zero below =
@@ -29,7 +29,7 @@ rising_lt xs rising i j later below =
 
 module _ {S T : Type 0} {revision : Revision S T} {K : ℕ} {C : List ℕ}
     (checkpoints : HasCheckpoints revision K C) where
-  -- at the start, where the checkpoints in the unchanged end are found from `index` on
+  -- at the start, if the checkpoints in the unchanged end are found from `index` on
   pub underway_start : (index place : ℕ)
       → ((k : ℕ) → k < index → slice_index C k < length revision.old.log - revision.tail)
       → ((k : ℕ) → index ≤ k → k < length C
@@ -117,7 +117,7 @@ module _ {S T : Type 0} {revision : Revision S T} {K : ℕ} {C : List ℕ}
       → old_place ≤ place → place - old_place + new_place ≡ image_in revision place
   stands ends place late = let o = ends.old_is in let n = ends.new_is in omega arith
 
-  -- once a place is passed
+  -- after a place is passed
   pub underway_further : {index place old_place new_place : ℕ}
       → HasEndAt revision old_place new_place → IsUnderway revision C index place → (further : ℕ)
       → Passes (states_of_old revision) (states_of_new revision) C index old_place new_place place

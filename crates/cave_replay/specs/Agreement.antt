@@ -4,7 +4,7 @@ use Rattle.std.specs.Prelude.{None, Some}
 use Rattle.cave_replay.specs.Play.{MachineRules, state_after}
 use Rattle.replay_edits.specs.Edit.{Game}
 
--- the state of a play at a place: after so many lines
+-- the state of a play at a place, which is after this many lines
 abbrev pub state_at : {S T : Type 0} → MachineRules S T → Game → ℕ → S
 state_at rules game place = state_after rules (rules.begun game.seed) (take place game.log)
 
@@ -12,8 +12,8 @@ state_at rules game place = state_after rules (rules.begun game.seed) (take plac
 abbrev pub image : Game → Game → ℕ → ℕ
 image old new place = place + length new.log - length old.log
 
--- At this place of the old log, in its unchanged end of `tail` lines, the plays of the old game and
--- of the new agree.
+-- The plays of the old game and of the new one agree at this place of the old log, in its unchanged
+-- end of `tail` lines.
 pub record AgreesAt {S T : Type 0} (rules : MachineRules S T) (old new : Game) (tail place : ℕ) :
     Type 0 where
   pub late : length old.log - tail ≤ place
@@ -28,7 +28,7 @@ pub record IsAgreed {S T : Type 0} (rules : MachineRules S T) (old new : Game)
   pub agrees : AgreesAt rules old new tail place
   pub agreement_is : agreement ≡ image old new place
 
--- the first place of the new log at which the plays agree, or its length where they don't
+-- the first place of the new log at which the plays agree, or its length if they don't
 pub record IsAgreement {S T : Type 0} (rules : MachineRules S T) (old new : Game)
     (tail agreement : ℕ) :
     Type 0 where
@@ -51,8 +51,8 @@ NoneMeetsBefore rules old new tail checkpoints limit =
     (place : ℕ) → Contains checkpoints place → AgreesAt rules old new tail place
     → limit ≤ image old new place
 
--- the first checkpoint at which the plays agree, by its place in the new log; none where they agree
--- at none
+-- the first checkpoint at which the plays agree, by its place in the new log; none if they agree at
+-- none
 abbrev pub IsMeet : {S T : Type 0} → MachineRules S T → Game → Game → ℕ → List ℕ → Option ℕ → Type 0
 IsMeet rules old new tail checkpoints (Some met) =
     MeetsAt rules old new tail checkpoints met × NoneMeetsBefore rules old new tail checkpoints met
@@ -65,15 +65,15 @@ pub record IsLastTo (checkpoints : List ℕ) (limit from : ℕ) : Type 0 where
   pub within : from ≤ limit
   pub greatest : (place : ℕ) → Contains checkpoints place → place ≤ limit → place ≤ from
 
--- So many steps are within the bound: those from the first changed place to any place at which the
--- plays agree, and to the end, each with twice the distance of checkpoints.
+-- This many steps are within the bound: those from the first changed place to any place at which
+-- the plays agree, and to the end, each with twice the distance of checkpoints.
 pub record IsBounded {S T : Type 0} (rules : MachineRules S T) (old new : Game)
     (head tail every steps : ℕ) : Type 0 where
   pub agreement : (place : ℕ) → AgreesAt rules old new tail place
       → steps ≤ (image old new place - head) + 2 * every
   pub end : steps ≤ (length new.log - head) + 2 * every
 
--- so they are within the bound of the first agreement
+-- this many steps are then within the bound of the first agreement
 abbrev pub BoundedByFirst : Type 0 → Type 0 → Type 0
 BoundedByFirst S T =
     (rules : MachineRules S T) (old new : Game) (head tail every steps : ℕ)

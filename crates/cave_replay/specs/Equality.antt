@@ -1,4 +1,4 @@
--- When a derived `==` tells values apart: what the law `exact` of a machine needs of its states.
+-- When a derived `==` distinguishes values, as the law `exact` of a machine requires of its states.
 use Rattle.std.proofs.Common.{◌≡◌, ℕ, Bool, true, false, ◌&&◌, ◌==◌, List, refl, sym, ap, ◌∙◌}
 use Rattle.std.specs.Prelude.{ℤ}
 use Rattle.std.specs.Bool.{Decides}
@@ -12,7 +12,7 @@ use denote.Struct.Cover.{Cover-one}
 use denote.Enum.Declared.{Declared as EnumDeclared}
 use denote.Enum.Bare.{Bare, sameb, same_true, true_same}
 
--- the test is true exactly where the two are one
+-- the test is true exactly if the two are the same
 pub record TellsApart {A : Type 0} (test : Bool) (a b : A) : Type 0 where
   pub decides : Decides test (a ≡ b)
 
@@ -77,12 +77,12 @@ pub ruleset equality = (
   by_moved,
 )
 
--- the law, where `==` tells the values of the type apart
+-- the law, if `==` distinguishes the values of the type
 pub exact_value : {A : Type 0} {E : A → A → Bool} (P : A → Type 0)
     → ((a b : A) → TellsApart (E a b) a b) → (a b : A) → P a → P b → Decides (E a b) (a ≡ b)
 exact_value P each a b _ _ = (each a b).decides
 
--- the law of a struct, where `==` tells its fields apart
+-- the law of a struct, if `==` distinguishes its fields
 pub exact_struct : (T : Declared) {E : T.D → T.D → Bool} (P : T.D → Type 0)
     → ((a b : T.D) → TellsApart (E a b) (T.as_values a) (T.as_values b))
     → (a b : T.D) → P a → P b → Decides (E a b) (a ≡ b)

@@ -2,7 +2,7 @@
 use Rattle.std.specs.Prelude.{◌≡◌, ℕ, ◌+◌, Bool, if◌then◌else◌, List, [], ◌∷◌}
 use Rattle.replay_edits.specs.Edit.{Game}
 
--- what a machine answers: at the start as a function of the seed, and then of the state and of the
+-- the answers of a machine: a function of the seed at the start, and then of the state and of the
 -- line
 pub record MachineRules (S T : Type 0) : Type 0 where
   pub begun : ℕ → S
@@ -25,7 +25,7 @@ ticks_of rules state [] = []
 ticks_of rules state (line ∷ lines) =
     rules.ticked state line ∷ ticks_of rules (rules.after state line) lines
 
--- this is what comes of playing the game from its first line to its last
+-- this is the play of the game from its first line to its last
 pub record IsPlay {S T : Type 0} (rules : MachineRules S T) (game : Game) (opening : T)
     (pieces : List T)
     (ticks : List Bool) (state : S) : Type 0 where
@@ -34,7 +34,7 @@ pub record IsPlay {S T : Type 0} (rules : MachineRules S T) (game : Game) (openi
   pub ticks_are : ticks ≡ ticks_of rules (rules.begun game.seed) game.log
   pub state_is : state ≡ state_after rules (rules.begun game.seed) game.log
 
--- how many lines ticked up to each of these lines and with it, where so many before them did
+-- how many lines ticked up to and including each of these lines, if this many before them did
 abbrev pub counts_after : ℕ → List Bool → List ℕ
 counts_after count [] = []
 counts_after count (ticks ∷ ticked) =

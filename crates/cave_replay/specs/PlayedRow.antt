@@ -6,7 +6,7 @@ use Rattle.replay_edits.specs.Edit.{line_at}
 use Rattle.cave_replay.specs.Session.{SessionView}
 
 -- a line with its place, with what was said at it, whether it ticked, and how many lines ticked up
--- to it and with it
+-- to and including it
 pub record PlayedRow (Piece : Type 0) : Type 0 where
   pub place : ℕ
   pub line : List ℕ
@@ -14,7 +14,7 @@ pub record PlayedRow (Piece : Type 0) : Type 0 where
   pub ticked : Bool
   pub ticks : ℕ
 
--- what a line says that is lent
+-- what a lent line says
 abbrev pub row_of : {Piece : Type 0} → PlayedLine Piece → PlayedRow Piece
 row_of played = record {
   place = played.place;
@@ -24,7 +24,7 @@ row_of played = record {
   ticks = played.ticks;
 }
 
--- the rows of lines from a place on, where so many lines before it ticked
+-- the rows of lines from a place on, if this many lines before it ticked
 abbrev pub rows_from : {Piece : Type 0} → ℕ → ℕ → List (List ℕ) → List Piece → List Bool
     → List (PlayedRow Piece)
 rows_from place count [] pieces ticked = []
@@ -35,7 +35,7 @@ rows_from place count (line ∷ log) (piece ∷ pieces) (ticks ∷ ticked) =
     record { place = place; line = line; piece = piece; ticked = ticks; ticks = next }
     ∷ rows_from (place + 1) next log pieces ticked
 
--- the row is that of a place of lines, of which these pieces were said and these ticked
+-- the row is that of a place of lines to which these pieces were said, with these ticks
 pub record IsRowAt {Piece : Type 0} (log : List (List ℕ)) (pieces : List Piece) (ticks : List Bool)
     (place : ℕ) (row : PlayedRow Piece) : Type 0 where
   pub place_is : row.place ≡ place

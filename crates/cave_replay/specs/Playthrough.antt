@@ -13,7 +13,7 @@ pub record IsDistance (every : ℕ) : Type 0 where
   pub some : 0 < every
   pub few : every ≤ MAX_EVERY
 
--- a game that may be held, with its play and the states at its checkpoints
+-- a game that a session may hold, with its play and the states at its checkpoints
 pub record IsPlaythrough {State S T : Type 0} (meaning : State → S) (is_state : State → Type 0)
     (rules : MachineRules S T) (game : Game) (opening : T) (pieces : List T) (ticks : List Bool)
     (state : State) (checkpoints : CheckpointsView State) : Type 0 where
@@ -29,8 +29,8 @@ abbrev pub kept_game : {Machine State Kept Piece Meter Scratch : Type 0}
     → Playthrough Machine State Kept Piece Meter Scratch → Game
 kept_game kept = game_of kept.seed (log_of kept.log.items)
 
--- What is kept is the play of the game that is kept, with the states at its checkpoints; the game
--- and their distance are valid.
+-- What is kept is the play of the kept game, with the states at its checkpoints; the game and their
+-- distance are valid.
 abbrev pub KeepsPlay : {Machine State Kept Piece Meter Scratch Meaning Text : Type 0}
     → (State → Meaning) → (State → Type 0) → (Piece → Text) → MachineRules Meaning Text
     → Playthrough Machine State Kept Piece Meter Scratch → Type 0
@@ -38,7 +38,7 @@ KeepsPlay meaning is_state text rules kept =
     IsPlaythrough meaning is_state rules (kept_game kept) (text kept.opening)
     (map text kept.pieces.items) kept.ticked.each.items kept.state kept.checkpoints
 
--- A copy keeps what is kept, by what the pieces say.
+-- A copy keeps the same, by what the pieces say.
 pub record IsCopyOf {Machine State Kept Piece Meter Scratch T : Type 0} (text : Piece → T)
     (kept copy : Playthrough Machine State Kept Piece Meter Scratch) : Type 0 where
   pub seed : copy.seed ≡ kept.seed

@@ -1,4 +1,4 @@
--- Edits that are accepted, and what is known of them before anything is replayed.
+-- Accepted edits, and what is known of them before anything is replayed.
 use Rattle.std.specs.Prelude.{◌≡◌, ℕ, ◌+◌, ◌-◌, ◌≤◌, List, [], length, None}
 use Rattle.std.specs.Prelude.{vec_len, vec_capacity}
 use Rattle.replay_edits.specs.LineText.{LineText}
@@ -56,16 +56,16 @@ IsRerunOf meaning is_state text rules changes kept rerun =
     let revision = revision_to rules changes old (new_game rerun.ready old.log) in
     IsRerun meaning is_state revision kept.checkpoints (rerun_view text rerun)
 
--- The lines between those that stay can be put there: the old ones among them rise, and are between
+-- The lines between those that stay can be put there: the old ones among them ascend, between
 -- `head` and `rest`, and there is room for all.
 pub record MayMove (ready : ReadyEdits) : Type 0 where
   pub rising : AreRising ready.head ready.rest ready.middle.items
   pub empty : ready.room.items ≡ []
   pub room : vec_len ready.middle ≤ vec_capacity ready.room
 
--- The edits may be made in a game: they leave one that may be held, of so many lines. Its lines
--- before `head` are those of the log, and its last lines are those of the log from `rest` on; with
--- another seed `head` is 0.
+-- The edits may be made in a game: they leave one that a session may hold, of this many lines. Its
+-- lines before `head` are those of the log, and its last lines are those of the log from `rest` on;
+-- `head` is 0 if the seed is another.
 pub record IsReady (seed : ℕ) (log : List LineText) (ready : ReadyEdits) : Type 0 where
   pub moves : MayMove ready
   pub lines : ready.lines ≡ length (log_after_edits ready (log_of log))

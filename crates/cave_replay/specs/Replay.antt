@@ -25,7 +25,7 @@ texts_at rules game place = texts_of rules (rules.begun game.seed) (take place g
 abbrev pub ticks_at : {S T : Type 0} → MachineRules S T → Game → ℕ → List Bool
 ticks_at rules game place = ticks_of rules (rules.begun game.seed) (take place game.log)
 
--- What is played again: a new game, where the play of an old one is held. Edits leave the first
+-- What is played again: a new game, while the play of an old one is held. Edits leave the first
 -- `head` lines and the last `tail` lines as they are.
 pub record Revision (S T : Type 0) : Type 0 where
   pub rules : MachineRules S T
@@ -63,7 +63,7 @@ states_of_old revision = state_at revision.rules revision.old
 abbrev pub states_of_new : {S T : Type 0} → Revision S T → ℕ → S
 states_of_new revision = state_at revision.rules revision.new
 
--- the new play met the old one nowhere, and `next` is its end
+-- the new play didn't meet the old one, and `next` is its end
 pub record MetNowhere {S T : Type 0} (revision : Revision S T) (checkpoints : List ℕ)
     (next end : ℕ) :
     Type 0 where
@@ -99,7 +99,7 @@ pub record AreStates {State Meaning : Type 0} (meaning : State → Meaning)
   pub meanings : map meaning states ≡ map by_place places
   pub made : All is_state states
 
--- the states of marks, also that of the place that is open, are those that it gives
+-- the states of marks, including that of the open place, are those that it gives
 pub record IsMarking {State Meaning : Type 0} (meaning : State → Meaning)
     (is_state : State → Type 0) (by_place : ℕ → Meaning) (marks : MarksView State) : Type 0 where
   pub kept : AreStates meaning is_state by_place marks.places marks.states
@@ -107,7 +107,7 @@ pub record IsMarking {State Meaning : Type 0} (meaning : State → Meaning)
   pub next_made : is_state marks.state
 
 -- Marks begin at the checkpoint of the index `at`: they have the states of each play that begins
--- with the state `first` and that has, where the seed is the same, those of the checkpoints so far.
+-- with the state `first` and that, if the seed is the same, has those of the checkpoints so far.
 abbrev pub MarksBegin : {State Meaning : Type 0} → (State → Meaning) → (State → Type 0) → Meaning
     → Type 0 → CheckpointsView State → ℕ → MarksView State → Type 0
 MarksBegin {State} {Meaning} meaning is_state first is_same_seed checkpoints at marks =
@@ -124,7 +124,8 @@ MarksGoOn {State} {Meaning} meaning is_state next old new =
     (states : ℕ → Meaning) → IsMarking meaning is_state states old → states (old.next + 1) ≡ next
     → IsMarking meaning is_state states new
 
--- the new marks have gone on from the old ones: they are of the same log and began at one place
+-- the new marks have gone on from the old ones: they belong to the same log and began at the same
+-- place
 pub record AreFurther {State : Type 0} (old new : MarksView State) : Type 0 where
   pub every : new.every ≡ old.every
   pub end : new.end ≡ old.end
@@ -147,7 +148,7 @@ segment_view text played = record {
   met = played.met;
 }
 
--- One line more was played: what it says and whether it ticks come last, and the marks go on by one
+-- One more line was played: what it says and whether it ticks come last, and the marks go on by one
 -- place, to the state after it.
 pub record PlaysLine {State S T : Type 0} (meaning : State → S) (is_state : State → Type 0)
     (rules : MachineRules S T) (line : List ℕ) (old new : SegmentView State T) : Type 0 where
@@ -183,7 +184,7 @@ pub record IsBeforeChange {State S T : Type 0} (revision : Revision S T) (every 
   pub from : marks.next ≤ revision.head
   pub near : revision.head ≤ marks.next + marks.every
 
--- The replay of a revision may begin: the old checkpoints, which are of the old log, have the
+-- The replay of a revision may begin: the old checkpoints, which belong to the old log, have the
 -- states of the old play, and the marks, which are where it may begin, have those of the new one.
 pub record MayBegin {State S T : Type 0} (meaning : State → S) (is_state : State → Type 0)
     (revision : Revision S T) (checkpoints : CheckpointsView State) (marks : MarksView State) :
@@ -194,7 +195,7 @@ pub record MayBegin {State S T : Type 0} (meaning : State → S) (is_state : Sta
   pub marking : IsMarking meaning is_state (states_of_new revision) marks
   pub before : IsBeforeChange revision checkpoints.every marks
 
--- The checkpoint of an index comes to a new place, as `old` comes to `new`; `old_at` and `new_at`
+-- The checkpoint of an index moves to a new place, as `old` moves to `new`; `old_at` and `new_at`
 -- give the states of the old play and of the new one, which agree there.
 pub record ComesAndAgrees {Meaning : Type 0} (old_at new_at : ℕ → Meaning) (checkpoints : List ℕ)
     (index old new place : ℕ) : Type 0 where
@@ -202,12 +203,12 @@ pub record ComesAndAgrees {Meaning : Type 0} (old_at new_at : ℕ → Meaning) (
   pub here : slice_index checkpoints index - old + new ≡ place
   pub same : new_at place ≡ old_at (slice_index checkpoints index)
 
--- it comes elsewhere and stays the next one
+-- it moves elsewhere and stays the next one
 pub record StaysNext (checkpoints : List ℕ) (index old new place further : ℕ) : Type 0 where
   pub further_is : further ≡ index
   pub elsewhere : index < length checkpoints → slice_index checkpoints index - old + new ≡ place → ⊥
 
--- it comes there, the plays don't agree, and the one after it is next
+-- it moves there, the plays don't agree, and the one after it is next
 pub record IsPassed {Meaning : Type 0} (old_at new_at : ℕ → Meaning) (checkpoints : List ℕ)
     (index old new place further : ℕ) : Type 0 where
   pub further_is : further ≡ index + 1
@@ -222,7 +223,7 @@ Passes old_at new_at checkpoints index old new place further =
     StaysNext checkpoints index old new place further
     ⊎ IsPassed old_at new_at checkpoints index old new place further
 
--- the index of the checkpoint that is next after this place, or none where the plays agree here
+-- the index of the checkpoint that is next after this place, or none if the plays agree here
 abbrev pub IsNextIndex : {Meaning : Type 0}
     → (ℕ → Meaning) → (ℕ → Meaning) → List ℕ → ℕ → ℕ → ℕ → ℕ → Option ℕ → Type 0
 IsNextIndex old_at new_at checkpoints index old new place further =

@@ -11,7 +11,7 @@ pub record RisesByAtMost (old new most : ℕ) : Type 0 where
   pub risen : old ≤ new
   pub bounded : new ≤ old + most
 
--- so many steps are within the bound of a replay of changes
+-- this many steps are within the bound of a replay of changes
 abbrev pub IsBoundedFor : {S T : Type 0} → MachineRules S T → List Change → Game → ℕ → ℕ → Type 0
 IsBoundedFor rules changes old every steps =
     let margins = margins_of changes old.log in
@@ -19,8 +19,8 @@ IsBoundedFor rules changes old every steps =
 
 -- The replay of changes began at the last checkpoint that isn't after the first change, met the old
 -- play at the first checkpoint at which the plays agree, if there is one, and played what lies
--- between that or the end and its start: no more than from the first change to any agreement or to
--- the end, and twice the distance of checkpoints.
+-- between its start and that checkpoint, or the end: no more than from the first change to any
+-- agreement or to the end, and twice the distance of checkpoints.
 pub record IsReport {S T : Type 0} (rules : MachineRules S T) (changes : List Change) (old : Game)
     (every : ℕ) (checkpoints : List ℕ) (from : ℕ) (met : Option ℕ) (played : ℕ) : Type 0 where
   pub from_is : IsLastTo checkpoints (margins_of changes old.log).head from

@@ -32,14 +32,14 @@ session_view machine kept = record {
   checkpoints = kept.checkpoints.places;
 }
 
--- what is held is the play of the held game, by what its pieces say and its state means
+-- the session holds the play of the held game, by what its pieces say and its state means
 abbrev pub HoldsPlay : {M P S Text Meaning : Type 0}
     → (M → MachineRules Meaning Text) → (P → Text) → (S → Meaning) → SessionView M P S → Type 0
 HoldsPlay rules text meaning held =
     IsPlay (rules held.machine) held.game (text held.opening) (map text held.pieces) held.ticks
     (meaning held.state)
 
--- the machine and the distance of checkpoints are as they were
+-- the machine and the distance of checkpoints haven't changed
 pub record KeepsSettings {M P S : Type 0} (old new : SessionView M P S) : Type 0 where
   pub machine : new.machine ≡ old.machine
   pub every : new.every ≡ old.every

@@ -1,4 +1,4 @@
--- What one change leaves alone of a log, by its kind.
+-- What one change of a log leaves alone, by its kind.
 use Rattle.std.specs.Prelude.{◌≡◌, ℕ, ◌+◌, ◌-◌, ◌≤◌, [], ◌∷◌, length, None}
 use Rattle.replay_edits.specs.Edit.{Game, Change, inserts, deletes, replaces, reseeds, apply}
 use Rattle.replay_edits.specs.Edit.{margins_of}
@@ -26,14 +26,14 @@ place_after (deletes edited) place = place - 1
 place_after (replaces edited line) place = place
 place_after (reseeds seed) place = place
 
--- what the group of a change alone leaves alone is what this table says
+-- what the group of just one change leaves alone is what this table says
 pub record IsByTable (change : Change) (game : Game) : Type 0 where
   pub first : (margins_of (change ∷ []) game.log).head ≡ first_changed change
   pub rest : length game.log - (margins_of (change ∷ []) game.log).tail ≡ rest_from change
   pub moved : (place : ℕ) → rest_from change ≤ place → place ≤ length game.log
       → image game (apply change game) place ≡ place_after change place
 
--- so it is of every change that meets no fault
+-- this holds of every change that meets no fault
 abbrev pub ByTable : Type 0
 ByTable =
     (change : Change) (game : Game) → fault_of change game.log ≡ None → IsByTable change game

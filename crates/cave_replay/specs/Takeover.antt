@@ -1,4 +1,4 @@
--- What is left when a replay is taken over.
+-- What remains when a replay is taken over.
 use Rattle.std.specs.Prelude.{◌≡◌, ℕ, ◌+◌, ◌-◌, ◌<◌, ◌≤◌, List, ◌++◌, length, take, slice_index}
 use Rattle.std.specs.Prelude.{Option, Some, None, MatchOption, vec_len, vec_capacity}
 use Rattle.std.specs.List.{splice}
@@ -9,40 +9,40 @@ use Rattle.cave_replay.specs.declared.replay.Rerun.{Rerun}
 use Rattle.cave_replay.specs.ReadyEdits.{new_game}
 use Rattle.cave_replay.specs.Playthrough.{kept_game}
 
--- the old place up to which what was played comes in: the checkpoint that was met, or the end
+-- the old place up to which what was played replaces the old play: the checkpoint that was met, or
+-- the end
 abbrev pub end_of_stretch : {S : Type 0} → CheckpointsView S → Option ℕ → ℕ
 end_of_stretch checkpoints None = checkpoints.lines
 end_of_stretch checkpoints (Some index) = slice_index checkpoints.places index
 
--- The marks of a replay from the checkpoint of the index `at` end at the end of the new log; or,
--- where the old play was met, as far from it as the checkpoint that was met is from the end of the
--- old log.
+-- The marks of a replay from the checkpoint of the index `at` end at the end of the new log; or, if
+-- the old play was met, as far from it as the checkpoint that was met is from the end of the old
+-- log.
 abbrev pub MarksEnd : {S : Type 0} → CheckpointsView S → MarksView S → ℕ → Option ℕ → Type 0
 MarksEnd checkpoints marks at met =
     MatchOption met (marks.next ≡ marks.end)
     (λ index. (at ≤ index) × (index < length checkpoints.places)
     × (checkpoints.lines - slice_index checkpoints.places index + marks.next ≡ marks.end))
 
--- The marks of a replay began at the checkpoint of the index `at`, end where they are to end, and
--- what comes in goes from there on.
+-- The marks of a replay began at the checkpoint of the index `at`, end where they must, and what
+-- comes in goes from there on.
 pub record IsStretch {S : Type 0} (checkpoints : CheckpointsView S) (marks : MarksView S) (at : ℕ)
     (met : Option ℕ) : Type 0 where
   pub begun : IsBegunAt checkpoints at marks
   pub ends : MarksEnd checkpoints marks at met
   pub forward : slice_index checkpoints.places at ≤ end_of_stretch checkpoints met
 
--- how many lines of the old play go where a replay from the checkpoint of the index `at` is taken
--- over
+-- how many lines of the old play go if a replay from the checkpoint of the index `at` is taken over
 abbrev pub lines_gone : {S : Type 0} → CheckpointsView S → ℕ → Option ℕ → ℕ
 lines_gone checkpoints at met = end_of_stretch checkpoints met - slice_index checkpoints.places at
 
--- how many checkpoints are before that place: all of them where it is the end
+-- how many checkpoints are before that place: all of them if it is the end
 abbrev pub checkpoints_passed : {S : Type 0} → CheckpointsView S → Option ℕ → ℕ
 checkpoints_passed checkpoints None = length checkpoints.places
 checkpoints_passed checkpoints (Some index) = index
 
 -- There is room for the checkpoints that the marks of a replay from the one of the index `at`
--- leave, where those go that it passed: they are those before the index `count`.
+-- leave, if those that it passed go: they are those before the index `count`.
 abbrev pub FitsMarks : {S : Type 0} → CheckpointsView S → MarksView S → ℕ → ℕ → Type 0
 FitsMarks checkpoints marks at count =
     length checkpoints.places + length marks.places + (at - 1) ≤ checkpoints.room + count
@@ -54,8 +54,8 @@ pub record IsWhole {Machine State Kept Piece Meter Scratch : Type 0}
   pub ticked : vec_len kept.ticked.each ≡ length kept.log.items
   pub lines : kept.checkpoints.lines ≡ length kept.log.items
 
--- There is room for the lines of the edits of a rerun, and for what it played, where the lines and
--- the checkpoints go that it passed.
+-- There is room for the lines of the edits of a rerun, and for what it played, if the lines and the
+-- checkpoints that it passed go.
 pub record HasRoomFor {Machine State Kept Piece Meter Scratch : Type 0}
     (kept : Playthrough Machine State Kept Piece Meter Scratch)
     (rerun : Rerun Machine State Kept Piece Meter Scratch) :
@@ -82,8 +82,8 @@ abbrev pub new_state : {S : Type 0} → S → MarksView S → Option ℕ → S
 new_state state marks None = marks.state
 new_state state marks (Some index) = state
 
--- What is kept once a rerun is taken over: the new game of its edits, and what it
--- played in the place of what was there.
+-- What is kept after a rerun is taken over: the new game of its edits, and what it played in the
+-- place of what was there.
 pub record IsTakenOver {Machine State Kept Piece Meter Scratch : Type 0}
     (old new : Playthrough Machine State Kept Piece Meter Scratch)
     (rerun : Rerun Machine State Kept Piece Meter Scratch) :

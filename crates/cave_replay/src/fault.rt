@@ -4,7 +4,7 @@ use base_lines::LineFlaw;
 use std::alloc::AllocError;
 use thiserror::Error;
 
-/// Why a session couldn't be opened. The first of these that holds is answered.
+/// Why a session couldn't be opened. The first of these that holds is returned.
 #[derive(Clone, Copy, Debug, Drop, PartialEq, Eq, Error)]
 pub enum OpenFault {
     #[error("the distance of checkpoints is not from 1 to 10000")]

@@ -1,4 +1,4 @@
-//! Laws of edits and replays. Each is the contract of a function that does nothing.
+//! Laws about edits and replays. Each is the contract of a function that does nothing.
 
 ghost use Rattle.std.specs.Prelude.{◌≡◌, ◌↔◌, IsTrue};
 ghost use Rattle.cave_replay.specs.Agreement.{BoundedByFirst};
@@ -7,19 +7,19 @@ ghost use Rattle.cave_replay.specs.Tails.{AgreedTails, HaveEqualTails, PrefixesP
 
 use crate::machine::Machine;
 
-/// What a group of one edit leaves alone is what the table of its kind says.
+/// What a group of one edit leaves alone is what the table says of its kind.
 pub fn by_table()
     ensures { ByTable }
 {}
 
-/// Steps that are bounded by each place at which two plays agree are bounded by the first of them,
-/// and by the end where there is none.
+/// Steps that each place at which two plays agree bounds are bounded by the first of these places,
+/// or by the end if there is none.
 pub fn bounded_by_first<S, T>()
     ensures { BoundedByFirst S T }
 {}
 
-/// Whether two states of a machine are equal. From equal states any lines lead to equal states, are
-/// said the same and tick alike.
+/// Whether two states of a machine are equal. From equal states any lines lead to equal states, get
+/// the same answers and tick alike.
 pub fn equal_states_have_equal_tails<M: Machine>(
     machine: &M,
     one: &M::State,
@@ -34,13 +34,13 @@ pub fn equal_states_have_equal_tails<M: Machine>(
     *one == *other
 }
 
-/// Where the plays of two games agree, they have equal tails, however many turns passed before in
-/// each.
+/// If the plays of two games agree at a place, they have equal tails there, for any number of
+/// earlier turns in each.
 pub fn agreed_tails<S, T>()
     ensures { AgreedTails S T }
 {}
 
-/// Lines are played alike, whatever lines come after them, and those go on from where these lead.
+/// Lines are played alike for any lines after them, and those go on from where these lead.
 pub fn prefixes_play_alike<S, T>()
     ensures { PrefixesPlayAlike S T }
 {}

@@ -15,7 +15,7 @@ use std::alloc::{AllocError, Global};
 /// Copies of lines, unless memory was refused for one of them.
 type Copies = Result<Vec<LineText>, AllocError>;
 
-/// The lines of a log, or the first fault of what a session is opened with.
+/// The lines of a log, or the first fault of what is given to open a session.
 pub(crate) fn read_lines(
     alloc: Global,
     every: u32,
@@ -42,8 +42,8 @@ pub(crate) fn read_lines(
     Ok(copies?)
 }
 
-/// How many lines a log has, and copies of them; or else the number, from 1, of the first that
-/// isn't valid in one, and what is wrong with it.
+/// How many lines a log has, and copies of them; or the number, from 1, of the first line that
+/// isn't valid, and what is wrong with it.
 fn copy_lines(alloc: Global, log: &[u8]) -> Result<(usize, Copies), (usize, LineFlaw)>
     ensures found { MatchResult result
         (λ found. (found.0 ≡ length (lines log.now)) × (first_bad_line (lines log.now) 1 ≡ None))

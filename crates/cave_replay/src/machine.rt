@@ -20,10 +20,10 @@ pub struct Stepped<P> {
     pub ticked: bool,
 }
 
-/// What plays a log line by line. Its answers are functions of the seed, of the state and of the
-/// line.
+/// A machine plays a log line by line. Its answers are functions of the seed, of the state and of
+/// the line.
 pub trait Machine: Drop {
-    /// What the machine goes on from.
+    /// The state from which the machine goes on.
     type State: Copy + Eq;
 
     /// How a checkpoint keeps a state: whole, as `Whole<Self::State>`, or in a smaller form.
@@ -35,7 +35,7 @@ pub trait Machine: Drop {
     /// What counts the lines that it plays.
     type Meter: Steps;
 
-    /// What it works in at a step, which is made once for all steps. No answer depends on what is
+    /// What it works in at a step. It is made once for all steps, and no answer depends on what is
     /// left in it.
     type Scratch: Drop;
 
@@ -66,9 +66,9 @@ pub trait Machine: Drop {
     /// What the machine works in.
     fn scratch(&self, alloc: Global) -> Result<Self::Scratch, AllocError>;
 
-    /// Plays one line in the state itself, so that no state is copied for it. The meter counts the
-    /// line, also where memory is refused; then the state is of no more use to its owner. Whatever
-    /// earlier steps left in the scratch, the answer is the same.
+    /// Plays one line in the state itself, so no state is copied for it. The meter counts the line,
+    /// even if memory is refused; then the state is of no more use to its owner. The answer is the
+    /// same for anything that earlier steps left in the scratch.
     fn step(
         &self,
         alloc: Global,
@@ -93,7 +93,7 @@ pub trait Machine: Drop {
     fn copy_piece(&self, alloc: Global, piece: &Self::Piece) -> Result<Self::Piece, AllocError>
         ensures { IfOk result (λ copy. text copy ≡ text piece.now) };
 
-    /// States are equal exactly when their meanings are.
+    /// States are equal exactly if their meanings are.
     ghost exact: { (a b : Self.State) → is_state a → is_state b
         → IsTrue (Self.State.eq a b) ↔ (meaning a ≡ meaning b) };
 }

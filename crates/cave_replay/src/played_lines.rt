@@ -15,7 +15,7 @@ pub struct PlayedLine<'a, P> {
     /// What the machine said at it.
     pub piece: &'a P,
     pub ticked: bool,
-    /// How many lines ticked up to it and with it.
+    /// How many lines ticked up to and including it.
     pub ticks: u32,
 }
 
@@ -45,7 +45,7 @@ impl<'a, P> Model for PlayedLines<'a, P> {
 }
 
 impl<'a, P> PlayedLines<'a, P> {
-    /// Lines, of which these pieces were said, and of which each ticked or not.
+    /// Lines to which these pieces were said, each of which ticked or not.
     pub(crate) fn of(log: Items<'a, LineText>, pieces: Items<'a, P>, ticked: &'a [bool]) -> Self
         requires few { length log < 2 ^ 32 }
         requires pieces { length pieces ≡ length log }

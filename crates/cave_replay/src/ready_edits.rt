@@ -13,9 +13,9 @@ use replay_edits::plan::plan_group;
 use replay_edits::{Edit, GroupFault, LineText, NewLine};
 use std::alloc::Global;
 
-/// Edits of a game that are accepted and not made yet.
+/// Edits of a game that have been accepted and not made yet.
 ///
-/// They leave a game with this seed and so many lines. The old lines before the place `head`, and
+/// They leave a game with this seed and this many lines. The old lines before the place `head`, and
 /// those from the place `rest` on, stay as they are; `middle` comes between them, and `room` is for
 /// its lines. `inverse` takes the edits back.
 #[derive(Drop)]
@@ -29,7 +29,7 @@ pub(crate) struct ReadyEdits {
     pub(crate) inverse: Vec<Edit>,
 }
 
-/// What a group of edits makes of a game, or why it is refused. The meter has `left` steps left.
+/// What a group of edits does to a game, or why it is refused. The meter has `left` steps left.
 pub(crate) fn prepare(
     alloc: Global,
     seed: u32,
@@ -63,7 +63,7 @@ pub(crate) fn prepare(
 }
 
 impl ReadyEdits {
-    /// Where the lines after the edits are once these are made.
+    /// Where the lines after the edits are once these have been made.
     pub(crate) fn rest_after(&self, log: &Blocks<LineText>) -> usize
         requires within { self.now.rest ≤ length log.now.items }
         requires fits { length log.now.items ≤ self.now.lines + self.now.rest }
@@ -92,8 +92,8 @@ impl ReadyEdits {
         self.middle[place - self.head].text(log)
     }
 
-    /// Makes the edits in a game, and gives those that take them back. No memory is taken and no
-    /// line is copied.
+    /// Makes the edits in a game, and returns those that take them back. It takes no memory and
+    /// copies no line.
     pub(crate) fn make(self, log: &mut Blocks<LineText>, seed: &mut u32) -> Vec<Edit>
         requires moves { MayMove self }
         requires ordered { self.head ≤ self.rest }

@@ -22,7 +22,7 @@ use replay_checkpoints::{Marks, last_to};
 use replay_edits::{Edit, GroupFault};
 use std::alloc::{AllocError, Global};
 
-/// Makes the edits in what is kept, and replays it once. All of them are made, or none.
+/// Makes the edits in the kept game, and replays it once. It makes all of them, or none.
 pub(crate) fn edit_kept<M: Machine>(
     workspace: &mut Workspace<M>,
     machine: &M,
@@ -80,7 +80,7 @@ pub(crate) struct Rerun<M: Machine> {
     pub(crate) at: usize,
 }
 
-/// Plays the game that the edits make of the one that is kept, which stays as it is.
+/// Plays the game that the edits make of the kept one, which stays as it is.
 fn replay<M: Machine>(
     workspace: &mut Workspace<M>,
     machine: &M,
@@ -122,8 +122,8 @@ fn replay<M: Machine>(
     })
 }
 
-/// Where a replay begins: what the machine says if the game starts anew, and the marks at the first
-/// place.
+/// Where a replay begins: what the machine says if the game starts again, and the marks at the
+/// first place.
 #[derive(Drop)]
 pub(crate) struct ReplayStart<M: Machine> {
     pub(crate) opening: Option<M::Piece>,

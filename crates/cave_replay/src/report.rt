@@ -1,9 +1,9 @@
 use replay_edits::Edit;
 
-/// What came of an edit.
+/// What an edit did.
 #[derive(Debug, Drop)]
 pub struct Report {
-    /// The place that the replay began at.
+    /// The place at which the replay began.
     pub from: u32,
     /// The place at which the replay met the old play, if it did.
     pub met: Option<u32>,
@@ -16,7 +16,7 @@ pub struct Report {
 /// What was done for a group of edits.
 #[derive(Debug, Drop)]
 pub struct Done {
-    /// The place that the replay began at.
+    /// The place at which the replay began.
     pub from: u32,
     /// The place at which the replay met the old play, if it did.
     pub met: Option<u32>,

@@ -16,7 +16,8 @@ use replay_checkpoints::{Blocks, Checkpoints, KeptState, Marks, first_from};
 use replay_edits::LineText;
 use std::alloc::AllocError;
 
-/// Lines that were played from a checkpoint on: what was said, which ticked, and the new marks.
+/// Lines that were played from a checkpoint on: what was said, which of them ticked, and the new
+/// marks.
 ///
 /// `met` is the index of the old checkpoint at which the play met the old one.
 #[derive(Drop)]
@@ -82,9 +83,9 @@ pub(crate) fn play_changed<M: Machine>(
     }
 }
 
-/// The index of the checkpoint to look at once the open place of the marks is passed, where `index`
-/// is the first that isn't before that place; none where the plays agree there. The old place `old`
-/// is `new` now.
+/// The index of the checkpoint to look at after the open place of the marks, if `index` is the
+/// first that isn't before that place; none if the plays agree there. The old place `old` is now
+/// `new`.
 fn pass<M: Machine>(
     checkpoints: &Checkpoints<M::Kept>,
     index: usize,

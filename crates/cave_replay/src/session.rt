@@ -32,7 +32,7 @@ use std::alloc::{AllocError, Global};
 use std::marker::Model;
 use std::slice;
 
-/// A game that is held together with its play.
+/// A game, held together with its play.
 ///
 /// The states at its checkpoints and the last state are kept, and what was said at each line.
 #[derive(Drop)]
@@ -74,7 +74,7 @@ impl<M: Machine> Session<M> {
 
         ensures faults { IsAnswerToOpen (open_fault every (lines log.now) seed) result }
 
-        // The meter counts each line that is played: all of them, or those before memory ran out.
+        // The meter counts each played line: all of them, or those before memory ran out.
         ensures steps { IfOk result (λ session. M.Meter.count meter.new
             ≡ M.Meter.count meter.old + length session.game.log) }
         ensures steps_refused { let fault = open_fault every (lines log.now) seed in
@@ -91,7 +91,7 @@ impl<M: Machine> Session<M> {
         })
     }
 
-    /// Edits the held game by each of the edits in turn, and plays it once. All of them are made,
+    /// Edits the held game by each of the edits in turn, and plays it once. It makes all of them,
     /// or none.
     pub fn edit_group(&mut self, edits: &[Edit], meter: &mut M::Meter) -> Result<Done, GroupFault>
         ensures game { OnOk result (self.new.game
@@ -126,8 +126,8 @@ impl<M: Machine> Session<M> {
         edit_kept(workspace, &self.machine, &mut self.kept, edits, meter)
     }
 
-    /// Edits the held game, and plays it. It is the group of this edit alone. What such a group
-    /// leaves alone, by the kind of its edit, is in `by_table` of laws.rt.
+    /// Edits the held game, and plays it. This is the group of just this edit. `by_table` in
+    /// laws.rt says what such a group leaves alone, by the kind of its edit.
     pub fn edit(&mut self, edit: &Edit, meter: &mut M::Meter) -> Result<Report, EditFault>
         ensures game { OnOk result (self.new.game ≡ apply (change_of edit.now) self.old.game) }
         ensures kept { OnOk result (KeepsSettings self.old self.new) }
@@ -168,7 +168,7 @@ impl<M: Machine> Session<M> {
         }
     }
 
-    /// A session that shows the same, over a machine that answers as this one's.
+    /// A session that shows the same, over a machine with the same answers.
     pub fn copy(&self, machine: M) -> Result<Session<M>, AllocError>
         requires { M.rules machine ≡ M.rules self.now.machine }
         ensures machine { IfOk result (λ copy. copy.machine ≡ machine) }
@@ -238,8 +238,8 @@ impl<M: Machine> Session<M> {
         &self.kept.log
     }
 
-    /// Appends the held log, each line with a line feed after it. It reads back as the log that it
-    /// is.
+    /// Appends the held log, each line with a line feed after it. What is appended reads back as
+    /// the same log.
     pub fn push_log(&self, text: &mut Vec<u8>) -> Result<(), AllocError>
         ensures written { OnOk result
             (text.new.items ≡ text.old.items ++ log_text self.now.game.log) }
@@ -248,7 +248,7 @@ impl<M: Machine> Session<M> {
         push_lines(&self.kept.log, text)
     }
 
-    /// The places of which the states are kept.
+    /// The places whose states are kept.
     pub fn checkpoints(&self) -> &[u32]
         ensures checkpoints { result.now ≡ self.now.checkpoints }
         ensures spaced { let lines = length self.now.game.log in
@@ -275,7 +275,7 @@ impl<M: Machine> Session<M> {
         &self.kept.pieces
     }
 
-    /// The state after the last line. All that is held is the play of the held game.
+    /// The state after the last line. All that the session holds is the play of the held game.
     pub fn state(&self) -> &M::State
         ensures state { result.now ≡ self.now.state }
         ensures made { M.is_state result.now }
@@ -301,7 +301,7 @@ impl<M: Machine> Session<M> {
         self.kept.ticked.before(place as usize) as u32
     }
 
-    /// How many of the lines ticked up to each line and with it, from the first line to the last.
+    /// How many lines ticked up to and including each line, from the first line to the last.
     pub fn tick_counts(&self) -> TickCounts<'_>
         ensures each_line { length result ≡ length self.now.game.log }
         ensures counts { (place : ℕ) → place < length self.now.game.log

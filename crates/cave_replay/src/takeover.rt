@@ -16,7 +16,7 @@ use replay_checkpoints::{Checkpoints, KeptState, Marks};
 use replay_edits::Edit;
 use std::alloc::AllocError;
 
-/// Takes room for what a rerun brings, which is to be taken over. What is kept stays as it is.
+/// Reserves room for what a rerun brings, before it is taken over. What is kept stays as it is.
 pub(crate) fn make_room<M: Machine>(
     kept: &mut Playthrough<M>,
     rerun: &Rerun<M>,
@@ -49,7 +49,8 @@ pub(crate) fn make_room<M: Machine>(
 }
 
 /// Makes the edits of a rerun, and puts what was played in the place of what was there, without
-/// memory; gives the edits that take these back. `state` is kept of the open place of the marks.
+/// taking memory. Returns the edits that take these back. `state` is kept for the open place of the
+/// marks.
 pub(crate) fn take_over<M: Machine>(
     kept: &mut Playthrough<M>,
     rerun: Rerun<M>,
@@ -83,7 +84,7 @@ pub(crate) fn take_over<M: Machine>(
     inverse
 }
 
-/// Puts a new piece in the place of one, if there is a new one.
+/// Replaces a piece, if there is a new one.
 fn replace_piece<P: Drop>(piece: &mut P, new: Option<P>)
     ensures { MatchOption new (piece.new ≡ piece.old) (λ taken. piece.new ≡ taken) }
 {
@@ -122,8 +123,8 @@ fn take_marks<K: KeptState>(
     }
 }
 
-/// How many checkpoints are before the one at which a replay met the old play: all of them if it
-/// met it nowhere.
+/// How many checkpoints are before the one at which a replay met the old play: all of them if the
+/// two didn't meet.
 fn checkpoints_passed<K: KeptState>(checkpoints: &Checkpoints<K>, met: Option<usize>) -> usize
     requires { ForSome met (λ index. index < length checkpoints.now.places) }
     ensures count { result ≡ checkpoints_passed checkpoints.now met }
@@ -135,7 +136,8 @@ fn checkpoints_passed<K: KeptState>(checkpoints: &Checkpoints<K>, met: Option<us
     }
 }
 
-/// The old place up to which what was played comes in: the checkpoint that was met, or the end.
+/// The old place up to which what was played replaces the old play: the checkpoint that was met, or
+/// the end.
 fn end_of_stretch<K: KeptState>(checkpoints: &Checkpoints<K>, met: Option<usize>) -> usize
     requires { ForSome met (λ index. index < length checkpoints.now.places) }
     ensures place { result ≡ end_of_stretch checkpoints.now met }

@@ -4,7 +4,8 @@ ghost use Rattle.std.specs.Iterator.{YieldsFirst, item_count};
 
 use std::marker::Model;
 
-/// How many lines ticked up to each line and with it, one line after another. It counts as it goes.
+/// How many lines ticked up to and including each line, one line after another. It counts as it
+/// goes.
 #[derive(Drop)]
 pub struct TickCounts<'a> {
     ticked: &'a [bool],
@@ -23,7 +24,7 @@ impl<'a> Model for TickCounts<'a> {
 }
 
 impl<'a> TickCounts<'a> {
-    /// The counts of lines of which each ticked or not.
+    /// The counts of lines, each of which ticked or not.
     pub(crate) fn of(ticked: &'a [bool]) -> Self
         requires { length ticked.now < 2 ^ 32 }
         ensures each_line { length result ≡ length ticked.now }

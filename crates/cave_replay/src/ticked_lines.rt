@@ -15,7 +15,7 @@ pub(crate) struct TickedLines {
 }
 
 impl TickedLines {
-    /// Lines of which each ticked or not.
+    /// Lines, each of which ticked or not.
     pub(crate) fn of(each: Vec<bool>) -> TickedLines
         ensures { result.each.items ≡ each.items }
     {
@@ -31,7 +31,7 @@ impl TickedLines {
         self.count - count_ticks(&self.each[place..])
     }
 
-    /// Takes room for so many more.
+    /// Reserves room for this many more.
     pub(crate) fn reserve(&mut self, additional: usize) -> Result<(), AllocError>
         ensures same { self.new.each.items ≡ self.old.each.items }
         ensures room { OnOk result
@@ -40,7 +40,7 @@ impl TickedLines {
         self.each.reserve(additional)
     }
 
-    /// Puts lines in the place of those from `from` up to `to`, without memory.
+    /// Replaces the lines from `from` up to `to` by others, without taking memory.
     pub(crate) fn replace(&mut self, from: usize, to: usize, lines: &mut Vec<bool>)
         requires ordered { from ≤ to }
         requires within { to ≤ vec_len self.old.each }

@@ -1,7 +1,7 @@
 use crate::machine::Machine;
 use std::alloc::{AllocError, Global};
 
-/// What a session plays with: where memory comes from, and what its machine works in.
+/// What a session uses to play: where memory comes from, and what its machine works in.
 #[derive(Drop)]
 pub(crate) struct Workspace<M: Machine> {
     pub(crate) alloc: Global,

@@ -1,4 +1,4 @@
--- What was written, with the lines that are left, is the whole.
+-- What was written, with the remaining lines, is the whole.
 use Rattle.std.proofs.Common.{◌≡◌, ◌++◌, drop}
 use Rattle.cave_replay.specs.LogText.{log_text}
 use Rattle.replay_edits.specs.Edit.{log_of}

@@ -20,7 +20,7 @@ use Rattle.cave_replay.proofs.TakeoverLemmas.{stretch_ready, stretch_same, place
 use Rattle.cave_replay.proofs.TakeoverLemmas.{opened_text}
 use Rattle.cave_replay.proofs.replay.edit_kept.Goals as goal
 
--- the new game of the edits, once there is room, is what the changes make of the old one
+-- the new game of the edits, after room was reserved, is what the changes make of the old one
 made_same : {Machine State Kept Piece Meter Scratch : Type 0}
     {changes : List Change} {seed : ℕ} {log : List LineText} {ready : ReadyEdits}
     {old roomy : Playthrough Machine State Kept Piece Meter Scratch}

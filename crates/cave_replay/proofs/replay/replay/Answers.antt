@@ -9,7 +9,7 @@ use Rattle.cave_replay.proofs.ReadyLemmas.{met_at_end}
 use Rattle.cave_replay.proofs.Revisions.{IsLastIndex}
 use Rattle.cave_replay.proofs.replay.replay.Goals as goal
 
--- what the search for it tells, where the places were read
+-- what the search for it finds, in the places that were read
 last_index : {read places : List ℕ} {place at : ℕ} → read ≡ places → at < length read
     → ((k : ℕ) → k ≤ at → slice_index read k ≤ place)
     → ((k : ℕ) → at < k → k < length read → place < slice_index read k)
