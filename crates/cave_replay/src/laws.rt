@@ -12,8 +12,8 @@ pub fn by_table()
     ensures { ByTable }
 {}
 
-/// Steps that each place at which two plays agree bounds are bounded by the first of these places,
-/// or by the end if there is none.
+/// If each place at which two plays agree bounds the steps, so does the first of these places, or
+/// the end if there is none.
 pub fn bounded_by_first<S, T>()
     ensures { BoundedByFirst S T }
 {}

@@ -1,4 +1,4 @@
--- What the parser answers to the words, and what that comes to.
+-- What the parser answers to the words, and what that leads to.
 use Rattle.std.proofs.Common.{◌≡◌, ℕ, true, List, [], Some, None, Result, Ok, Err, IfOk}
 use Rattle.std.proofs.Common.{Bor, IfErr, MatchResult, refl, sym, subst, ap, ◌∙◌, inl, inr}
 use Rattle.clap.specs.Words.{App, HasKind, HasMatchesOf, FailsBy, IsAmong, Kinds, app_of, fault_of}
@@ -54,7 +54,7 @@ pub parse_is : (command : Command) (words : List Text) (answer : Result ArgMatch
     → FailsBy (fault_of (app_of command) words) answer) → IsParse words answer
 parse_is command words answer same has fails = parse_of (app_of command) words answer same has fails
 
--- ---- what the run that was found comes to
+-- ---- what the run that was found leads to
 
 abbrev pub Reads : MetCommand → Result Line CommandFault → Type 0
 Reads met answer = MatchResult answer (IsRunMet met) (IsUnmade met)
@@ -112,7 +112,7 @@ found_refused words kinds met (Err TwoScripts) none is = (none, is)
 found_refused words kinds met (Err (NoCommand text)) none is = absurd (no_stray met text is)
 found_refused words kinds met (Err Memory) none is = tt
 
--- ---- what an error comes to
+-- ---- what an error leads to
 
 no_memory : (error : Error) → IsRequest (kind_of error) → kind_of error ≡ OutOfMemory → ⊥
 no_memory error (inl help) memory = cc

@@ -32,7 +32,7 @@ abbrev pub lines_argument : Rule
 lines_argument = record (new_rule (codes "edit"))
     { short = Some 101; long = Some (codes "edit"); value_names = 1; action = Some Append }
 
--- the options, some of which have a letter too: b, s, p and o
+-- the options, some of which also have a letter: b, s, p and o
 abbrev pub bind_argument : Rule
 bind_argument = record (new_rule (codes "bind"))
     { short = Some 98; long = Some (codes "bind"); value_names = 1 }
@@ -90,7 +90,7 @@ with_options app = with_rule (with_rule app bind_argument) seed_argument
 abbrev pub with_cover_options : App → App
 with_cover_options app = with_rule (with_options app) print_argument
 
--- a command with what a script is read from
+-- a command with where a script is read from
 abbrev pub with_script : App → App
 with_script app = with_rule (with_rule app script_argument) lines_argument
 

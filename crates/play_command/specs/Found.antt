@@ -8,6 +8,6 @@ use Rattle.clap.specs.declared.parser.matches.ArgMatches.{ArgMatches}
 abbrev pub rows_in : ArgMatches → List Row
 rows_in found = rows_of (found_of found)
 
--- whether an option without a value was given is what was found for it, or it wasn't
+-- whether an option without a value was given: what was found for it, or that it wasn't
 abbrev pub is_set : List ℕ → List Row → Bool
 is_set id rows = option_map_or (bytes_eq (codes "true")) (first_of id rows) false

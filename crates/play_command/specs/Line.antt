@@ -39,13 +39,13 @@ use Rattle.play_command.specs.declared.views.PlayView.TheVariants as play
 use Rattle.base_lines.specs.Limits.{MAX_SEED, MAX_EVERY, MAX_DIGITS}
 use Rattle.base_lines.specs.Bytes.{is_digit, number_of}
 
--- 7 where memory ran out, and 2 for anything wrong with the words
+-- 7 if memory ran out, and 2 for anything wrong with the words
 abbrev pub status_of_command : CommandFault → ℕ
 status_of_command fault_is.Memory = 7
 status_of_command _ = 2
 
--- the parser's answer to the words: what they come to, where nothing is wrong with them, and else
--- an error of what is, unless memory ran out
+-- the parser's answer to the words: what they say, if nothing is wrong with them, and otherwise an
+-- error that says what is wrong, unless memory ran out
 abbrev pub IsParse : List (List ℕ) → Result ArgMatches Error → Type 0
 IsParse words answer = MatchResult answer
     (λ matches. (fault_of cave_app words ≡ [])
@@ -63,7 +63,7 @@ number_in_range least most text =
     if is_option_number text && nat_le least (number_of text) && nat_le (number_of text) most
     then Some (number_of text) else None
 
--- the value of an option of a number, or its default where the option isn't given
+-- the value of an option of a number, or its default if the option isn't given
 abbrev pub IsNumberGiven : ℕ → ℕ → ℕ → Option (List ℕ) → ℕ → Type 0
 IsNumberGiven least most absent None number = number ≡ absent
 IsNumberGiven least most absent (Some text) number = number_in_range least most text ≡ Some number
@@ -86,7 +86,7 @@ IsSeed rows seed = IsNumberGiven 0 MAX_SEED 0 (first_of (codes "seed") rows) see
 abbrev pub IsEveryGiven : List Row → ℕ → Type 0
 IsEveryGiven rows every = IsNumberGiven 1 MAX_EVERY 50 (first_of (codes "every") rows) every
 
--- what a check prints, where this was found for it, or else the greatest score
+-- what a check prints, if this was found for it, or otherwise the greatest score
 abbrev pub IsCheckViewGiven : Option (List ℕ) → CheckView → Type 0
 IsCheckViewGiven None view = view ≡ Maximum
 IsCheckViewGiven (Some name) view = check_view_named name ≡ Some view
@@ -94,7 +94,7 @@ IsCheckViewGiven (Some name) view = check_view_named name ≡ Some view
 abbrev pub IsCheckView : List Row → CheckView → Type 0
 IsCheckView rows view = IsCheckViewGiven (first_of (codes "print") rows) view
 
--- what is printed of texts, where this was found for it, or else how many there are
+-- what is printed of texts, if this was found for it, or otherwise how many there are
 abbrev pub IsCoverViewGiven : Option (List ℕ) → CoverView → Type 0
 IsCoverViewGiven None view = view ≡ Said Counts
 IsCoverViewGiven (Some name) view = cover_view_named name ≡ Some view
@@ -102,7 +102,7 @@ IsCoverViewGiven (Some name) view = cover_view_named name ≡ Some view
 abbrev pub IsCoverView : List Row → CoverView → Type 0
 IsCoverView rows view = IsCoverViewGiven (first_of (codes "print") rows) view
 
--- what an edit prints, where this was found for it, or else the transcript
+-- what an edit prints, if this was found for it, or otherwise the transcript
 abbrev pub IsEditViewGiven : Option (List ℕ) → EditView → Type 0
 IsEditViewGiven None view = view ≡ Transcript
 IsEditViewGiven (Some name) view = edit_view_named name ≡ Some view
@@ -111,7 +111,7 @@ IsEditViewGiven (Some name) view = edit_view_named name ≡ Some view
 abbrev pub IsView : List Row → EditView → Type 0
 IsView rows view = IsEditViewGiven (first_of (codes "print") rows) view
 
--- what a play prints, where this was found for it, or else the transcript
+-- what a play prints, if this was found for it, or otherwise the transcript
 abbrev pub IsPlayViewGiven : Option (List ℕ) → PlayView → Type 0
 IsPlayViewGiven None view = view ≡ play.Transcript
 IsPlayViewGiven (Some name) view = play_view_named name ≡ Some view
@@ -169,8 +169,8 @@ IsRun met run = IsRunMet met run
 abbrev pub IsRequest : ErrorKind → Type 0
 IsRequest kind = (kind ≡ DisplayHelp) ⊎ (kind ≡ DisplayVersion)
 
--- a text is printed where help or the version is what the words come to, and a run is made where
--- nothing is wrong with them
+-- a text is printed if the words ask for help or the version, and a run is made if nothing is wrong
+-- with them
 abbrev pub IsAsked : Kinds → Line → Type 0
 IsAsked kinds (Text error) = IsRequest (kind_of error) × IsAmong (kind_of error) kinds
 IsAsked kinds run = kinds ≡ []
@@ -188,13 +188,13 @@ abbrev pub is_complete : MetCommand → Bool
 is_complete None = false
 is_complete (Some found) = has_files found.0 found.1
 
--- what was found for the seed is no seed
+-- what was found for the seed isn't a seed
 abbrev pub IsBadSeed : List Row → CommandFault → Type 0
 IsBadSeed rows (fault_is.BadSeed text) = (first_of (codes "seed") rows ≡ Some text.now)
     × (number_in_range 0 MAX_SEED text.now ≡ None)
 IsBadSeed rows _ = ⊥
 
--- what was found for the distance of checkpoints is none
+-- what was found for the distance of checkpoints isn't one
 abbrev pub IsBadEvery : List Row → CommandFault → Type 0
 IsBadEvery rows (fault_is.BadEvery text) = (first_of (codes "every") rows ≡ Some text.now)
     × (number_in_range 1 MAX_EVERY text.now ≡ None)
@@ -224,7 +224,7 @@ IsBadPlayView rows (fault_is.BadPlayView name) = (first_of (codes "print") rows 
     × (play_view_named name.now ≡ None)
 IsBadPlayView rows _ = ⊥
 
--- what is wrong with the options of a command: each prints what it alone may print
+-- what is wrong with the options of a command, each of which prints its own views
 abbrev pub IsBadOption : List ℕ → List Row → CommandFault → Type 0
 IsBadOption name rows (fault_is.BadView given) =
     (name ≡ codes "edit") × IsBadView rows (fault_is.BadView given)
@@ -251,11 +251,11 @@ abbrev pub IsUnmade : MetCommand → CommandFault → Type 0
 IsUnmade met fault_is.Memory = Unit {0}
 IsUnmade met fault = IsWrong met fault
 
--- where the parser finds an argument that it doesn't know, the words give no seed below zero
+-- if the parser finds an argument that it doesn't know, the words give no seed below zero
 abbrev pub HasNoSeedBelowZero : List (List ℕ) → ErrorKind → Type 0
 HasNoSeedBelowZero words kind = kind ≡ UnknownArgument → seed_below_zero words ≡ None
 
--- where the parser finds no command, no word is in its place, or an option, or one that asks for
+-- if the parser finds no command, there is no word in its place, or an option, or one that asks for
 -- help
 abbrev pub HasNoStrayCommand : List (List ℕ) → ErrorKind → Type 0
 HasNoStrayCommand words kind = kind ≡ InvalidSubcommand → stray_command words ≡ None

@@ -8,7 +8,7 @@ use Rattle.play_command.specs.declared.line.ScriptSource.{ScriptSource}
 use Rattle.play_command.specs.declared.line.ScriptSource.TheVariants.{File, Typed}
 use Rattle.replay_scripts.specs.ScriptText.{text_of_lines}
 
--- the script is the file that was found for it, or else has the lines that were
+-- the script is the file that was found for it, or otherwise has the lines that were found
 abbrev pub IsScriptSource : List Row → ScriptSource → Type 0
 IsScriptSource rows (File file) =
     (first_of (codes "script") rows ≡ Some file.now) × (all_of (codes "edit") rows ≡ None)
@@ -17,7 +17,7 @@ IsScriptSource rows (Typed text) =
     × ((lines : List (List ℕ)) × (all_of (codes "edit") rows ≡ Some lines)
     × (string_bytes text ≡ text_of_lines lines))
 
--- neither the file of a script was found nor lines of one, or both were
+-- neither the file of a script nor lines of one were found, or both were
 abbrev pub IsBadScript : List Row → CommandFault → Type 0
 IsBadScript rows fault_is.NoScript =
     (first_of (codes "script") rows ≡ None) × (all_of (codes "edit") rows ≡ None)

@@ -4,7 +4,7 @@ use Rattle.std.specs.Prelude.{bytes_eq, codes, if◌then◌else◌}
 use Rattle.std.specs.List.{starts_with}
 use Rattle.play_command.specs.BelowZero.{first_argument}
 
--- the word is no option and doesn't ask for help
+-- the word isn't an option, and doesn't ask for help
 abbrev pub is_stray : List ℕ → Bool
 is_stray word = not (starts_with nat_eq word (codes "-")) && not (bytes_eq word (codes "help"))
 

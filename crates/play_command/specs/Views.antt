@@ -11,7 +11,7 @@ use Rattle.play_command.specs.declared.views.PlayView.TheVariants as played
 use Rattle.play_command.specs.declared.editing.EditView.{EditView}
 use Rattle.play_command.specs.declared.editing.EditView.TheVariants as asked
 
--- the item of a name, where the items are in the order of their names
+-- the item of a name, if the items are in the order of their names
 abbrev pub named_in : {T : Type 0} → List (List ℕ) → List T → List ℕ → Option T
 named_in [] items name = None
 named_in (known ∷ names) [] name = None

@@ -18,10 +18,10 @@ use crate::arguments::{
 use clap::Command;
 use std::alloc::{AllocError, Global};
 
-/// The version of the program. It is written here alone.
+/// The version of the program. It is written only here.
 const VERSION: &str = "1.0";
 
-/// What is under the help of the program.
+/// What stands below the help of the program.
 const STATUSES: &str = "Exit status:
   0  done, also where edits were refused
   1  the cave or its bindings are refused, or doubtful under --strict
@@ -32,7 +32,7 @@ const STATUSES: &str = "Exit status:
   6  the output can't be written
   7  memory ran out";
 
-/// What is under the help of `play`.
+/// What stands below the help of `play`.
 const PLAY_EXAMPLE: &str =
     "Example: cave play caves/b.txt logs/first.log --bind caves/b.bind --seed 7
 
@@ -42,12 +42,12 @@ random numbers anew:
 
   seed 7";
 
-/// What is under the help of `map`.
+/// What stands below the help of `map`.
 const MAP_EXAMPLE: &str = "Example: cave map caves/b.txt logs/round.log --bind caves/b.bind
 
 Graphviz draws it, if `| dot -Tsvg > map.svg` follows.";
 
-/// What is under the help of `edit`.
+/// What stands below the help of `edit`.
 const EDIT_EXAMPLE: &str = "Example: cave edit caves/a.txt logs/first.log logs/first.script
 
 A script has lines as these, whose places count the lines of the log from 0:
@@ -90,7 +90,7 @@ fn with_check_options<'a>(alloc: Global, command: Command<'a>) -> Result<Command
         .arg(check_strict_argument(alloc))
 }
 
-/// Adds the option of a file that the output goes into.
+/// Adds the option of a file for the output.
 fn with_output<'a>(alloc: Global, command: Command<'a>) -> Result<Command<'a>, AllocError>
     requires { (out-Command command).has_globals ≡ false }
     ensures { IfOk result (IsLocal (with_output (app_of command.entry))) }
@@ -130,7 +130,7 @@ fn with_cover_options<'a>(alloc: Global, command: Command<'a>) -> Result<Command
     with_options(alloc, command)?.arg(cover_print_argument(alloc))
 }
 
-/// Adds what the script of an edit is read from: a file, or lines on the command line.
+/// Adds where the script of an edit is read from: a file, or lines on the command line.
 fn with_script<'a>(alloc: Global, command: Command<'a>) -> Result<Command<'a>, AllocError>
     requires { (out-Command command).has_globals ≡ false }
     ensures { IfOk result (IsLocal (with_script (app_of command.entry))) }
@@ -140,7 +140,7 @@ fn with_script<'a>(alloc: Global, command: Command<'a>) -> Result<Command<'a>, A
         .arg(lines_argument(alloc))
 }
 
-/// Adds the options of an edit alone: the distance of checkpoints, what is printed, whether a
+/// Adds the options that only an edit has: the distance of checkpoints, what is printed, whether a
 /// refused edit ends the run, and whether the script may have guards.
 fn with_edit_options<'a>(alloc: Global, command: Command<'a>) -> Result<Command<'a>, AllocError>
     requires { (out-Command command).has_globals ≡ false }

@@ -69,7 +69,7 @@ fn if_below_zero<'a>(word: Option<&'a str>) -> Option<&'a str>
     }
 }
 
-/// The seed that is given to a command, where it is below zero. The first word is the command.
+/// The seed that is given to a command, if it is below zero. The first word is the command.
 #[tactic(auto, using(crate::proofs::BelowZeroLemmas::seeds_of_commands))]
 fn seed_of_command<'a, S: AsStr>(words: &'a [S]) -> Option<&'a str>
     ensures { option_map (λ text. text.now) result ≡ seed_of_command (map S.text words.now) }
@@ -80,7 +80,7 @@ fn seed_of_command<'a, S: AsStr>(words: &'a [S]) -> Option<&'a str>
     }
 }
 
-/// The seed of a command line, where it is below zero. The first word is the program's name.
+/// The seed of a command line, if it is below zero. The first word is the program's name.
 #[tactic(auto, using(crate::proofs::BelowZeroLemmas::seeds_of_lines))]
 pub(crate) fn seed_below_zero<'a, S: AsStr>(words: &'a [S]) -> Option<&'a str>
     ensures { option_map (λ text. text.now) result ≡ seed_below_zero (map S.text words.now) }

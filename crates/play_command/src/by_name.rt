@@ -3,7 +3,7 @@
 ghost use Rattle.std.specs.Prelude.{◌≡◌, map};
 ghost use Rattle.play_command.specs.Views.{named_in};
 
-/// The item of a name, if one has it: the items are in the order of their names.
+/// The item of a name, if one has it. The items are in the order of their names.
 pub(crate) fn named<T: Copy>(names: &[&str], items: &[T], name: &str) -> Option<T>
     ensures { result ≡ named_in (map (λ known. known.now) names.now) items.now name.now }
 {

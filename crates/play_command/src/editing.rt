@@ -68,13 +68,13 @@ impl EditView {
 /// How a log is edited.
 #[derive(Clone, Copy, Debug, PartialEq, Eq)]
 pub struct Editing {
-    /// Where the random numbers begin.
+    /// The seed of the random numbers.
     pub seed: u32,
     /// The most lines between two checkpoints.
     pub every: u32,
     /// What is printed.
     pub view: EditView,
-    /// Whether nothing is printed where an edit is refused.
+    /// Whether nothing is printed if an edit is refused.
     pub strict: bool,
     /// Whether lines of the script may be guards.
     pub guarded: bool,

@@ -18,7 +18,7 @@ pub enum CommandFault<'a> {
     /// The parser refused the words.
     #[error("{0}")]
     Usage(ParseError),
-    /// The words name no command or not all of its files.
+    /// The words name no command, or not all of its files.
     #[error("error: a command and its files are wanted\n\nFor more information, try '--help'.\n")]
     Incomplete,
     #[error("error: invalid value '{0}' for '--seed <N>': wanted are 1 to 10 digits, \
@@ -41,7 +41,7 @@ pub enum CommandFault<'a> {
     #[error("error: invalid value '{}' for '--print <WHAT>': {}\n\n\
         For more information, try '--help'.\n", .0, Wanted {given: *.0, names: &COVER_VIEWS})]
     BadCoverView(&'a str),
-    /// The word is no command.
+    /// The word isn't a command.
     #[error("error: unrecognized subcommand '{}': {}\n\n\
         Usage: cave <COMMAND>\n\n\
         For more information, try '--help'.\n", .0, Wanted {given: *.0, names: &COMMANDS})]

@@ -2,13 +2,13 @@ use crate::editing::Editing;
 use crate::views::{CheckView, CoverView, PlayView};
 use clap::Error;
 
-/// The files of a cave, and the one that the output goes into.
+/// The files of a cave, and the one for the output.
 #[derive(Clone, Copy, Debug, PartialEq, Eq)]
 pub struct Files<'a> {
     pub cave: &'a str,
-    /// The bindings, where there are any.
+    /// The bindings, if there are any.
     pub bind: Option<&'a str>,
-    /// The file of the output, where it doesn't go to standard output.
+    /// The file of the output, unless it goes to standard output.
     pub output: Option<&'a str>,
 }
 
@@ -28,7 +28,7 @@ pub enum Line<'a> {
         files: Files<'a>,
         view: CheckView,
     },
-    /// What is doubtful of a cave.
+    /// What is doubtful about a cave.
     Doubts {
         files: Files<'a>,
         /// Whether a doubt ends the run.
@@ -54,7 +54,7 @@ pub enum Line<'a> {
     },
     Map {
         files: Files<'a>,
-        /// The logs of which the map shows what they saw. There may be none.
+        /// The logs whose visits the map shows. There may be none.
         logs: Vec<&'a str>,
         seed: u32,
     },

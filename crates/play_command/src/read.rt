@@ -30,13 +30,13 @@ use clap::{ArgMatches, Error};
 use std::alloc::Global;
 use std::convert::AsStr;
 
-/// The seed where none is given.
+/// The seed if none is given.
 const USUAL_SEED: u32 = 0;
 
-/// What an edit prints where nothing is asked for.
+/// What an edit prints if nothing is asked for.
 const USUAL_EDIT_VIEW: EditView = EditView::Transcript;
 
-/// What a play prints where nothing is asked for.
+/// What a play prints if nothing is asked for.
 const USUAL_PLAY_VIEW: PlayView = PlayView::Transcript;
 
 /// What the words of a command line ask for. The first word is the program's name.
@@ -63,7 +63,7 @@ fn parse<'a, S: AsStr>(alloc: Global, words: &'a [S]) -> Result<ArgMatches<'a>, 
     command.try_get_matches_from(words)
 }
 
-/// What an error of the parser comes to: a text to print, or a fault.
+/// What an error of the parser leads to: a text to print, or a fault.
 fn answer_to<'a, S: AsStr>(error: Error, words: &'a [S]) -> Result<Line<'a>, CommandFault<'a>>
     ensures ok { IfOk result (λ run. (run ≡ Line.Text error) × IsRequest (kind_of error)) }
     ensures err { IfErr result (IsRefusal (map S.text words.now) error) }

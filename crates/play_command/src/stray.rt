@@ -6,7 +6,7 @@ ghost use Rattle.play_command.specs.Stray.{if_stray, is_stray, stray_command};
 use crate::below_zero::first_argument;
 use std::convert::AsStr;
 
-/// Whether a word in the place of a command is no option and doesn't ask for help.
+/// Whether a word in the place of a command isn't an option, and doesn't ask for help.
 fn is_stray(word: &str) -> bool
     ensures { result ≡ is_stray word.now }
 {
@@ -23,7 +23,7 @@ fn if_stray<'a>(word: Option<&'a str>) -> Option<&'a str>
     }
 }
 
-/// The word in the place of a command, where it is no option and doesn't ask for help. The first
+/// The word in the place of a command, if it isn't an option and doesn't ask for help. The first
 /// word is the program's name.
 #[tactic(auto, using(crate::proofs::BelowZeroLemmas::strays))]
 pub(crate) fn stray_command<'a, S: AsStr>(words: &'a [S]) -> Option<&'a str>

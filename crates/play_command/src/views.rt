@@ -18,10 +18,10 @@ pub enum CheckView {
     Unused,
 }
 
-/// The names of what a check may print, the doubts among them.
+/// The names of what a check may print, including the doubts.
 pub(crate) const CHECK_VIEWS: [&str; 5] = ["maximum", "bindings", "names", "unused", "doubts"];
 
-/// What a check may print, in the order of the names. The doubts come last, and are no view.
+/// What a check may print, in the order of the names. The doubts come last, and aren't a view.
 const EACH_CHECK_VIEW: [CheckView; 4] = [
     CheckView::Maximum,
     CheckView::Bindings,

@@ -1,4 +1,4 @@
-//! What is said of a name that isn't one of those that are wanted.
+//! What is said of a name that isn't one of the expected names.
 
 use base_slips::near_name;
 use std::fmt;

@@ -65,12 +65,12 @@ module _ (name : List ℕ) where
       let numbers = append_cancel_left name _ _ lines in
       told s t (append_cancel_left (decimal n) _ _ numbers)
 
-  -- what comes after a number goes on, whatever comes after that
+  -- what follows a number goes on, with anything after it
   abbrev pub GoOn : (ℕ → List ℕ) → Type 0
   GoOn x = (n : ℕ) (u : List ℕ) → GoesOn (x n ++ u)
 
   module _ (b d : ℕ → Bool) (x y : ℕ → List ℕ) (Same : ℕ → Type 0) where
-    -- each line of the first or of both tells the same
+    -- the line of each number in the first text, or in both, says the same
     abbrev pub TellsEach : ℕ → Type 0
     TellsEach last = (n : ℕ) → IsUpTo last n
         → (b n ≡ true → d n ≡ true → Same n)

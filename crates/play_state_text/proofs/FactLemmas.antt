@@ -1,4 +1,4 @@
--- What there is once in a state is read back from its lines.
+-- What a state has once is read back from its lines.
 use Rattle.std.proofs.Common.{◌≡◌, ℕ, ℤ, Bool, List, ◌++◌, Option, Some, None, refl}
 use Rattle.std.specs.Prelude.{codes}
 use Rattle.std.proofs.lemmas.Bool.{false≢true}

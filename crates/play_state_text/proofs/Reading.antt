@@ -1,4 +1,4 @@
--- A number is read back from a text that goes on after it with something that is no number.
+-- A number is read back from a text that goes on after it with something that isn't a digit.
 use Rattle.std.proofs.Common.{◌≡◌, ℕ, suc, ℤ, pos, negsuc, ◌<◌, Bool, true, false, List, [], ◌∷◌}
 use Rattle.std.proofs.Common.{◌++◌, refl, sym, ap, ◌∙◌, arith, append_assoc, length, get_or}
 use Rattle.std.specs.Prelude.{⊤, ◌==◌, ◌&&◌, ◌||◌, codes}
@@ -13,7 +13,7 @@ use Rattle.std.proofs.lemmas.Fmt.{decimal_nonempty}
 use Rattle.std.proofs.lemmas.Str.Parse.{numerals_by_value, tells_all_ascii_digits}
 use Rattle.play_state_text.specs.Within.{IsWide, IsSigned}
 
--- a byte that numbers are made of
+-- a byte of which numbers consist
 abbrev pub is_number_byte : ℕ → Bool
 is_number_byte byte = is_ascii_digit byte || byte == 45
 
@@ -75,7 +75,7 @@ signed_read y z s t hy hz g h e =
     apart (signed_decimal y) (signed_decimal z) s t (signed_bytes y hy) (signed_bytes z hz) g h e in
     (signed_decimal_injective y z hy hz both.0, both.1)
 
--- texts are other ones where they have other bytes at an index
+-- texts differ if they have different bytes at an index
 pub differ : (k : ℕ) (x y : List ℕ) → x ≡ y
     → (get_or x k 0 == get_or y k 0) ≡ (get_or y k 0 == get_or y k 0)
 differ k x y e = ap (λ l. get_or l k 0 == get_or y k 0) e
@@ -91,13 +91,13 @@ number_first n byte s t h other e =
     first (x ∷ xs) m some e =
         let same : byte ≡ x = cc in false≢true (sym other ∙ (ap is_number_byte same ∙ m.0))
 
--- ---- a part with what comes after it
+-- ---- a part with what follows it
 
 pub peel : (x y xs ys s t : List ℕ) → (x ++ xs) ++ s ≡ (y ++ ys) ++ t
     → x ++ (xs ++ s) ≡ y ++ (ys ++ t)
 peel x y xs ys s t e = sym (append_assoc x xs s) ∙ (e ∙ append_assoc y ys t)
 
--- what comes after the same name
+-- what follows the same name
 pub after_name : (name x y s t : List ℕ) → (name ++ x) ++ s ≡ (name ++ y) ++ t → x ++ s ≡ y ++ t
 after_name name x y s t e = append_cancel_left name _ _ (peel name name x y s t e)
 

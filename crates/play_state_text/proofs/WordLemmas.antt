@@ -1,5 +1,4 @@
--- A number is read back from before the word that stands beside it, and the same number has the
--- same word.
+-- A number is read back although a word follows it, and the same number has the same word.
 use Rattle.std.proofs.Common.{◌≡◌, ℕ, Bool, true, false, cond, List, [], ◌++◌, Option, Some, None}
 use Rattle.std.proofs.Common.{refl, sym, ap, ◌∙◌, ◌+◌, append_assoc}
 use Rattle.std.specs.Prelude.{codes, nat_lt}
@@ -13,7 +12,7 @@ use Rattle.play_state_text.specs.Words.{after_blank, word_of_object, word_of_ver
 use Rattle.play_state_text.specs.Words.{line_with_object, line_with_half_verb}
 use Rattle.play_state_text.proofs.Reading.{GoesOn, number_read, number_step}
 
--- what comes after a number goes on, also with a word before it
+-- what follows a number goes on, even with a word before it
 abbrev pub Beside : (ℕ → List ℕ) → Type 0
 Beside word = (n : ℕ) (u : List ℕ) → GoesOn u → GoesOn (word n ++ u)
 

@@ -1,4 +1,4 @@
--- Lines for what there is once in a state.
+-- Lines for what a state has once.
 use Rattle.std.specs.Prelude.{ℕ, ℤ, Bool, true, false, List, ◌++◌, codes, decimal, Option, None}
 use Rattle.std.specs.Prelude.{Some}
 use Rattle.std.specs.Fmt.{signed_decimal}
@@ -38,7 +38,7 @@ unfoldable pub counts_text : ℕ → ℕ → List ℕ
 counts_text turns score =
     numbered_line (codes "turns ") turns ++ numbered_line (codes "score ") score
 
--- where the player is, where the player came from, and where from before that
+-- where the player is, where the player came from, and where the player came from before that
 unfoldable pub trail_text : Trail → List ℕ
 trail_text trail =
     numbered_line (codes "here ") trail.here
@@ -65,7 +65,7 @@ end_line (Some ending.Klutz) = codes "ended klutz\n"
 end_line (Some ending.WrongWay) = codes "ended wrong way\n"
 end_line (Some ending.Success) = codes "ended success\n"
 
--- the turns that the lamp still burns, and whether the player was warned
+-- the turns that the lamp still burns, and whether the player has been warned
 unfoldable pub lamp_text : Lamp → List ℕ
 lamp_text lamp =
     signed_line (codes "lamp ") lamp.charge ++ answer_line (codes "lamp warned ") lamp.is_warned

@@ -28,7 +28,8 @@ rest_text s =
     ++ (text_up_to (hint_line s) LAST_HINT
     ++ (numbered_line (codes "stream ") s.stream ++ text_up_to (visits_line s) LAST_PLACE))))
 
--- the text of a state after so many turns and with this score, in a cave where objects begin thus
+-- the text of a state after this many turns and with this score, in a cave whose objects begin like
+-- this
 unfoldable pub state_text : CaveView → Layout → ℕ → ℕ → State → List ℕ
 state_text cave begun turns score s =
     counts_text turns score
@@ -38,7 +39,8 @@ state_text cave begun turns score s =
 abbrev pub IsCount : ℕ → Type 0
 IsCount n = n < 2 ^ 32
 
--- where two states of one cave are written alike, they are the same state, after as many turns
+-- if two states of one cave have the same text, they are the same state, after the same number of
+-- turns
 abbrev pub AreToldApart : CaveView → Layout → State → State → Type 0
 AreToldApart cave begun a b =
     (turns other_turns score other_score : ℕ)

@@ -1,4 +1,4 @@
--- Lines for what there is more than once in a state: objects, places, dwarves, hints.
+-- Lines for what a state has more than once: objects, places, dwarves, hints.
 use Rattle.std.specs.Prelude.{ℕ, ◌+◌, ◌-◌, Bool, false, ◌==◌, ◌&&◌, not, List, [], ◌∷◌, ◌++◌, codes}
 use Rattle.std.specs.Prelude.{slice_index_or, zero, suc, if◌then◌else◌, decimal}
 use Rattle.std.specs.Ordering.{int_eq}
@@ -21,7 +21,7 @@ use Rattle.cave_world.specs.declared.state.State.{State}
 use Rattle.play_state_text.specs.Facts.{numbered_text, numbered_line, signed_line, answer_line}
 use Rattle.play_state_text.specs.Words.{named_object, word_of_object}
 
--- the line of a number, or nothing where it is left out
+-- the line of a number, or nothing if it is left out
 abbrev pub entry : List ℕ → Bool → ℕ → List ℕ → List ℕ
 entry name is_left_out number rest =
     if is_left_out then [] else name ++ (decimal number ++ rest)
@@ -43,7 +43,7 @@ anchor_text anchor.Loose = []
 anchor_text anchor.Fixed = codes ", fixed"
 anchor_text (anchor.At place) = numbered_text (codes ", also at ") place
 
--- an object is as another layout has it
+-- an object is as it is in another layout
 abbrev pub is_as_in : Layout → Layout → ℕ → Bool
 is_as_in begun o x =
     spot_eq.eq-value.it (spot_of o x) (spot_of begun x)
@@ -55,7 +55,7 @@ thing_text cave o x =
     word_of_object cave x ++ (codes ":" ++ (spot_text (spot_of o x)
     ++ (anchor_text (anchor_of o x) ++ signed_line (codes ", prop ") (prop_of o x))))
 
--- an object, where it isn't as it was when the game began
+-- an object, if it isn't as it was when the game began
 unfoldable pub thing_line : CaveView → Layout → Layout → ℕ → List ℕ
 thing_line cave begun o x =
     entry (codes "object ") (is_as_in begun o x) x (thing_text cave o x)
@@ -77,14 +77,14 @@ halves_text cave [] = codes ": nothing\n"
 halves_text cave (half ∷ halves) =
     codes ":" ++ (half_text cave half ++ (more_halves_text cave halves ++ codes "\n"))
 
--- the list of a place, latest first, where it isn't as it was when the game began
+-- the list of a place, latest first, if it isn't as it was when the game began
 unfoldable pub place_line : CaveView → Layout → Layout → ℕ → List ℕ
 place_line cave begun o place =
     entry (codes "place ")
     (pointwise half_eq.eq-value.it (halves_at place o.lists) (halves_at place begun.lists)) place
     (halves_text cave (halves_at place o.lists))
 
--- how often a place was described, where it was
+-- how often a place was described, if it was
 unfoldable pub visits_line : State → ℕ → List ℕ
 visits_line s place =
     entry (codes "visits ") (visits_of s place == 0) place

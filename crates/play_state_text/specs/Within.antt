@@ -1,4 +1,4 @@
--- The numbers of a state are within what is written of numbers.
+-- The numbers of a state are within the range of written numbers.
 use Rattle.std.specs.Prelude.{◌≡◌, ℕ, ⊤, length, Option, None, Some, ℤ, ◌≤◌, ◌<◌, ◌^◌}
 use Rattle.base_lines.specs.Numbers.{LAST_HINT, LAST_OBJECT, LAST_PLACE}
 use Rattle.world_objects.specs.Objects.{Layout, spot_of, anchor_of, prop_of}
@@ -23,7 +23,7 @@ use Rattle.cave_world.specs.declared.talk.Talk.{Talk}
 use Rattle.play_state_text.specs.Things.{dwarf_numbered}
 use Rattle.std.specs.Int.Signed.{mag}
 
--- the number has sixty-four bits at most
+-- the number has at most sixty-four bits
 abbrev pub IsWide : ℕ → Type 0
 IsWide n = n < 2 ^ 64
 
@@ -86,7 +86,7 @@ pub record AreObjectsWithin (o : Layout) : Type 0 where
   pub lists : AreLists o.lists
   pub entries : AreEntriesWithin o.lists
 
--- what there is once in a state
+-- what a state has once
 pub record AreFactsWithin (s : State) : Type 0 where
   pub trail : IsTrailWithin s.trail
   pub question : IsQuestionWithin s.question

@@ -5,7 +5,7 @@ use Rattle.base_lines.specs.Numbers.{LAST_ACTION}
 use Rattle.data_rows.specs.Rows.{OBJECT_WORDS, ACTION_WORDS}
 use Rattle.cave_data.specs.CaveView.{CaveView, first_word}
 
--- a word after a blank, or nothing where there is none
+-- a word after a blank, or nothing if there is none
 abbrev pub after_blank : Option (List ℕ) → List ℕ
 after_blank None = []
 after_blank (Some word) = codes " " ++ word

@@ -17,7 +17,7 @@ fn push_dwarf_text(alloc: Global, text: &mut Vec<u8>, dwarf: Dwarf) -> Result<()
     push_answer(alloc, text, ", has seen the player ", dwarf.has_seen)
 }
 
-/// Appends the line of the dwarf of a number.
+/// Appends the line of the dwarf with a number.
 #[tactic(auto, unfolding(crate::specs::Things::dwarf_line, crate::specs::Facts::numbered_text))]
 fn push_dwarf(
     alloc: Global,

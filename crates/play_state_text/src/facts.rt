@@ -1,4 +1,4 @@
-//! Lines for what there is once in a state.
+//! Lines for what a state has once.
 
 ghost use Rattle.std.specs.Prelude.{◌≡◌, ◌++◌, OnOk, codes};
 ghost use Rattle.play_state_text.specs.Facts.{yes_or_no, numbered_text, numbered_line, signed_line};
@@ -19,7 +19,7 @@ pub(crate) fn yes_or_no(answer: bool) -> &'static str
     if answer { "yes" } else { "no" }
 }
 
-/// Appends a number after what says what it is of.
+/// Appends a number after a text that says what the number is.
 #[tactic(auto, unfolding(crate::specs::Facts::numbered_text))]
 pub(crate) fn push_numbered(
     alloc: Global,
@@ -151,7 +151,7 @@ pub(crate) fn push_ending(text: &mut Vec<u8>, ending: Option<Ending>) -> Result<
     }
 }
 
-/// Appends how long the lamp still burns, and whether the player was warned.
+/// Appends how long the lamp still burns, and whether the player has been warned.
 #[tactic(auto, unfolding(crate::specs::Facts::lamp_text))]
 pub(crate) fn push_lamp(alloc: Global, text: &mut Vec<u8>, lamp: Lamp) -> Result<(), AllocError>
     ensures { OnOk result (text.new.items ≡ text.old.items ++ lamp_text lamp) }

@@ -34,7 +34,7 @@ fn push_anchor(alloc: Global, text: &mut Vec<u8>, anchor: Anchor) -> Result<(), 
     }
 }
 
-/// Whether an object is as others have it.
+/// Whether an object is as it is among other objects.
 fn is_as_in(begun: &Objects, objects: &Objects, object: Object) -> bool
     ensures { result ≡ is_as_in begun.now objects.now object }
 {

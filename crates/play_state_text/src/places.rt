@@ -121,7 +121,7 @@ fn push_visits_of(
     push_numbered_line(alloc, text, ": ", u32::from(visits))
 }
 
-/// Appends how often each place was described that was.
+/// Appends how often each place was described, for those that were.
 #[tactic(auto, using(crate::proofs::EntryLemmas::no_lines))]
 pub(crate) fn push_visits(
     alloc: Global,

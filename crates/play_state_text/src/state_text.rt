@@ -23,8 +23,8 @@ pub struct Counts {
     pub score: u32,
 }
 
-/// Appends the text of a state in a cave whose objects begin thus. No other state has it: see
-/// `are_told_apart`.
+/// Appends the text of a state in a cave whose objects begin like this. No other state has that
+/// text: see `are_told_apart`.
 #[tactic(auto, unfolding(crate::specs::StateText::state_text))]
 pub fn push_state(
     alloc: Global,

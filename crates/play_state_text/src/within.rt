@@ -1,5 +1,5 @@
-//! The numbers of a state are within what is written of numbers. It is a law, so nothing is done
-//! but that the numbers are gone over, of which each says its range.
+//! The numbers of a state are within the range of written numbers. This is a law: it only goes over
+//! the numbers, each of which gives its range.
 
 ghost use Rattle.std.specs.Prelude.{◌≡◌, ◌≤◌, length, Some};
 ghost use Rattle.base_lines.specs.Numbers.{LAST_HINT};
@@ -198,7 +198,7 @@ fn hints(state: &State)
     }
 }
 
-/// The numbers of a state are within what is written of numbers.
+/// The numbers of a state are within the range of written numbers.
 pub(crate) fn is_within(state: &State)
     ensures { IsStateWithin state.now }
 {

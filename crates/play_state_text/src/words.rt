@@ -10,7 +10,7 @@ use data_rows::WORDS_PER_CLASS;
 use std::alloc::{AllocError, Global};
 use world_objects::Object;
 
-/// The greatest number of an action, of which verbs are.
+/// The greatest number of an action, which each verb is.
 const LAST_ACTION: u16 = 99;
 
 /// Appends a word after a blank, if there is one.

@@ -1,4 +1,4 @@
--- What is written and the halves that are left are what was there and all halves.
+-- What is written, followed by the remaining halves, is what was there followed by all halves.
 use Rattle.std.proofs.Common.{◌≡◌, ◌++◌, drop}
 use Rattle.play_state_text.specs.Things.{more_halves_text}
 use Rattle.play_state_text.proofs.places.push_more_halves.Given as goal
