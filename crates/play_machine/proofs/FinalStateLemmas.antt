@@ -15,7 +15,7 @@ pub begun_objects : (cave : CaveView) (stream : ℕ)
 unfolding begun_state
 begun_objects cave stream = refl
 
--- so the state of a play of the game that is held is the one that playing it leads to
+-- so the state of a play of the held game is the one to which playing it leads
 pub final_state-played : (cave : CaveView) (game : Game) (opening : List Part)
     (pieces : List (List Part)) (ticked : List Bool) (state : State) (turns : ℕ)
     → turns ≡ ticks ticked (length game.log)

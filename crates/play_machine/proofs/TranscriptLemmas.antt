@@ -34,7 +34,7 @@ module _ {Piece : Type 0} (show : Piece → ℕ → List ℕ) (ticked : List Boo
       → told_from place log pieces ≡ []
   told_from-end place log pieces past = rw (drop_all place log past) refl
 
--- what was written, and what is still to be written, are the whole: so they are after one more line
+-- what was written and what is still to be written are the whole, and still are after one more line
 pub transcript_line-more : {Held Piece : Type 0} (show : Piece → ℕ → List ℕ) (items : Held → Piece)
     (place turns : ℕ) (log : List (List ℕ)) (pieces : List Held) (ticked : List Bool)
     (line : List ℕ) (piece : Held) (text text' end whole : List ℕ) → place < length log

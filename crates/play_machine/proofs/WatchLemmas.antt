@@ -37,7 +37,7 @@ length-ticks_of cave state [] = refl
 length-ticks_of cave state (line ∷ lines) =
     ap (λ n. suc n) (length-ticks_of cave ((cave_rules cave).after state line) lines)
 
--- the turns of all lines are those of as many of them as there are
+-- the turns of all lines are those of the whole list of lines
 ticks-all : (cave : CaveView) (state : State) (lines : List (List ℕ))
     → ticks (ticks_of (cave_rules cave) state lines) (length lines) ≡ turns_of cave state lines
 ticks-all cave state lines =
@@ -57,8 +57,8 @@ turns-few : (turns place : ℕ) (ticked : Bool) → turns ≤ place
 turns-few turns place true few = omega (arith, few)
 turns-few turns place false few = omega (arith, few)
 
--- what was noted, with what is noted of the lines that are left, is what is noted of the play, and
--- so are its state and its turns
+-- what was noted, with what is noted of the remaining lines, is what is noted of the play, and so
+-- it is with its state and its turns
 pub record IsOnCourse {F W : Type 0} (HasNoted : List F → W → Type 0)
     (first : CaveView → State → List Part → List F) (facts : CaveView → Moment → List F) (cave : CaveView)
     (seed : ℕ) (log : List (List ℕ)) (old now : W) (place turns : ℕ) (state : State)

@@ -1,4 +1,4 @@
--- The state that a play leads to.
+-- The state to which a play leads.
 use Rattle.std.specs.Prelude.{ℕ, List, length}
 use Rattle.cave_data.specs.CaveView.{CaveView}
 use Rattle.cave_world.specs.declared.state.State.{State}
@@ -10,7 +10,7 @@ use Rattle.turn_ends.specs.Score.{score_of}
 use Rattle.play_machine.specs.Machine.{cave_rules}
 use Rattle.play_machine.specs.Transcript.{ticks}
 
--- the text of a state that a play is in after so many turns
+-- the text of the state of a play after this many turns
 abbrev pub state_text_after : CaveView → ℕ → State → List ℕ
 state_text_after cave turns state =
     state_text cave (starting_objects cave) turns (score_of cave state) state

@@ -7,7 +7,7 @@ use Rattle.cave_turn.specs.Turns.{start_of_game, turn_on_line}
 use Rattle.cave_world.specs.declared.part.Part.{Part}
 use Rattle.cave_world.specs.declared.state.State.{State}
 
--- what is answered at the start and at a line is what the turn says there
+-- the answer at the start and at a line is what the turn says there
 abbrev pub cave_rules : CaveView → MachineRules State (List Part)
 cave_rules cave = record {
   begun = λ seed. (start_of_game cave seed).state;

@@ -9,9 +9,9 @@ use Rattle.cave_turn.specs.Turns.{rows_on_line, turn_on_line}
 use Rattle.replay_edits.specs.Edit.{Game}
 use Rattle.play_machine.specs.Machine.{cave_rules}
 
--- a line of a play: its place in the log, the turns that are taken up to it and with it, whether it
--- takes one itself, the states before and after it, what is said at it, and the rows of the rules
--- that are noted at it
+-- a line of a play: its place in the log, the turns up to and including it, whether it takes one
+-- itself, the states before and after it, what is said at it, and the rows of the rules that are
+-- noted at it
 pub record Moment : Type 0 where
   pub place : ℕ
   pub line : List ℕ
@@ -22,7 +22,7 @@ pub record Moment : Type 0 where
   pub parts : List Part
   pub rows : List RuleRow
 
--- the line at a place, where it is played in a state, after so many turns
+-- the line at a place, played in a state after this many turns
 abbrev pub moment_at : CaveView → ℕ → ℕ → State → List ℕ → Moment
 moment_at cave place turns state line =
     let turn = turn_on_line cave state line in record {

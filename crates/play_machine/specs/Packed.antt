@@ -4,7 +4,7 @@ use Rattle.base_lines.specs.Numbers.{LAST_PLACE}
 use Rattle.cave_world.specs.declared.state.State.{State}
 use Rattle.play_machine.specs.declared.packed_state.Fields.{Fields}
 
--- the visits of so many places, of which those after the first ones were never described
+-- the visits of this many places, if those after the first ones were never described
 abbrev pub visits_from : List ℕ → ℕ → List ℕ
 visits_from first places = first ++ replicate (places - length first) 0
 

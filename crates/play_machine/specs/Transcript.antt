@@ -31,17 +31,17 @@ last_line score most turns =
     ++ (decimal score
     ++ (codes " of " ++ (decimal most ++ (codes ", turns " ++ (decimal turns ++ codes "\n")))))
 
--- how many of the first so many lines ticked
+-- how many of the lines before a place ticked
 abbrev pub ticks : List Bool → ℕ → ℕ
 ticks ticked count = count_by (λ ticks. ticks) (take count ticked)
 
 module _ {Piece : Type 0} (show : Piece → ℕ → List ℕ) where
-  -- a line and what was said at it, where so many turns have been taken
+  -- a line and what was said at it, after this many turns
   abbrev pub shown_line : List ℕ → Piece → ℕ → List ℕ
   shown_line line piece turns =
       if is_shown (log_line line) then echo line ++ show piece turns else []
 
-  -- the line at a place and what was said at it, where the lines up to it took the turns
+  -- the line at a place and what was said at it, with the turns that the lines up to it took
   abbrev pub transcript_line : List Bool → ℕ × (List ℕ × Piece) → List ℕ
   transcript_line ticked (place, (line, piece)) = shown_line line piece (ticks ticked (place + 1))
 

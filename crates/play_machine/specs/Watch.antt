@@ -29,7 +29,7 @@ moment_of seen before rows = record {
   rows = rows;
 }
 
--- so a play of the game in the cave ends: in the state that its lines lead to, after their turns
+-- the end of a play of the game in the cave: the state to which its lines lead, after their turns
 pub record IsEndOf (cave : CaveView) (game : Game) (end : PlayEnd) : Type 0 where
   pub state_is : end.state ≡ state_after (cave_rules cave) ((cave_rules cave).begun game.seed) game.log
   pub turns_are : end.turns

@@ -21,7 +21,7 @@ use cave_world::{Out, State};
 use std::alloc::{AllocError, Global};
 use turn_scene::Rules;
 
-/// How far a play has come, and what its lines are played in.
+/// How far a play has got, and what its lines are played in.
 #[derive(Drop)]
 struct Course<R> {
     state: State,

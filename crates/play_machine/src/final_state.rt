@@ -1,4 +1,4 @@
-//! The state that a play leads to.
+//! The state to which a play leads.
 
 ghost use Rattle.std.specs.Prelude.{◌≡◌, ◌++◌, OnOk};
 ghost use Rattle.play_machine.specs.FinalState.{final_state_text, state_text_after};
@@ -11,7 +11,7 @@ use play_state_text::{Counts, push_state};
 use std::alloc::{AllocError, Global};
 use turn_ends::begun_state;
 
-/// Appends the text of a state that a play is in after so many turns.
+/// Appends the text of the state of a play after this many turns.
 pub fn push_state_after(
     alloc: Global,
     machine: CaveMachine<'_>,
@@ -29,7 +29,7 @@ pub fn push_state_after(
     push_state(alloc, text, cave, &begun.objects, counts, state)
 }
 
-/// Appends the text of the state that the play of a session of the machine leads to.
+/// Appends the text of the state to which the play of a session of the machine leads.
 pub fn push_final_state(
     alloc: Global,
     session: &Session<CaveMachine<'_>>,

@@ -37,7 +37,7 @@ impl<'a> CaveMachine<'a> {
         }
     }
 
-    /// The cave that is played in.
+    /// The cave in which the game is played.
     pub fn cave(self) -> &'a Cave
         ensures { result.now ≡ cave_of self.entry.rules }
     {

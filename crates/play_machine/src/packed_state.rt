@@ -11,7 +11,7 @@ use std::marker::Model;
 use std::rc::Rc;
 use world_objects::Objects;
 
-/// The fields of a state. Objects that are the same as in the state kept before are shared with it.
+/// The fields of a state. It shares its objects with the state kept before, if they are the same.
 /// The places after those whose visits are here were never described.
 #[derive(Drop)]
 struct Fields {
@@ -58,7 +58,7 @@ fn are_same(objects: &Objects, others: &Objects) -> bool
 }
 
 impl PackedState {
-    /// The objects, shared with those of the state kept before where they are the same.
+    /// The objects, shared with those of the state kept before if they are the same.
     fn share(
         alloc: Global,
         objects: &Objects,

@@ -12,7 +12,7 @@ use play_tables::{StepRow, push_step_head_row, push_step_row};
 use std::alloc::{AllocError, Global};
 use std::mem;
 
-/// A text that the table of the lines of a play is appended to.
+/// A text to which the table of the lines of a play is appended.
 #[derive(Drop)]
 pub struct StepTable {
     pub text: Vec<u8>,

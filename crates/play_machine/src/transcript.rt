@@ -67,8 +67,8 @@ fn push_echo(text: &mut Vec<u8>, line: &[u8]) -> Result<(), AllocError>
     Ok(())
 }
 
-/// Appends the line of the score, the greatest score, and how many turns were taken. It is asked
-/// for no score above the greatest.
+/// Appends the line of the score, the greatest score, and how many turns were taken. No score above
+/// the greatest is passed to it.
 fn push_last_line(
     alloc: Global,
     text: &mut Vec<u8>,
@@ -83,7 +83,7 @@ fn push_last_line(
     text.extend_from_slice(line.as_bytes())
 }
 
-/// Appends the last line of the transcript of a play that is in a state after so many turns.
+/// Appends the last line of the transcript of a play that is in a state after this many turns.
 pub fn push_play_end(
     alloc: Global,
     machine: CaveMachine<'_>,
@@ -98,7 +98,7 @@ pub fn push_play_end(
     push_last_line(alloc, text, score, machine.max_score(), turns)
 }
 
-/// Appends a line of the log and what was said at it, where the line is shown.
+/// Appends a line of the log, if it is shown, and what was said at it.
 fn push_line(
     cave: &Cave,
     text: &mut Vec<u8>,
@@ -116,7 +116,7 @@ fn push_line(
     render(cave, piece, turns, text)
 }
 
-/// A text that the transcript of a play is appended to, up to its last line.
+/// A text to which the transcript of a play is appended, up to its last line.
 #[derive(Drop)]
 pub struct Transcript {
     pub text: Vec<u8>,

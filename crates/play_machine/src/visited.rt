@@ -30,7 +30,7 @@ fn is_unvisited(block: &[Visits; BLOCK]) -> bool
     *block == [Count::new(0); BLOCK]
 }
 
-/// The visits of all places, where those after the first ones were never described.
+/// The visits of all places, if those after the first ones were never described.
 pub(crate) fn all_visits(first: &[Visits]) -> [Visits; PLACES]
     requires { length first.now ≤ LAST_PLACE }
     ensures { result ≡ visits_from first.now LAST_PLACE }

@@ -14,7 +14,7 @@ use std::alloc::{AllocError, Global};
 use std::mem;
 use turn_text::render;
 
-/// A text that the lines of a play are appended to, and what is said at one of them, which is kept
+/// A text to which the lines of a play are appended, and what is said at one of them, which is kept
 /// apart until it is written as a string.
 #[derive(Drop)]
 pub struct WalkLines {

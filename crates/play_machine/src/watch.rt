@@ -40,7 +40,7 @@ pub struct Begun<'a> {
     pub parts: &'a [Part],
 }
 
-/// A line that was played, as a watch sees it: its place, the turns up to it and with it, whether
+/// A line that was played, as a watch sees it: its place, the turns up to and including it, whether
 /// it took one, what is kept of the state before it, the state after it, and what was said at it.
 #[derive(Clone, Copy)]
 pub struct SeenLine<'a, B> {
@@ -98,7 +98,7 @@ pub trait Watch: Drop {
             self.old self.new) };
 }
 
-/// A watch that notes nothing, for what is asked of the end of a play alone.
+/// A watch that notes nothing, for those who ask only about the end of a play.
 #[derive(Drop)]
 pub struct Unwatched;
 

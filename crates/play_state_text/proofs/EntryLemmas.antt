@@ -70,7 +70,7 @@ module _ (name : List ℕ) where
   GoOn x = (n : ℕ) (u : List ℕ) → GoesOn (x n ++ u)
 
   module _ (b d : ℕ → Bool) (x y : ℕ → List ℕ) (Same : ℕ → Type 0) where
-    -- the line of each number in the first text, or in both, says the same
+    -- what both texts leave out is the same, and so is what equal lines say
     abbrev pub TellsEach : ℕ → Type 0
     TellsEach last = (n : ℕ) → IsUpTo last n
         → (b n ≡ true → d n ≡ true → Same n)

@@ -1,10 +1,10 @@
--- The draws so far and those that are left are all.
+-- The draws so far and the remaining ones are all draws.
 use Rattle.std.proofs.Common.{◌≡◌, ℕ, suc, ◌+◌, ◌-◌, ◌<◌, ◌≤◌, true, false, refl, arith}
 use Rattle.std.specs.Prelude.{◌==◌}
 use Rattle.cave_words.specs.Stream.{next}
 use Rattle.play_tables.specs.Draws.{draws_within, draws_between}
 
--- so many draws were made, and with those that are made from a number of the stream on they are
+-- this many draws were made, and together with those from a number of the stream on they are all
 unfoldable pub draws_from : ℕ → ℕ → ℕ → ℕ
 draws_from drawn at to = drawn + draws_within (1048576 - drawn) at to
 
@@ -25,7 +25,7 @@ no_more : (at to : ℕ) → draws_within 0 at to ≡ 0
 unfolding draws_within
 no_more at to = refl
 
--- where the two are one number, no draw is made
+-- if the two are the same number, no draw is made
 pub draws_end : (drawn at to : ℕ) → drawn < 1048576 → at == to ≡ true
     → draws_from drawn at to ≡ drawn
 unfolding draws_from

@@ -1,4 +1,4 @@
--- The rows of what counts besides treasures, one after another.
+-- The rows of what counts apart from treasures, one after another.
 use Rattle.std.proofs.Common.{◌≡◌, ◌++◌, [], codes, refl}
 use Rattle.std.specs.List.{flat_map}
 use Rattle.cave_data.specs.CaveView.{CaveView}

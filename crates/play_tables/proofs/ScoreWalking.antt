@@ -11,7 +11,7 @@ use Rattle.play_tables.specs.ScoreRows.{hints_in}
 use Rattle.play_tables.specs.ScoreRows.{hint_score_row, hint_rows_of}
 use Rattle.play_tables.specs.ScoreTable.{row_text}
 
--- the rows of the numbers from one on, up to an end, of which something holds
+-- the rows of those numbers from one on, up to an end, of which something holds
 abbrev rows_from : (ℕ → Bool) → (ℕ → TableRow) → ℕ → ℕ → List ℕ
 rows_from holds row first end =
     flat_map row_text (map row (filter holds (range_with_len first (end - first))))

@@ -5,18 +5,17 @@ use Rattle.base_lines.specs.LogLine.{log_line}
 use Rattle.base_lines.specs.declared.log_line.LogLine.{LogLine}
 use Rattle.base_lines.specs.declared.log_line.LogLine.TheVariants as kind
 
--- how many draws lead from one number of the stream to another, the fewest, where that is at most
--- so many
+-- the fewest draws that lead from one number of the stream to another, if this many are enough
 unfoldable pub draws_within : ℕ → ℕ → ℕ → ℕ
 draws_within zero from to = 0
 draws_within (suc most) from to =
     if from == to then 0 else suc (draws_within most (next from) to)
 
--- any number of the stream is drawn before it begins anew
+-- every number of the stream is drawn before it begins again
 unfoldable pub draws_between : ℕ → ℕ → ℕ
 draws_between from to = draws_within STREAM_SIZE from to
 
--- a seed line begins the stream anew, and draws nothing
+-- a seed line begins the stream again, and draws nothing
 abbrev pub draws_by : LogLine → ℕ → ℕ → ℕ
 draws_by (kind.Seed seed) from to = 0
 draws_by kind.Comment from to = draws_between from to

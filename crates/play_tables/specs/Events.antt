@@ -1,4 +1,4 @@
--- What happened at a line of a log, told by the states before and after it.
+-- What happened at a line of a log, by the states before and after it.
 use Rattle.std.specs.Prelude.{ℕ, Bool, true, false, ◌==◌, ◌&&◌, ◌||◌, not, nat_lt, nat_le, List}
 use Rattle.std.specs.Prelude.{[], ◌∷◌, ◌++◌, codes, Option, None, Some, if◌then◌else◌}
 use Rattle.std.specs.List.{flat_map, list_any, range_with_len}
@@ -50,7 +50,7 @@ is_dwarf_killed s t = nat_lt s.dwarves.kills t.dwarves.kills
 abbrev pub is_new_at : ℕ → State → State → ℕ → Bool
 is_new_at place s t x = is_first_at t.objects place x && not (is_first_at s.objects place x)
 
--- a treasure came to where the pirate keeps its chest, while the player isn't there
+-- a treasure came to the place of the pirate's chest, while the player isn't there
 abbrev pub is_hoard_richer : Option ℕ → State → State → Bool
 is_hoard_richer None s t = false
 is_hoard_richer (Some hoard) s t =
@@ -100,7 +100,7 @@ unfoldable pub event_text : CaveView → State → State → Event → List ℕ
 event_text cave s t event =
     if event_happens cave s t event then codes "," ++ event_name event else []
 
--- the names of the events, without the comma before the first, or a dash where there are none
+-- the names of the events, without the comma before the first, or a dash if there are none
 abbrev pub without_comma : List ℕ → List ℕ
 without_comma [] = codes "-"
 without_comma (comma ∷ names) = names

@@ -24,14 +24,14 @@ abbrev pub item_words : List Change → List ℕ
 item_words (change ∷ []) = edit_words change
 item_words changes = codes "group of " ++ decimal (length changes)
 
--- the text that a change put in, or took out: then its inverse puts it in
+-- the text that a change inserted, or deleted: then its inverse inserts it
 abbrev pub text_of_change : Change → Change → List ℕ
 text_of_change (inserts place line) inverse = line
 text_of_change (deletes place) inverse = own_line inverse
 text_of_change (replaces place line) inverse = line
 text_of_change (reseeds seed) inverse = []
 
--- of changes with those that take them back; a group has no text of its own
+-- the text of changes with those that take them back; a group has no text of its own
 abbrev pub item_text : List Change → List Change → List ℕ
 item_text (change ∷ []) (inverse ∷ []) = text_of_change change inverse
 item_text changes inverses = []
@@ -41,7 +41,7 @@ item_columns line changes inverses =
     decimal line ++ (codes "\t" ++ (item_words changes ++ (codes "\t"
     ++ (without_tabs (item_text changes inverses) ++ codes "\t"))))
 
--- ---- what came of it
+-- ---- what it did
 
 -- the place at which the plays met
 abbrev pub met_column : Option ℕ → List ℕ
@@ -69,7 +69,7 @@ accepted_row line changes inverses from met played score turns s t =
     item_columns line changes inverses
     ++ (replay_columns from met played ++ state_columns score turns s t)
 
--- an item was refused, for the reason of this number: it put nothing in
+-- an item was refused, for the reason with this number, and inserted nothing
 unfoldable pub refused_row : ℕ → List Change → ℕ → List ℕ
 refused_row line changes number =
     item_columns line changes [] ++ (codes "refused " ++ (decimal number

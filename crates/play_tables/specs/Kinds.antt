@@ -99,11 +99,11 @@ AreAlike s t = list_all (λ kind. is_same_in kind s t) each_kind ≡ true
 unfoldable pub difference_text : State → State → FactKind → List ℕ
 difference_text s t kind = if is_same_in kind s t then [] else codes ", " ++ kind_name kind
 
--- the names of the kinds, without the comma before the first, or a dash where there are none
+-- the names of the kinds, without the comma before the first, or a dash if there are none
 abbrev pub without_separator : List ℕ → List ℕ
 without_separator (comma ∷ blank ∷ names) = names
 without_separator _ = codes "-"
 
--- in which kinds of facts two states differ
+-- the kinds of facts in which two states differ
 unfoldable pub differences_text : State → State → List ℕ
 differences_text s t = without_separator (flat_map (difference_text s t) each_kind)

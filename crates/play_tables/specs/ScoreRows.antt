@@ -16,7 +16,8 @@ use Rattle.turn_ends.specs.Treasures.{treasure_rows}
 use Rattle.turn_ends.specs.Score.{score_rows, price_of, score_of}
 use Rattle.play_tables.specs.Step.{without_tabs}
 
--- a row: its name, what its parts count where it has two, what it counts, and the most that it can
+-- a row: its name, what its parts count if it has two, what it counts, and the most that it can
+-- count
 pub record TableRow : Type 0 where
   pub name : List ℕ
   pub parts : List (List ℕ)
@@ -30,7 +31,7 @@ unfoldable pub named_text : List ℕ → ℕ → List ℕ → List ℕ
 named_text kind number text =
     kind ++ (decimal number ++ (codes ": " ++ without_tabs (first_line text)))
 
--- what the rows of the score are called, after that of the treasures
+-- the names of the rows of the score, after those of the treasures
 abbrev pub row_names : List (List ℕ)
 row_names =
     codes "lives" ∷ codes "ending" ∷ codes "dwarves" ∷ codes "closing" ∷ codes "closed"
@@ -59,7 +60,7 @@ other_row s (name, row) = record {
   most = pos row.most;
 }
 
--- what a hint costs that was taken
+-- what a hint costs if it was taken
 abbrev pub hint_cost : CaveView → State → ℕ → ℕ
 hint_cost cave s hint = if is_hint_taken s hint then price_of cave hint else 0
 

@@ -27,7 +27,7 @@ other_text name points most = row_text (record {
   most = pos most;
 })
 
--- the score, of the greatest one
+-- the score, out of the greatest one
 abbrev pub score_row_text : ℕ → ℕ → List ℕ
 score_row_text score most = other_text (codes "score") score most
 
@@ -39,7 +39,7 @@ class_name (Some rated) = named_text (codes "class ") rated.bound rated.text
 unfoldable pub class_line : Option Rated → List ℕ
 class_line class = class_name class ++ codes "\t-\t-\t-\t-\n"
 
--- the points that are missing for the next class, where there is one
+-- the points that are missing for the next class, if there is one
 abbrev pub points_wanted_text : ℕ → Option Rated → List ℕ
 points_wanted_text score None = codes "-"
 points_wanted_text score (Some rated) =
@@ -49,13 +49,13 @@ unfoldable pub next_class_text : ℕ → Option Rated → List ℕ
 next_class_text score class =
     codes "next class\t-\t-\t" ++ (points_wanted_text score class ++ codes "\t-\n")
 
--- the score, its class, and what the next one wants
+-- the score, its class, and what is missing for the next one
 unfoldable pub end_text : CaveView → ℕ → List ℕ
 end_text cave score =
     score_row_text score (max_score_of cave)
     ++ (class_line (class_of cave score) ++ next_class_text score (class_of cave score))
 
--- the names of the columns, the rows, and what they come to
+-- the names of the columns, the rows, and what they add up to
 unfoldable pub score_table : CaveView → State → List ℕ
 score_table cave s =
     score_head_row ++ (flat_map row_text (table_rows cave s) ++ end_text cave (score_of cave s))

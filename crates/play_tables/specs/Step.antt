@@ -1,4 +1,4 @@
--- The row of a line of a log, told by the line and the states before and after it.
+-- The row of a line of a log, by the line and the states before and after it.
 use Rattle.std.specs.Prelude.{ℕ, ◌==◌, if◌then◌else◌, List, ◌++◌, codes, map, Option, None}
 use Rattle.std.specs.Prelude.{Some}
 use Rattle.std.specs.Fmt.{decimal, signed_decimal}

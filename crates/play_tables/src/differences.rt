@@ -1,4 +1,4 @@
-//! In which kinds of facts two states differ, as a column.
+//! The kinds of facts in which two states differ, as a column.
 
 ghost use Rattle.std.specs.Prelude.{◌≡◌, ◌++◌, OnOk};
 ghost use Rattle.std.specs.List.{flat_map};
@@ -26,7 +26,7 @@ fn push_difference(
     text.extend_from_slice(kind_name(kind).as_bytes())
 }
 
-/// Appends the names of those of some kinds in which the states differ, each after a comma.
+/// Appends the names of those of these kinds in which the states differ, each after a comma.
 fn push_each_difference(
     text: &mut Vec<u8>,
     before: &State,
@@ -42,7 +42,7 @@ fn push_each_difference(
     Ok(())
 }
 
-/// The names without the comma and the blank before the first, or a dash where there are none.
+/// The names without the comma and the blank before the first, or a dash if there are none.
 fn without_separator(names: &[u8]) -> &[u8]
     ensures { result.now ≡ without_separator names.now }
 {

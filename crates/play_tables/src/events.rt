@@ -1,4 +1,4 @@
-//! What happened at a line of a log, told by the states before and after it.
+//! What happened at a line of a log, by the states before and after it.
 
 ghost use Rattle.std.specs.Prelude.{◌≡◌, ◌++◌, OnOk};
 ghost use Rattle.std.specs.List.{flat_map, list_any, range_with_len};
@@ -117,7 +117,7 @@ fn is_treasure_new_at(place: Place, before: &State, after: &State) -> bool
     false
 }
 
-/// Whether a treasure came to where the pirate keeps its chest, while the player isn't there.
+/// Whether a treasure came to the place of the pirate's chest, while the player isn't there.
 fn is_hoard_richer(hoard: Option<Place>, before: &State, after: &State) -> bool
     ensures { result ≡ is_hoard_richer hoard before.now after.now }
 {
@@ -223,7 +223,7 @@ fn push_event(
     text.extend_from_slice(event_name(event).as_bytes())
 }
 
-/// Appends the names of those of some events that happened, each after a comma.
+/// Appends the names of those of these events that happened, each after a comma.
 fn push_each_event(
     text: &mut Vec<u8>,
     rules: &Rules<'_>,
@@ -256,7 +256,7 @@ pub fn each_event() -> [Event; 9]
     ]
 }
 
-/// The names without the comma before the first, or a dash where there are none.
+/// The names without the comma before the first, or a dash if there are none.
 fn without_comma(names: &[u8]) -> &[u8]
     ensures { result.now ≡ without_comma names.now }
 {

@@ -46,7 +46,7 @@ fn item_words(alloc: Global, edits: &[Edit]) -> Result<String, AllocError>
     }
 }
 
-/// The line that an edit puts in.
+/// The line that an edit inserts.
 fn own_line(edit: &Edit) -> &[u8]
     ensures { result.now ≡ own_line (change_of edit.now) }
 {
@@ -56,7 +56,7 @@ fn own_line(edit: &Edit) -> &[u8]
     }
 }
 
-/// The text that an edit put in, or took out.
+/// The text that an edit inserted, or deleted.
 fn text_of_change<'a>(edit: &'a Edit, inverse: &'a Edit) -> &'a [u8]
     ensures { result.now ≡ text_of_change (change_of edit.now) (change_of inverse.now) }
 {
@@ -67,7 +67,7 @@ fn text_of_change<'a>(edit: &'a Edit, inverse: &'a Edit) -> &'a [u8]
     }
 }
 
-/// The text that an item put in or took out.
+/// The text that an item inserted or deleted.
 fn item_text<'a>(edits: &'a [Edit], inverse: &'a [Edit]) -> &'a [u8]
     ensures { result.now ≡ item_text (changes_of edits.now) (changes_of inverse.now) }
 {
@@ -77,7 +77,7 @@ fn item_text<'a>(edits: &'a [Edit], inverse: &'a [Edit]) -> &'a [u8]
     }
 }
 
-/// Appends what an item is: its line, its edits, and the text that they put in or took out.
+/// Appends what an item is: its line, its edits, and the text that they inserted or deleted.
 #[tactic(auto, unfolding(crate::specs::ItemRow::item_columns))]
 pub fn push_item_columns(
     alloc: Global,
@@ -121,8 +121,8 @@ pub fn push_replay_columns(
     text.extend_from_slice(columns.as_bytes())
 }
 
-/// Appends the score and the turns of the edited log, and what its last state differs in from the
-/// one before.
+/// Appends the score and the turns of the edited log, and how its last state differs from the one
+/// before.
 #[tactic(auto, unfolding(crate::specs::ItemRow::state_columns))]
 pub fn push_state_columns(
     alloc: Global,
@@ -144,7 +144,7 @@ pub fn push_state_columns(
     text.extend_from_slice(b"\n")
 }
 
-/// Appends the row of an item that was refused, for the reason of a number.
+/// Appends the row of an item that was refused, with the number of the reason.
 #[tactic(auto, unfolding(crate::specs::ItemRow::refused_row))]
 pub fn push_refused_row(
     alloc: Global,

@@ -1,5 +1,4 @@
-//! That a difference is told wherever there is one. It is the contract of a function that does
-//! nothing.
+//! A law: each difference is reported. It is the contract of a function that does nothing.
 
 ghost use Rattle.std.specs.Prelude.{◌≡◌};
 ghost use Rattle.cave_world.specs.declared.state.State.{State};

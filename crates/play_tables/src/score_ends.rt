@@ -1,4 +1,4 @@
-//! What the rows come to.
+//! What the rows add up to.
 
 ghost use Rattle.std.specs.Prelude.{◌≡◌, ◌++◌, OnOk, option_map};
 ghost use Rattle.cave_data.specs.Printing.{rating};
@@ -40,7 +40,7 @@ fn push_class(
     text.extend_from_slice(b"\t-\t-\t-\t-\n")
 }
 
-/// Appends the points that are missing for the next class, where there is one.
+/// Appends the points that are missing for the next class, if there is one.
 fn push_points_wanted(
     alloc: Global,
     text: &mut Vec<u8>,
@@ -76,7 +76,7 @@ fn push_next_class(
     text.extend_from_slice(b"\t-\n")
 }
 
-/// Appends the score, its class, and what the next one wants.
+/// Appends the score, its class, and what is missing for the next one.
 #[tactic(auto, unfolding(crate::specs::ScoreTable::end_text))]
 pub(crate) fn push_end(
     alloc: Global,

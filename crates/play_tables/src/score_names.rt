@@ -1,4 +1,4 @@
-//! What rows are called.
+//! The names of rows.
 
 ghost use Rattle.std.specs.Prelude.{◌≡◌, ◌++◌, OnOk, unwrap_or, []};
 ghost use Rattle.cave_data.specs.CaveView.{name_of};
@@ -10,7 +10,7 @@ use data_bindings::first_line;
 use std::alloc::{AllocError, Global};
 use world_objects::Object;
 
-/// Appends what something is called, by its kind, its number and the first line of its text.
+/// Appends the name of something: its kind, its number and the first line of its text.
 #[tactic(auto, unfolding(crate::specs::ScoreRows::named_text))]
 pub(crate) fn push_named_text(
     alloc: Global,

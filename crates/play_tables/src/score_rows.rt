@@ -26,7 +26,7 @@ use turn_scene::treasures::{FIRST_TREASURE, LAST_TREASURE};
 use turn_scene::{Rules, is_known};
 use world_objects::Object;
 
-/// What a treasure counts that was found.
+/// What a treasure counts if it was found.
 fn found_points(state: &State, treasure: Object) -> u32
     ensures { result ≡ (score_row 2 (is_seen treasure)).points state.now }
 {
@@ -37,7 +37,7 @@ fn found_points(state: &State, treasure: Object) -> u32
     }
 }
 
-/// What a treasure counts more that is at home.
+/// What more a treasure counts if it is at home.
 fn home_points(rules: &Rules<'_>, state: &State, treasure: Object) -> u32
     ensures value { let cave = cave_of rules.now in
         result ≡ (score_row (worth cave treasure - 2) (is_safe cave treasure)).points state.now }
@@ -116,14 +116,14 @@ pub(crate) fn push_other(
     text.extend_from_slice(row.as_bytes())
 }
 
-/// What the lives count where no death has taken one.
+/// What the lives count if no death has taken one.
 fn most_life_points() -> u32
     ensures { result ≡ 30 }
 {
     u32::from(LIVES) * POINTS_OF_LIFE
 }
 
-/// Appends the rows of what counts besides treasures.
+/// Appends the rows of what counts apart from treasures.
 pub(crate) fn push_others(
     alloc: Global,
     text: &mut Vec<u8>,
@@ -148,7 +148,7 @@ pub(crate) fn push_others(
     push_other(alloc, text, "playing", POINTS_OF_PLAYING, POINTS_OF_PLAYING)
 }
 
-/// What a hint costs that was taken.
+/// What a hint costs if it was taken.
 fn hint_cost(cave: &Cave, state: &State, hint: HintNumber) -> u32
     ensures value { result ≡ hint_cost cave.now state.now hint }
     ensures most { result ≤ 65535 }

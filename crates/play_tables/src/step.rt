@@ -13,8 +13,8 @@ use std::alloc::{AllocError, Global};
 use turn_ends::scores::score;
 use turn_scene::Rules;
 
-/// A line of a log that was played: where it is in the log, the turns up to it and with it, and the
-/// states before and after it.
+/// A played line of a log: where it is in the log, the turns up to and including it, and the states
+/// before and after it.
 #[derive(Clone, Copy)]
 pub struct StepRow<'a> {
     pub place: u32,

@@ -39,7 +39,7 @@ number_back byte =
 
 -- ---- bytes
 
--- the byte reads back, whatever follows
+-- the byte reads back, before any text that follows
 abbrev ReadsBack : List ℕ → ℕ → Type 0
 ReadsBack rest byte =
     text_of_string AtByte (string_escape byte ++ rest) ≡ after_byte byte (text_of_string AtByte rest)

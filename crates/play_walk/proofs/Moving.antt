@@ -18,7 +18,7 @@ module _ (s t : Layout) where
       ∙ ap (λ (l : List ℕ). filter (is_moved s t) l ++ cond (is_moved s t (n + 1)) ((n + 1) ∷ []) [])
       (map-id (range_with_len 1 n)))
 
-  -- one object more, which was moved
+  -- one more object, which was moved
   pub moved_one : (n x : ℕ) (xs : List ℕ) (b : Bool) → xs ≡ moved_up_to s t n
       → x ≡ n + 1 → b ≡ is_moved s t x → b ≡ true → xs ++ x ∷ [] ≡ moved_up_to s t (n + 1)
   moved_one n x xs b found next is moved =
@@ -27,7 +27,7 @@ module _ (s t : Layout) where
       rw (found, next)
       (sym (moved_more n ∙ ap (λ b. moved_up_to s t n ++ cond b ((n + 1) ∷ []) []) here))
 
-  -- one object more, which wasn't
+  -- one more object, which wasn't
   pub moved_no : (n x : ℕ) (xs : List ℕ) (b : Bool) → xs ≡ moved_up_to s t n
       → x ≡ n + 1 → b ≡ is_moved s t x → b ≡ false → xs ≡ moved_up_to s t (n + 1)
   moved_no n x xs b found next is stays =

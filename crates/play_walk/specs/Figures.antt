@@ -18,7 +18,7 @@ use Rattle.world_objects.specs.Objects.{objects_in_hands}
 use Rattle.play_walk.specs.Json.{Member, json_list, next_member, next_value, quoted}
 use Rattle.play_walk.specs.Objects.{carried_object}
 
--- what is told of a line: a number, a word or none, words, or objects, with how each is written
+-- what a figure is: a number, a word or none, words, or objects, with how each is written
 pub data Figure : Type 0 where
   Count : ℕ → Figure
   Signed : ℤ → Figure
@@ -83,15 +83,15 @@ outcome_figures cave s t =
     ∷ (codes "ended", OneWord (ending_word t.ending))
     ∷ (codes "happened", SomeWords (happened_words cave s t)) ∷ []
 
--- the figures of a line that was played after so many turns, by the states before and after it
+-- the figures of a line that was played after this many turns, by the states before and after it
 unfoldable pub figures : CaveView → List ℕ → ℕ → State → State → List (List ℕ × Figure)
 figures cave line turns s t =
     place_figures s t ++ (count_figures cave turns t
     ++ (chance_figures line s t ++ outcome_figures cave s t))
 
--- ---- as a table has them
+-- ---- in a table
 
--- a figure as a table has it: what there is none of is a dash, and of objects it has the number
+-- a figure in a table: a dash if there is none, and for objects how many there are
 abbrev pub figure_column : Figure → List ℕ
 figure_column (Count n) = decimal n
 figure_column (Signed z) = signed_decimal z

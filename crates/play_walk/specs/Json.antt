@@ -88,8 +88,8 @@ json_object first members = first_member first ++ (flat_map next_member members 
 
 -- ---- how a string is read back
 
--- what comes next of a string: a byte, what follows a backslash, or a digit of the number of a
--- byte, after which so many come, and before which the digits were this number
+-- what comes next in a string: a byte, what follows a backslash, or a digit of the number of a
+-- byte, which this many digits follow, and before which the digits wrote this number
 pub data StringPart : Type 0 where
   AtByte : StringPart
   AtEscape : StringPart
@@ -121,8 +121,8 @@ text_of_string (AtDigit zero before) (digit ∷ bytes) =
 text_of_string (AtDigit (suc left) before) (digit ∷ bytes) =
     text_of_string (AtDigit left (16 * before + number_of_digit digit)) bytes
 
--- what is between the quotes of a string reads back as its text, whatever follows: no byte of a
--- text ends its string
+-- what is between the quotes of a string reads back as its text, before any text that follows: no
+-- byte of a text ends its string
 abbrev pub StringsReadBack : Type 0
 StringsReadBack =
     (text rest : List ℕ)

@@ -1,4 +1,4 @@
--- Objects as JSON: those that are carried, and those that are elsewhere than before.
+-- Objects as JSON: those that are carried, and those that have moved.
 use Rattle.std.specs.Prelude.{ℕ, ◌+◌, Bool, not, ◌&&◌, List, [], ◌∷◌, codes}
 use Rattle.std.specs.Fmt.{decimal}
 use Rattle.std.specs.List.{filter, range_with_len}
@@ -46,7 +46,7 @@ is_moved before after x =
     not (spot_eq.eq-value.it (spot_of before x) (spot_of after x)
     && anchor_eq.eq-value.it (anchor_of before x) (anchor_of after x))
 
--- of the objects 1 to n, those that are
+-- those of the objects 1 to n that are
 unfoldable pub moved_up_to : Layout → Layout → ℕ → List ℕ
 moved_up_to before after n = filter (is_moved before after) (range_with_len 1 n)
 

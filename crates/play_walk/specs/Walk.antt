@@ -13,7 +13,7 @@ unfoldable pub text_members : List ℕ → List ℕ → List Member
 text_members line said = (codes "line", line) ∷ (codes "said", json_string said) ∷ []
 
 -- a line: its place in the log, its text and what was said at it, its figures, and which objects
--- are elsewhere than before it
+-- have moved
 unfoldable pub walk_line : CaveView → ℕ → List ℕ → List ℕ → ℕ → State → State → List ℕ
 walk_line cave place line said turns s t =
     json_object (codes "place", decimal place)
@@ -22,8 +22,8 @@ walk_line cave place line said turns s t =
     ++ moved_member cave s.objects t.objects ∷ []))
     ++ codes "\n"
 
--- the opening: it is no line, it has the figures of a line that changes nothing, and each object
--- that is anywhere came there
+-- the opening: it isn't a line, it has the figures of a line that changes nothing, and each object
+-- that is anywhere has moved there
 unfoldable pub walk_opening : CaveView → List ℕ → State → List ℕ
 walk_opening cave said s =
     json_object (codes "place", codes "null")

@@ -112,7 +112,7 @@ fn push_next_event(
     text.extend_from_slice(b"\"")
 }
 
-/// Appends the names of those of some events that happened, each after a comma.
+/// Appends the names of those of these events that happened, each after a comma.
 fn push_more_events(
     text: &mut Vec<u8>,
     rules: &Rules<'_>,
@@ -153,7 +153,7 @@ fn push_event_names(
     push_more_events(text, rules, before, after, &each_event())
 }
 
-/// Appends what happened. What is kept for a moment takes no memory where nothing did.
+/// Appends what happened. If nothing did, the text that is kept for a moment takes no memory.
 #[tactic(auto, unfolding(crate::specs::Figures::next_figure, crate::specs::Figures::figure_member))]
 fn push_happened(
     alloc: Global,

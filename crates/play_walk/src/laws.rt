@@ -1,9 +1,9 @@
-//! Laws of lines as JSON. Each is the contract of a function that does nothing.
+//! Laws about lines as JSON. Each is the contract of a function that does nothing.
 
 ghost use Rattle.play_walk.specs.Figures.{StepsHaveTheFigures};
 ghost use Rattle.play_walk.specs.Json.{StringsReadBack};
 
-/// What is between the quotes of a string reads back as its text, whatever follows.
+/// What is between the quotes of a string reads back as its text, before any text that follows.
 pub fn strings_read_back()
     ensures { StringsReadBack }
 {}

@@ -1,5 +1,5 @@
-//! A line of a play as an object of JSON: its text, what was said at it, the figures that a table of
-//! lines has, what is carried, and which objects are elsewhere than before it.
+//! A line of a play as an object of JSON: its text, what was said at it, the figures that a table
+//! of lines has, what is carried, and which objects have moved.
 #![tactic(auto)]
 
 pub mod figures;

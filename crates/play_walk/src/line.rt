@@ -68,7 +68,7 @@ pub fn push_walk_line(
     text.extend_from_slice(b"}\n")
 }
 
-/// Appends the opening, where the state is the first one, and what is said there.
+/// Appends the opening, with the first state, and what is said there.
 #[tactic(auto, using(crate::proofs::WalkLemmas::members_in_three), unfolding(crate::specs::Walk::walk_opening))]
 pub fn push_walk_opening(
     alloc: Global,

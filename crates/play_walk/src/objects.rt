@@ -1,4 +1,4 @@
-//! Objects as JSON: those that are carried, and those that are elsewhere than before.
+//! Objects as JSON: those that are carried, and those that have moved.
 
 ghost use Rattle.std.specs.Prelude.{◌≡◌, ◌++◌, OnOk, codes, decimal};
 ghost use Rattle.std.specs.List.{flat_map};
@@ -172,7 +172,7 @@ fn is_moved(before: &Objects, after: &Objects, object: Object) -> bool
     !(before.spot(object) == after.spot(object) && before.anchor(object) == after.anchor(object))
 }
 
-/// The objects that are elsewhere than they were, ascending.
+/// The objects that are elsewhere than they were, in ascending order.
 #[tactic(auto, using(crate::proofs::Moving::listing_moved))]
 fn moved(before: &Objects, after: &Objects) -> ArrayVec<Object, OBJECTS>
     ensures { result.items ≡ moved_up_to before.now after.now defined.LAST_OBJECT }

@@ -1,4 +1,4 @@
--- What was written so far, and then the lines from here on, are the transcript; what is left of the
+-- What was written so far, followed by the lines from here on, is the transcript; the remaining
 -- counts are those of these lines.
 use Rattle.std.proofs.Common.{◌≡◌, ℕ, ◌+◌, ◌<◌, ◌++◌, length, map}
 use Rattle.std.specs.Prelude.{slice_index}

@@ -1,4 +1,4 @@
--- What is written and the bytes that are left are what was there and the line.
+-- What is written, followed by the remaining bytes, is what was there followed by the line.
 use Rattle.std.proofs.Common.{◌≡◌, ◌++◌, drop, map}
 use Rattle.play_tables.specs.Step.{without_tab}
 use Rattle.play_tables.proofs.columns.push_without_tabs.Given as goal

@@ -5,7 +5,7 @@ use Rattle.play_tables.specs.ScoreTable.{row_text}
 use Rattle.play_tables.proofs.ScoreWalking.{hints_from}
 use Rattle.play_tables.proofs.score_rows.push_hints.Given as goal
 
--- what was written so far and what is left are all rows
+-- what was written so far, with the remaining rows, is all rows
 abbrev pub invariant-loop-number : goal.invariant-loop-number
 invariant-loop-number l =
     l.text.items ++ hints_from l.cave l.state l.number

@@ -6,7 +6,7 @@ use Rattle.play_tables.specs.ScoreTable.{row_text}
 use Rattle.play_tables.proofs.ScoreWalking.{treasures_from}
 use Rattle.play_tables.proofs.score_rows.push_treasures.Given as goal
 
--- what was written so far and what is left are all rows
+-- what was written so far, with the remaining rows, is all rows
 abbrev pub invariant-loop-number : goal.invariant-loop-number
 invariant-loop-number l =
     l.text.items ++ treasures_from (cave_of l.rules) l.state l.number
