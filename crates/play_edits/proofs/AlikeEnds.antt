@@ -67,7 +67,7 @@ none-unlike end default (first ∷ ends) all =
     ap (λ same. if same then [] else first ∷ ends)
     (ap (λ one. list_all (is_same_end one) (first ∷ ends)) is ∙ all)
 
--- ---- it is the text of its first end
+-- ---- the first end determines such a text
 
 by_first : (end default : LineEnd) (unended : Bool) (log : List (List ℕ)) (ends : List LineEnd)
     → ends_in (alike_text end unended log) ≡ end ∷ ends
@@ -92,7 +92,7 @@ usual-alike end default unended (line ∷ next ∷ more) good =
     (ends_in-line line (alike_text end unended (next ∷ more)) end
     (All-head IsTextLine line (next ∷ more) good))
 
--- ---- and of whether its last line has an end
+-- ---- and so does whether its last line has an end
 
 unended-alike : (end : LineEnd) (unended : Bool) (log : List (List ℕ)) → All IsTextLine log
     → alike_text end (is_unended (alike_text end unended log)) log ≡ alike_text end unended log
@@ -144,7 +144,7 @@ log_ends-alike end unended log text script good is =
     ap (λ each. ends_with usual each (is_unended text) (ends_in script))
     (none-unlike end (first_end Feed (ends_in script)) (ends_in text) all)
 
--- where each line has an end, the first end is the one of all
+-- if each line has an end, the first end is that of all lines
 pub first-closed : (end default : LineEnd) (line : List ℕ) (more : List (List ℕ))
     → All IsTextLine (line ∷ more)
     → first_end default (ends_in (alike_text end false (line ∷ more))) ≡ end

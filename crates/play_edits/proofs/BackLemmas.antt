@@ -20,7 +20,7 @@ use Rattle.play_edits.specs.Items.{game_after_item}
 use Rattle.play_edits.specs.Undo.{back_by, back_if, back_of, backs_by, backs_of}
 use Rattle.play_edits.proofs.EditLemmas.{applied_item-drop}
 
--- what came of an item says what takes it back
+-- the outcome of an item says what takes it back
 pub back_of-outcome : (guarded : Bool) (cave : CaveView) (every : ℕ) (item : Applied)
     (game next : Game) (checkpoints : List ℕ) (outcome : ItemOutcome)
     → IsItemOutcome cave every item game checkpoints outcome → next ≡ game_after_item item game
@@ -60,7 +60,7 @@ kept-nothing asked.Walk = refl
 kept-nothing asked.Score = refl
 kept-nothing asked.FinalState = refl
 
--- what is kept so far and of the items that are left is the whole: so it is after one more item
+-- what is kept so far and of the remaining items is the whole, and still is after one more item
 pub kept-more : (view : EditView) (guarded : Bool) (items : List Item) (place : ℕ) (item : Item) (game next : Game)
     (backs more whole : List (List Back)) → place < length items → item ≡ get_or items place item
     → next ≡ game_after_item (applied_item item) game
@@ -89,7 +89,7 @@ kept-whole view guarded items place game backs whole past so_far =
     sym (append-nil backs) ∙ ap (λ b. backs ++ b) (sym (kept-nothing view))
     ∙ ap (λ left. backs ++ kept_for view (backs_of guarded left game)) (sym none) ∙ so_far
 
--- turned over, the lists that are kept are the changes of the edits that are
+-- the kept lists, reversed, are the changes of the kept edits
 pub groups_turned : (groups : List (Vec BackEdit))
     → groups_in (reverse groups) ≡ reverse (groups_in groups)
 groups_turned [] = refl

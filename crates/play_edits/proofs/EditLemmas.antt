@@ -52,10 +52,10 @@ pub game_after_items-end : (items : List Item) (place : ℕ) (game : Game) → l
     → game_after_items (map applied_item (drop place items)) game ≡ game
 game_after_items-end items place game past = rw (drop_all place items past) refl
 
--- ---- what came of several items
+-- ---- the outcomes of several items
 
--- What came of the items so far, with what is to come of those that are left, is what comes of all;
--- and so are the text and the totals.
+-- The outcomes of the items so far, with those of the remaining items, are the outcomes of all; and
+-- so it is with the text and the totals.
 pub record Completes (view : EditView) (cave : CaveView) (every : ℕ) (all left : List Applied)
     (first now : Game) (opened here before text : List ℕ) (played lines : ℕ) : Type 0 where
   pub complete : List ItemOutcome → List ItemOutcome
@@ -191,7 +191,7 @@ IsApplied-whole view items place old now here before text played lines past so_f
 
 -- ---- one item
 
--- why a group is refused where the meter has counted no step
+-- why a group is refused while the meter has counted no step
 pub group_refusal-fresh : (changes same : List Change) (log : List (List ℕ)) (used : ℕ)
     → changes ≡ same → used ≡ 0
     → group_fault changes log (2 ^ 64 - 1 - used) ≡ group_refusal same log
@@ -228,7 +228,7 @@ pub game_after_item-refused : (item : Applied) (game : Game) (refused : Refusal)
 unfolding game_after_item
 game_after_item-refused item game refused some = ap (λ refusal. game_left item refusal game) some
 
--- what came of an item says whether it was refused
+-- the outcome of an item says whether it was refused
 pub item_refusal-outcome : (cave : CaveView) (every : ℕ) (item : Applied) (game : Game)
     (checkpoints : List ℕ) (outcome : ItemOutcome)
     → IsItemOutcome cave every item game checkpoints outcome

@@ -48,7 +48,7 @@ no_ends last (byte ∷ line) good =
     (not_that byte 10 both.0 refl)
     ∙ no_ends byte line both.1
 
--- the last byte is none that no line has, unless that comes before it
+-- the last byte is one that a line can have, unless the byte before is another
 pub no_such_last : (other : ℕ) → is_line_byte other ≡ false → (last : ℕ) (line : List ℕ)
     → list_all is_line_byte line ≡ true → (last == other) ≡ false
     → (last_byte last line == other) ≡ false

@@ -1,4 +1,4 @@
--- The lines of a text that is made of lines and their ends.
+-- The lines of a text that consists of lines and their ends.
 use Rattle.std.proofs.Common.{◌≡◌, ℕ, ◌-◌, Bool, true, false, cond, ◌==◌, List, [], ◌∷◌, ◌++◌}
 use Rattle.std.proofs.Common.{length, take, drop, All, sym, ap, ◌∙◌, refl, arith, append_assoc, append-nil}
 use Rattle.std.specs.Prelude.{slice_index, if◌then◌else◌}
@@ -45,7 +45,8 @@ in_parts x y ys parts e = ap (λ p. lines_of_parts (x ∷ p)) e
 abbrev HasNoFeed : List ℕ → Type 0
 HasNoFeed line = All (λ byte. is_feed byte ≡ false) line
 
--- bytes without a line feed, and then one, are a first line, less a carriage return at their end
+-- bytes without a line feed, followed by one, are a first line, without a carriage return at its
+-- end
 first_line : (front text : List ℕ) → HasNoFeed front
     → lines (front ++ 10 ∷ text) ≡ strip_carriage_return front ∷ lines text
 first_line front text none =
@@ -106,7 +107,7 @@ passes : (line : List ℕ) (more : List (List ℕ)) → All IsTextLine (line ∷
     → AllPass is_line_byte line
 passes line more good = AllPass-from_list_all is_line_byte line (All-head IsTextLine line more good)
 
--- the lines of such a text are these, whatever their ends
+-- the lines of such a text are these, with any ends
 pub lines-ended : (usual : LineEnd) (unended : Bool) (ends : List LineEnd) (log : List (List ℕ))
     → All IsTextLine log → lines (ended_text usual unended ends log) ≡ log
 lines-ended usual unended ends [] good = refl

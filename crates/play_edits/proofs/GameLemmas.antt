@@ -1,4 +1,4 @@
--- What items leave can be held.
+-- A session can hold the game that items leave.
 use Rattle.std.proofs.Common.{◌≡◌, ◌-◌, ◌^◌, List, [], ◌∷◌, Option, None, Some, refl}
 use Rattle.replay_edits.specs.Edit.{Game, IsGame}
 use Rattle.replay_edits.proofs.Inverses.{IsFree-from_none, IsGame-apply_all, group_free}

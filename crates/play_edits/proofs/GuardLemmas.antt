@@ -41,7 +41,7 @@ pub unrefused_item : (item : Applied) (log : List (List ℕ)) → item_refusal i
 unfolding item_refusal
 unrefused_item item log is = neither _ _ (edit_refusal item) is
 
--- an item whose guards are met is refused as its changes are
+-- an item whose guards are met is refused if its changes are, and for the same reason
 pub item_refusal-met : (item : Applied) (log : List (List ℕ)) (found : Option GroupFault)
     → first_unmet item.changes item.guards log ≡ None → group_refusal item.changes log ≡ found
     → item_refusal item log ≡ option_map (edit_refusal item) found
@@ -259,7 +259,7 @@ module _ (edits : List Edit) (log : List (List ℕ)) (count : ℕ)
       let line = is ∙ ap (λ some. slice_get (log_after_all some log) guard.place) same in
       rw (here, line) refl
 
--- the line of a draft in which so many of the changes that are made are made
+-- the line of a draft in which this many of the accepted changes have been made
 pub line_reached : (edits : List Edit) (log : List LineText) (count after place : ℕ)
     (draft : Draft) → IsDraft (take count edits) log after draft
     → slice_get (log_after_all (take (made_in draft) (changes_of (edits_in draft)))
@@ -274,14 +274,14 @@ within_edits edits log count counted =
     let within = counted.within in
     omega arith
 
--- a draft that was made so far is one that is made as far as it says
+-- a draft in which this many changes were made is one with as many as it says
 pub draft_own : (edits : List Edit) (log : List LineText) (made : ℕ) (draft : Draft)
     → IsDraft edits log made draft → IsDraft edits log (made_in draft) draft
 draft_own edits log made draft is = rw (← is.made_is) at is
 
 -- ---- the guards of an item
 
--- a guard that is met, and one that isn't, among those that are left
+-- a guard that is met, and one that isn't, among the remaining ones
 pub first_unmet-more : (changes : List Change) (log : List (List ℕ)) (guards : List Guard)
     (i : ℕ) (guard : Guard) → i < length guards → guard ≡ get_or guards i guard
     → unmet changes (expectation_in guard) log ≡ None
@@ -308,7 +308,7 @@ pub first_unmet-end : (changes : List Change) (log : List (List ℕ)) (guards : 
 first_unmet-end changes log guards i past =
     ap (λ some. first_unmet changes (map expectation_in some) log) (drop_all i guards past)
 
--- ---- so they refuse, and do nothing else
+-- ---- so guards refuse, and do nothing else
 
 without_guards : (item : Applied) (game : Game)
     → first_unmet item.changes item.guards game.log ≡ None

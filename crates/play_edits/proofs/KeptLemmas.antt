@@ -1,4 +1,4 @@
--- A line that is kept, byte by byte.
+-- A kept line, byte by byte.
 use Rattle.std.proofs.Common.{◌≡◌, ℕ, ◌+◌, ◌-◌, ◌<◌, suc, List, [], ◌∷◌, ◌++◌, length, take, set}
 use Rattle.std.proofs.Common.{get_or, replicate, sym, ◌∙◌, arith, append_assoc, length-append}
 use Rattle.std.proofs.lemmas.List.{take_more, length-take}
@@ -10,7 +10,7 @@ set-after : (text : List ℕ) (byte k : ℕ)
 set-after text byte k = set-append_seam text 0 (replicate k 0) byte
     ∙ sym (append_assoc text (byte ∷ []) (replicate k 0))
 
--- a byte written over the first zero after the text is one byte more of it
+-- a byte written over the first zero after the text is one more byte of it
 set-filled : (text : List ℕ) (byte i : ℕ) → length text ≡ i → i < MAX_KEPT
     → set (filled text) i byte ≡ filled (text ++ byte ∷ [])
 set-filled text byte i same short =

@@ -75,7 +75,7 @@ met_from number before (change ∷ changes) log =
     (λ line is. ap (λ some. slice_get (log_after_all some log) place) first
     ∙ expected_there change now line is) more
 
--- the line that is expected of one edit more
+-- the line that is expected for one more edit
 pub expected-more : (edits : List Edit) (log : List (List ℕ)) (i : ℕ) (edit : Edit)
     (old new whole : List (Option (List ℕ))) → i < length edits → edit ≡ get_or edits i edit
     → new ≡ old ++ expected_at (change_of edit) (log_after_all (take i (changes_of edits)) log) ∷ []
@@ -101,7 +101,7 @@ expected-more edits log i edit old new whole inside read grown so_far =
     ∙ ap (λ some. old ++ expected_lines some now) (sym (changes_of-drop edits i edit inside read))
     ∙ so_far
 
--- edits, each with the line that is expected at its place
+-- edits, each with the line expected at its place
 pub expecting-zip : (edits : List Edit) (lines : List (Option LineText))
     → backs_in (map (λ p. record { edit = p.0; expected = p.1 }) (zip edits lines))
     ≡ expecting (changes_of edits) (lines_in lines)
@@ -122,7 +122,7 @@ without_guards-map (edit ∷ edits) =
     ap (λ backs. record { change = change_of edit; expected = None } ∷ backs)
     (without_guards-map edits)
 
--- what is made of edits, where memory is there for it
+-- what is made of edits, if memory suffices
 pub backs_made : {E : Type 0} (r : Result (Vec BackEdit) E) (made : List BackEdit)
     (said : List Back) → IfOk r (λ backs. backs.items ≡ made) → backs_in made ≡ said
     → IfOk r (λ backs. backs_in backs.items ≡ said)

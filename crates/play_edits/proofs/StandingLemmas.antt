@@ -25,7 +25,7 @@ pub standing-same : (score most turns place : ℕ) (ending : Option Ending)
 standing-same score most turns place ending points greatest taken here end a b c d e =
     rw (a, b, c, d, e) refl
 
--- what is held of the play of a game says where the game is
+-- what a session holds of the play of a game says where the game is
 pub standing-played : (cave kept : CaveView) (game : Game) (opening : List Part)
     (pieces : List (List Part)) (ticks : List Bool) (state : State) → kept ≡ cave
     → IsPlay (cave_rules kept) game opening pieces ticks state

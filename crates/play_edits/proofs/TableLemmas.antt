@@ -12,7 +12,7 @@ use Rattle.play_edits.specs.Items.{game_after_item}
 use Rattle.play_edits.specs.Outcome.{ItemOutcome, standing_of}
 use Rattle.play_edits.specs.Table.{last_state, row_by, table_row}
 
--- the state that is held of the play of a game is the last one
+-- the state that a session holds of the play of a game is the last one
 pub last_state-played : (cave kept : CaveView) (game : Game) (opening : List Part)
     (pieces : List (List Part)) (ticked : List Bool) (state : State) → kept ≡ cave
     → IsPlay (cave_rules kept) game opening pieces ticked state → state ≡ last_state cave game
@@ -21,7 +21,7 @@ last_state-played cave kept game opening pieces ticked state same played =
     let here = subst (λ k. IsPlay (cave_rules k) game opening pieces ticked state) same played in
     here.state_is
 
--- what is told of an item by what is held after it
+-- what is written of an item by what is held after it
 pub row-held : (cave kept : CaveView) (item : Applied) (game now : Game) (outcome : ItemOutcome)
     (s : State) → kept ≡ cave → now ≡ game_after_item item game → s ≡ last_state cave game
     → row_by item outcome s (standing_of kept now) (last_state kept now)

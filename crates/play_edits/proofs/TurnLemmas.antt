@@ -1,4 +1,4 @@
--- Scripts run in turn.
+-- Scripts that run in turn.
 use Rattle.std.proofs.Common.{◌≡◌, ◌∙◌, ◌++◌, ◌∷◌, List, [], ap, refl, sym}
 use Rattle.std.proofs.lemmas.List.{append_assoc}
 use Rattle.replay_edits.specs.Edit.{Game}

@@ -26,7 +26,7 @@ use Rattle.play_machine.specs.Transcript.{play_text}
 use Rattle.play_machine.specs.Walk.{walk_text}
 use Rattle.play_machine.specs.declared.machine.CaveMachine.{CaveMachine}
 
--- an item was applied to what a session held, and this came of it
+-- an item was applied to what a session held, with this outcome
 pub record Applies (item : Applied) (old new : SessionView CaveMachine Piece State)
     (outcome : ItemOutcome) : Type 0 where
   pub came : IsItemOutcome old.machine.rules.cave.now old.every item old.game

@@ -1,4 +1,4 @@
--- What the items of a script make of a game, and what is reported of them.
+-- What the items of a script do to a game, and what is reported of them.
 use Rattle.std.specs.Prelude.{ℕ, List, [], ◌∷◌, ◌++◌, codes, Option, None, Some}
 use Rattle.std.specs.Fmt.{decimal}
 use Rattle.replay_edits.specs.Edit.{apply_all, Game}

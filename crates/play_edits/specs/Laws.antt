@@ -1,4 +1,4 @@
--- Laws of items: what guards do to one, and what scripts do in turn.
+-- Laws about items: what guards do to one, and what scripts do in turn.
 use Rattle.std.specs.Prelude.{◌≡◌, ◌++◌, List, ℕ, [], None, Some, take, slice_get}
 use Rattle.std.specs.List.{AllByRecursion}
 use Rattle.replay_scripts.specs.Script.{Applied, Expectation, guarded_by}
@@ -6,15 +6,15 @@ use Rattle.replay_edits.specs.Edit.{Change, Game}
 use Rattle.replay_edits.specs.Faults.{fault_of_all, log_after_all}
 use Rattle.play_edits.specs.Items.{game_after_item, game_after_items, reports}
 
--- A log meets a guard among changes: where none of those before it is refused, the log that they
+-- A log meets a guard among changes: if none of the changes before it is refused, the log that they
 -- leave has the guard's text at its place.
 abbrev pub IsMet : List Change → List (List ℕ) → Expectation → Type 0
 IsMet changes log guard =
     fault_of_all (take guard.after changes) log 0 ≡ None
     → slice_get (log_after_all (take guard.after changes) log) guard.place ≡ Some guard.text
 
--- where its guards are met, an item makes of a game what it makes without them; where one isn't,
--- the game stays
+-- if its guards are met, an item does to a game what it does without them; if one isn't, the game
+-- stays as it is
 abbrev pub GuardsRefuseAlone : Type 0
 GuardsRefuseAlone =
     (item : Applied) (game : Game)
@@ -23,8 +23,8 @@ GuardsRefuseAlone =
     × (¬ AllByRecursion (IsMet item.changes game.log) item.guards
     → game_after_item item game ≡ game)
 
--- the items of one script and then of another do what the one does, and then the other, and each is
--- reported so
+-- the items of one script and then of another do what the first does, and then what the second
+-- does, and so do their reports
 abbrev pub ScriptsRunInTurn : Type 0
 ScriptsRunInTurn =
     (first second : List Applied) (game : Game)

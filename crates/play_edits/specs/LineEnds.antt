@@ -7,7 +7,7 @@ use Rattle.play_edits.specs.declared.line_end.LineEnd.TheVariants.{Feed, Return}
 
 -- ---- ends
 
--- the bytes of an end: a line feed, alone or after a carriage return
+-- the bytes of an end: a line feed, by itself or after a carriage return
 abbrev pub bytes_of_end : LineEnd → List ℕ
 bytes_of_end Feed = 10 ∷ []
 bytes_of_end Return = 13 ∷ 10 ∷ []
@@ -18,12 +18,12 @@ is_same_end Return Return = true
 is_same_end Feed Return = false
 is_same_end Return Feed = false
 
--- the first of some ends, or this one where there is none
+-- the first of these ends, or this one if there is none
 abbrev pub first_end : LineEnd → List LineEnd → LineEnd
 first_end end [] = end
 first_end end (first ∷ ends) = first
 
--- the end of the line of a number, from 1, or the usual one where it has none
+-- the end of the line with a number, from 1, or the usual one if it has none
 abbrev pub end_of_line : LineEnd → List LineEnd → ℕ → LineEnd
 end_of_line usual ends number = unwrap_or (slice_get ends (number - 1)) usual
 
@@ -45,7 +45,7 @@ ends_from last (byte ∷ bytes) = ends_at last byte (ends_from byte bytes)
 abbrev pub ends_in : List ℕ → List LineEnd
 ends_in text = ends_from 10 text
 
--- the last of some bytes, or the one before them
+-- the last of these bytes, or the one before them
 abbrev pub last_byte : ℕ → List ℕ → ℕ
 last_byte last [] = last
 last_byte last (byte ∷ bytes) = last_byte byte bytes
@@ -62,7 +62,7 @@ last_end false line end = bytes_of_end end
 last_end true [] end = bytes_of_end end
 last_end true (byte ∷ line) end = []
 
--- lines, each with its own end, or with the usual one where there is none for it
+-- lines, each with its own end, or with the usual one if there is none for it
 abbrev pub ended_text : LineEnd → Bool → List LineEnd → List (List ℕ) → List ℕ
 ended_text usual unended ends [] = []
 ended_text usual unended ends (line ∷ []) = line ++ last_end unended line (first_end usual ends)

@@ -1,4 +1,4 @@
--- How the lines of a log end, and what the items of a script make of that.
+-- How the lines of a log end, and how the items of a script change that.
 use Rattle.std.specs.Prelude.{ℕ, ◌+◌, Bool, List, [], ◌∷◌, insert, remove, if◌then◌else◌}
 use Rattle.std.specs.List.{list_all}
 use Rattle.replay_edits.specs.Edit.{Change, inserts, deletes, replaces, reseeds}
@@ -8,8 +8,9 @@ use Rattle.play_edits.specs.declared.line_end.LineEnd.TheVariants.{Feed}
 use Rattle.play_edits.specs.declared.log_ends.LogEnds.{LogEnds}
 use Rattle.replay_scripts.specs.Script.{Applied, line_of_refusal}
 
--- How the lines of a log end: all by the usual end, where no others are listed, or each by its own;
--- the last line of an unended log by none. The lines of the script that edits it end so.
+-- How the lines of a log end: all with the usual end, if no others are listed, or each with its
+-- own; the last line of an unended log has no end. The script that edits the log has these ends of
+-- its lines.
 pub record EndsOfLog : Type 0 where
   pub usual : LineEnd
   pub each : List LineEnd
@@ -25,7 +26,7 @@ shown_ends ends = ends_with ends.usual ends.each.items ends.unended ends.script.
 
 -- ---- the log that is read
 
--- no ends are listed where all are the usual one
+-- no ends are listed if all are the usual one
 abbrev pub unlike_ends : LineEnd → List LineEnd → List LineEnd
 unlike_ends usual ends = if list_all (is_same_end usual) ends then [] else ends
 
@@ -34,12 +35,12 @@ ends_by ends unended script =
     let usual = first_end (first_end Feed script) ends in
     ends_with usual (unlike_ends usual ends) unended script
 
--- How the lines of a log end that a script is to edit: the usual end is that of its first line.
--- Where no line of it has an end, it is that of the script's first line.
+-- How the lines of a log that a script edits end: the usual end is that of the log's first line. If
+-- no line of the log has an end, it is that of the script's first line.
 abbrev pub log_ends : List ℕ → List ℕ → EndsOfLog
 log_ends log script = ends_by (ends_in log) (is_unended log) (ends_in script)
 
--- ---- what is made of it
+-- ---- what edits do to it
 
 -- each line keeps its end, and one that is inserted has this end
 abbrev pub ends_after : Change → LineEnd → List LineEnd → List LineEnd
@@ -57,7 +58,7 @@ ends_after_changes usual script item at (change ∷ changes) ends =
     ends_after_changes usual script item (at + 1) changes
     (ends_after change (end_of_line usual script (line_of_refusal item at)) ends)
 
--- where all lines end alike, they go on to end so
+-- if all lines end alike, they go on to end like that
 abbrev pub each_after : LineEnd → List LineEnd → Applied → List LineEnd → List LineEnd
 each_after usual script item [] = []
 each_after usual script item (end ∷ ends) =

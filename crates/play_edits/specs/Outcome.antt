@@ -1,4 +1,4 @@
--- What comes of the items of a script in a session, one after another.
+-- What the items of a script do in a session, one after another.
 use Rattle.std.specs.Prelude.{◌≡◌, ℕ, List, [], ◌∷◌, length, Option, None, Some, Result, Ok, Err}
 use Rattle.cave_data.specs.CaveView.{CaveView}
 use Rattle.replay_checkpoints.specs.Spacing.{IsSpaced}
@@ -15,7 +15,7 @@ use Rattle.play_edits.specs.Refusal.{item_refusal}
 use Rattle.play_edits.specs.declared.outcome.Standing.{Standing}
 use Rattle.play_edits.specs.declared.refusal.Refusal.{Refusal}
 
--- what came of an item: what was done for it, or why it was refused
+-- the outcome of an item: what was done for it, or why it was refused
 abbrev pub ItemOutcome : Type 0
 ItemOutcome = Result Done Refusal
 
@@ -46,8 +46,8 @@ standing_of cave game =
       ending = state.ending;
     }
 
--- An item was accepted in the game, whose play is held with these checkpoints, and this was done for
--- it: its log was replayed so far, has this many lines, and these edits take the item back.
+-- An item was accepted in the game, whose play is held with these checkpoints, and this was done
+-- for it: its log was replayed this far, has this many lines, and these edits take the item back.
 pub record IsDone (cave : CaveView) (every : ℕ) (item : Applied) (game : Game)
     (checkpoints : List ℕ) (done : Done) : Type 0 where
   pub accepted : item_refusal item game.log ≡ None
@@ -62,13 +62,13 @@ IsItemOutcome cave every item game checkpoints (Ok done) =
 IsItemOutcome cave every item game checkpoints (Err refusal) =
     item_refusal item game.log ≡ Some refusal
 
--- the checkpoints after an item: those before it where it was refused, and else spaced in the log
+-- the checkpoints after an item: those before it if it was refused, and otherwise spaced in the log
 -- that it leaves
 abbrev pub AreLeft : ℕ → ItemOutcome → List ℕ → Game → List ℕ → Type 0
 AreLeft every (Ok done) before game after = IsSpaced every after (length game.log)
 AreLeft every (Err refusal) before game after = after ≡ before
 
--- what came of items, each in the game and with the checkpoints that those before it left
+-- the outcomes of items, each in the game and with the checkpoints that those before it left
 abbrev pub AreOutcomes : CaveView → ℕ → List Applied → Game → List ℕ → List ItemOutcome → Type 0
 AreOutcomes cave every [] game checkpoints [] = Unit {0}
 AreOutcomes cave every [] game checkpoints (outcome ∷ outcomes) = ⊥

@@ -15,7 +15,7 @@ use Rattle.play_edits.specs.declared.refusal.Refusal.TheVariants.{Edit, NoLine, 
 
 -- ---- a line that is kept
 
--- how many bytes of a line are kept: as many as a line of a log may have
+-- how many bytes of a line are kept: the most that a line of a log may have
 abbrev pub MAX_KEPT : ℕ
 MAX_KEPT = 255
 
@@ -47,7 +47,7 @@ refusal_number (Edit at fault) = edit_number fault
 refusal_number (NoLine at) = 8
 refusal_number (OtherLine at line) = 8
 
--- the line of the script by which it is reported
+-- the line of the script that reports name for it
 abbrev pub refusal_line : Refusal → ℕ
 refusal_line (Edit at fault) = at
 refusal_line (NoLine at) = at
@@ -55,7 +55,7 @@ refusal_line (OtherLine at line) = at
 
 -- ---- what is refused
 
--- why the changes of an item are refused as a group, if they are, where the meter has counted no
+-- why the changes of an item are refused as a group, if they are, while the meter has counted no
 -- step yet
 unfoldable pub group_refusal : List Change → List (List ℕ) → Option GroupFault
 group_refusal changes log = group_fault changes log (2 ^ 64 - 1)
@@ -64,13 +64,13 @@ group_refusal changes log = group_fault changes log (2 ^ 64 - 1)
 abbrev pub edit_refusal : Applied → GroupFault → Refusal
 edit_refusal item fault = Edit (line_of_refusal item fault.at) fault.cause
 
--- what a guard is refused for where the log has this line at its place, or none
+-- why a guard is refused if the log has this line at its place, or none
 abbrev pub other_line : Expectation → Option (List ℕ) → Option Refusal
 other_line guard None = Some (NoLine guard.line)
 other_line guard (Some line) =
     if bytes_eq line guard.text then None else Some (OtherLine guard.line (kept_line line))
 
--- a guard is of the log as the changes before it leave it, if none of them is refused
+-- a guard is about the log that the changes before it leave, if none of them is refused
 abbrev pub unmet_after : List Change → Expectation → List (List ℕ) → Option Refusal
 unmet_after before guard log =
     if is_none (fault_of_all before log 0)
@@ -79,7 +79,7 @@ unmet_after before guard log =
 unfoldable pub unmet : List Change → Expectation → List (List ℕ) → Option Refusal
 unmet changes guard log = unmet_after (take guard.after changes) guard log
 
--- so many of the changes are made in a log before one is refused
+-- this many of the changes are made in a log before one is refused
 pub record IsFreeCount (changes : List Change) (log : List (List ℕ)) (count : ℕ) : Type 0 where
   pub within : count ≤ length changes
   pub tells : (k : ℕ) → k ≤ length changes

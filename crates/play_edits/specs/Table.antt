@@ -18,7 +18,7 @@ unfoldable pub last_state : CaveView → Game → State
 last_state cave game =
     let rules = cave_rules cave in state_after rules (rules.begun game.seed) game.log
 
--- the row of an item by what came of it, with the last states of the log before it and after it, and
+-- the row of an item by its outcome, with the last states of the log before it and after it, and
 -- where the game is after it
 abbrev pub row_by : Applied → ItemOutcome → State → Standing → State → List ℕ
 row_by item (Ok done) s standing t =

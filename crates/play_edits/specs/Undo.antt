@@ -1,4 +1,4 @@
--- The script that takes the accepted items of a script back.
+-- The script that takes back the accepted items of a script.
 use Rattle.std.specs.Prelude.{ℕ, Bool, true, false, List, [], ◌∷◌, ◌++◌, map, reverse, Option}
 use Rattle.std.specs.Prelude.{None, Some, slice_get, option_map, Ok, Err}
 use Rattle.replay_edits.specs.Edit.{Change, Game, changes_of, inverses_of, log_after}
@@ -18,7 +18,7 @@ expected_at (deletes place) log = slice_get log place
 expected_at (replaces place line) log = slice_get log place
 expected_at (reseeds seed) log = None
 
--- the line at the place of each change, as those before it leave the log
+-- the line at the place of each change, in the log that those before it leave
 abbrev pub expected_lines : List Change → List (List ℕ) → List (Option (List ℕ))
 expected_lines [] log = []
 expected_lines (change ∷ changes) log =
@@ -27,7 +27,7 @@ expected_lines (change ∷ changes) log =
 abbrev pub lines_in : List (Option LineText) → List (Option (List ℕ))
 lines_in lines = map (option_map (λ line. line.items)) lines
 
--- changes, each with the line that is expected at its place, if one is
+-- changes, each with the line expected at its place, if any is
 abbrev pub expecting : List Change → List (Option (List ℕ)) → List Back
 expecting [] lines = []
 expecting (change ∷ changes) [] = []
@@ -45,7 +45,7 @@ abbrev pub backs_by : Bool → List Change → List (List ℕ) → List Back
 backs_by false changes log = map without_guard changes
 backs_by true changes log = with_guards changes log
 
--- what takes an item back, by what came of it, where its edits are guarded by this log
+-- what takes an item back, by its outcome, if its edits are guarded by this log
 abbrev pub back_by : Bool → ItemOutcome → List (List ℕ) → List (List Back)
 back_by guarded (Ok done) log = backs_by guarded (changes_of done.inverse.items) log ∷ []
 back_by guarded (Err refusal) log = []
@@ -55,7 +55,7 @@ abbrev pub back_if : Option Refusal → List Back → List (List Back)
 back_if None backs = backs ∷ []
 back_if (Some refusal) backs = []
 
--- they are guarded where lines of scripts may be guards
+-- they are guarded if lines of scripts may be guards
 unfoldable pub back_of : Bool → Applied → Game → List (List Back)
 back_of guarded item game = back_if (item_refusal item game.log)
     (backs_by guarded (inverses_of item.changes game) (game_after_item item game).log)
@@ -66,6 +66,6 @@ backs_of guarded [] game = []
 backs_of guarded (item ∷ items) game =
     back_of guarded item game ++ backs_of guarded items (game_after_item item game)
 
--- the script that takes items back that were applied to a game, the last one first
+-- the script that takes back items that were applied to a game, the last one first
 abbrev pub undo_text : Bool → List Applied → Game → List ℕ
 undo_text guarded items game = script_text (reverse (backs_of guarded items game))

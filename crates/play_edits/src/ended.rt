@@ -8,8 +8,9 @@ use crate::line_end::{LineEnd, bytes_of_end, first_end};
 use base_lines::split_line;
 use std::alloc::{AllocError, Global};
 
-/// The lines of a text, each with its own end in the place of the one that it has, or with the usual
-/// one where there is none for it. In an unended text the last line has none, unless it is empty.
+/// The lines of a text, each with its own end in the place of the one that it has, or with the
+/// usual end if there is none for it. In an unended text the last line has no end, unless it is
+/// empty.
 pub fn ended_text(
     alloc: Global,
     usual: LineEnd,

@@ -33,7 +33,7 @@ pub(crate) fn unmet_guard(
     first_unmet(alloc, session.log(), &item.edits, &item.guards)
 }
 
-/// The refusal for the first of the guards among edits that a log doesn't meet.
+/// The refusal for the first guard among edits that a log doesn't meet.
 fn first_unmet(
     alloc: Global,
     log: &Blocks<LineText>,
@@ -68,7 +68,7 @@ fn free_count(edits: &[Edit], lines: usize) -> usize
     }
 }
 
-/// Makes edits of a draft until so many are made, anew where more are.
+/// Makes edits of a draft until this many are made, and begins again if more are.
 fn move_to<'a>(
     alloc: Global,
     edits: &'a [Edit],
@@ -90,7 +90,7 @@ fn move_to<'a>(
     Ok(())
 }
 
-/// The refusal for a guard where the log has this line at its place, or none.
+/// The refusal for a guard if the log has this line at its place, or none.
 fn other_line(guard: &Guard, line: Option<&[u8]>) -> Option<Refusal>
     ensures { let there = option_map (λ line. line.now) line.entry in
         result ≡ other_line (expectation_in guard.now) there }

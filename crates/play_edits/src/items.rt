@@ -29,8 +29,8 @@ fn is_memory(fault: EditFault) -> bool
     matches!(fault, EditFault::Memory)
 }
 
-/// Applies an item to the held game, all of it or nothing, and appends what is asked for of it. Only
-/// the views that tell of states or of the score look at these.
+/// Applies an item to the held game, all of it or nothing, and appends what the view asks for. Only
+/// views that show states or the score look at these.
 pub fn apply_item(
     alloc: Global,
     session: &mut Session<CaveMachine<'_>>,
@@ -92,7 +92,7 @@ fn apply_with_table_row(
     Ok(outcome)
 }
 
-/// Applies an item to the held game, all of it or nothing, and returns what came of it.
+/// Applies an item to the held game, all of it or nothing, and returns what it did.
 fn edit(
     alloc: Global,
     session: &mut Session<CaveMachine<'_>>,
@@ -130,7 +130,7 @@ fn edit_group(
     Ok(Err(Refusal::Edit(item.line_of(fault.at), fault.cause)))
 }
 
-/// Keeps what takes an item back, where that is asked for and the item was accepted.
+/// Keeps what takes an item back, if that is asked for and the item was accepted.
 pub fn keep_back(
     alloc: Global,
     session: &Session<CaveMachine<'_>>,

@@ -1,4 +1,4 @@
-//! Laws of items. Each is the contract of a function that does nothing.
+//! Laws about items. Each is the contract of a function that does nothing.
 
 ghost use Rattle.play_edits.specs.Laws.{GuardsRefuseAlone, ScriptsRunInTurn};
 
@@ -7,7 +7,7 @@ pub fn guards_refuse_alone()
     ensures { GuardsRefuseAlone }
 {}
 
-/// A script and then another one, as one script, do what the one does and then the other.
+/// Two scripts, joined to one, do what the first does and then what the second does.
 pub fn scripts_run_in_turn()
     ensures { ScriptsRunInTurn }
 {}

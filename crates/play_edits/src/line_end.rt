@@ -10,7 +10,7 @@ use std::alloc::{AllocError, Global};
 /// What ends a line of a text.
 #[derive(Clone, Copy, Debug, PartialEq, Eq)]
 pub enum LineEnd {
-    /// A line feed alone.
+    /// Just a line feed.
     Feed,
     /// A carriage return and a line feed.
     Return,
@@ -52,7 +52,7 @@ pub(crate) fn are_alike(end: LineEnd, ends: &[LineEnd]) -> bool
     ends.iter().all(|&other| is_same_end(end, other))
 }
 
-/// The first of some ends, or this one where there is none.
+/// The first of these ends, or this one if there is none.
 pub(crate) fn first_end(end: LineEnd, ends: &[LineEnd]) -> LineEnd
     ensures { result ≡ first_end end ends.now }
 {
@@ -62,7 +62,7 @@ pub(crate) fn first_end(end: LineEnd, ends: &[LineEnd]) -> LineEnd
     }
 }
 
-/// The end of the line of a number, from 1, or the usual one where it has none.
+/// The end of the line with a number, from 1, or the usual one if it has none.
 pub(crate) fn end_of_line(usual: LineEnd, ends: &[LineEnd], number: usize) -> LineEnd
     ensures { result ≡ end_of_line usual ends.now number }
 {

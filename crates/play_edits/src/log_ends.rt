@@ -1,4 +1,4 @@
-//! How the lines of a log end, and what items of a script make of that.
+//! How the lines of a log end, and how items of a script change that.
 
 ghost use Rattle.std.specs.Prelude.{◌≡◌, IfOk, OnOk};
 ghost use Rattle.replay_edits.specs.Edit.{change_of};
@@ -14,9 +14,9 @@ use std::alloc::{AllocError, Global};
 /// How the lines of a log end.
 #[derive(Debug, Drop)]
 pub struct LogEnds {
-    /// The end of each line, where they all end alike.
+    /// The end of each line, if they all end alike.
     pub usual: LineEnd,
-    /// The end of each line, where they don't.
+    /// The end of each line, if they don't.
     pub each: Vec<LineEnd>,
     /// Whether the last line has no end.
     pub unended: bool,
@@ -25,7 +25,7 @@ pub struct LogEnds {
 }
 
 impl LogEnds {
-    /// How the lines of a log end that a script is to edit.
+    /// How the lines of a log that a script edits end.
     pub fn of(alloc: Global, log: &[u8], script: &[u8]) -> Result<LogEnds, AllocError>
         ensures { IfOk result (λ ends. shown_ends ends ≡ log_ends log.now script.now) }
     {
@@ -42,7 +42,7 @@ impl LogEnds {
     }
 
     /// Makes the edits of an item among the ends: each line keeps its end, and one that is inserted
-    /// ends as its line in the script does. Lines that all end alike go on to end so.
+    /// ends as its line in the script does. Lines that all end alike go on to end like that.
     pub fn follow_item(&mut self, item: &Item) -> Result<(), AllocError>
         ensures { OnOk result
             (shown_ends self.new ≡ ends_after_item (applied_item item.now) (shown_ends self.old)) }
@@ -73,7 +73,7 @@ fn unlike_ends(alloc: Global, usual: LineEnd, ends: Vec<LineEnd>) -> Vec<LineEnd
     }
 }
 
-/// Makes an edit among the ends of the lines of a log, where an inserted line has this end.
+/// Makes an edit among the ends of the lines of a log. An inserted line has this end.
 fn edit_ends(ends: &mut Vec<LineEnd>, edit: &Edit, end: LineEnd) -> Result<(), AllocError>
     ensures { OnOk result
         (ends.new.items ≡ ends_after (change_of edit.now) end ends.old.items) }

@@ -1,4 +1,4 @@
-//! Where a game is after its last line, and what items took together.
+//! Where a game is after its last line, and what all items together took.
 
 ghost use Rattle.std.specs.Prelude.{◌≡◌, ◌+◌, ◌<◌, ◌≤◌, ◌^◌};
 ghost use Rattle.play_edits.specs.Outcome.{lines_in, played_in, standing_of};
@@ -37,7 +37,7 @@ pub(crate) fn standing_of(session: &Session<CaveMachine<'_>>) -> Standing
     }
 }
 
-/// How many lines were played for items, and how many lines the logs had that they left.
+/// How many lines were played for items, and how many lines the logs that they left had.
 #[derive(Clone, Copy, Debug, PartialEq, Eq)]
 pub struct Totals {
     pub played: u64,
@@ -45,7 +45,7 @@ pub struct Totals {
 }
 
 impl Totals {
-    /// The totals with those of one item more.
+    /// The totals with those of one more item.
     pub fn with(self, outcome: &Result<Done, Refusal>) -> Totals
         requires played_fits { self.played + 2 ^ 32 ≤ 2 ^ 64 }
         requires lines_fit { self.lines + 2 ^ 32 ≤ 2 ^ 64 }

@@ -1,4 +1,4 @@
-//! Why an item of a script is refused, and what is said of it.
+//! Why an item of a script is refused, and what is said about that.
 
 ghost use Rattle.std.specs.Prelude.{◌≡◌};
 ghost use Rattle.play_edits.specs.Refusal.{edit_number, kept_line, refusal_line, refusal_number};
@@ -8,7 +8,7 @@ ghost use Rattle.play_edits.specs.Accounts.{edit_fault_words, refusal_words, lin
 use replay_edits::EditFault;
 use std::{fmt, str};
 
-/// How many bytes of a line are kept: as many as a line of a log may have.
+/// How many bytes of a line are kept: the most that a line of a log may have.
 const MAX_KEPT: usize = 255;
 
 /// A line of a log, which lies in the value itself.
@@ -19,7 +19,7 @@ pub struct KeptLine {
 }
 
 impl KeptLine {
-    /// The first bytes of a line, all of them where a log may have it.
+    /// The first bytes of a line, or all of them if a log may have it.
     pub(crate) fn of(line: &[u8]) -> KeptLine
         ensures { result ≡ kept_line line.now }
     {
@@ -42,20 +42,20 @@ impl KeptLine {
     }
 }
 
-/// Why an item of a script is refused, as reports say it, with the line of the script by which they
-/// name it.
+/// Why an item of a script is refused, as reports say it, with the line of the script that they
+/// name for it.
 #[derive(Clone, Copy, Debug, PartialEq, Eq)]
 pub enum Refusal {
     /// An edit is refused.
     Edit(usize, EditFault),
     /// A guard expects a line at a place where the log has none.
     NoLine(usize),
-    /// A guard expects another line than the one that the log has.
+    /// A guard expects a line other than the one that the log has.
     OtherLine(usize, KeptLine),
 }
 
 impl Refusal {
-    /// The line of the script by which it is reported.
+    /// The line of the script that reports name for it.
     pub fn line(self) -> usize
         ensures { result ≡ refusal_line self }
     {
@@ -85,7 +85,7 @@ impl Refusal {
         }
     }
 
-    /// The line of the log that is said after the words.
+    /// The line of the log that follows the words.
     pub(crate) fn line_said(&self) -> &[u8]
         ensures { result.now ≡ line_said self.now }
     {

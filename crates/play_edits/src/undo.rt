@@ -13,7 +13,7 @@ use replay_edits::{Draft, Edit, LineText};
 use replay_scripts::BackEdit;
 use std::alloc::{AllocError, Global};
 
-/// The edits of a log, each with a guard of the line at its place where that is asked for.
+/// The edits of a log, each with a guard of the line at its place if that is asked for.
 pub(crate) fn backs_of(
     alloc: Global,
     edits: Vec<Edit>,
@@ -45,7 +45,7 @@ fn without_guards(alloc: Global, edits: Vec<Edit>) -> Result<Vec<BackEdit>, Allo
         .collect(alloc)
 }
 
-/// Edits, each with the line that is expected at its place, if one is.
+/// Edits, each with the line expected at its place, if any is.
 fn expecting(
     alloc: Global,
     edits: Vec<Edit>,
@@ -61,7 +61,7 @@ fn expecting(
         .collect(alloc)
 }
 
-/// The line at the place of each edit, if there is one, as the edits before it leave the log.
+/// The line at the place of each edit, if there is one, in the log that the edits before it leave.
 fn expected_lines(
     alloc: Global,
     edits: &[Edit],

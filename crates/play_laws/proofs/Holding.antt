@@ -1,4 +1,4 @@
--- A play comes to reachable states alone.
+-- A play only goes through reachable states.
 use Rattle.std.proofs.Common.{◌≡◌, ℕ, List, [], ◌∷◌, refl, sym, ◌∙◌}
 use Rattle.std.specs.Prelude.{take}
 use Rattle.play_machine.specs.Machine.{cave_rules}
@@ -16,7 +16,7 @@ leads : (cave : CaveView) (s : State) (lines : List (List ℕ))
 leads cave s [] = refl
 leads cave s (line ∷ lines) = leads cave ((cave_rules cave).after s line) lines
 
--- a state to which lines of a game lead is one that a game comes to
+-- a state to which lines of a game lead is one that a game reaches
 pub reached : (cave : CaveView) (seed : ℕ) (lines : List (List ℕ)) (s : State)
     → s ≡ state_after (cave_rules cave) ((cave_rules cave).begun seed) lines → IsReachable cave s
 reached cave seed lines s is = record {

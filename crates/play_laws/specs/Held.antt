@@ -7,11 +7,11 @@ use Rattle.cave_world.specs.declared.state.State.{State}
 use Rattle.replay_edits.specs.Edit.{Game}
 use Rattle.turn_laws.specs.Reachable.{IsLawful, IsReachable}
 
--- a game comes to the state, and it is lawful
+-- a game reaches the state, and it is lawful
 pub record IsOfAGame (cave : CaveView) (s : State) : Type 0 where
   pub reachable : IsReachable cave s
   pub lawful : IsLawful cave s
 
--- a game comes to the state at its start and to that after each of its lines, and they are lawful
+-- a game reaches the state at its start and that after each of its lines, and they are lawful
 abbrev pub EachIsOfAGame : CaveView → Game → Type 0
 EachIsOfAGame cave game = (place : ℕ) → IsOfAGame cave (state_at (cave_rules cave) game place)

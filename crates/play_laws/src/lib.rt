@@ -1,4 +1,4 @@
-//! Laws of the states that a session of a game holds.
+//! Laws about the states that a session of a game holds.
 #![tactic(auto)]
 
 ghost use Rattle.std.specs.Prelude.{◌<◌};
@@ -12,21 +12,20 @@ use turn_laws::object_laws::object_is_in_one_place;
 use turn_laws::reachable::caves_have_places;
 use world_objects::Object;
 
-/// Once a session was opened, and after each edit, accepted or refused, a game comes to the state
-/// that it holds, which is lawful, and so it is with the state after each line of the log that it
-/// holds.
+/// After a session was opened, and after each edit, accepted or refused, the state that it holds is
+/// one that a game reaches, and lawful; so is the state after each line of the log that it holds.
 pub fn held_states_are_lawful(session: &Session<CaveMachine<'_>>)
     ensures reachable { IsReachable session.now.machine.rules.cave.now session.now.state }
     ensures lawful { IsLawful session.now.machine.rules.cave.now session.now.state }
     ensures each { EachIsOfAGame session.now.machine.rules.cave.now session.now.game }
 {
-    // What these promise, of the play that is held and of its cave, is where the law begins.
+    // The law begins with what these contracts promise about the held play and its cave.
     let _state = session.state();
     caves_have_places(session.machine().cave());
 }
 
-/// Once a session was opened, and after each edit, accepted or refused, an object of the state that
-/// it holds is in one place.
+/// After a session was opened, and after each edit, accepted or refused, each object of the state
+/// that it holds is in one place.
 pub fn held_objects_are_in_one_place(session: &Session<CaveMachine<'_>>, object: Object)
     ensures { 0 < object → IsInOnePlace session.now.state.objects object }
 {

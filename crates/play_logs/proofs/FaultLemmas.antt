@@ -83,14 +83,14 @@ IsFoundFrom-later place (log ∷ logs) more found right there =
 
 -- ---- the first stages, and then the logs
 
--- a fault that is found where the logs alone are judged is found after first stages that decide none
+-- a fault that is found if only the logs are judged is found after first stages that decide none
 pub IsFoundInLogs-after : (first : List Stage) (logs : List (List ℕ)) (found : LogsFault)
     → first_decided first ≡ None → IsFoundInLogs [] logs found → IsFoundInLogs first logs found
 IsFoundInLogs-after first logs found none (inl (at, memory)) =
     inl (at, subst (stage.IsFoundIn first) (sym memory) (IsFoundIn-memory first))
 IsFoundInLogs-after first logs found none (inr (nothing, there)) = inr (none, there)
 
--- a run whose outputs are right in another way too
+-- a run whose outputs are also right in another way
 pub RunsLogs-also : (first : List Stage) (logs : List (List ℕ)) (P Q : List ℕ → Type 0)
     (old new : Option (List ℕ)) (r : Result (Unit {0}) LogsFault)
     → ((output : List ℕ) → P output → Q output)

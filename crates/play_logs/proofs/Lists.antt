@@ -1,4 +1,4 @@
--- Lists that are made of the elements of a list, for what is noted log by log.
+-- Lists made from the elements of a list, for what is noted log by log.
 use Rattle.std.proofs.Common.{◌≡◌, ℕ, ◌+◌, Bool, List, [], ◌∷◌, ◌++◌, refl, sym, ap, ap₂, ◌∙◌}
 use Rattle.std.specs.Prelude.{◌||◌}
 use Rattle.std.specs.List.{flat_map, list_any, sum_by}

@@ -132,7 +132,7 @@ HasRead-all remaining logs place AreNotes seed notes read past has =
     subst (λ ls. HasRead (map remaining ls) AreNotes seed notes read) (take_all place logs past)
     has
 
--- the reader at a place is as it was, where no later one was used
+-- the reader at a place is as it was, if no later one was used
 pub same_reader : {L : Type 0} (now logs : List L) (place : ℕ) (log : L)
     → drop place now ≡ drop place logs → log ≡ get_or now place log → log ≡ get_or logs place log
 same_reader now logs place log same is =

@@ -48,8 +48,8 @@ abbrev pub AreValidLogs : List (List ℕ) → Type 0
 AreValidLogs [] = ⊤
 AreValidLogs (log ∷ logs) = (log_fault log ≡ None) × AreValidLogs logs
 
--- the fault is found at a log, and none before it has one; after the last, memory may run out.
--- The first log has that place
+-- the fault is found at a log, and none before it has one; after the last, memory may run out. The
+-- first log has that place
 abbrev pub IsFoundFrom : ℕ → List (List ℕ) → LogsFault → Type 0
 IsFoundFrom place [] found = found ≡ at_none fault.Memory
 IsFoundFrom place (log ∷ logs) found =
@@ -62,8 +62,8 @@ IsFoundInLogs first logs found =
     ((found.log ≡ None) × stage.IsFoundIn first found.fault)
     ⊎ ((first_decided first ≡ None) × IsFoundFrom 0 logs found)
 
--- where neither the first stages nor the logs decide a fault, what was made is right, and else the
--- fault is found in them
+-- if neither the first stages nor the logs decide a fault, what was made is right, and otherwise
+-- the fault is found in them
 abbrev pub JudgesLogs : {X : Type 0} → List Stage → List (List ℕ) → (X → Type 0)
     → Result X LogsFault → Type 0
 JudgesLogs first logs P (Ok made) = (first_decided first ≡ None) × AreValidLogs logs × P made
@@ -78,7 +78,7 @@ EndsLogsBy found first logs IsOutput old new =
     × WritesPrefix IsOutput old new)
     ⊎ (IsFoundInLogs first logs found × Keeps old new)
 
--- what a run leaves: a right output, where no fault is decided, or what its fault leaves
+-- what a run leaves: a right output, if no fault is decided, or what its fault leaves
 abbrev pub RunsLogs : List Stage → List (List ℕ) → (List ℕ → Type 0)
     → Option (List ℕ) → Option (List ℕ) → Result (Unit {0}) LogsFault → Type 0
 RunsLogs first logs IsOutput old new (Ok done) =

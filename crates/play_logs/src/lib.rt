@@ -1,4 +1,5 @@
-//! Runs over several logs, each of which is played by itself, whatever is noted of their plays.
+//! Runs over several logs, each of which is played by itself, with any kind of notes on their
+//! plays.
 #![tactic(auto)]
 
 pub mod fault;

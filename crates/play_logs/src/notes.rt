@@ -1,4 +1,4 @@
-//! What is noted of the plays of logs, whatever it is.
+//! Any kind of notes on the plays of logs.
 
 ghost use Rattle.std.specs.Prelude.{◌≡◌, ℕ, List, [], ◌++◌, IfOk, OnOk, length};
 ghost use Rattle.play_logs.specs.Faults.{noted_of_all};
@@ -9,7 +9,7 @@ use cave_data::Cave;
 use play_machine::Watch;
 use std::alloc::{AllocError, Global};
 
-/// Notes on the plays of games in a cave, of which a report is written.
+/// Notes on the plays of games in a cave, from which a report is written.
 pub trait PlayNotes: Watch {
     /// What may be asked of the report.
     type View: Copy;
@@ -21,7 +21,7 @@ pub trait PlayNotes: Watch {
     fn none(alloc: Global) -> Result<Self, AllocError>
         ensures { IfOk result (λ notes. Self.HasNoted [] notes) };
 
-    /// Appends the report on the plays of so many logs.
+    /// Appends the report on the plays of this many logs.
     fn push_report(
         &self,
         alloc: Global,

@@ -38,7 +38,7 @@ pub fn run_logs<N: PlayNotes, C: Read, B: Read, L: Read, W: Write>(
     check_seed(seed)?;
     let read = read_texts(alloc, cave)?;
     let made = report_in_cave::<N, L>(alloc, &read, logs, seed, view);
-    // By a call, as in other runs: the checker goes through the tables of a cave in one place.
+    // By a call, as in other runs, so the checker goes through the tables of a cave in one place.
     drop(read);
     let text = made?;
     write_output(output, &text)?;

@@ -37,7 +37,7 @@ length-ticks_of cave state [] = refl
 length-ticks_of cave state (line ∷ lines) =
     ap (λ n. suc n) (length-ticks_of cave ((cave_rules cave).after state line) lines)
 
--- the turns of all lines are those of the whole list of lines
+-- the ticks up to the end of the lines are the turns of all lines
 ticks-all : (cave : CaveView) (state : State) (lines : List (List ℕ))
     → ticks (ticks_of (cave_rules cave) state lines) (length lines) ≡ turns_of cave state lines
 ticks-all cave state lines =

@@ -1,4 +1,4 @@
--- the lines that are left make with their ends, after those that are written, the whole text
+-- the remaining lines with their ends, after those that are written, make the whole text
 use Rattle.std.proofs.Common.{◌≡◌, ◌++◌, ◌∷◌, length}
 use Rattle.std.specs.Str.Lines.{lines}
 use Rattle.play_edits.specs.LineEnds.{ended_text}

@@ -1,4 +1,4 @@
--- what the bytes that are left give, after those that were read, is what the text gives
+-- what the remaining bytes give, after those that were read, is what the text gives
 use Rattle.std.proofs.Common.{◌≡◌, ◌++◌, length}
 use Rattle.play_edits.specs.LineEnds.{ends_from, ends_in, last_byte}
 use Rattle.play_edits.proofs.line_end.text_ends.Given as goal

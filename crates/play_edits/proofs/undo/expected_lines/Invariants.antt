@@ -1,4 +1,5 @@
--- The edits so far are made in the draft; the lines of those that are left are in the log as it is.
+-- The edits so far have been made in the draft; the lines of the remaining ones are in the log as
+-- it is.
 use Rattle.std.proofs.Common.{◌≡◌, ◌++◌, drop, take}
 use Rattle.replay_edits.specs.Draft.{IsDraft}
 use Rattle.replay_edits.specs.Edit.{changes_of, log_of}

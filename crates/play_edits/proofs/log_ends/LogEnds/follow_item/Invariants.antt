@@ -1,4 +1,4 @@
--- what the edits that are left make of the ends is what all make of them
+-- the remaining edits lead the ends to where all edits lead them
 use Rattle.std.proofs.Common.{◌≡◌, ◌+◌, length}
 use Rattle.replay_edits.specs.Edit.{changes_of}
 use Rattle.play_edits.specs.LogEnds.{ends_after_changes}
