@@ -161,14 +161,14 @@ nothing_spelled true text items none (read, spelled) =
     subst (λ all. read_guarded_from 1 all [] None [] ≡ Ok items) none read in
     cc
 
--- by which end an alike text ends, and whether its last line has one
+-- the end of the lines of an alike text, and whether its last line has one
 same_unended : (end : LineEnd) (log : List (List ℕ)) (unended : Bool) (edited : List ℕ)
     → edited ≡ ended_text end unended [] log → (unended ≡ true → is_unended edited ≡ true)
     → is_unended edited ≡ unended
 same_unended end log true edited is shut = shut refl
 same_unended end log false edited is shut = ap is_unended is ∙ unended-closed end log
 
--- the log that comes back, where this is the text of the script that takes the edits back
+-- the log that comes back, if this is the text of the script that takes the edits back
 comes_back : (end : LineEnd) (unended : Bool) (log edited_log undo_lines : List (List ℕ))
     (edited undo : List ℕ) → All IsTextLine log → All IsTextLine edited_log
     → All IsTextLine undo_lines
@@ -191,7 +191,7 @@ comes_back end unended log edited_log (first ∷ more) edited undo good after th
     ∙ ap (λ one. ended_text one (is_unended edited) [] log) (first-alike end (ends_in edited) all)
     ∙ ap (λ is. ended_text end is [] log) (same_unended end edited_log unended edited is shut)
 
--- how the lines of a log end after edits, where they all ended alike
+-- how the lines of a log end after edits, if they all ended alike
 ends_stay : (end : LineEnd) (unended : Bool) (items : List Applied) (game : Game)
     (log script : List ℕ) (each : List (List ℕ)) → All IsTextLine each
     → log ≡ ended_text end unended [] each

@@ -19,7 +19,7 @@ use Rattle.cave_play.specs.declared.judge.ReadCave.{ReadCave}
 use Rattle.cave_play.proofs.RunLemmas.{EndsBy-unwritten, unwritten_by_check}
 use Rattle.cave_play.proofs.StageLemmas.{IsFoundIn-memory}
 
--- what is told of a cave of these texts
+-- what is listed for a cave of these texts
 abbrev pub IsTold : Bool → DoubtFiles → CaveView → List ℕ → List ℕ → Result (Vec ℕ) PlayFault
     → Type 0
 IsTold strict files cave database bindings made =
@@ -36,7 +36,7 @@ IsUnlisted-told strict files database bindings cave found reads (inl memory) =
 IsUnlisted-told strict files database bindings cave found reads (inr doubtful) =
     inr (cave, reads, doubtful)
 
--- what is told of a cave that was read from these texts is their list, or a fault of theirs
+-- what is listed for a cave that was read from these texts is their list, or a fault of theirs
 pub listed-told : (strict : Bool) (files : DoubtFiles) (database bindings : List ℕ)
     (read : ReadCave) (made : Result (Vec ℕ) PlayFault)
     → first_decided (cave_stages database bindings) ≡ None → IsReadOf database bindings read

@@ -42,7 +42,7 @@ ends_after_items-end items place game ends whole past so_far =
     let none : map applied_item (drop place items) ≡ [] = rw (drop_all place items past) refl in
     sym (ap (λ left. ends_after_items left game ends) none) ∙ so_far
 
--- where no ends are listed, none come to be
+-- if no ends are listed, none are after that
 left-alike : (item : Applied) (refusal : Option Refusal) (usual : LineEnd) (unended : Bool)
     (script : List LineEnd)
     → ends_left item refusal (ends_with usual [] unended script)

@@ -1,5 +1,5 @@
--- Where no line of a script is a guard, it is read alike whether or not lines may be guards; where
--- all guards are met, it edits alike.
+-- If no line of a script is a guard, it is read alike whether or not lines may be guards; if all
+-- guards are met, it edits alike.
 use Rattle.std.proofs.Common.{◌≡◌, ℕ, ◌+◌, Bool, true, false, List, [], ◌∷◌, All, None, Option, Ok, Err}
 use Rattle.std.proofs.Common.{sym, ap, subst, ◌∙◌, refl}
 use Rattle.std.specs.Prelude.{Result}

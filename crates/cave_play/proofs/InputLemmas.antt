@@ -1,4 +1,4 @@
--- The bytes of an input, where only a prefix of them was read.
+-- The bytes of an input, if only a prefix of them was read.
 use Rattle.std.proofs.Common.{ℕ, ◌≤◌, List, [], ◌++◌, length, None, Some, sym, ap, ◌∙◌, refl, arith}
 use Rattle.std.proofs.Common.{append-nil, length-append, le_refl}
 use Rattle.std.specs.declared.option.Option.{Option}
@@ -8,7 +8,7 @@ use Rattle.cave_play.specs.Input.{Says, IsInputFault, Exceeds}
 use Rattle.cave_play.specs.declared.input.InputFault.{InputFault}
 use Rattle.cave_play.specs.declared.input.InputFault.TheVariants.{Unreadable, TooLarge, Memory}
 
--- a reader that came to its end had what it gave
+-- a reader that reached its end had what it gave
 pub Says-whole : (old new : Option (List ℕ)) (bytes : List ℕ) → Consumes old new bytes → IsAtEnd new
     → Says old bytes
 Says-whole None new bytes taken end = tt
@@ -16,7 +16,7 @@ Says-whole (Some known) None bytes taken end = absurd taken
 Says-whole (Some known) (Some rest) bytes taken end = sym (append-nil bytes)
     ∙ ap (λ l. bytes ++ l) (sym end) ∙ sym taken
 
--- some bytes that a reader has, where it gave a prefix of them
+-- some bytes that a reader has, if it gave a prefix of them
 pub Says-front : (old new : Option (List ℕ)) (front : List ℕ) → Consumes old new front
     → (bytes : List ℕ) × Says old bytes × (length front ≤ length bytes)
 Says-front None new front taken = (front, tt, le_refl _)

@@ -59,7 +59,7 @@ input_size_fault-fits from bytes fits = rw (le-ltb MAX_INPUT_BYTES (length bytes
 
 -- ---- a database and its bindings
 
--- an input that couldn't be had
+-- an input that couldn't be read
 pub IsFoundIn-database : (database bindings : List ℕ) (found : PlayFault)
     → IsRefused input.Cave database found → IsFoundIn (cave_stages database bindings) found
 IsFoundIn-database database bindings found (inl outside) = inl (inl outside)
@@ -195,7 +195,7 @@ or_game_fault-none None game seed is =
     too_many_or_none (nat_lt MAX_LOG_LINES (length game)) (nat_lt MAX_SEED seed) is
 or_game_fault-none (Some (number, flaw)) game seed is = cc
 
--- the distance of checkpoints aside, a session is refused for its game
+-- apart from the distance of checkpoints, a session is refused for its game
 by_game : (far : Bool) (other : Option OpenFault) → (if far then Some fault.Every else None) ≡ None
     → (if far then Some session.BadEvery else other) ≡ other
 by_game true other fits = absurd (cc)

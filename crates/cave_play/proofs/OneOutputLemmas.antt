@@ -42,7 +42,7 @@ pub script_by-spelled : (guarded : Bool) (script : List ℕ) (items : List Appli
 script_by-spelled false script items spelled = script_of-only script items spelled
 script_by-spelled true script items (read, spelled) = read
 
--- so it spells the same items, whoever reads it
+-- so it spells the same items each time it is read
 pub same_items : (guarded : Bool) (script : List ℕ) (items others : List Applied)
     → IsScriptBy guarded script items → IsScriptBy guarded script others → items ≡ others
 same_items guarded script items others spelled respelled =
@@ -50,7 +50,7 @@ same_items guarded script items others spelled respelled =
     let second = script_by-spelled guarded script others respelled in
     cc
 
--- so for the same items in the same cave it is the same text, whatever came of them
+-- so for the same items in the same cave it is the same text, with any outcomes
 one_view : (view : EditView) (cave : CaveView) (game : Game) (guarded : Bool) (items : List Applied)
     (near far : List ItemOutcome) (one other : List ℕ) → KnowsNoCheckpoints view
     → IsViewOf view cave game guarded items near one

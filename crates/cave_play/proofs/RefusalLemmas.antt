@@ -1,4 +1,4 @@
--- An item of a script is refused for its changes alone.
+-- An item of a script is refused only for its changes.
 use Rattle.std.proofs.Common.{◌≡◌, ℕ, ◌+◌, ◌-◌, ◌^◌, ◌≤◌, Bool, true, false, List, [], ◌∷◌, length}
 use Rattle.std.proofs.Common.{Option, None, Some, nat_lt, refl, ap, arith, le-ltb, subst}
 use Rattle.std.specs.Prelude.{⊤, if◌then◌else◌, nat_le, not}
@@ -27,7 +27,7 @@ use Rattle.cave_play.specs.declared.fault.LogFault.TheVariants as log
 use Rattle.cave_play.specs.declared.fault.PlayFault.{PlayFault}
 use Rattle.cave_play.specs.declared.fault.PlayFault.TheVariants as fault
 
--- ---- a log that is accepted can be held
+-- ---- a session can hold an accepted log
 
 unrefused : (test : Bool) (found : PlayFault) (rest : Option PlayFault)
     → (if test then Some found else rest) ≡ None → rest ≡ None
@@ -56,7 +56,7 @@ IsGame-accepted bytes seed free fits =
     IsGame-from_no_fault 1 (lines bytes) seed
     (opened_after (first_bad_line (lines bytes) 1) (lines bytes) seed valid fits)
 
--- ---- what a change is refused for
+-- ---- why a change is refused
 
 abbrev InEdit : Option EditFault → Type 0
 InEdit None = ⊤

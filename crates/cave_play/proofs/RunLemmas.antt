@@ -164,7 +164,7 @@ EndsBy-unwritten fault.LargeLog stages IsOutput old new never there kept = (ther
 EndsBy-unwritten fault.LargeUndo stages IsOutput old new never there kept = (there, kept)
 EndsBy-unwritten fault.Memory stages IsOutput old new never there kept = (there, kept)
 
--- what the writing of an output that is right leaves where it fails
+-- what writing a right output leaves if it fails
 pub EndsBy-written : (stages : List Stage) (IsOutput : List ℕ → Type 0) (old new : Option (List ℕ))
     (output : List ℕ) (found : PlayFault) → first_decided stages ≡ None → IsOutput output
     → (found ≡ fault.Write) × ((n : ℕ) × Appends old new (take n output))

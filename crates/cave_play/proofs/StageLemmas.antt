@@ -30,7 +30,7 @@ pub neither : (first later : Option PlayFault)
 neither None later none = (refl, none)
 neither (Some first) later none = cc
 
--- where the first decide none, so is one that is found at the later ones
+-- if the first decide none, so is one that is found at the later ones
 pub IsFoundIn-later : (stages later : List Stage) (found : PlayFault)
     → first_decided stages ≡ None → IsFoundIn later found → IsFoundIn (stages ++ later) found
 IsFoundIn-later [] later found none there = there
@@ -38,7 +38,7 @@ IsFoundIn-later (stage ∷ stages) later found none there =
     let (here, rest) = neither stage.decides (first_decided stages) none in
     inr (here, IsFoundIn-later stages later found rest there)
 
--- what was made, where something was
+-- what was made, if something was
 pub Judges-made : {X : Type 0} (stages : List Stage) (P : X → Type 0) (r : Result X PlayFault)
     (x : X) → r ≡ Ok x → Judges stages P r → (first_decided stages ≡ None) × P x
 Judges-made stages P r x is judged = subst (Judges stages P) is judged
@@ -47,12 +47,12 @@ Judges-made stages P r x is judged = subst (Judges stages P) is judged
 pub first_decided-one : (stage : Stage) → stage.decides ≡ None → first_decided (stage ∷ []) ≡ None
 first_decided-one stage none = ap (λ f. option_or f None) none
 
--- where a stage alone decides none, it has none to decide
+-- if a stage by itself decides none, it has none to decide
 pub first_decided-alone : (stage : Stage) → first_decided (stage ∷ []) ≡ None
     → stage.decides ≡ None
 first_decided-alone stage none = (neither stage.decides None none).0
 
--- where the first decide none, the later ones decide what is decided
+-- if the first decide none, the later ones decide what is decided
 pub first_decided-later : (stages later : List Stage)
     → first_decided stages ≡ None → first_decided (stages ++ later) ≡ first_decided later
 first_decided-later [] later none = refl
@@ -77,7 +77,7 @@ Judges-later stages later P Q (Ok x) none gives judged =
 Judges-later stages later P Q (Err found) none gives judged =
     IsFoundIn-later stages later found none judged
 
--- what is right at later stages is right after a judgement that found no fault, too
+-- what is right at later stages is also right after a judgement that found no fault
 pub Judges-after : {X : Type 0} (decides : Option PlayFault) (later : List Stage) (P : X → Type 0)
     (r : Result X PlayFault) → decides ≡ None → Judges later P r
     → Judges (judging_stage decides ∷ later) P r
@@ -85,7 +85,7 @@ Judges-after decides later P r none judged =
     Judges-later (judging_stage decides ∷ []) later P P r
     (first_decided-one (judging_stage decides) none) (λ x is. is) judged
 
--- where nothing is read, only memory is refused from outside
+-- if nothing is read, only memory is refused from outside
 outside_unread : (input : Input) (found : PlayFault)
     → IsOutsideOf None found → IsOutsideOf (Some input) found
 outside_unread input fault.Memory outside = tt
@@ -101,7 +101,7 @@ outside_unread input fault.LargeLog outside = absurd outside
 outside_unread input fault.LargeUndo outside = absurd outside
 outside_unread input fault.Write outside = absurd outside
 
--- what is right of an input that was read is right of the reading too
+-- what is right of an input that was read is also right of the reading
 pub Judges-read : {X : Type 0} (input : Input) (decides : Option PlayFault) (P : X → Type 0)
     (r : Result X PlayFault) → Judges (judging_stage decides ∷ []) P r
     → Judges (reading_stage input decides ∷ []) P r

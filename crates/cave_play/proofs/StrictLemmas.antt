@@ -25,7 +25,7 @@ use Rattle.cave_play.specs.declared.fault.PlayFault.TheVariants as fault
 use Rattle.play_edits.proofs.EditLemmas.{applied_item-drop, item_refusal-outcome}
 use Rattle.cave_play.proofs.StageLemmas.{first_decided-one}
 
--- what came of an item says whether a strict run ends there
+-- the outcome of an item says whether a strict run ends there
 pub strict_fault-outcome : (strict : Bool) (cave : CaveView) (every : ℕ) (item : Applied)
     (game : Game) (checkpoints : List ℕ) (outcome : ItemOutcome)
     → IsItemOutcome cave every item game checkpoints outcome
@@ -94,7 +94,7 @@ found_alone : (decides : Option PlayFault) (found : PlayFault)
 found_alone decides found (inl memory) = rw memory (inl (inl tt))
 found_alone decides found (inr some) = inl (inr some)
 
--- what is judged of the items of a script is judged of the script
+-- the fault of the items of a script is the fault of the script
 module _ (strict : Bool) (game : Game) (guarded : Bool) (script : List ℕ) (items : List Applied)
   where
     pub IsFoundIn-strict : (found : PlayFault) → script_by guarded script ≡ Ok items
@@ -113,7 +113,7 @@ module _ (strict : Bool) (game : Game) (guarded : Bool) (script : List ℕ) (ite
         first_decided (judging_stage (fault_of_items strict game answer) ∷ []) ≡ None) (sym spelled)
         (first_decided-one (judging_stage (first_strict_fault strict items game)) none)
 
--- where the run is strict, the stage of its items decides no failing writer
+-- if the run is strict, the stage of its items doesn't decide that the writer fails
 unwritten_refusal : (strict : Bool) (refusal : Option Refusal)
     → strict_fault_by strict refusal ≡ Some fault.Write → ⊥
 unwritten_refusal strict None found = cc

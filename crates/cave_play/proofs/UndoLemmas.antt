@@ -1,4 +1,4 @@
--- What takes items back makes of the game what it was.
+-- What takes items back gives the old game.
 use Rattle.std.proofs.Common.{◌≡◌, ℕ, Bool, true, false, List, [], ◌∷◌}
 use Rattle.std.proofs.Common.{◌++◌, map, reverse, Option, None, Some}
 use Rattle.std.proofs.Common.{sym, ap, subst, ◌∙◌, refl}

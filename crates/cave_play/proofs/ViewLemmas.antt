@@ -1,4 +1,4 @@
--- What is written of items, by what is asked for.
+-- What is written of items, by the view.
 use Rattle.std.proofs.Common.{◌≡◌, ℕ, Bool, List, [], ◌∷◌, ◌++◌, reverse, sym, ap, ◌∙◌, refl}
 use Rattle.std.proofs.Common.{append-nil}
 use Rattle.std.specs.List.{sum_by}
@@ -43,7 +43,7 @@ told-reports cave every (item ∷ items) game checkpoints (outcome ∷ outcomes)
     ∙ ap (λ refusal. item_report_by item refusal ++ reports items (game_after_item item game))
     (sym same)
 
--- and for a log, a play alone or a state, nothing is written of them
+-- and for a log, just a play or a state, nothing is written of them
 told-nothing : (tell : Applied → Game → ItemOutcome → List ℕ)
     → ((item : Applied) (game : Game) (outcome : ItemOutcome) → tell item game outcome ≡ [])
     → (items : List Applied) (game : Game) (outcomes : List ItemOutcome)
@@ -55,7 +55,7 @@ told-nothing tell none (item ∷ items) game (outcome ∷ outcomes) =
     ap (λ t. t ++ text_of_items tell items next outcomes) (none item game outcome)
     ∙ told-nothing tell none items next outcomes
 
--- what is written of items, and then what is written after them, is what was asked for
+-- what is written of items, and then what is written after them, is what the view asks for
 pub told-whole : (view : EditView) (cave : CaveView) (every : ℕ) (items : List Applied)
     (game : Game) (guarded : Bool)
     (opened : List ℕ) (outcomes : List ItemOutcome) (played lines : ℕ)

@@ -29,7 +29,7 @@ EditedLogsAreAccepted =
     → IsReadAgain (game_after_items edit.edit.items (game_of seed (lines log))).log edited
 
 -- The printed script that takes edits back is accepted unless it is too large, and spells items: in
--- the edited game each is accepted, with each guard that it has, and together they give the old game.
+-- the edited game each is accepted, with each of its guards, and together they give the old game.
 pub record GivesBack (guarded : Bool) (items : List Applied) (log : List (List ℕ)) (seed : ℕ)
     (text : List ℕ) : Type 0 where
   pub backs : List Applied
@@ -51,7 +51,7 @@ abbrev pub EndsAlike : List ℕ → Type 0
 EndsAlike text = (end : LineEnd) × (unended : Bool)
     × (text ≡ ended_text end unended [] (lines text))
 
--- A log is edited, whose lines all end alike. Then the script that takes the edits back edits the
+-- A log whose lines all end alike is edited. Then the script that takes the edits back edits the
 -- edited log, with the seed that it has: this gives the bytes of the log. If its last line has no
 -- end, the last line of the edited log must have none.
 abbrev pub UndoGivesTheBytes : Type 0

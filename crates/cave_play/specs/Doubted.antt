@@ -20,7 +20,7 @@ pub record IsReadOf (database bindings : List ℕ) (read : ReadCave) : Type 0 wh
   pub bindings_are : read.bindings.items ≡ bindings
   pub reads : Reads database bindings read.cave
 
--- a strict run takes no doubtful cave
+-- a strict run doesn't take a doubtful cave
 abbrev pub IsTaken : Bool → List Doubt → Type 0
 IsTaken true found = found ≡ []
 IsTaken false found = Unit {0}
@@ -31,7 +31,7 @@ IsFirstDoubt true (first ∷ others) found = found ≡ fault.Doubt first
 IsFirstDoubt _ _ found = ⊥
 
 module _ (strict : Bool) (files : DoubtFiles) (database bindings : List ℕ) where
-  -- the output is the list of what is doubtful of the cave of the database and its bindings
+  -- the output is the list of what is doubtful about the cave of the database and its bindings
   abbrev pub IsDoubtsList : List ℕ → Type 0
   IsDoubtsList output =
       (cave : CaveView) × Reads database bindings cave
@@ -43,16 +43,16 @@ module _ (strict : Bool) (files : DoubtFiles) (database bindings : List ℕ) whe
       (cave : CaveView) × Reads database bindings cave
       × IsFirstDoubt strict (doubts cave database bindings) found
 
-  -- what is made of the inputs: the list, where their stages decide no fault
+  -- what is made of the inputs: the list, if their stages decide no fault
   abbrev pub IsListed : List ℕ → Type 0
   IsListed text = (first_decided (cave_stages database bindings) ≡ None) × IsDoubtsList text
 
-  -- or else the fault of one of them, or a doubt
+  -- or otherwise the fault of one of them, or a doubt
   abbrev pub IsUnlisted : PlayFault → Type 0
   IsUnlisted found = IsFoundIn (cave_stages database bindings) found ⊎ IsDoubtful found
 
-  -- what the run leaves: that of each run whose output is the list, or, where it is refused for a
-  -- doubt, nothing
+  -- what the run leaves: what each run whose output is the list leaves, or nothing if it is refused
+  -- for a doubt
   abbrev pub RunsDoubts : Option (List ℕ) → Option (List ℕ) → Result (Unit {0}) PlayFault → Type 0
   RunsDoubts old new ended =
       Runs (cave_stages database bindings) IsDoubtsList old new ended

@@ -1,4 +1,4 @@
--- What an edit of a log prints, where the lines of a log and of a script end as those of the log
+-- What an edit of a log prints, with lines of a log and of a script that end as those of the log
 -- that was read.
 use Rattle.std.specs.Prelude.{◌≡◌, ℕ, Bool, false, List, [], ◌∷◌, Option, None, Some}
 use Rattle.std.specs.Str.Lines.{lines}
@@ -16,7 +16,7 @@ use Rattle.play_edits.specs.LogEnds.{EndsOfLog, ends_after_item, log_ends}
 use Rattle.replay_scripts.specs.Script.{Applied}
 use Rattle.cave_play.specs.Views.{IsEditOf}
 
--- how the lines of a log end after an item: as before it, where it was refused
+-- how the lines of a log end after an item: as before it, if it was refused
 abbrev pub ends_left : Applied → Option Refusal → EndsOfLog → EndsOfLog
 ends_left item None ends = ends_after_item item ends
 ends_left item (Some refusal) ends = ends
@@ -42,14 +42,14 @@ ended_view asked.Walk ends text = text
 ended_view asked.Score ends text = text
 ended_view asked.FinalState ends text = text
 
--- the script edits the game, whose lines end so before it, and so after it
+-- the script edits the game, whose lines end like this before it, and like that after it
 abbrev pub IsEndedEditOf : EditView → CaveView → ℕ → Game → Bool → List ℕ → EndsOfLog → ℕ
     → List ℕ → EndsOfLog → Type 0
 IsEndedEditOf view cave every game guarded script before played text after =
     (edit : IsEditOf view cave every game guarded script played text)
     × (after ≡ ends_after_items edit.items game before)
 
--- so many lines were played for the items of the script that edits the log, and this is printed
+-- this many lines were played for the items of the script that edits the log, and this is printed
 pub record IsEndedEdit (view : EditView) (cave : CaveView) (every : ℕ) (log : List ℕ) (seed : ℕ)
     (guarded : Bool) (script : List ℕ) (played : ℕ) (output : List ℕ) : Type 0 where
   pub text : List ℕ
@@ -57,8 +57,8 @@ pub record IsEndedEdit (view : EditView) (cave : CaveView) (every : ℕ) (log : 
   pub printed : output ≡ ended_view view
       (ends_after_items edit.items (game_of seed (lines log)) (log_ends log script)) text
 
--- so many lines were played, and the output is what was asked for, of the script that edits the log
--- in the cave of the database and its bindings
+-- this many lines were played, and the output is what the view asked for, when the script edits the
+-- log in the cave of the database and its bindings
 abbrev pub IsEdited : List ℕ → List ℕ → List ℕ → List ℕ → Editing → ℕ → List ℕ → Type 0
 IsEdited database bindings log script editing played output =
     (cave : CaveView) × Reads database bindings cave

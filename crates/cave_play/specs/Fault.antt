@@ -14,7 +14,7 @@ use Rattle.cave_play.specs.declared.fault.ScriptFault.TheVariants as script
 use Rattle.cave_play.specs.declared.fault.PlayFault.{PlayFault}
 use Rattle.cave_play.specs.declared.fault.PlayFault.TheVariants as fault
 
--- the status that the program ends with at a fault
+-- the status with which the program ends at a fault
 abbrev pub status_of : PlayFault → ℕ
 status_of (fault.Cave error clue) = 1
 status_of (fault.Doubt found) = 1
@@ -34,12 +34,12 @@ abbrev pub input_at : FaultSite → Input
 input_at site.Bindings = input.Bindings
 input_at _ = input.Cave
 
--- the input that a doubt is of
+-- the input that a doubt is about
 abbrev pub input_from : Source → Input
 input_from Database = input.Cave
 input_from Bindings = input.Bindings
 
--- the input that is at fault
+-- the input at fault
 abbrev pub input_of : PlayFault → Option Input
 input_of (fault.Cave error clue) = Some (input_at error.site)
 input_of (fault.Doubt found) = Some (input_from found.source)

@@ -1,4 +1,4 @@
--- Where no line of a script is a guard, or all guards are met, `--guarded` changes nothing of a run.
+-- If no line of a script is a guard, or all guards are met, `--guarded` changes nothing in a run.
 use Rattle.std.specs.Prelude.{◌≡◌, ◌↔◌, ℕ, true, false, List, [], ◌∷◌, All, None, ⊤}
 use Rattle.std.specs.List.{AllByRecursion}
 use Rattle.std.specs.Str.Lines.{lines}
@@ -18,7 +18,7 @@ use Rattle.cave_play.specs.Judge.{large_seed, log_fault}
 abbrev pub HasNoGuard : List ℕ → Type 0
 HasNoGuard script = All (λ line. expected_in line ≡ None) (lines script)
 
--- what is asked for has no guards of its own
+-- the view has no guards of its own
 abbrev pub PrintsNoGuards : EditView → Type 0
 PrintsNoGuards asked.Transcript = ⊤
 PrintsNoGuards asked.Play = ⊤
@@ -36,7 +36,7 @@ abbrev pub NoGuardsNoOtherScript : Type 0
 NoGuardsNoOtherScript =
     (script : List ℕ) → HasNoGuard script → script_by true script ≡ script_by false script
 
--- and the same is printed of it, but for a script that takes the edits back
+-- and the same is printed of it, except as a script that takes the edits back
 abbrev pub NoGuardsNoOtherOutput : Type 0
 NoGuardsNoOtherOutput =
     (view : EditView) (cave : CaveView) (every : ℕ) (log script output : List ℕ) (seed played : ℕ)
@@ -44,14 +44,14 @@ NoGuardsNoOtherOutput =
     → IsEndedEdit view cave every log seed true script played output
     ↔ IsEndedEdit view cave every log seed false script played output
 
--- each item's guards are met by the log as the items before it left it
+-- the log that the items before an item left meets its guards
 abbrev pub AreMet : List Applied → Game → Type 0
 AreMet [] game = ⊤
 AreMet (item ∷ items) game =
     AllByRecursion (IsMet item.changes game.log) item.guards
     × AreMet items (game_after_item item game)
 
--- where all guards of a script are met, the edited log has the lines that it has by the script with
+-- if all guards of a script are met, the edited log has the lines that it has by the script with
 -- blank lines in the place of its guards
 abbrev pub MetGuardsNoOtherLog : Type 0
 MetGuardsNoOtherLog =

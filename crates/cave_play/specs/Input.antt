@@ -1,4 +1,4 @@
--- What is known of the inputs before they are read, and what a reading of one answers.
+-- What is known of the inputs before they are read, and what a reading of one returns.
 use Rattle.std.specs.Prelude.{◌≡◌, ℕ, ◌+◌, ◌<◌, ⊤, Bool, true, false, List, ◌++◌, length, Option}
 use Rattle.std.specs.Prelude.{None, Some, []}
 use Rattle.std.specs.Io.KnownBytes.{Consumes, IsAtEnd}
@@ -9,24 +9,24 @@ use Rattle.cave_play.specs.declared.inputs.InputReader.{InputReader}
 use Rattle.cave_play.specs.declared.inputs.InputReader.TheVariants.{Absent, Given, Typed}
 use Rattle.cave_play.specs.declared.inputs.Inputs.{Inputs}
 
--- the bytes are those that a reader is known to have left, where it is known
+-- the bytes are those that a reader is known to have left, if that is known
 abbrev pub Says : Option (List ℕ) → List ℕ → Type 0
 Says None bytes = ⊤
 Says (Some known) bytes = bytes ≡ known
 
--- an input is too large only where it has more bytes than an input may have
+-- an input is too large only if it has more bytes than an input may have
 abbrev pub IsInputFault : List ℕ → InputFault → Type 0
 IsInputFault bytes Unreadable = ⊤
 IsInputFault bytes TooLarge = MAX_INPUT_BYTES < length bytes
 IsInputFault bytes Memory = ⊤
 
--- one reading added some bytes to the input, or came to the reader's end
+-- one reading added some bytes to the input, or reached the reader's end
 pub record Gives (old new : Option (List ℕ)) (before after : List ℕ) (some : Bool) : Type 0 where
   pub bytes : (given : List ℕ) × (after ≡ before ++ given) × Consumes old new given
   pub more : some ≡ true → length before < length after
   pub end : some ≡ false → (after ≡ before) × IsAtEnd new
 
--- one reading that failed took the bytes that it found too many, if it found so
+-- one reading that failed took the bytes that were too many, if they were too many
 pub record Exceeds (old new : Option (List ℕ)) (before : List ℕ) (fault : InputFault) : Type 0 where
   pub over : fault ≡ TooLarge → (given : List ℕ) × Consumes old new given
       × (MAX_INPUT_BYTES < length before + length given)
@@ -44,7 +44,7 @@ pub record InputTexts : Type 0 where
   pub log : List ℕ
   pub script : List ℕ
 
--- the texts are those that the readers of the inputs are known to have left, where it is known: the
+-- the texts are those that the readers of the inputs are known to have left, if that is known: the
 -- first four say what a reader has left
 pub record AreTextsOf {C B L S : Type 0} (left_database : C → Option (List ℕ))
     (left_bindings : B → Option (List ℕ)) (left_log : L → Option (List ℕ))

@@ -1,5 +1,5 @@
--- Laws of the order in which faults are found, of what edits are refused for, and that the inputs
--- have one output at most.
+-- Laws about the order in which faults are found and why edits are refused, and the law that the
+-- inputs have at most one output.
 use Rattle.std.specs.Prelude.{◌≡◌, ℕ, ◌⊎◌, ⊤, List, None, Some, Bool}
 use Rattle.std.specs.Str.Lines.{lines}
 use Rattle.replay_scripts.specs.Script.{Applied}
@@ -22,18 +22,18 @@ use Rattle.play_command.specs.declared.editing.EditView.TheVariants as asked
 use Rattle.play_command.specs.declared.views.PlayView.{PlayView}
 use Rattle.cave_play.specs.Ended.{IsEdited}
 
--- a database and its bindings have one output of a check at most
+-- a check of a database and its bindings has at most one output
 abbrev pub OneCheckedOutput : Type 0
 OneCheckedOutput =
     (database bindings : List ℕ) (view : CheckView) → AtMostOne (IsChecked view database bindings)
 
--- with a log and a seed, one output of a play, by what is asked for
+-- a play, which also has a log and a seed, has at most one for each view
 abbrev pub OnePlayedOutput : Type 0
 OnePlayedOutput =
     (database bindings log : List ℕ) (seed : ℕ) (view : PlayView)
     → AtMostOne (IsPlayed database bindings log seed view)
 
--- what is asked for knows nothing of checkpoints
+-- the view doesn't depend on checkpoints
 abbrev pub KnowsNoCheckpoints : EditView → Type 0
 KnowsNoCheckpoints asked.Transcript = ⊤
 KnowsNoCheckpoints asked.Play = ⊤
@@ -46,9 +46,9 @@ KnowsNoCheckpoints asked.Walk = ⊤
 KnowsNoCheckpoints asked.Score = ⊤
 KnowsNoCheckpoints asked.FinalState = ⊤
 
--- with a log, a script and a seed, one output of an edit, of the transcript, with reports or
--- without, of the edited log, of what takes it back, of its lines, its score and the final state,
--- whatever the distances of checkpoints, and whether the runs are strict
+-- an edit, which has a log, a script and a seed, has at most one output of the transcript, with
+-- reports or without, of the edited log, of what takes it back, of its lines, its score and the
+-- final state, at any distances of checkpoints, whether or not the runs are strict
 abbrev pub OneEditedOutput : Type 0
 OneEditedOutput =
     (database bindings log script : List ℕ) (seed near far : ℕ) (view : EditView)
@@ -71,24 +71,24 @@ IsFromOutside _ = ⊥
 abbrev pub IsDecided : List Stage → PlayFault → Type 0
 IsDecided stages found = IsFromOutside found ⊎ (first_decided stages ≡ Some found)
 
--- each fault that is found is so
+-- each fault that is found is like that
 abbrev pub FirstIsFound : Type 0
 FirstIsFound =
     (stages : List Stage) (found : PlayFault) → IsFoundIn stages found → IsDecided stages found
 
--- what is decided first of a cave is the first fault of its database and bindings
+-- the fault that is decided first for a cave is the first fault of its database and bindings
 abbrev pub CavesAreJudgedWhole : Type 0
 CavesAreJudgedWhole =
     (database bindings : List ℕ)
     → first_decided (cave_stages database bindings) ≡ inputs_fault database bindings
 
--- a fault that a change has in its log, whatever the meter and the memory
+-- a fault that a change has in its log, with any meter and any memory
 abbrev pub IsOfChange : EditFault → Type 0
 IsOfChange MeterFull = ⊥
 IsOfChange Memory = ⊥
 IsOfChange _ = ⊤
 
--- of a log that is accepted, and after any items, an item is refused for its changes alone
+-- in an accepted log, after any items, an item is refused only for its changes
 abbrev pub RefusalsAreOfChanges : Type 0
 RefusalsAreOfChanges =
     (log : List ℕ) (seed : ℕ) → log_fault log ≡ None → large_seed seed ≡ None

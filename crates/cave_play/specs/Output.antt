@@ -1,4 +1,4 @@
--- What a run writes of a cave, or of a play in it.
+-- What a run writes about a cave, or about a play in it.
 use Rattle.std.specs.Prelude.{◌≡◌, ℕ, List, ◌++◌, codes}
 use Rattle.std.specs.Fmt.{decimal}
 use Rattle.std.specs.Str.Lines.{lines}
@@ -26,7 +26,7 @@ use Rattle.play_machine.specs.Walk.{walk_text}
 abbrev pub cave_line : ℕ → List ℕ
 cave_line most = codes "cave ok, maximum " ++ (decimal most ++ codes "\n")
 
--- what is said of a cave, by what is asked for
+-- what is said about a cave, by the view
 abbrev pub check_text : CheckView → CaveView → List ℕ
 check_text Maximum cave = cave_line (max_score_of cave)
 check_text Bindings cave = bindings_text cave
@@ -40,7 +40,7 @@ IsChecked view database bindings output = (cave : CaveView) × Reads database bi
 
 -- ---- what is played
 
--- what is asked for of a play
+-- what the view asks for of a play
 abbrev pub play_view_text : PlayView → CaveView → Game → List ℕ
 play_view_text play.Transcript cave game = play_text cave game
 play_view_text play.Steps cave game = steps_text cave game
@@ -48,7 +48,8 @@ play_view_text play.Walk cave game = walk_text cave game
 play_view_text play.Score cave game = score_text cave game
 play_view_text play.FinalState cave game = final_state_text cave game
 
--- the output is what was asked for of playing the log in the cave of the database and its bindings
+-- the output is what the view asks for of playing the log in the cave of the database and its
+-- bindings
 abbrev pub IsPlayed : List ℕ → List ℕ → List ℕ → ℕ → PlayView → List ℕ → Type 0
 IsPlayed database bindings log seed view output =
     (cave : CaveView) × Reads database bindings cave

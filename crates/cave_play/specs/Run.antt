@@ -16,13 +16,14 @@ IsOutsideOf reads _ = ⊥
 abbrev pub IsFoundAt : Stage → PlayFault → Type 0
 IsFoundAt stage found = IsOutsideOf stage.reads found ⊎ (stage.decides ≡ Some found)
 
--- the fault is found at a stage before which none decides one; after the last, memory may run out
+-- the fault is found at a stage before which none decides a fault; after the last, memory may run
+-- out
 abbrev pub IsFoundIn : List Stage → PlayFault → Type 0
 IsFoundIn [] found = found ≡ fault.Memory
 IsFoundIn (stage ∷ stages) found =
     IsFoundAt stage found ⊎ ((stage.decides ≡ None) × IsFoundIn stages found)
 
--- where the stages decide no fault, what was made is right, and else the fault is found in them
+-- if the stages decide no fault, what was made is right, and otherwise the fault is found in them
 abbrev pub Judges : {X : Type 0} → List Stage → (X → Type 0) → Result X PlayFault → Type 0
 Judges stages P (Ok made) = (first_decided stages ≡ None) × P made
 Judges stages P (Err found) = IsFoundIn stages found
@@ -32,19 +33,19 @@ abbrev pub WritesPrefix : (List ℕ → Type 0) → Option (List ℕ) → Option
 WritesPrefix IsOutput old new = (output : List ℕ) × IsOutput output
     × ((n : ℕ) × Appends old new (take n output))
 
--- what a run that failed has written: at a failing writer a prefix of the output, and at every
--- other fault nothing
+-- what a run that failed has written: a prefix of the output if the writer failed, and nothing at
+-- any other fault
 abbrev pub EndsBy : PlayFault → List Stage → (List ℕ → Type 0)
     → Option (List ℕ) → Option (List ℕ) → Type 0
 EndsBy fault.Write stages IsOutput old new =
     (first_decided stages ≡ None) × WritesPrefix IsOutput old new
 EndsBy found stages IsOutput old new = IsFoundIn stages found × Keeps old new
 
--- one output at most is right
+-- at most one output is right
 abbrev pub AtMostOne : (List ℕ → Type 0) → Type 0
 AtMostOne IsOutput = (one other : List ℕ) → IsOutput one → IsOutput other → one ≡ other
 
--- what a run leaves that returns something: an output that is right with it, where its stages decide
+-- what a run that returns something leaves: an output that is right with that, if its stages decide
 -- no fault, or what its fault leaves
 abbrev pub RunsWith : {A : Type 0} → List Stage → (A → List ℕ → Type 0)
     → Option (List ℕ) → Option (List ℕ) → Result A PlayFault → Type 0
@@ -54,7 +55,7 @@ RunsWith stages IsOutput old new (Ok made) =
 RunsWith {A} stages IsOutput old new (Err found) =
     EndsBy found stages (λ output. (made : A) × IsOutput made output) old new
 
--- what a run leaves: a right output, where its stages decide no fault, or what its fault leaves
+-- what a run leaves: a right output, if its stages decide no fault, or what its fault leaves
 abbrev pub Runs : List Stage → (List ℕ → Type 0)
     → Option (List ℕ) → Option (List ℕ) → Result (Unit {0}) PlayFault → Type 0
 Runs stages IsOutput old new (Ok done) =

@@ -16,7 +16,7 @@ use Rattle.cave_play.specs.Ended.{ended_view, ends_after_items}
 use Rattle.cave_play.specs.declared.fault.PlayFault.{PlayFault}
 use Rattle.cave_play.specs.declared.fault.PlayFault.TheVariants as fault
 
--- the fault of an output of so many bytes: a log and a script may have as many as an input
+-- the fault of an output of this many bytes: a log and a script may have as many as an input
 abbrev pub size_fault : EditView → ℕ → Option PlayFault
 size_fault asked.Log bytes =
     if nat_lt MAX_INPUT_BYTES bytes then Some fault.LargeLog else None
@@ -42,7 +42,7 @@ bytes_to_read view guarded items game ends =
     length (ended_view view (ends_after_items items game ends)
     (text_to_read view guarded items game))
 
--- the fault of the output of an edit of a log, where the script spells items
+-- the fault of the output of an edit of a log, if the script spells items
 abbrev pub output_fault : EditView → Bool → List ℕ → ℕ → List ℕ
     → Result (List Applied) ScriptRefusal → Option PlayFault
 output_fault view guarded log seed script (Ok items) =

@@ -46,12 +46,12 @@ abbrev pub play_stages : List ℕ → List ℕ → List ℕ → ℕ → List Sta
 play_stages database bindings log seed =
     judging_stage (large_seed seed) ∷ cave_stages database bindings ++ log_stage log ∷ []
 
--- where the run is strict, the items of the script are judged in the game
+-- if the run is strict, the items of the script are judged in the game
 abbrev pub strict_stage : Bool → Game → Bool → List ℕ → Stage
 strict_stage strict game guarded script =
     judging_stage (fault_of_items strict game (script_by guarded script))
 
--- what is printed is judged by its size, where a run is to read it again
+-- what is printed is judged by its size, if a run may read it again
 abbrev pub size_stage : List ℕ → List ℕ → Editing → Stage
 size_stage log script editing =
     judging_stage (output_fault editing.view editing.guarded log editing.seed script

@@ -1,4 +1,4 @@
--- Runs that end where an item is refused.
+-- Runs that end as soon as an item is refused.
 use Rattle.std.specs.Prelude.{Bool, List, [], ◌∷◌, Option, None, Some, Result, Ok, Err}
 use Rattle.std.specs.Prelude.{if◌then◌else◌}
 use Rattle.std.specs.Option.{option_or}
@@ -11,7 +11,7 @@ use Rattle.play_edits.specs.declared.refusal.Refusal.{Refusal}
 use Rattle.cave_play.specs.declared.fault.PlayFault.{PlayFault}
 use Rattle.cave_play.specs.declared.fault.PlayFault.TheVariants as fault
 
--- where the run is strict, the fault of an item that is refused
+-- if the run is strict, the fault of an item that is refused
 abbrev pub strict_fault_by : Bool → Option Refusal → Option PlayFault
 strict_fault_by strict None = None
 strict_fault_by strict (Some refusal) = if strict then Some (fault.Refused refusal) else None
@@ -26,7 +26,7 @@ first_strict_fault strict (item ∷ items) game =
     option_or (strict_fault strict item game)
     (first_strict_fault strict items (game_after_item item game))
 
--- the first fault of the items of a script, where it spells some
+-- the first fault of the items of a script, if it spells some
 abbrev pub fault_of_items : Bool → Game → Result (List Applied) ScriptRefusal → Option PlayFault
 fault_of_items strict game (Ok items) = first_strict_fault strict items game
 fault_of_items strict game (Err refusal) = None

@@ -1,4 +1,4 @@
--- What an edit of a log writes, by what is asked for.
+-- What an edit of a log writes, by the view.
 use Rattle.std.specs.Prelude.{◌≡◌, ℕ, Bool, true, List, ◌++◌, length, None}
 use Rattle.std.specs.List.{sum_by}
 use Rattle.std.specs.Str.Lines.{lines}
@@ -31,9 +31,9 @@ pub record IsLogOf (game : Game) (text : List ℕ) : Type 0 where
 
 -- ---- what takes the items back
 
--- The text is the script that takes items back that were applied to the game: the items that it
--- spells are all accepted in the game that those leave, with each guard that they have, and give
--- the old one.
+-- The text is the script that takes back items that were applied to the game: the items that it
+-- spells are all accepted in the game that those leave, with all their guards, and give the old
+-- one.
 pub record IsUndo (guarded : Bool) (items : List Applied) (game : Game) (text : List ℕ) : Type 0
   where
     pub written : text ≡ undo_text guarded items game
@@ -44,7 +44,7 @@ pub record IsUndo (guarded : Bool) (items : List Applied) (game : Game) (text : 
 
 -- ---- what is written
 
--- the text is what was asked for of the items that edit the game in the cave, by what came of them
+-- the text is what the view asks for of the items that edit the game in the cave, by their outcomes
 abbrev pub IsViewOf : EditView → CaveView → Game → Bool → List Applied → List ItemOutcome → List ℕ
     → Type 0
 IsViewOf asked.Transcript cave game guarded items outcomes text =
@@ -68,8 +68,9 @@ IsViewOf asked.FinalState cave game guarded items outcomes text =
     text ≡ final_state_text cave (game_after_items items game)
 
 -- The script, some of whose lines may be guards, edits the game, whose play was opened with
--- checkpoints at this distance. So many lines were played for its items: the sum of what was played
--- for each, which is within the bound of its replay. The text is what the view prints of them.
+-- checkpoints at this distance. This many lines were played for its items: the sum of what was
+-- played for each, which is within the bound of its replay. The text is what the view prints of
+-- them.
 pub record IsEditOf (view : EditView) (cave : CaveView) (every : ℕ) (game : Game) (guarded : Bool)
     (script : List ℕ) (played : ℕ) (text : List ℕ) : Type 0 where
   pub items : List Applied

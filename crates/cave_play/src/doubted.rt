@@ -1,4 +1,4 @@
-//! The run that lists what is doubtful of a cave.
+//! The run that lists what is doubtful about a cave.
 
 ghost use Rattle.std.specs.Prelude.{◌≡◌, ◌⊎◌, ℕ, List, MatchOption, MatchResult};
 ghost use Rattle.check_doubts.specs.Doubts.{doubts};
@@ -27,7 +27,7 @@ fn first_doubt(strict: bool, found: &[Doubt]) -> Option<PlayFault>
     }
 }
 
-/// The list of what is doubtful of a cave that was read from these texts.
+/// The list of what is doubtful about a cave that was read from these texts.
 fn doubts_text(
     alloc: Global,
     read: &ReadCave,
@@ -48,7 +48,7 @@ fn doubts_text(
     Ok(text)
 }
 
-/// Reads a cave, and lists what is doubtful of it.
+/// Reads a cave, and lists what is doubtful about it.
 fn list_doubts<C: Read, B: Read>(
     alloc: Global,
     cave: &mut CaveReaders<C, B>,
@@ -68,8 +68,8 @@ fn list_doubts<C: Read, B: Read>(
     made
 }
 
-/// Lists what is doubtful of a cave, each with the name of its file and its line. A strict run is
-/// refused for the first doubt.
+/// Lists what is doubtful about a cave, each with the name of its file and its line. A strict run
+/// is refused for the first doubt.
 pub fn run_doubts<C: Read, B: Read, L: Read, S: Read, W: Write>(
     alloc: Global,
     inputs: &mut Inputs<C, B, L, S>,

@@ -29,7 +29,7 @@ use replay_scripts::{BackEdit, Item, Script};
 use std::alloc::{AllocError, Global};
 use std::io::Read;
 
-/// What edits of a log made: what is asked for, how many lines were played for them, and how the
+/// What edits of a log made: the text of the view, how many lines were played for them, and how the
 /// lines of the log end.
 #[derive(Drop)]
 pub(crate) struct Edited {
@@ -38,16 +38,16 @@ pub(crate) struct Edited {
     pub(crate) ends: LogEnds,
 }
 
-/// What is kept of the items of a script, beside what is written of them.
+/// What is kept of the items of a script, in addition to what is written of them.
 #[derive(Drop)]
 struct Kept {
-    /// What takes each back, where that is asked for.
+    /// What takes each back, if that is asked for.
     backs: Vec<Vec<BackEdit>>,
     /// How the lines of the log end.
     ends: LogEnds,
 }
 
-/// What a script makes that is applied to a session of the machine, over a log of these bytes.
+/// What a script makes when it is applied to a session of the machine, over a log of these bytes.
 pub(crate) fn edit_session<S: Read>(
     alloc: Global,
     session: &mut Session<CaveMachine<'_>>,
@@ -82,8 +82,8 @@ pub(crate) fn edit_session<S: Read>(
     })
 }
 
-/// Applies the items of a script to the held game, writes of each what is asked for, and keeps
-/// what takes each back, where that is asked for, and how the lines of the log end.
+/// Applies the items of a script to the held game, writes of each what the view asks for, and keeps
+/// what takes each back, if that is asked for, and how the lines of the log end.
 fn apply(
     alloc: Global,
     session: &mut Session<CaveMachine<'_>>,
@@ -136,8 +136,8 @@ fn leave_ends(
     }
 }
 
-/// Applies an item to the held game, and writes of it what is asked for. A strict run ends where it
-/// is refused.
+/// Applies an item to the held game, and writes of it what the view asks for. A strict run ends if
+/// the item is refused.
 fn apply_judged(
     alloc: Global,
     session: &mut Session<CaveMachine<'_>>,

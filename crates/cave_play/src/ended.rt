@@ -1,4 +1,4 @@
-//! What an edit prints, where the lines of a log and of a script end as those of the log did.
+//! What an edit prints, with lines of a log and of a script that end as those of the log did.
 
 ghost use Rattle.std.specs.Prelude.{◌≡◌, length, IfOk, MatchResult, None, Some};
 ghost use Rattle.cave_play.specs.Ended.{ended_view};
@@ -12,7 +12,7 @@ use play_command::EditView;
 use play_edits::ended_text;
 use std::alloc::{AllocError, Global};
 
-/// What is printed of what edits made, by what is asked for.
+/// What is printed of what edits made, by the view.
 pub(crate) fn ended_view(
     alloc: Global,
     view: EditView,
@@ -30,7 +30,7 @@ pub(crate) fn ended_view(
     }
 }
 
-/// Checks that a run could read an output, where it is a log or a script.
+/// Checks that a run could read an output again, if that is a log or a script.
 pub(crate) fn check_size(view: EditView, output: &[u8]) -> Result<(), PlayFault>
     ensures { MatchResult result (λ _. size_fault view (length output.now) ≡ None)
         (λ found. size_fault view (length output.now) ≡ Some found) }

@@ -83,7 +83,7 @@ pub enum ScriptFault {
     Malformed(usize, ScriptFlaw),
 }
 
-/// What is wrong with a cave: the cause, and what is known beyond it or else was expected.
+/// What is wrong with a cave: the cause, and what else is known, or otherwise what was expected.
 #[derive(Clone, Copy, Debug)]
 struct CaveWords {
     error: CaveError,
@@ -115,7 +115,7 @@ pub enum PlayFault {
     /// The seed is too great.
     #[error("a seed is at most 2147483647")]
     Seed,
-    /// The distance of checkpoints is none that a session may have.
+    /// A session may not have this distance of checkpoints.
     #[error("the distance of checkpoints is from 1 to 10000")]
     Every,
     /// The log is refused.
@@ -127,10 +127,10 @@ pub enum PlayFault {
     /// An item of the script is refused, and the run is strict.
     #[error("{0}")]
     Refused(Refusal),
-    /// The reader of an input answered an error.
+    /// The reader of an input returned an error.
     #[error("the file can't be read")]
     Read(Input),
-    /// The writer answered an error, or took nothing.
+    /// The writer returned an error, or took nothing.
     #[error("the output can't be written")]
     Write,
     /// The edited log has more bytes than an input may have, so no run could read it.
@@ -152,7 +152,7 @@ impl From<AllocError> for PlayFault {
     }
 }
 
-/// The input that a doubt is of.
+/// The input that a doubt is about.
 fn input_from(source: Source) -> Input
     ensures { result ≡ input_from source }
 {
@@ -163,7 +163,7 @@ fn input_from(source: Source) -> Input
 }
 
 impl PlayFault {
-    /// The status that the program ends with.
+    /// The status with which the program ends.
     pub fn status(self) -> u8
         ensures { result ≡ status_of self }
     {
@@ -178,7 +178,7 @@ impl PlayFault {
         }
     }
 
-    /// The input that is at fault, if one is.
+    /// The input at fault, if one is.
     pub fn input(self) -> Option<Input>
         ensures { result ≡ input_of self }
     {
@@ -194,7 +194,7 @@ impl PlayFault {
         }
     }
 
-    /// The line of that input, from 1, that is at fault, if one is.
+    /// The line at fault in that input, from 1, if one is.
     pub fn line(self) -> Option<usize>
         ensures { result ≡ faulty_line self }
     {
@@ -209,12 +209,12 @@ impl PlayFault {
     }
 }
 
-/// A fault as the program reports it: the file and the line that are at fault, where one is, and
-/// what is wrong.
+/// A fault as the program reports it: the file and the line at fault, if there are any, and what is
+/// wrong.
 #[derive(Clone, Copy, Debug)]
 pub struct Complaint<'a> {
     pub fault: PlayFault,
-    /// The file of the input that is at fault.
+    /// The file of the input at fault.
     pub file: Option<&'a str>,
 }
 

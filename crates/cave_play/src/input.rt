@@ -11,13 +11,13 @@ use std::alloc::{AllocError, Global};
 use std::io::Read;
 use thiserror::Error;
 
-/// How many bytes are asked for at once: few, since they are filled before the first reading.
+/// How many bytes are requested at once: few, since they are filled before the first reading.
 const PIECE_BYTES: usize = 2_048;
 
 /// Why an input couldn't be had.
 #[derive(Clone, Copy, Debug, PartialEq, Eq, Error)]
 pub enum InputFault {
-    /// The reader answered an error.
+    /// The reader returned an error.
     #[error("the input can't be read")]
     Unreadable,
     /// The reader gave more bytes than an input may have.
@@ -36,7 +36,7 @@ impl From<AllocError> for InputFault {
     }
 }
 
-/// Reads all that the reader has, which is refused as soon as it is over the limit.
+/// Reads all that the reader has. An input is refused as soon as it is over the limit.
 pub fn read_input<R: Read>(alloc: Global, reader: &mut R) -> Result<Vec<u8>, InputFault>
     ensures read { (bytes : List ℕ) × Says (R.remaining reader.old) bytes
         × MatchResult result

@@ -5,8 +5,8 @@ ghost use Rattle.cave_play.specs.Input.{input_left};
 use std::io;
 use std::io::Read;
 
-/// The reader of an input that may be absent, as bindings may, or on the command line. An absent
-/// input reads as an empty text.
+/// The reader of an input that may be absent, such as bindings, or given on the command line. An
+/// absent input reads as an empty text.
 #[derive(Debug, Drop)]
 pub enum InputReader<'a, R> {
     Absent,
@@ -33,8 +33,8 @@ pub struct CaveReaders<C, B> {
     pub bindings: B,
 }
 
-/// The readers of a run, in the order in which they are read. A run that has no use for a log or
-/// for a script never asks its reader.
+/// The readers of a run, in the order in which they are read. A run that doesn't need a log or a
+/// script never asks its reader.
 #[derive(Drop)]
 pub struct Inputs<C, B, L, S> {
     pub cave: CaveReaders<C, B>,

@@ -82,7 +82,7 @@ fn cave_of(alloc: Global, database: &[u8], bindings: &[u8]) -> Result<Cave, Play
     }
 }
 
-/// A cave with the texts that it was read from.
+/// A cave with the texts from which it was read.
 #[derive(Drop)]
 pub struct ReadCave {
     pub cave: Cave,
@@ -164,7 +164,7 @@ pub(crate) fn open_session<'a>(
     }
 }
 
-/// Reads a log and plays it in a cave, while it is watched.
+/// Reads a log and plays it in a cave, for a watch to see.
 pub fn watch_play<W: Watch, L: Read>(
     alloc: Global,
     machine: CaveMachine<'_>,
@@ -186,7 +186,7 @@ pub fn watch_play<W: Watch, L: Read>(
     }
 }
 
-/// A script with the text that it was read from.
+/// A script with the text from which it was read.
 #[derive(Drop)]
 pub(crate) struct ReadScript {
     pub(crate) script: Script,

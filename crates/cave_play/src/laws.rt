@@ -1,6 +1,6 @@
-//! Laws of runs: in which order faults are found, what edits are refused for, that the inputs
+//! Laws about runs: the order in which faults are found, why edits are refused, that the inputs
 //! determine the output, that what edits print is read again, and that `--guarded` changes nothing
-//! where there are no guards, or all are met. Each is the contract of a function that does nothing.
+//! if there are no guards, or all are met. Each is the contract of a function that does nothing.
 
 ghost use Rattle.cave_play.specs.Bytes.{EditedLogsAreAccepted, UndoGivesTheBytes};
 ghost use Rattle.cave_play.specs.Bytes.{UndoScriptsTakeBack};
@@ -14,28 +14,28 @@ pub fn first_is_found()
     ensures { FirstIsFound }
 {}
 
-/// What is decided first of a cave is the first fault of its database and bindings.
+/// The fault that is decided first for a cave is the first fault of its database and bindings.
 pub fn caves_are_judged_whole()
     ensures { CavesAreJudgedWhole }
 {}
 
-/// No item of a script is refused for a full meter or for lack of memory.
+/// No item of a script is refused because the meter is full or memory runs out.
 pub fn refusals_are_of_changes()
     ensures { RefusalsAreOfChanges }
 {}
 
-/// A database and its bindings have one output of a check at most.
+/// A check of a database and its bindings has at most one output.
 pub fn one_checked_output()
     ensures { OneCheckedOutput }
 {}
 
-/// With a log and a seed they have one output of a play at most.
+/// A play, which also has a log and a seed, has at most one output.
 pub fn one_played_output()
     ensures { OnePlayedOutput }
 {}
 
-/// With a script too each view but those of reports and of the table has one text at most, whatever
-/// the distance of checkpoints.
+/// An edit, which also has a script, has at most one text for each view except those of reports and
+/// of the table, at any distance of checkpoints.
 pub fn one_edited_output()
     ensures { OneEditedOutput }
 {}
@@ -63,12 +63,12 @@ pub fn no_guards_no_other_script()
     ensures { NoGuardsNoOtherScript }
 {}
 
-/// The same is printed of it then, except by a script that takes the edits back.
+/// The same is then printed of it, except as a script that takes the edits back.
 pub fn no_guards_no_other_output()
     ensures { NoGuardsNoOtherOutput }
 {}
 
-/// Where all guards are met, the edited log has the lines that it has without them.
+/// If all guards are met, the edited log has the lines that it has without them.
 pub fn met_guards_no_other_log()
     ensures { MetGuardsNoOtherLog }
 {}

@@ -6,7 +6,7 @@ ghost use Rattle.std.specs.Io.KnownBytes.{Appends};
 use crate::fault::PlayFault;
 use std::io::Write;
 
-/// Writes the whole output, or a prefix of it where the writer fails: it answered an error, or took
+/// Writes the whole output, or a prefix of it if the writer fails: it returned an error, or took
 /// nothing.
 pub fn write_output<W: Write>(writer: &mut W, output: &[u8]) -> Result<(), PlayFault>
     ensures written { MatchResult result

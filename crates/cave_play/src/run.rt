@@ -28,12 +28,12 @@ use play_machine::CaveMachine;
 use std::alloc::Global;
 use std::io::{Read, Write};
 
-// A cave is let go by a call, and not at the end of a block: the checker then goes through its
-// tables once, and not in each function that has a cave. So nothing fails between its reading and
-// that call.
+// A cave is dropped by a call, and not at the end of a block, because then the checker goes through
+// its tables once, and not in each function that has a cave. So nothing fails between its reading
+// and that call.
 
-/// Checks a database and its bindings, and says so where they are a cave. What it writes is
-/// determined by its inputs, as that of other runs: see `one_checked_output` in laws.rt.
+/// Checks a database and its bindings, and says so if they are a cave. Its inputs determine what it
+/// writes, as in other runs: see `one_checked_output` in laws.rt.
 pub fn run_check<C: Read, B: Read, L: Read, S: Read, W: Write>(
     alloc: Global,
     inputs: &mut Inputs<C, B, L, S>,
@@ -53,8 +53,8 @@ pub fn run_check<C: Read, B: Read, L: Read, S: Read, W: Write>(
     write_output(output, &text)
 }
 
-/// Plays a log and writes what is asked for, once it is whole: the transcript, the table of its
-/// lines, the same as JSON, the table of its score, or the state that the log leads to.
+/// Plays a log and writes what the view asks for, once it is whole: the transcript, the table of
+/// its lines, the same as JSON, the table of its score, or the state to which the log leads.
 pub fn run_play<C: Read, B: Read, L: Read, S: Read, W: Write>(
     alloc: Global,
     inputs: &mut Inputs<C, B, L, S>,
@@ -76,12 +76,12 @@ pub fn run_play<C: Read, B: Read, L: Read, S: Read, W: Write>(
     write_output(output, &text)
 }
 
-/// Edits a log by a script, and writes what is asked for, once it is whole: a report on each item
-/// of the script and then the transcript of the edited log, that log, what each item replayed, the
-/// table of the edited log's lines, the same as JSON, the table of its score, or the state that it
-/// leads to. Each line of the edited log has the end that it has in the log. Returns how many lines
-/// were played for the items: the sum of what was played for each, which is within the bound of its
-/// replay.
+/// Edits a log by a script, and writes what the view asks for, once it is whole: a report on each
+/// item of the script and then the transcript of the edited log, that log, what each item replayed,
+/// the table of the edited log's lines, the same as JSON, the table of its score, or the state that
+/// it leads to. Each line of the edited log has the end that it has in the log. Returns how many
+/// lines were played for the items: the sum of what was played for each, which is within the bound
+/// of its replay.
 pub fn run_edit<C: Read, B: Read, L: Read, S: Read, W: Write>(
     alloc: Global,
     inputs: &mut Inputs<C, B, L, S>,
@@ -107,7 +107,7 @@ pub fn run_edit<C: Read, B: Read, L: Read, S: Read, W: Write>(
     Ok(played)
 }
 
-/// What is asked for of a play in a cave.
+/// What a view asks for of a play in a cave.
 fn play_in_cave<L: Read>(
     alloc: Global,
     cave: &Cave,
@@ -125,7 +125,7 @@ fn play_in_cave<L: Read>(
     play_view_text(alloc, machine, log, seed, view)
 }
 
-/// What is asked for of a script in a cave.
+/// What a view asks for of a script in a cave.
 fn edit_in_cave<L: Read, S: Read>(
     alloc: Global,
     cave: &Cave,

@@ -1,4 +1,4 @@
-//! What is asked for of a cave, and of a play in it.
+//! What views ask for of a cave, and of a play in it.
 
 ghost use Rattle.std.specs.Prelude.{◌≡◌, ℕ, List, [], ◌∷◌, None, ◌++◌, MatchResult, OnOk};
 ghost use Rattle.std.specs.Str.Lines.{lines};
@@ -58,7 +58,7 @@ fn push_cave_line(alloc: Global, text: &mut Vec<u8>, most: u32) -> Result<(), Al
     text.extend_from_slice(line.as_bytes())
 }
 
-/// What is asked for of the play of a log that is read.
+/// What a view asks for of the play of a log that is read.
 pub(crate) fn play_view_text<L: Read>(
     alloc: Global,
     machine: CaveMachine<'_>,

@@ -48,7 +48,7 @@ no_ends last (byte ∷ line) good =
     (not_that byte 10 both.0 refl)
     ∙ no_ends byte line both.1
 
--- the last byte is one that a line can have, unless the byte before is another
+-- the last byte isn't a byte that no line has, if the byte before the line isn't
 pub no_such_last : (other : ℕ) → is_line_byte other ≡ false → (last : ℕ) (line : List ℕ)
     → list_all is_line_byte line ≡ true → (last == other) ≡ false
     → (last_byte last line == other) ≡ false

@@ -274,7 +274,7 @@ within_edits edits log count counted =
     let within = counted.within in
     omega arith
 
--- a draft in which this many changes were made is one with as many as it says
+-- a draft after this many changes is a draft after as many as it says
 pub draft_own : (edits : List Edit) (log : List LineText) (made : ℕ) (draft : Draft)
     → IsDraft edits log made draft → IsDraft edits log (made_in draft) draft
 draft_own edits log made draft is = rw (← is.made_is) at is

@@ -49,7 +49,7 @@ AreValidLogs [] = ⊤
 AreValidLogs (log ∷ logs) = (log_fault log ≡ None) × AreValidLogs logs
 
 -- the fault is found at a log, and none before it has one; after the last, memory may run out. The
--- first log has that place
+-- first log is at `place`
 abbrev pub IsFoundFrom : ℕ → List (List ℕ) → LogsFault → Type 0
 IsFoundFrom place [] found = found ≡ at_none fault.Memory
 IsFoundFrom place (log ∷ logs) found =

@@ -13,7 +13,7 @@ use play_machine::CaveMachine;
 use std::alloc::Global;
 use std::io::Read;
 
-/// Plays logs, each by itself, and makes notes on their plays, if there are no notes yet.
+/// Plays logs, each by itself, and notes their plays in notes that are still empty.
 pub fn note_logs<N: PlayNotes, L: Read>(
     alloc: Global,
     machine: CaveMachine<'_>,

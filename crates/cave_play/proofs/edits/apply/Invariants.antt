@@ -1,4 +1,5 @@
--- What came of the items so far, with what is still to come, and the game that comes of it.
+-- The outcomes of the items so far, with those that are still to come, and the game to which they
+-- lead.
 use Rattle.std.proofs.Common.{◌≡◌, ◌≤◌, ◌*◌, ◌^◌, ◌++◌, drop, map}
 use Rattle.replay_scripts.specs.Views.{applied_item}
 use Rattle.replay_scripts.specs.ScriptText.{groups_in}

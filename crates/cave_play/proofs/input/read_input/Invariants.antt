@@ -1,4 +1,4 @@
--- What was read so far is what the reader lost.
+-- What was read so far is what the reader gave.
 use Rattle.std.proofs.Common.{◌<◌, ◌≤◌, ◌-◌, vec_len}
 use Rattle.std.specs.Io.KnownBytes.{Consumes}
 use Rattle.base_lines.specs.Limits.{MAX_INPUT_BYTES}

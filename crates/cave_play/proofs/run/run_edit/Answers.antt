@@ -129,7 +129,7 @@ returns-in_err-edited g c =
       );
     })
 
--- where each of them decides no fault, none does
+-- if each of them decides no fault, none does
 decides_none : (database bindings log script : List ℕ) (editing : Editing)
     → large_seed editing.seed ≡ None → every_fault editing.every ≡ None
     → first_decided (cave_stages database bindings) ≡ None
@@ -146,7 +146,7 @@ decides_none database bindings log script editing seed every cave edited small =
     ∙ first_decided-later (of_edit log script editing) (size ∷ []) edited
     ∙ first_decided-one size small))
 
--- what is printed, where these edits were made
+-- what is printed, if these edits were made
 printed_of : (database bindings log script : List ℕ) (editing : Editing) (cave : CaveView)
     (played : ℕ) (text output : List ℕ) (ends : EndsOfLog) → Reads database bindings cave
     → IsEndedEditOf editing.view cave editing.every (game_of editing.seed (lines log))
