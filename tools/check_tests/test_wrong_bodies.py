@@ -1,0 +1,71 @@
+"""What `tools/check-wrong-bodies` and `tools/check-clauses` have to refuse: bodies that are refused by
+another clause than the page says, or by none, and clauses that no function has."""
+
+from __future__ import annotations
+
+import unittest
+
+from small import Case, tests_of
+
+HEADS = "| Crate | Clause |\n|---|---|\n"
+# Three functions, wrong bodies of them, and what the gate says of these.
+REFUSED = {
+    "crates/lamps/src/lamp.rt": "pub fn burn()\n    ensures value { result ≡ burn }\n{\n}\n\n"
+    "pub fn glow()\n    ensures light { true }\n    ensures heat { true }\n{\n}\n\n"
+    "#[tactic(auto)]\nfn wane()\n    ensures { true }\n{\n}\n",
+    "crates/lamps/must-fail/burns_not.edit": "",
+    "crates/lamps/must-fail/glows_cold.edit": "",
+    "crates/lamps/must-fail/glows_dark.edit": "",
+    "crates/lamps/must-fail/glows_on.edit": "",
+    "crates/lamps/must-fail/wanes_not.edit": "",
+    "out/test.log": "rt: must-fail lamps/burns_not.edit: refused, as it must be: note: "
+    "src/lamp.rt:1:1: it is not proved that what the function ensures holds when it returns "
+    "(`returns-then-left`)\n"
+    "rt: must-fail lamps/glows_cold.edit: refused, as it must be: "
+    "./proofs/lamp/glow/Answers.antt:4:5: error: `returns-clause-heat`: expected type\n"
+    "rt: must-fail lamps/glows_on.edit: NOT REFUSED: the crate is still proved with this edit\n"
+    "rt: must-fail lamps/wanes_not.edit: refused, as it must be: note: src/lamp.rt:12:1: it is not "
+    "proved that what the function ensures holds when it returns (`returns`)\n",
+}
+BODIES = "| Crate | Edit | Refused by |\n|---|---|---|\n| `lamps` |"
+ROWS = {
+    f"{BODIES} `burns_not.edit` | `burn`: `value` |": "",
+    f"{BODIES} `glows_cold.edit` | `glow`: `heat` |": "",
+    f"{BODIES} `glows_cold.edit` | `glow`: `light` |": "refuses it, but `glow`: `heat`",
+    f"{BODIES} `glows_cold.edit` | `burn`: `value` |": "not `burn`: `value` refuses it",
+    f"{BODIES} `burns_not.edit` | `glow`: `heat` |": "not `glow`: `heat` refuses it, but `burn`",
+    f"{BODIES} `burns_not.edit` | `burn`: `valued` |": "there is no clause `burn`: `valued`",
+    f"{BODIES} `wanes_not.edit` | `wane` |": "",
+    f"{BODIES} `wanes_not.edit` | `glow`: `heat` |": "not `glow`: `heat` refuses it, but `wane`",
+    f"{BODIES} `burns_cold.edit` | `burn`: `value` |": "there is no such edit",
+    f"{BODIES} `glows_dark.edit` | `glow`: `light` |": "the log doesn't say that it was tried",
+    f"{BODIES} `glows_on.edit` | `glow`: `light` |": "NOT REFUSED",
+    f"{BODIES} `glows_cold.edit` | `glow` |": "not `glow` refuses it, but `glow`: `heat`",
+    f"{BODIES} `glows_cold.edit` | `gleam`: `heat` |": "there is no clause `gleam`: `heat`",
+    "`lamps`": "there is no wrong body",
+}
+
+# What the page of facts says of two functions with clauses, and what is then said.
+FACTS = {
+    f"{HEADS}| `lamps` | `burn`: `value`; `glow`: `light`, `heat` |": "",
+    f"{HEADS}| `lamps` | `burn`: `light` |": "lamps: burn has no clause light",
+    f"{HEADS}| `lamps` | `burn`, `glow`: `heat` |": "lamps: burn has no clause heat",
+    f"{HEADS}| `oil` | `glow`: `heat` in `lamps` |": "",
+    f"{HEADS}| `oil` | `glow`: `heat` |": "oil: glow has no clause heat",
+    f"{HEADS}| `lamps` | `burn` |": "no row names a clause",
+}
+
+
+def cases(pages: dict[str, str]) -> list[Case]:
+    """The repository with each of these pages in turn."""
+    return [
+        (page, REFUSED | {"docs/PROVED.md": f"# Page\n\n{page}\n"}, said)
+        for page, said in pages.items()
+    ]
+
+
+WrongBodies = tests_of("check-wrong-bodies", cases(ROWS), ["wrong_bodies.py"])
+Clauses = tests_of("check-clauses", cases(FACTS), ["wrong_bodies.py"])
+
+if __name__ == "__main__":
+    unittest.main()
