@@ -17,7 +17,7 @@ edge_text cave from to =
     way_text cave [] from to
     ++ (if is_both_ways cave from to then way_text cave (codes " /") to from else [])
 
--- an edge for both ways has a head at its own place too; it is hollow where plays took only the way
+-- an edge for both ways has a head at its own place too; it is hollow if plays took only the way
 -- there
 unfoldable pub head_back : Bool → Bool → Bool → List ℕ
 head_back is_both is_taken_there is_taken_back =
@@ -25,20 +25,20 @@ head_back is_both is_taken_there is_taken_back =
     else (if is_taken_there && not is_taken_back then codes "dir=back, arrowtail=empty"
     else codes "dir=back")
 
--- the head at the other place, which is hollow where plays took only the way back
+-- the head at the other place, which is hollow if plays took only the way back
 unfoldable pub head_there : Bool → Bool → Bool → List ℕ
 head_there is_both is_taken_there is_taken_back =
     if is_both && (is_taken_back && not is_taken_there) then codes "dir=forward, arrowhead=empty"
     else codes "dir=forward"
 
--- the edge is of a way that plays took, or of one whose way back they took
+-- the edge is that of a way that plays took, or whose way back they took
 abbrev pub is_edge_taken : CaveView → List Stop → ℕ → ℕ → Bool
 is_edge_taken cave stops from to =
     is_way_taken cave stops from to
     || (is_both_ways cave from to && is_way_taken cave stops to from)
 
 -- how the line of an edge begins: with its label, which is a node that both parts of the edge meet,
--- as no layout but that of nodes keeps labels apart
+-- as only the layout of nodes keeps labels apart
 abbrev pub edge_opening : ℕ → ℕ → List ℕ
 edge_opening from to =
     codes "  " ++ (decimal from ++ (codes "." ++ (decimal to ++ codes " [label=")))
@@ -54,7 +54,7 @@ part_from_label from to head strong =
     codes "]; " ++ (decimal from ++ (codes "." ++ (decimal to ++ (codes " -> "
     ++ (decimal to ++ (codes " [" ++ (head ++ (strong ++ codes "];\n"))))))))
 
--- how strong an edge is drawn
+-- how thickly an edge is drawn
 abbrev pub edge_strength : CaveView → List Stop → ℕ → ℕ → ℕ → List ℕ
 edge_strength cave stops logs from to = strength logs (is_edge_taken cave stops from to)
 

@@ -23,7 +23,7 @@ EdgesAreLines =
     → is_one_line (edge cave stops logs from to) ≡ true
 
 -- how the graph begins: with its layout, with its page, which is one A3, and with how places and
--- edges look where they don't say it
+-- edges look if they don't say so
 abbrev pub graph_opening : List ℕ
 graph_opening =
     codes "digraph cave {\n"
@@ -33,7 +33,7 @@ graph_opening =
     ++ (codes "  node [style=filled, fillcolor=white, fontname=\"Helvetica\", fontsize=10];\n"
     ++ codes "  edge [arrowsize=0.4];\n"))))
 
--- how the labels of edges look, which come after the places
+-- how the labels of edges, which follow the places, look
 abbrev pub labels_opening : List ℕ
 labels_opening = codes "  node [shape=plaintext, margin=0];\n"
 
@@ -51,7 +51,7 @@ count_taken cave stops = sum_by (λ from. length (ends_taken cave stops from)) (
 unfoldable pub count_ways : CaveView → ℕ
 count_ways cave = sum_by (λ from. length (ends_of_ways cave from)) (mapped_places cave)
 
--- the line that sums up what plays of so many logs saw
+-- the line that sums up what plays of this many logs saw
 abbrev pub seen_line : ℕ → ℕ → ℕ → ℕ → ℕ → List ℕ
 seen_line visited places taken ways logs =
     codes "// -- " ++ (decimal visited ++ (codes " of " ++ (decimal places
@@ -70,7 +70,7 @@ nodes_and_edges cave stops logs places =
     flat_map (node cave stops logs) places
     ++ (labels_opening ++ flat_map (edges cave stops logs) places)
 
--- the map, where plays of so many logs had these stops
+-- the map, if plays of this many logs had these stops
 unfoldable pub map_of_places : CaveView → List Stop → ℕ → List ℕ
 map_of_places cave stops logs =
     graph_opening

@@ -1,4 +1,4 @@
--- How motions, objects and conditions are named.
+-- The names of motions, objects and conditions.
 use Rattle.std.specs.Prelude.{ℕ, ◌+◌, ◌%◌, Bool, ◌==◌, if◌then◌else◌, List, [], ◌++◌, codes}
 use Rattle.std.specs.Prelude.{length, unwrap_or}
 use Rattle.std.specs.Fmt.{decimal}
@@ -10,7 +10,8 @@ use Rattle.data_rows.specs.declared.targets.Condition.TheVariants as condition
 abbrev pub number_of_object : ℕ → ℕ
 number_of_object object = WORDS_PER_CLASS + object
 
--- the first word of a number after a blank, or the number of the motion or the object without it
+-- the first word of a number after a blank, or the number of the motion or the object if it has no
+-- word
 unfoldable pub word_or_number : CaveView → ℕ → List ℕ
 word_or_number cave number =
     codes " " ++ unwrap_or (first_word cave.words number) (decimal (number % WORDS_PER_CLASS))
@@ -32,7 +33,7 @@ condition_text cave (condition.AtHand object) = object_mark cave (codes "near") 
 condition_text cave (condition.OtherProp object prop) =
     object_mark cave (codes "if prop of") object ++ other_prop_text prop
 
--- a way that always holds is marked where others have to fail, and any other has its condition
+-- a way that always holds is marked if others have to fail, and any other has its condition
 unfoldable pub mark_of_text : Bool → List ℕ → List ℕ
 mark_of_text later text =
     if length text == 0 then (if later then codes " (else)" else [])

@@ -54,7 +54,7 @@ stay_text cave stops place =
     ++ (flat_map (role_label_line cave place) place_keys
     ++ visits_label_line (visits stops place)))
 
--- what is written at a node: of a place of a forced motion its number alone
+-- what is written at a node, which for a place of a forced motion is only its number
 unfoldable pub node_text : CaveView → List Stop → ℕ → List ℕ
 node_text cave stops place =
     if forced cave place then decimal place else stay_text cave stops place
@@ -66,7 +66,7 @@ look_of_place cave place =
     else (if has_condition cave place LIGHT_BIT then []
     else codes ", fillcolor=gray80")
 
--- how strong something is drawn: without logs as it is, with logs strong where they were and
+-- how thickly something is drawn: normally without logs, and with logs thickly where they were and
 -- grey elsewhere
 unfoldable pub strength : ℕ → Bool → List ℕ
 strength logs is_reached =
@@ -74,7 +74,7 @@ strength logs is_reached =
     else (if is_reached then codes ", penwidth=2.5"
     else codes ", color=gray65, fontcolor=gray40")
 
--- how many rows lead to no place, if there are any, as a comment
+-- how many rows lead to no place, if any do, as a comment
 abbrev pub nowhere_note : ℕ → List ℕ
 nowhere_note count = if count == 0 then []
     else codes " // ways not drawn: " ++ decimal count

@@ -11,7 +11,7 @@ use Rattle.map_graph.specs.declared.stops.Stop.{Stop}
 abbrev pub stop : ℕ → Trail → Bool → Stop
 stop before trail is_fight = record { before = before; trail = trail; is_fight = is_fight }
 
--- the player is at the place, or a forced motion moved the player on from it on the way there
+-- the player is at the place, or a forced motion moved the player on from it on the way
 abbrev pub is_at : CaveView → ℕ → Stop → Bool
 is_at cave place stop =
     let trail = stop.trail in
@@ -23,8 +23,8 @@ is_at cave place stop =
 abbrev pub goes_from : CaveView → ℕ → Stop → Bool
 goes_from cave place stop = stop.before == place || forced cave place
 
--- the trail goes from the one place to the other in this turn: last of all, or on the way there,
--- which goes on from places of forced motion
+-- the trail goes from one place to the other in this turn: last of all, or on the way, which goes
+-- on from places of forced motion
 abbrev pub leads_by : CaveView → ℕ → ℕ → Stop → Bool
 leads_by cave from to stop =
     let trail = stop.trail in
@@ -33,7 +33,7 @@ leads_by cave from to stop =
     && ((trail.older == from && trail.last == to && goes_from cave from stop)
     || (forced cave trail.older && stop.before == from && trail.older == to)))
 
--- the player went from the one place to the other in this turn; one who killed the dragon stands
+-- the player went from one place to the other in this turn; a player who killed the dragon stands
 -- between its places, and took no way there
 abbrev pub comes_by : CaveView → ℕ → ℕ → Stop → Bool
 comes_by cave from to stop = not stop.is_fight && leads_by cave from to stop
@@ -46,10 +46,10 @@ arrives_at place stop = stop.trail.here == place && not (stop.before == place)
 abbrev pub is_visited : CaveView → List Stop → ℕ → Bool
 is_visited cave stops place = list_any (is_at cave place) stops
 
--- a play took a way from the one place to the other
+-- a play took a way from one place to the other
 abbrev pub is_way_taken : CaveView → List Stop → ℕ → ℕ → Bool
 is_way_taken cave stops from to = list_any (comes_by cave from to) stops
 
--- how often plays came to the place by a line that began elsewhere, or began there
+-- how often plays reached the place by a line that began elsewhere, or began there
 abbrev pub visits : List Stop → ℕ → ℕ
 visits stops place = length (filter (arrives_at place) stops)

@@ -11,12 +11,13 @@ use Rattle.map_ways.specs.Labels.{BLANK, LINE_FEED}
 abbrev pub WORDS_SHOWN : ℕ
 WORDS_SHOWN = 8
 
--- how many words of a title are on a line at most
+-- the most words of a title on a line
 abbrev pub WORDS_PER_LINE : ℕ
 WORDS_PER_LINE = 3
 
--- what comes before a word after so many others. The number of the place is before the first; so
--- that a place is narrow, a title of eight words is on three lines, which have three, three and two
+-- what comes before a word that follows this many others. The number of the place is before the
+-- first. To keep a place narrow, a title of eight words is on three lines, which have three, three
+-- and two
 abbrev pub word_start : ℕ → List ℕ
 word_start shown =
     if not (shown == 0) && shown % WORDS_PER_LINE == 0 then LINE_FEED ∷ [] else BLANK ∷ []
@@ -30,7 +31,7 @@ first_words zero line = []
 first_words (suc most) line =
     words_from (first_word_of line) (first_words most (after_first_run line))
 
--- words after so many others, each with what comes before it
+-- words that follow this many others, each with what comes before it
 abbrev pub words_as_shown : ℕ → List (List ℕ) → List ℕ
 words_as_shown shown [] = []
 words_as_shown shown (word ∷ words) =
@@ -42,7 +43,7 @@ first_words_shown line = words_as_shown 0 (first_words WORDS_SHOWN line)
 abbrev pub or_other : List ℕ → List ℕ → List ℕ
 or_other text other = if length text == 0 then other else text
 
--- the short text of a place, or its long one where it has no short one or one that prints nothing
+-- the short text of a place, or its long one if it has no short one, or one that prints nothing
 abbrev pub text_for_title : CaveView → ℕ → List ℕ
 text_for_title cave place =
     or_other (unwrap_or (map.get cave.short place) []) (unwrap_or (map.get cave.long place) [])

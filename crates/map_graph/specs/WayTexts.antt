@@ -1,4 +1,4 @@
--- What is written of a way: the motions that take it, and on what condition.
+-- What is written about a way: the motions that take it, and on what condition.
 use Rattle.std.specs.Prelude.{ℕ, ◌+◌, ◌%◌, Bool, true, false, ◌==◌, ◌||◌, ◌&&◌, not}
 use Rattle.std.specs.Prelude.{if◌then◌else◌, List, [], ◌∷◌, ◌++◌, codes, length}
 use Rattle.data_rows.specs.Rows.{Going}
@@ -17,23 +17,23 @@ abbrev pub motion_name : CaveView → ℕ → List ℕ
 motion_name cave motion =
     if motion == any_motion then codes " any motion" else word_or_number cave motion
 
--- how many motions are on a line at most
+-- the most motions on a line
 abbrev pub MOTIONS_PER_LINE : ℕ
 MOTIONS_PER_LINE = 3
 
--- what comes before the name of a motion after so many others: a line that is full ends with a mark
--- that it goes on
+-- what comes before the name of a motion that follows this many others: a full line ends with a
+-- mark that it goes on
 abbrev pub motion_start : ℕ → List ℕ
 motion_start shown =
     if not (shown == 0) && shown % MOTIONS_PER_LINE == 0 then codes " ..\n" else []
 
--- motions after so many others, each with what comes before it
+-- motions that follow this many others, each with what comes before it
 abbrev pub motions_after : CaveView → ℕ → List ℕ → List ℕ
 motions_after cave shown [] = []
 motions_after cave shown (motion ∷ motions) =
     motion_start shown ++ (motion_name cave motion ++ motions_after cave (shown + 1) motions)
 
--- the motions that are named: none where a forced motion leads on, as nobody says one there
+-- the motions that are named: none if a forced motion leads on, as no player says one there
 abbrev pub motions_text : CaveView → ℕ → List ℕ → List ℕ
 motions_text cave from motions =
     if forced cave from then [] else motions_after cave 0 motions
@@ -44,7 +44,7 @@ taking_text cave from later motions condition =
     if length motions == 0 then []
     else motions_text cave from motions ++ condition_mark cave later condition
 
--- two texts with a comma between them, or the one that there is
+-- two texts with a comma between them, or the only one that there is
 abbrev pub two_texts : List ℕ → List ℕ → List ℕ
 two_texts first second =
     first ++ ((if length first == 0 || length second == 0 then [] else codes ",") ++ second)
@@ -54,18 +54,18 @@ motions_of_row cave from later before row =
     taking_text cave from later (motions_taking (emerald_of cave) later [] before row)
     (row_condition row)
 
--- the motions that can take a row after others: those that come there first, and then those for
--- which others have to fail
+-- the motions that can take a row after others: those that reach it first, and then those for which
+-- others have to fail
 unfoldable pub row_motions : CaveView → ℕ → List Going → Going → List ℕ
 row_motions cave from before row =
     two_texts (motions_of_row cave from false before row) (motions_of_row cave from true before row)
 
--- a text that isn't empty on a line of its own
+-- a text that isn't empty, on its own line
 abbrev pub line_of_text : List ℕ → List ℕ → List ℕ
 line_of_text prefix text =
     if length text == 0 then [] else prefix ++ (text ++ codes "\n")
 
--- what is said of a row after others, if it leads to the place
+-- what is said about a row after others, if it leads to the place
 abbrev pub text_to : CaveView → ℕ → ℕ → List Going → Going → List ℕ
 text_to cave from place before row =
     if ends_at place row then row_motions cave from before row else []

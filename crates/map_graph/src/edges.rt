@@ -36,7 +36,7 @@ fn push_edge_text(
     push_way(alloc, cave, " /", to, from, text)
 }
 
-/// The head of an edge at its own place, which it has where it is for both ways.
+/// The head of an edge at its own place, which it has if it is for both ways.
 #[tactic(auto, unfolding(crate::specs::Edges::head_back))]
 fn head_back(is_both: bool, is_taken_there: bool, is_taken_back: bool) -> &'static str
     ensures { result.now ≡ head_back is_both is_taken_there is_taken_back }
@@ -59,7 +59,7 @@ fn head_there(is_both: bool, is_taken_there: bool, is_taken_back: bool) -> &'sta
     }
 }
 
-/// Whether plays took the way of an edge, or the way back, where the edge is for both.
+/// Whether plays took the way of an edge, or the way back, if the edge is for both.
 fn is_edge_taken(cave: &Cave, stops: &[Stop], from: u16, to: u16) -> bool
     ensures { result ≡ is_edge_taken cave.now stops.now from to }
 {
@@ -67,7 +67,7 @@ fn is_edge_taken(cave: &Cave, stops: &[Stop], from: u16, to: u16) -> bool
         || (is_both_ways(cave, from, to) && is_way_taken(cave, stops, to, from))
 }
 
-/// How strong the edge of a way is drawn.
+/// How thickly the edge of a way is drawn.
 fn edge_strength(cave: &Cave, stops: &[Stop], logs: usize, from: u16, to: u16) -> &'static str
     ensures { result.now ≡ edge_strength cave.now stops.now logs from to }
 {

@@ -1,4 +1,4 @@
-//! Laws of the graph. Each is the contract of a function that does nothing.
+//! Laws about the graph. Each is the contract of a function that does nothing.
 
 ghost use Rattle.map_graph.specs.Map.{EdgesAreLines, NodesAreLines};
 

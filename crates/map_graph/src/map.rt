@@ -102,7 +102,7 @@ struct SeenCounts {
     ways: usize,
 }
 
-/// How many of some places plays were at.
+/// How many of these places plays were at.
 fn count_visited(cave: &Cave, stops: &[Stop], places: &[u16]) -> usize
     ensures { result ≡ length (filter (is_visited cave.now stops.now) places.now) }
 {
@@ -112,7 +112,7 @@ fn count_visited(cave: &Cave, stops: &[Stop], places: &[u16]) -> usize
         .count()
 }
 
-/// How many ends of ways from a place plays came to by them.
+/// How many ends of ways from a place plays reached by these.
 #[tactic(auto, unfolding(crate::specs::Map::ends_taken, map_ways::specs::Ways::ends_of_ways, map_ways::specs::Ways::place_numbers))]
 fn count_ends_taken(cave: &Cave, stops: &[Stop], from: u16) -> usize
     ensures value { result ≡ length (ends_taken cave.now stops.now from) }
@@ -124,7 +124,7 @@ fn count_ends_taken(cave: &Cave, stops: &[Stop], from: u16) -> usize
         .count()
 }
 
-/// How many ways from some places plays took, and how many there are.
+/// How many ways from these places plays took, and how many there are.
 fn count_taken_and_all(cave: &Cave, stops: &[Stop], places: &[u16]) -> (usize, usize)
     requires { length places.now ≤ defined.LAST_PLACE }
     ensures taken { result.0
@@ -156,7 +156,7 @@ fn count_seen(cave: &Cave, stops: &[Stop], places: &[u16]) -> SeenCounts
     }
 }
 
-/// Appends the line of what plays of so many logs saw.
+/// Appends the line about what plays of this many logs saw.
 fn push_seen_line(
     alloc: Global,
     counts: &SeenCounts,
@@ -217,7 +217,7 @@ fn push_map_of_places(
     push_sums(alloc, cave, stops, logs, places, text)
 }
 
-/// Appends the map of a cave, where plays of so many logs had these stops.
+/// Appends the map of a cave, if plays of this many logs had these stops.
 pub fn push_map(
     alloc: Global,
     cave: &Cave,

@@ -1,4 +1,4 @@
-//! How motions, objects and conditions are named.
+//! The names of motions, objects and conditions.
 
 ghost use Rattle.std.specs.Prelude.{◌≡◌, ◌++◌, OnOk};
 ghost use Rattle.data_rows.specs.declared.targets.Condition.TheVariants as condition;
@@ -39,7 +39,7 @@ pub fn number_of_object(object: u8) -> u16
     WORDS_PER_CLASS + u16::from(object)
 }
 
-/// Appends what is asked of an object, with the object.
+/// Appends what a condition asks of an object, with the object.
 fn push_object_mark(
     alloc: Global,
     cave: &Cave,
@@ -91,7 +91,7 @@ fn push_condition_text(
     }
 }
 
-/// Appends the mark of a way with a condition, or of one before which others have to fail.
+/// Appends the mark of a way that has a condition, or before which others have to fail.
 #[tactic(auto, unfolding(crate::specs::Names::mark_of_text))]
 fn push_mark_of_text(later: bool, asked: &[u8], text: &mut Vec<u8>) -> Result<(), AllocError>
     ensures { OnOk result (text.new.items ≡ text.old.items ++ mark_of_text later asked.now) }
@@ -106,7 +106,7 @@ fn push_mark_of_text(later: bool, asked: &[u8], text: &mut Vec<u8>) -> Result<()
     text.extend_from_slice(b")")
 }
 
-/// Appends the condition of a way as a mark, with that others have to fail before.
+/// Appends the condition of a way as a mark, also if others have to fail before it.
 pub fn push_condition_mark(
     alloc: Global,
     cave: &Cave,

@@ -94,7 +94,7 @@ fn push_role_label_line(
     }
 }
 
-/// Appends the lines of those of some roles that a place has.
+/// Appends the lines of those of these roles that a place has.
 fn push_roles(
     cave: &Cave,
     place: u16,
@@ -179,7 +179,7 @@ fn push_number(alloc: Global, number: u16, text: &mut Vec<u8>) -> Result<(), All
     text.extend_from_slice(digits.as_bytes())
 }
 
-/// Appends what is written at a node: of a place of a forced motion its number alone.
+/// Appends what is written at a node, which for a place of a forced motion is only its number.
 #[tactic(auto, unfolding(crate::specs::Places::node_text))]
 fn push_node_text(
     alloc: Global,
@@ -213,7 +213,7 @@ fn look_of_place(cave: &Cave, place: u16) -> &'static str
     ", fillcolor=gray80"
 }
 
-/// How strong something is drawn, where so many logs were played and reached it or didn't.
+/// How thickly something is drawn, after this many logs were played and reached it or didn't.
 #[tactic(auto, unfolding(crate::specs::Places::strength))]
 pub fn strength(logs: usize, is_reached: bool) -> &'static str
     ensures { result.now ≡ strength logs is_reached }
@@ -227,7 +227,7 @@ pub fn strength(logs: usize, is_reached: bool) -> &'static str
     ", color=gray65, fontcolor=gray40"
 }
 
-/// Appends how many rows lead to no place, if there are any.
+/// Appends how many rows lead to no place, if any do.
 fn push_nowhere_note(alloc: Global, count: usize, text: &mut Vec<u8>) -> Result<(), AllocError>
     ensures { OnOk result (text.new.items ≡ text.old.items ++ nowhere_note count) }
 {

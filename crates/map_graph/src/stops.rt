@@ -13,15 +13,14 @@ use world_objects::Place;
 pub struct Stop {
     /// The place in the state before, and 0 at the beginning of a play.
     pub before: Place,
-    /// Where the player is, and was before, as the state has it.
+    /// Where the player is, and was before, by the state.
     pub trail: Trail,
     /// Whether the line between killed the dragon.
     pub is_fight: bool,
 }
 
 impl Stop {
-    /// Whether the player is at a place, or a forced motion moved the player on from it on the way
-    /// there.
+    /// Whether the player is at a place, or a forced motion moved the player on from it on the way.
     fn is_at(&self, cave: &Cave, place: u16) -> bool
         ensures { result ≡ is_at cave.now place self.now }
     {
@@ -39,8 +38,8 @@ impl Stop {
         self.before == place || forced(cave, place)
     }
 
-    /// Whether the trail goes from the one place to the other in this turn: last of all, or on the
-    /// way there, which goes on from places of forced motion.
+    /// Whether the trail goes from one place to the other in this turn: last of all, or on the way,
+    /// which goes on from places of forced motion.
     fn leads_by(&self, cave: &Cave, from: u16, to: u16) -> bool
         ensures { result ≡ leads_by cave.now from to self.now }
     {
@@ -53,7 +52,7 @@ impl Stop {
                         && older.number() == to)))
     }
 
-    /// Whether the player went from the one place to the other in this turn. One who killed the
+    /// Whether the player went from one place to the other in this turn. A player who killed the
     /// dragon took no way.
     fn comes_by(&self, cave: &Cave, from: u16, to: u16) -> bool
         ensures { result ≡ comes_by cave.now from to self.now }
@@ -76,14 +75,14 @@ pub fn is_visited(cave: &Cave, stops: &[Stop], place: u16) -> bool
     stops.iter().any(|stop| stop.is_at(cave, place))
 }
 
-/// Whether a play took a way from the one place to the other.
+/// Whether a play took a way from one place to the other.
 pub fn is_way_taken(cave: &Cave, stops: &[Stop], from: u16, to: u16) -> bool
     ensures { result ≡ is_way_taken cave.now stops.now from to }
 {
     stops.iter().any(|stop| stop.comes_by(cave, from, to))
 }
 
-/// How often plays came to a place by a line that began elsewhere, or began there.
+/// How often plays reached a place by a line that began elsewhere, or began there.
 pub fn visits(stops: &[Stop], place: u16) -> usize
     ensures { result ≡ visits stops.now place }
 {

@@ -12,7 +12,7 @@ use std::alloc::AllocError;
 /// How many words of a text are on the map.
 const WORDS_SHOWN: usize = 8;
 
-/// How many words of a title are on a line at most.
+/// The most words of a title on a line.
 const WORDS_PER_LINE: usize = 3;
 
 fn or_other<'a>(text: &'a [u8], other: &'a [u8]) -> &'a [u8]
@@ -21,7 +21,7 @@ fn or_other<'a>(text: &'a [u8], other: &'a [u8]) -> &'a [u8]
     if text.is_empty() { other } else { text }
 }
 
-/// The short text of a place, or its long one where it has no short one or one that prints nothing.
+/// The short text of a place, or its long one if it has no short one, or one that prints nothing.
 fn text_for_title(cave: &Cave, place: u16) -> &[u8]
     ensures { result.now ≡ text_for_title cave.now place }
 {
@@ -29,7 +29,7 @@ fn text_for_title(cave: &Cave, place: u16) -> &[u8]
     or_other(short, cave.long(place).unwrap_or(&[]))
 }
 
-/// What comes before a word after so many others.
+/// What comes before a word that follows this many others.
 fn word_start(shown: usize) -> &'static str
     ensures { result.now ≡ word_start shown }
 {

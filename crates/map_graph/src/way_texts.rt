@@ -1,4 +1,4 @@
-//! What is written of ways.
+//! What is written about ways.
 
 ghost use Rattle.std.specs.Prelude.{◌≡◌, ◌≤◌, ◌++◌, IfOk, OnOk, [], map};
 ghost use Rattle.base_lines.specs.Numbers.{LAST_PLACE};
@@ -15,7 +15,7 @@ use map_ways::{ends_at, motions_taking};
 use std::alloc::{AllocError, Global};
 use world_objects::Place;
 
-/// How many motions are on a line at most, so that a map of many places can be read on a page.
+/// The most motions on a line, so that a map of many places can be read on a page.
 const MOTIONS_PER_LINE: usize = 3;
 
 /// Appends the name of a motion.
@@ -33,7 +33,7 @@ fn push_motion(
     push_word_or_number(alloc, cave, motion, text)
 }
 
-/// What comes before the name of a motion after so many others.
+/// What comes before the name of a motion that follows this many others.
 fn motion_start(shown: usize) -> &'static str
     ensures { result.now ≡ motion_start shown }
 {
@@ -61,7 +61,7 @@ fn push_motions(
     Ok(())
 }
 
-/// Appends the motions that are named: none where a forced motion leads on.
+/// Appends the motions that are named: none if a forced motion leads on.
 fn push_motions_text(
     alloc: Global,
     cave: &Cave,
@@ -118,7 +118,7 @@ fn motions_of_row(
     taking_text(alloc, cave, from, later, &motions, row.condition())
 }
 
-/// Appends a second text to the first, with a comma where there are both.
+/// Appends a second text to the first, with a comma if there are both.
 fn push_second_text(second: &[u8], text: &mut Vec<u8>) -> Result<(), AllocError>
     ensures { OnOk result (text.new.items ≡ two_texts text.old.items second.now) }
 {
@@ -128,7 +128,7 @@ fn push_second_text(second: &[u8], text: &mut Vec<u8>) -> Result<(), AllocError>
     text.extend_from_slice(second)
 }
 
-/// The motions that can take a row after others: those that come there first, and then those for
+/// The motions that can take a row after others: those that reach it first, and then those for
 /// which others have to fail.
 #[tactic(auto, unfolding(crate::specs::WayTexts::row_motions))]
 fn row_motions(
@@ -148,7 +148,7 @@ fn row_motions(
     Ok(text)
 }
 
-/// What is said of a row after others, if it leads to a place.
+/// What is said about a row after others, if it leads to a place.
 fn text_to(
     alloc: Global,
     cave: &Cave,
@@ -167,7 +167,7 @@ fn text_to(
     row_motions(alloc, cave, from, before, row)
 }
 
-/// Appends a text that isn't empty on a line of its own.
+/// Appends a text that isn't empty, on its own line.
 fn push_line_of_text(prefix: &str, line: &[u8], text: &mut Vec<u8>) -> Result<(), AllocError>
     ensures { OnOk result (text.new.items ≡ text.old.items ++ line_of_text prefix.now line.now) }
 {

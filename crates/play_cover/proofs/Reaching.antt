@@ -1,4 +1,4 @@
--- A class is reached where the greatest score up to its bound belongs to it.
+-- A class is reached if the greatest score up to its bound belongs to it.
 use Rattle.std.proofs.Common.{◌≡◌, ℕ, zero, suc, ◌+◌, ◌<◌, ◌≤◌, min, Bool, cond, true, false, leb}
 use Rattle.std.proofs.Common.{List, [], ◌∷◌, length, get_or, Option, Some, refl, sym, ap, ap₂, ◌∙◌}
 use Rattle.std.proofs.Common.{arith}

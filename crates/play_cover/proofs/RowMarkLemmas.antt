@@ -1,4 +1,4 @@
--- Rows that have one mark are one.
+-- Rows with the same mark are the same row.
 use Rattle.std.proofs.Common.{◌≡◌, ◌+◌, ◌*◌, true, false, refl, ap, arith}
 use Rattle.cave_world.specs.declared.tables.RuleRow.TheVariants.{OfPlace, OfTable}
 use Rattle.play_cover.specs.RowMarks.{EachRowHasItsMark}

@@ -1,4 +1,4 @@
--- The report by marks is that of what the plays of logs cover.
+-- The report by marks is the report on what the plays of logs cover.
 use Rattle.std.proofs.Common.{◌≡◌, ℕ, Bool, List, length, sym, ap, ◌∙◌}
 use Rattle.std.specs.Str.Lines.{lines}
 use Rattle.std.proofs.lemmas.List.{length-map}

@@ -7,8 +7,8 @@ use Rattle.play_cover.specs.declared.coverage.Detail.{Detail}
 use Rattle.play_cover.specs.declared.coverage.Detail.TheVariants.{Both, Counts, Missing}
 use Rattle.play_cover.specs.declared.marks.Mark.{Mark}
 
--- the groups, in the order of the report: of each its number, how its line begins, and the numbers
--- of its things; of each of these its name, and its own line where it isn't covered
+-- the groups, in the order of the report: for each its number, how its line begins, and the numbers
+-- of its things; for each of these its name, and its own line if it isn't covered
 pub record Catalogue (Group : Type 0) : Type 0 where
   pub groups : List Group
   pub number : Group → ℕ
@@ -47,7 +47,7 @@ module _ {Group : Type 0} (of : Catalogue Group) where
     abbrev pub missing_lines : Group → List ℕ
     missing_lines group = flat_map (of.missing_line group) (missing group)
 
-    -- what is written of a group
+    -- what is written about a group
     abbrev pub group_text : Detail → Group → List ℕ
     group_text Counts group = line group
     group_text Missing group = missing_lines group

@@ -21,6 +21,6 @@ is_marked groups one = slice_index_or (slice_index_or groups one.group []) one.n
 pub record AreMarksOf (marks : List Mark) (groups : List (List Bool)) : Type 0 where
   pub is : (one : Mark) → is_marked groups one ≡ is_among one marks
 
--- these were made more: a thing is marked now if it is one of them or was marked before
+-- these were added: a thing is marked now if it is one of them or was marked before
 pub record Notes (marks : List Mark) (old new : List (List Bool)) : Type 0 where
   pub is : (one : Mark) → is_marked new one ≡ (is_among one marks || is_marked old one)

@@ -1,4 +1,4 @@
--- Which texts the plays of logs say, which rows of the rules they apply, and what is reported of
+-- Which texts the plays of logs say, which rows of the rules they apply, and what is reported about
 -- these.
 use Rattle.std.specs.Prelude.{◌≡◌, ℕ, Bool, List, [], ◌∷◌, length, map}
 use Rattle.std.specs.List.{flat_map, Contains}
@@ -45,7 +45,7 @@ covered_in Rules cave game = noted_of rows_at_start rows_at cave game
 
 -- ---- what is reported
 
--- the report on the logs of which there are so many, by what they cover
+-- the report on this many logs, by what they cover
 abbrev pub report_by : CoverView → List ℕ → CaveView → (Mark → Bool) → ℕ → List ℕ
 report_by (Said view) database cave is_covered logs = text_report cave view is_covered logs
 report_by Rules database cave is_covered logs = row_report is_covered (way_lines database) logs
@@ -58,7 +58,7 @@ report_on_games view database cave games =
 abbrev pub covered_in_log : CoverView → CaveView → ℕ → List ℕ → List Mark
 covered_in_log view cave seed log = covered_in view cave (game_of seed (lines log))
 
--- what is covered where each log is played by itself
+-- what is covered if each log is played by itself
 abbrev pub covered_in_all : CoverView → CaveView → ℕ → List (List ℕ) → List Mark
 covered_in_all view cave seed logs = flat_map (covered_in_log view cave seed) logs
 
@@ -86,7 +86,7 @@ OrderIsNothing =
     → IsPermutation logs others
     → cover_text database cave seed view others ≡ cover_text database cave seed view logs
 
--- a log that is given once more changes nothing of it but the number of logs
+-- a log that is given once more changes nothing in it except the number of logs
 abbrev pub AgainIsNothing : Type 0
 AgainIsNothing =
     (database : List ℕ) (cave : CaveView) (seed : ℕ) (view : CoverView) (logs : List (List ℕ))
@@ -96,7 +96,7 @@ AgainIsNothing =
     → report_of_logs database cave seed view (log ∷ logs) count
     ≡ report_of_logs database cave seed view logs count
 
--- a database with its bindings, logs and a seed have one output at most
+-- a database with its bindings, logs and a seed have at most one output
 abbrev pub OneCoveredOutput : Type 0
 OneCoveredOutput =
     (database bindings : List ℕ) (logs : List (List ℕ)) (seed : ℕ) (view : CoverView)

@@ -1,11 +1,11 @@
--- The rows of the tables that go by questions.
+-- The rows of the tables that have a row for each question.
 use Rattle.std.specs.Prelude.{◌≡◌, ℕ, ◌-◌, List, [], ◌∷◌, length, map, Some, slice_get}
 use Rattle.std.specs.List.{range_with_len}
 use Rattle.cave_world.specs.declared.ending.Question.{Question}
 use Rattle.cave_world.specs.declared.ending.Question.TheVariants as question
 use Rattle.turn_ends.specs.Questions.{question_row}
 
--- the questions, where those about a hint are about this one
+-- the questions; those about a hint are about this one
 abbrev pub questions : ℕ → List Question
 questions h =
     question.Welcome ∷ question.Quit ∷ question.ScoreQuit ∷ question.Die ∷ question.Hint h

@@ -1,4 +1,4 @@
--- The report on the rules, and on the ways of a cave, of whose rows some applied.
+-- The report on the rules, and on the ways of a cave, some of whose rows applied.
 use Rattle.std.specs.Prelude.{ℕ, ◌+◌, ◌*◌, Bool, true, false, not, List, [], ◌∷◌, ◌++◌, length}
 use Rattle.std.specs.Prelude.{codes}
 use Rattle.std.specs.Fmt.{decimal}
@@ -15,8 +15,8 @@ use Rattle.play_cover.specs.RuleTables.{words_of_row}
 use Rattle.play_cover.specs.declared.coverage.Detail.TheVariants.{Both}
 use Rattle.play_cover.specs.declared.marks.Mark.{Mark}
 
--- the mark of a row: its group is one of three, of the table with that number, and of the rows of
--- the place with that number that failed, and that applied
+-- the mark of a row. Its group is one of three: that of the table with that number, that of the
+-- rows of the place with that number that failed, or that of those that applied
 abbrev pub mark_of_row : RuleRow → Mark
 mark_of_row (OfTable table number) = mark (3 * table_number table) number
 mark_of_row (OfPlace place index false) = mark (3 * place + 1) index
@@ -73,7 +73,7 @@ module _ (is_covered : Mark → Bool) where
   unfoldable pub ways_applied : List WayLine → List WayLine
   ways_applied ways = filter is_way_applied ways
 
-  -- the ways that failed, of which others may have applied too
+  -- the ways that failed, some of which may also have applied
   unfoldable pub ways_failed : List WayLine → List WayLine
   ways_failed ways = filter is_way_failed ways
 

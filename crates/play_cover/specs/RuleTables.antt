@@ -9,7 +9,7 @@ use Rattle.play_cover.specs.EachTable.{declared, tables}
 abbrev pub TABLE_COUNT : ℕ
 TABLE_COUNT = length tables
 
--- the number of each row is below it
+-- the number of each row is below this
 abbrev pub ROW_END : ℕ
 ROW_END = 32
 
@@ -17,7 +17,7 @@ ROW_END = 32
 abbrev pub table_number : Table → ℕ
 table_number t = tag_of the_type t
 
--- what a table is called
+-- the name of a table
 abbrev pub table_name : Table → List ℕ
 table_name t = (declared t).name
 

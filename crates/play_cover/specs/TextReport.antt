@@ -1,4 +1,4 @@
--- The report on the texts of a cave, of which some were said.
+-- The report on the texts of a cave, some of which were said.
 use Rattle.std.specs.Prelude.{ℕ, ◌/◌, ◌%◌, Bool, List, [], ◌∷◌, ◌++◌, codes, slice_index_or}
 use Rattle.std.specs.Prelude.{Option, None, Some, option_map}
 use Rattle.std.specs.Fmt.{decimal}
@@ -30,7 +30,7 @@ heading_of_kind kind.Message = codes "messages"
 heading_of_kind kind.Role = codes "roles"
 heading_of_kind kind.Class = codes "classes"
 
--- what one text of a kind is called
+-- the name for one text of a kind
 abbrev pub word_of_kind : TextKind → List ℕ
 word_of_kind kind.Long = codes "long text"
 word_of_kind kind.Short = codes "short text"
@@ -62,7 +62,7 @@ text_at cave kind.Role number = None
 text_at cave kind.Class number = option_map (λ (rated : Rated). rated.text)
     (class_of cave number)
 
--- what follows the name of a text: its first line, where there is one
+-- what follows the name of a text: its first line, if there is one
 abbrev pub first_line_shown : Option (List ℕ) → List ℕ
 first_line_shown None = codes "\n"
 first_line_shown (Some text) = codes ": " ++ (first_line text ++ codes "\n")
@@ -87,7 +87,7 @@ abbrev pub detail_of : TextView → Detail
 detail_of asked.Counts = detail.Counts
 detail_of asked.Texts = detail.Missing
 
--- what is asked for, of each kind or of each text that was never said, and the sum
+-- what the view asks for about each kind, or about each text that was never said, and the sum
 unfoldable pub text_report : CaveView → TextView → (Mark → Bool) → ℕ → List ℕ
 text_report cave view is_said logs =
     groups_text (cave_texts cave) is_said (detail_of view)

@@ -14,7 +14,7 @@ use Rattle.play_cover.specs.declared.text.TextKind.TheVariants as kind
 use Rattle.play_cover.specs.Marks.{mark}
 use Rattle.play_cover.specs.declared.marks.Mark.{Mark}
 
--- the numbers of texts are below it
+-- the numbers of texts are below this
 abbrev pub end_of_numbers : ℕ
 end_of_numbers = 10000
 
@@ -49,7 +49,8 @@ is_class_reached cave bound =
     list_any (λ score. has_bound (class_of cave score) bound)
     (range_with_len 0 (max_score_of cave + 1))
 
--- whether the cave has the text; a class that no score of the cave belongs to is none of its texts
+-- whether the cave has the text; a class to which no score of the cave belongs isn't one of its
+-- texts
 abbrev pub has_text : CaveView → TextKind → ℕ → Bool
 has_text cave kind.Long number = is_some (map.get cave.long number)
 has_text cave kind.Short number = is_some (map.get cave.short number)
@@ -62,7 +63,7 @@ has_text cave kind.Class number = is_class_reached cave number
 
 -- ---- which texts a part says
 
--- a role that is bound says its message too
+-- a role that is bound also says its message
 abbrev pub message_said : Option ℕ → List Mark
 message_said None = []
 message_said (Some number) = text kind.Message number ∷ []
@@ -77,7 +78,7 @@ look_said cave object (pos prop) =
     then text kind.Look (PROPS_PER_OBJECT * object + prop) ∷ [] else []
 look_said cave object (negsuc n) = []
 
--- the texts that a part says; the game's own lines are none of the cave's
+-- the texts that a part says; the game's own lines aren't texts of the cave
 unfoldable pub said_by_part : CaveView → Part → List Mark
 said_by_part cave (part.Long place) = text kind.Long place ∷ []
 said_by_part cave (part.Short place) = text kind.Short place ∷ []

@@ -12,7 +12,7 @@ use std::marker::Model;
 use turn_ends::max_score;
 use turn_scene::Rules;
 
-/// A cave, with its greatest score by which it has its classes.
+/// A cave, with its greatest score, on which its classes depend.
 #[derive(Drop)]
 pub struct CaveTexts<'a> {
     cave: &'a Cave,

@@ -61,8 +61,8 @@ pub trait Groups {
             ≡ text.old.items ++ (catalogue self.now).missing_line group number) };
 }
 
-/// What is written of a group: its counts with the names of what isn't covered, a line for each of
-/// these, or both.
+/// What is written about a group: its counts with the names of what isn't covered, a line for each
+/// of these, or both.
 #[derive(Clone, Copy, Debug, PartialEq, Eq)]
 pub enum Detail {
     Counts,
@@ -77,7 +77,7 @@ pub struct Totals {
     pub present: usize,
 }
 
-/// The numbers of a group's things, and which of them are missing, of how many that are covered.
+/// The numbers of a group's things, which of them are missing, and how many are covered.
 #[derive(Drop)]
 struct Found {
     covered: usize,
@@ -221,8 +221,8 @@ fn push_missing_lines<T: Groups>(
     Ok(())
 }
 
-/// Appends what is written of a group, and returns how many of its things are covered, and how many
-/// there are.
+/// Appends what is written about a group, and returns how many of its things are covered, and how
+/// many there are.
 fn push_group<T: Groups>(
     alloc: Global,
     of: &T,
@@ -255,8 +255,8 @@ fn push_group<T: Groups>(
     })
 }
 
-/// Appends what is written of all groups, and returns how many of their things are covered, and how
-/// many there are.
+/// Appends what is written about all groups, and returns how many of their things are covered, and
+/// how many there are.
 pub fn push_groups<T: Groups>(
     alloc: Global,
     of: &T,

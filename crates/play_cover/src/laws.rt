@@ -1,4 +1,4 @@
-//! Laws of the tables of the rules, and of what is written of the plays of logs. Each is the
+//! Laws about the tables of the rules, and about what is written of the plays of logs. Each is the
 //! contract of a function that does nothing.
 
 ghost use Rattle.play_cover.specs.Plays.{AgainIsNothing, OneCoveredOutput, OrderIsNothing};
@@ -12,17 +12,17 @@ pub fn order_is_nothing()
     ensures { OrderIsNothing }
 {}
 
-/// A log that is given once more changes nothing of the output but the number of logs.
+/// A log that is given once more changes nothing in the output except the number of logs.
 pub fn again_is_nothing()
     ensures { AgainIsNothing }
 {}
 
-/// A database with its bindings, logs and a seed have one output at most.
+/// A database with its bindings, logs and a seed have at most one output.
 pub fn one_covered_output()
     ensures { OneCoveredOutput }
 {}
 
-/// Rows that have one mark are one.
+/// Rows with the same mark are the same row.
 pub fn each_row_has_its_mark()
     ensures { EachRowHasItsMark }
 {}

@@ -14,7 +14,7 @@ use std::alloc::{AllocError, Global};
 #[derive(Drop)]
 pub struct KeptRows {
     marks: Vec<Mark>,
-    /// Why some are missing, if memory ran out.
+    /// The error, if memory ran out and some marks are missing.
     failed: Option<AllocError>,
     all: GhostRows,
     ghost kept: { failed ≡ None → marks.items ≡ map mark_of_row all.rows },

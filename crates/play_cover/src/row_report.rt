@@ -1,4 +1,4 @@
-//! The report on the rules, of whose rows some applied.
+//! The report on the rules, some of whose rows applied.
 
 ghost use Rattle.std.specs.Prelude.{◌≡◌, ◌++◌, OnOk};
 ghost use Rattle.play_cover.specs.Marks.{is_marked};
@@ -69,8 +69,8 @@ impl Groups for RuleTables {
     }
 }
 
-/// Appends the line that sums up: of the rows, and of the travel rows, how many applied and how many
-/// there are.
+/// Appends the line that sums up: how many of the rows, and of the travel rows, applied, and how
+/// many there are.
 fn push_row_sums(
     alloc: Global,
     rows: Totals,
@@ -89,8 +89,8 @@ fn push_row_sums(
     text.extend_from_slice(closing.as_bytes())
 }
 
-/// Appends the report on the rules, and on the ways of a cave, of whose rows some were noted in so
-/// many logs.
+/// Appends the report on the rules, and on the ways of a cave, some of whose rows were noted in
+/// this many logs.
 #[tactic(auto, unfolding(crate::specs::RowReport::row_report))]
 pub fn push_row_report(
     alloc: Global,

@@ -17,7 +17,7 @@ pub fn table_number(table: Table) -> usize
     table as usize
 }
 
-/// What a table is called.
+/// The name of a table.
 pub fn table_name(table: Table) -> &'static str
     ensures { result.now ≡ table_name table }
 {
@@ -32,7 +32,7 @@ pub fn row_count(table: Table) -> u16
     table_name_and_words(table).1.len() as u16
 }
 
-/// When a row of a table applies, in words. A row that it doesn't have has none.
+/// When a row of a table applies, in words. There are none for a row that the table doesn't have.
 pub fn words_of_row(table: Table, number: u16) -> &'static str
     ensures { result.now ≡ words_of_row table number }
 {

@@ -1,4 +1,5 @@
-//! The run that tells which texts logs show: from readers of the inputs to a writer of the output.
+//! The run that reports which texts logs show: from readers of the inputs to a writer of the
+//! output.
 
 ghost use Rattle.std.specs.Prelude.{ℕ, List, map};
 ghost use Rattle.std.specs.List.{AllZip};
@@ -16,7 +17,7 @@ use std::alloc::Global;
 use std::io::{Read, Write};
 
 /// Plays logs, each by itself from its first line, and writes how many of the cave's texts they
-/// say, and which ones they never say, or so of the rows of the rules.
+/// say, and which ones they never say, or the same about the rows of the rules.
 pub fn run_cover<C: Read, B: Read, L: Read, W: Write>(
     alloc: Global,
     cave: &mut CaveReaders<C, B>,

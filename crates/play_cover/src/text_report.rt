@@ -1,4 +1,4 @@
-//! The report on the texts of a cave, of which some were said.
+//! The report on the texts of a cave, some of which were said.
 
 ghost use Rattle.std.specs.Prelude.{◌≡◌, [], ◌++◌, map, OnOk, option_map, slice_index_or};
 ghost use Rattle.play_cover.specs.Marks.{is_marked};
@@ -30,7 +30,7 @@ fn heading(kind: TextKind) -> &'static str
     }
 }
 
-/// What one text of a kind is called.
+/// The name for one text of a kind.
 fn word(kind: TextKind) -> &'static str
     ensures { result.now ≡ word_of_kind kind }
 {
@@ -62,7 +62,7 @@ fn text_at(cave: &Cave, kind: TextKind, number: u16) -> Option<&[u8]>
     }
 }
 
-/// Appends the first line of a text, where there is one.
+/// Appends the first line of a text, if there is one.
 fn push_first_line(found: Option<&[u8]>, text: &mut Vec<u8>) -> Result<(), AllocError>
     ensures { OnOk result (text.new.items
         ≡ text.old.items ++ first_line_shown (option_map (λ found. found.now) found.entry)) }
@@ -156,7 +156,7 @@ fn detail_of(view: TextView) -> Detail
     }
 }
 
-/// Appends what is asked for of a cave of whose texts some were said in so many logs.
+/// Appends what the view asks for about a cave, some of whose texts were said in this many logs.
 #[tactic(auto, unfolding(crate::specs::TextReport::text_report))]
 pub fn push_text_report(
     alloc: Global,

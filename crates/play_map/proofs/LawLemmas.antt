@@ -1,4 +1,4 @@
--- What is said of maps by the order of their logs, and that there is one at most.
+-- What the order of logs says about maps, and that there is at most one.
 use Rattle.std.proofs.Common.{◌≡◌, ℕ, ◌+◌, Bool, List, [], ◌∷◌, length, refl, sym, ap, ◌∙◌}
 use Rattle.std.specs.List.{filter, flat_map, list_any, sum_by}
 use Rattle.std.specs.List.Sorted.{IsPermutation}
@@ -26,7 +26,7 @@ count_flat p f (x ∷ xs) =
     ∙ ap (λ n. length (filter p (f x)) + n) (count_flat p f xs)
     ∙ sym (sum_by-cons (λ x. length (filter p (f x))) x xs)
 
--- a test that a stop of some log passes, in whatever order the logs are
+-- a test that a stop of some log passes, with the logs in any order
 any_in_order : (cave : CaveView) (seed : ℕ) (test : Stop → Bool) (logs others : List (List ℕ))
     → IsPermutation logs others
     → list_any test (stops_in_all cave seed others) ≡ list_any test (stops_in_all cave seed logs)
@@ -36,7 +36,7 @@ any_in_order cave seed test logs others shuffled =
     shuffled)
     ∙ sym (any_flat test (stops_in_log cave seed) logs)
 
--- how many stops of logs pass a test, in whatever order the logs are
+-- how many stops of logs pass a test, with the logs in any order
 count_in_order : (cave : CaveView) (seed : ℕ) (test : Stop → Bool) (logs others : List (List ℕ))
     → IsPermutation logs others
     → length (filter test (stops_in_all cave seed others))

@@ -21,7 +21,7 @@ abbrev pub asks_of_dragon : Option Question → Bool
 asks_of_dragon (Some question.Dragon) = true
 asks_of_dragon _ = false
 
--- the line kills the dragon: it answers the question whether to fight it, and is no command
+-- the line kills the dragon: it answers the question whether to fight it, and isn't a command
 abbrev pub is_fight : Moment → Bool
 is_fight moment = asks_of_dragon moment.before.question && not moment.ticked
 
@@ -29,7 +29,7 @@ is_fight moment = asks_of_dragon moment.before.question && not moment.ticked
 abbrev pub stop_at : Moment → Stop
 stop_at moment = stop moment.before.trail.here moment.after.trail (is_fight moment)
 
--- none is before the first state
+-- no place is before the first state
 abbrev pub first_stop : State → Stop
 first_stop begun = stop 0 begun.trail false
 
@@ -46,7 +46,7 @@ map_of_games cave games = map_of_places cave (flat_map (stops_in cave) games) (l
 abbrev pub stops_in_log : CaveView → ℕ → List ℕ → List Stop
 stops_in_log cave seed log = stops_in cave (game_of seed (lines log))
 
--- the stops where each log is played by itself
+-- the stops if each log is played by itself
 abbrev pub stops_in_all : CaveView → ℕ → List (List ℕ) → List Stop
 stops_in_all cave seed logs = flat_map (stops_in_log cave seed) logs
 
@@ -64,7 +64,7 @@ OrderOfLogsIsNothing =
     (cave : CaveView) (seed : ℕ) (logs others : List (List ℕ))
     → IsPermutation logs others → map_text cave seed others ≡ map_text cave seed logs
 
--- a database with its bindings, logs and a seed have one map at most
+-- a database with its bindings, logs and a seed have at most one map
 abbrev pub OneMap : Type 0
 OneMap =
     (database bindings : List ℕ) (logs : List (List ℕ)) (seed : ℕ)

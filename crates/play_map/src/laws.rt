@@ -1,4 +1,4 @@
-//! Laws of maps. Each is the contract of a function that does nothing.
+//! Laws about maps. Each is the contract of a function that does nothing.
 
 ghost use Rattle.play_map.specs.Plays.{OneMap, OrderOfLogsIsNothing};
 
@@ -7,7 +7,7 @@ pub fn order_of_logs_is_nothing()
     ensures { OrderOfLogsIsNothing }
 {}
 
-/// A database with its bindings, logs and a seed have one map at most.
+/// A database with its bindings, logs and a seed have at most one map.
 pub fn one_map()
     ensures { OneMap }
 {}

@@ -41,7 +41,7 @@ impl PlayNotes for Stops {
 }
 
 /// Plays logs, each by itself from its first line, and writes the map of the cave with what their
-/// plays saw of it. Without logs it is the map alone.
+/// plays saw of it. Without logs it is just the map.
 pub fn run_map<C: Read, B: Read, L: Read, W: Write>(
     alloc: Global,
     cave: &mut CaveReaders<C, B>,

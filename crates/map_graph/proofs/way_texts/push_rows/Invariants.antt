@@ -3,7 +3,7 @@ use Rattle.data_rows.specs.RowViews.{going}
 use Rattle.map_graph.specs.WayTexts.{row_lines}
 use Rattle.map_graph.proofs.way_texts.push_rows.Given as goal
 
--- what was written, with the lines of the rows that are left, is the whole
+-- what was written, with the lines of the remaining rows, is the whole
 abbrev pub invariant-loop-count : goal.invariant-loop-count
 invariant-loop-count l =
     l.text.items
