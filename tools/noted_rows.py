@@ -4,8 +4,9 @@ A definition notes the rows of a table where it has `noted table.NAME ROWS`, or 
 where it is a table itself: `ROWS d = .._by_table table.NAME`. Where it notes cases by their
 numbers, the table is one of `BY_CASES`.
 
-On a page such a table stands below its name, in bold, and a comment with the names of its
-definitions. One that is two tables has both names. The rows of all tables begin with their numbers.
+On a page such a table stands right below a line with its name, in bold, and a comment with the
+names of its definitions. One that is two tables has both names. The rows of all tables begin with
+their numbers.
 """
 
 import re
@@ -16,7 +17,7 @@ Place = namedtuple("Place", "order labels")
 
 PAGES = ("docs/TURN.md", "docs/PLAY.md", "docs/VERBS.md")
 SHOWN = re.compile(
-    r"^(?:((?:\*\*[^*]+\*\*(?:, )?)+)\n\n?)?<!-- rows: (.*) -->\n\n?((?:^\|.*\n)*)", re.MULTILINE
+    r"^(?:((?:\*\*[^*]+\*\*(?:, )?)+) )?<!-- rows: (.*) -->\n((?:^\|.*\n)*)", re.MULTILINE
 )
 NOTED = re.compile(r"\b(?:noted|noted_from|by_table) table\.(\w+) (?:\d+ )?\(?(\w+)")
 ITSELF = re.compile(r"^(\w+) d =\s+\w+_by_table table\.(\w+)", re.MULTILINE)
