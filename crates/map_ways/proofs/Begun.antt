@@ -30,7 +30,7 @@ module _ (emerald : ℕ) (later : Bool) (row : Going) where
       (ap (λ all. motions_from emerald later before (map going (x ∷ left)) row
       ++ motions_taking emerald later all (map going left) row) (sym front))
 
-  -- those that begin at the rows that are left are those of the next row, and then of the others
+  -- those that begin at the remaining rows are those of the next row, and then of the others
   pub next_begun : (rows : List Row) (i : ℕ) → i < length rows
       → taking_from rows i ≡ begun_at rows i ++ taking_from rows (i + 1)
   next_begun [] i less = absurd (omega (arith, less))

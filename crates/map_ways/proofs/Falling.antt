@@ -1,4 +1,4 @@
--- A motion comes to a row and takes it in some state exactly where what has to hold and what has to
+-- A motion reaches a row and takes it in some state exactly if what has to hold and what has to
 -- fail on the way go together.
 use Rattle.std.proofs.Common.{◌≡◌, ℕ, ◌<◌, ◌≤◌, Bool, true, false, List, [], ◌∷◌, ◌++◌, map, refl}
 use Rattle.std.proofs.Common.{sym, ap, ◌∙◌, subst, append_assoc, append-nil, cond, lit≤}
@@ -100,7 +100,7 @@ module _ (D : ℕ → Type 0) (emerald : ℕ) (s : State) where
     after = tt;
   }
 
-  -- past one of some rows that puts it down
+  -- past one of these rows that puts it down
   past_some : (early more : List Going) (putting : Going) (late : List Going) (row : Going)
       → holds_past emerald (early ++ more) putting late row ≡ true
       → holds_past_some emerald early (more ++ putting ∷ late) row ≡ true
@@ -132,7 +132,7 @@ module _ (D : ℕ → Type 0) (emerald : ℕ) (s : State) where
       (subst (λ rows. holds_past_some emerald [] rows row ≡ true) (sym gone.parts)
       (past_some [] gone.early gone.putting gone.late row holds)))
 
-  -- what a motion can come to can be taken
+  -- what a motion can reach can be taken
   pub takes : (place : ℕ) (done : List Going) (down : Bool) (rest : List Going) → Gone down done
       → Leads D emerald s place done down rest → takes_to emerald place done rest ≡ true
   takes place done down rest gone (Takes _ _ row rows tried ends holding) =

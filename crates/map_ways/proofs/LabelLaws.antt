@@ -1,4 +1,4 @@
--- A label names a motion exactly where it leads there in some state.
+-- A label names a motion exactly if it leads there in some state.
 use Rattle.std.proofs.Common.{◌≡◌, ℕ, ◌+◌, ◌<◌, ◌≤◌, true, false, List, [], ◌∷◌, refl, sym, ap}
 use Rattle.std.proofs.Common.{Option, None, Some, subst, ◌∙◌}
 use Rattle.std.specs.Prelude.{if◌then◌else◌, is_some}
@@ -22,7 +22,7 @@ use Rattle.map_ways.proofs.Named.{named_of}
 use Rattle.map_ways.proofs.NamedBack.{named_takes}
 
 module _ (cave : CaveView) (motion from to : ℕ) (low : 0 < from) where
-  -- where the motion leads by some rows, with these draws
+  -- where the motion leads by these rows, with these draws
   abbrev LeadsBy : State → List ℕ → ℕ → List Going → Type 0
   LeadsBy s draws number listed =
       (result_of_last (record { state = s; outcome = NoMotion })
@@ -76,7 +76,7 @@ pub labels_name_what_leads : LabelsNameWhatLeads
 labels_name_what_leads cave motion from to number =
     (leads cave motion from to number.0 number.1, named cave motion from to number.0)
 
--- with no draws the rows that are tried are those that are tried by the stream alone
+-- without draws the rows that are tried are those that are tried just by the stream
 by_stream : (emerald : ℕ) (s : State) (failed : Option ℕ) (number : ℕ) (rows : List Going)
     → tries_by emerald [] s failed number rows ≡ tries emerald s failed number rows
 by_stream emerald s failed number [] = refl

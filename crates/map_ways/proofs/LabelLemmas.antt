@@ -6,7 +6,7 @@ use Rattle.map_ways.specs.Labels.{InText, QUOTE, escape_of, is_control, text_of_
 use Rattle.map_ways.specs.Labels.{with_first}
 use Rattle.map_ways.proofs.Bytes.{IsOther, by_bytes}
 
--- the byte reads back as it is shown, whatever follows
+-- the byte reads back as it is shown, before anything that follows
 abbrev ReadsBack : ℕ → Type 0
 ReadsBack byte = (rest : List ℕ)
     → text_of_label InText (escape_of byte ++ rest)

@@ -1,5 +1,5 @@
--- How a motion comes to a row that leads to a place, past rows that fail, and that a motion leads
--- there where it can come to one.
+-- How a motion reaches a row that leads to a place, past rows that fail, and that a motion leads
+-- there if it can reach one.
 use Rattle.std.proofs.Common.{◌≡◌, ℕ, ◌+◌, Bool, true, false, List, [], ◌∷◌, ◌++◌, Option, None}
 use Rattle.std.proofs.Common.{Some, drop, refl, sym, ap, ◌∙◌, subst}
 use Rattle.std.specs.Prelude.{◌==◌, not, if◌then◌else◌, is_some, unwrap_or}
@@ -30,7 +30,7 @@ use Rattle.map_ways.proofs.States.{Fails, Holds}
 use Rattle.map_ways.proofs.TriedRows.{is_gone_to, last_target, last_target_later, not_false}
 use Rattle.map_ways.proofs.TriedRows.{number_gone, passed_next, tried_last, tried_next}
 
--- past some rows, with the emerald put down or not, a motion comes to one of the others that leads
+-- past some rows, with the emerald put down or not, a motion reaches one of the others that leads
 -- to the place
 pub data Leads (D : ℕ → Type 0) (emerald : ℕ) (s : State) (place : ℕ)
     : List Going → Bool → List Going → Type 0 where
@@ -83,13 +83,13 @@ module _ (emerald : ℕ) (s : State) (place : ℕ) where
       else tries_by emerald (drop 1 draws) (after_trying_row emerald (with_first draws t) row)
       (Some row.target) (number + 1) rows))).outcome
 
-  -- where they lead by what comes of the first row, and the state after it
+  -- where they lead, by what the first row does, and the state after it
   abbrev led_on : Option Outcome → List ℕ → State → ℕ → Going → List Going → Outcome
   led_on o later u number row rows =
       (result_of_last (record { state = u; outcome = unwrap_or o NoWay }) (if is_some o then []
       else tries_by emerald later u (Some row.target) (number + 1) rows)).outcome
 
-  -- where a row is tried with a draw, and the others with later ones
+  -- where rows lead if one is tried with a draw, and the others with later ones
   abbrev Step : ℕ → List ℕ → State → Going → List Going → Type 0
   Step draw later t row rows =
       (number : ℕ) × (led_on (row_outcome (with_draw draw t) row) later
@@ -142,7 +142,7 @@ module _ (emerald : ℕ) (s : State) (place : ℕ) where
   abbrev pub Anything : ℕ → Type 0
   Anything draw = Unit {0}
 
-  -- the step by what comes of the condition, and where the row leads
+  -- the step, by whether the condition holds and where the row leads
   abbrev StepBy : Bool → Destination → List ℕ → State → ℕ → Going → List Going → Type 0
   StepBy b d later w number row rows =
       led_on (if b then outcome_at d else None) later (if b then after_go emerald d w else w)
@@ -219,7 +219,7 @@ module _ (emerald : ℕ) (s : State) (place : ℕ) where
         by_case draw later number (holds (row_condition row) (with_draw draw t))
         (row_destination row) refl refl step
 
-  -- what leads there comes to a row that does
+  -- what leads there reaches a row that does
   pub leads_of : (done rest : List Going) (down : Bool) (t : State) (draws : List ℕ)
       → Sees emerald s down t → LastFails Anything emerald s done down
       → LeadsThere draws t (last_target done) rest
@@ -267,7 +267,7 @@ module _ (emerald : ℕ) (s : State) (place : ℕ) where
     ),
   )
 
-  -- where a row is tried with a draw, they lead where it does
+  -- if a row is tried with a draw, they lead where it does
   led_first : (draw : ℕ) (draws : List ℕ) (t : State) (failed : Option ℕ) (row : Going)
       (rows : List Going) → is_passed failed row ≡ false → (o : Option Outcome)
       → row_outcome (with_draw draw t) row ≡ o → (number : ℕ) (before : TravelResult)
@@ -356,7 +356,7 @@ module _ (emerald : ℕ) (s : State) (place : ℕ) where
       ap (λ b. if b then outcome_at (row_destination row) else None) now
       ∙ ends_of (row_destination row) place ends
 
-  -- what can come to a row leads there by some draws
+  -- what can reach a row leads there by some draws
   pub draws_of : (done : List Going) (down : Bool) (rest : List Going)
       → Leads IsDraw emerald s place done down rest → (t : State) → Sees emerald s down t
       → Draws t (last_target done) rest

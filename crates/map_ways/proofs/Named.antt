@@ -53,7 +53,7 @@ abbrev pub lists_it : ℕ → ℕ → Bool
 lists_it motion m = m == motion || m == any_motion
 
 module _ (emerald : ℕ) (as_any : Bool) (motion : ℕ) where
-  -- of the numbers that a row lists, those that no row before lists stand for it too
+  -- those numbers that a row lists, and no row before lists, also stand for it
   kept : (before : List Going) → any_lists motion before ≡ false → (numbers : List ℕ)
       → (list_any (lists_it any_motion) numbers ≡ true → as_any ≡ true)
       → list_any (lists_it motion) numbers ≡ true

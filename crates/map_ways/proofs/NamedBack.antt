@@ -73,7 +73,7 @@ module _ (emerald : ℕ) (as_any : Bool) (motion : ℕ) where
       by_test again false other =
           or_right _ _ (again (sym (ap (λ b. b || list_any (λ k. k == n) numbers) other) ∙ listed))
 
-  -- where any motion begins, one that begins as any isn't listed before
+  -- if any motion begins, one that begins as any isn't listed before
   unlisted_before : (before rows : List Going) → begins_as_any motion (before ++ rows) ≡ true
       → any_lists any_motion before ≡ false → any_lists motion before ≡ false
   unlisted_before [] rows begins none = refl

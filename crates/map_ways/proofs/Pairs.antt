@@ -1,4 +1,4 @@
--- Tests of the pairs of two lists, whichever list is gone through first.
+-- Tests of the pairs of two lists, with either list first.
 use Rattle.std.proofs.Common.{◌≡◌, ℕ, Bool, true, false, List, [], ◌∷◌, refl, sym, ap, ap₂, ◌∙◌}
 use Rattle.std.specs.Prelude.{◌==◌, ◌&&◌, ◌||◌, not}
 use Rattle.std.specs.List.{list_all}

@@ -9,7 +9,7 @@ use Rattle.data_rows.specs.declared.targets.Condition.{Condition}
 use Rattle.data_rows.specs.declared.targets.Condition.TheVariants as condition
 use Rattle.map_ways.specs.Conditions.{with_emerald_here}
 
--- a chance can happen and fail, and an object is one that there may be
+-- a chance can happen and fail, and an object has a possible number
 abbrev pub IsProper : Condition → Type 0
 IsProper (condition.Chance percent) = (0 < percent) × (percent < 100)
 IsProper (condition.InHands object) = (0 < object) × (object ≤ LAST_OBJECT)
@@ -38,7 +38,7 @@ proper target =
         (grind (arith, nat_tests), grind (arith, nat_tests))
     at m false false false false false a n c l h = omega arith
 
--- so are those once the emerald lies here
+-- so are those after the emerald lies here
 pub proper_here : (emerald : ℕ) (c : Condition) → IsProper c
     → IsProper (with_emerald_here emerald c)
 unfolding with_emerald_here
@@ -57,7 +57,7 @@ proper_here emerald (condition.AtHand object) is =
     ]
 proper_here emerald (condition.OtherProp object prop) is = is
 
--- that it lies here once more changes nothing
+-- that it lies here again changes nothing
 pub here_twice : (emerald : ℕ) (c : Condition)
     → with_emerald_here emerald (with_emerald_here emerald c) ≡ with_emerald_here emerald c
 unfolding with_emerald_here

@@ -1,4 +1,4 @@
--- Tests and counts of rows, as the code has them, are those of what the rows say.
+-- Tests and counts of rows in the code are those of what the rows say.
 use Rattle.std.proofs.Common.{◌≡◌, ℕ, zero, suc, ◌+◌, ◌≤◌, Bool, true, false, cond, List, [], ◌∷◌}
 use Rattle.std.proofs.Common.{length, map, refl, sym, ap, ◌∙◌, arith, lit≤}
 use Rattle.std.specs.Prelude.{◌||◌}
@@ -68,7 +68,7 @@ unfolding mapped_places place_numbers
 mapped_within cave =
     All-filter-range (is_mapped cave) LAST_PLACE 1 LAST_PLACE (lit≤ tt)
 
--- and so there are at most so many
+-- and so there are at most this many
 pub mapped_few : (cave : CaveView) → length (mapped_places cave) ≤ LAST_PLACE
 unfolding mapped_places place_numbers
 mapped_few cave = length-filter-range (is_mapped cave) 1 LAST_PLACE

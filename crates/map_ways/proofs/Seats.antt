@@ -17,7 +17,7 @@ use Rattle.world_objects.specs.declared.spot.Spot.{Spot}
 use Rattle.world_objects.specs.declared.spot.Spot.TheVariants as spot
 use Rattle.map_ways.proofs.Several.{First, Has, Later, if_kept}
 
--- Where an object is: where a condition has to hold with it.
+-- Where an object is: where a condition that has to hold wants it.
 abbrev pub spot_for : ℕ → List Condition → ℕ → Spot
 spot_for here [] x = spot.Away
 spot_for here (condition.InHands y ∷ cs) x = if y == x then spot.InHands else spot_for here cs x
@@ -26,7 +26,7 @@ spot_for here (condition.AtHand y ∷ cs) x =
     else spot.At here) else spot_for here cs x
 spot_for here (_ ∷ cs) x = spot_for here cs x
 
--- objects moved to where conditions hold with them
+-- objects moved to where conditions about them hold
 abbrev pub seats : ℕ → Layout → List Condition → Layout
 seats here o [] = o
 seats here o (condition.InHands x ∷ cs) = with_spot (seats here o cs) x spot.InHands

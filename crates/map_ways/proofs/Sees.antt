@@ -1,4 +1,4 @@
--- What conditions ask of a state on the way, of the state that the motion began in.
+-- What conditions on the way ask of the state in which the motion began.
 use Rattle.std.proofs.Common.{◌≡◌, ℕ, ◌<◌, Bool, true, false, length, refl, ap, ◌∙◌}
 use Rattle.std.specs.Prelude.{not, if◌then◌else◌}
 use Rattle.cave_words.specs.Stream.{next}
@@ -22,7 +22,7 @@ abbrev pub seen_as : ℕ → Bool → Condition → Condition
 seen_as emerald false c = c
 seen_as emerald true c = with_emerald_here emerald c
 
--- in a state on the way each condition holds where what it asks of the beginning does
+-- in a state on the way each condition holds if what it asks of the beginning does
 pub record Sees (emerald : ℕ) (s : State) (down : Bool) (t : State) : Type 0 where
   pub low : 0 < t.trail.here
   pub long : length t.objects.first ≡ LAST_OBJECT
@@ -58,7 +58,7 @@ module _ (emerald : ℕ) (s : State) where
         ∙ ap (λ d. holds d (with_draw draw s)) (seen_once down c);
   }
 
-  -- a state after a condition differs by its draw alone
+  -- a state after a condition differs only by its draw
   pub sees_after : (down : Bool) (t : State) (draw : ℕ) (c : Condition) → Sees emerald s down t
       → Sees emerald s down (after_condition c (with_draw draw t))
   sees_after down t draw condition.Always sees = sees_later down t draw sees
@@ -76,7 +76,7 @@ same_asked emerald true row next same =
     ap (λ target. if not (puts_emerald_down (destination_of target))
     then with_emerald_here emerald (condition_of target) else never) same
 
--- a row that puts the emerald down once it lies here is passed in any case
+-- a row that puts the emerald down after it lies here is passed in any case
 pub passes_again : (D : ℕ → Type 0) (emerald : ℕ) (s : State) (row : Going) (draw : ℕ) → D draw
     → has_to_fail row ≡ false → Fails D s (asked_of emerald true row)
 passes_again D emerald s row draw drawn puts = (

@@ -13,7 +13,7 @@ get_or-replicate_same zero i a = get_or_past [] i a (omega arith)
 get_or-replicate_same (suc n) zero a = refl
 get_or-replicate_same (suc n) (suc i) a = get_or-replicate_same n i a
 
--- a condition is one of some
+-- a condition is one of several
 pub data Has (c : Condition) : List Condition → Type 0 where
   First : (cs : List Condition) → Has c (c ∷ cs)
   Later : (d : Condition) (cs : List Condition) → Has c cs → Has c (d ∷ cs)

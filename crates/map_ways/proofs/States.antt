@@ -1,4 +1,4 @@
--- What holds and fails in one state, whatever is drawn, goes together as conditions say.
+-- What holds and fails in one state, with any draws, goes together as conditions say.
 use Rattle.std.proofs.Common.{◌≡◌, ℕ, ℤ, pos, Bool, true, false, List, [], ◌∷◌, refl, sym, ap, ◌∙◌}
 use Rattle.std.proofs.Common.{inl, inr}
 use Rattle.std.specs.Prelude.{◌==◌, ◌&&◌, ◌||◌, not}
@@ -16,7 +16,7 @@ use Rattle.map_ways.specs.Leads.{with_draw}
 use Rattle.map_ways.specs.Conditions.{ask_for_two_props, can_fail, can_hold, fails_among}
 use Rattle.map_ways.specs.Conditions.{go_together, holds_where, implies, never}
 
--- the condition holds in the state with some draw, of those that there are
+-- the condition holds in the state with some possible draw
 abbrev pub Holds : (ℕ → Type 0) → State → Condition → Type 0
 Holds Drawn s c = (draw : ℕ) × (Drawn draw × (holds c (with_draw draw s) ≡ true))
 
@@ -114,7 +114,7 @@ or_false_left : (a b : Bool) → (a || b) ≡ false → a ≡ false
 or_false_left true b h = h
 or_false_left false b h = refl
 
--- two numbers that can't be the same aren't found so
+-- two numbers that can't be the same aren't found to be
 not_same : (m n : ℕ) → (m ≡ n → (true ≡ false)) → (m == n) ≡ false
 not_same m n differ =
     elim (cases_eq m n) [
@@ -165,7 +165,7 @@ props_here D s (condition.OtherProp x p) (condition.OtherProp y q)
     and_false false = refl
 props_here D s _ _ first second = refl
 
--- a fact of each of some conditions
+-- a fact of each of several conditions
 abbrev pub Each : (Condition → Type 0) → List Condition → Type 0
 Each P [] = Unit {0}
 Each P (c ∷ cs) = P c × Each P cs

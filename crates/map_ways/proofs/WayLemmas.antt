@@ -25,7 +25,7 @@ ways_swapped false true false agree = refl
 ways_swapped false false true agree = refl
 ways_swapped false false false agree = refl
 
--- a condition is the same as another one where that is the same as it
+-- a condition is the same as another one if that is the same as it
 same_symmetric : (c d : Condition) → is_same_condition c d ≡ is_same_condition d c
 same_symmetric condition.Always condition.Always = refl
 same_symmetric condition.NotForDwarves condition.NotForDwarves = refl
@@ -49,7 +49,7 @@ module _ (cave : CaveView) (from to : ℕ) where
       ∙ ap₂ (λ same agree. not same && is_way cave to from && is_way cave from to && agree)
       (eqb_symmetric from to) one_condition_back
 
--- of the two directions one is up, where the ends aren't the same
+-- one of the two directions is up, if the ends aren't the same
 up_or_down : (from to : ℕ) → (from == to) ≡ false → (up down : Bool) → nat_le from to ≡ up
     → nat_le to from ≡ down → count_if up + count_if down ≡ 1
 up_or_down from to differ true true rises falls =

@@ -1,4 +1,4 @@
--- A state in which conditions hold and others fail, where they go together.
+-- A state in which conditions hold and others fail, if they go together.
 use Rattle.std.proofs.Common.{◌≡◌, ◌≢◌, ℕ, ◌-◌, ◌<◌, ◌≤◌, pos, Bool, true, false, List, [], map}
 use Rattle.std.proofs.Common.{refl, sym, ap, ◌∙◌, inl, ◌⊎◌, inr, arith, get_or, replicate, lit≤}
 use Rattle.std.proofs.Common.{None}

@@ -1,4 +1,4 @@
--- Which conditions can hold, and which can fail, where others do.
+-- Which conditions can hold, and which can fail, if others do.
 use Rattle.std.specs.Prelude.{ℕ, Bool, true, false, ◌==◌, ◌&&◌, ◌||◌, not, if◌then◌else◌, List}
 use Rattle.std.specs.List.{list_all}
 use Rattle.data_rows.specs.declared.targets.Condition.{Condition}
@@ -19,8 +19,8 @@ can_fail condition.NotForDwarves = false
 can_fail (condition.OtherProp object prop) = not (object == 0) || prop == 0
 can_fail _ = true
 
--- where the one condition holds the other one does too: what is in the hands is at hand; of two
--- chances each has a draw of its own
+-- if one condition holds the other one does too: what is in the hands is at hand; each of two
+-- chances has its own draw
 unfoldable pub implies : Condition → Condition → Bool
 implies (condition.InHands object) (condition.InHands other) = object == other
 implies (condition.InHands object) (condition.AtHand other) = object == other
@@ -29,13 +29,13 @@ implies (condition.OtherProp object prop) (condition.OtherProp other also) =
     object == other && prop == also
 implies _ _ = false
 
--- both conditions don't fail at once: an object has one prop
+-- the two conditions don't both fail at once: an object has one prop
 unfoldable pub ask_for_two_props : Condition → Condition → Bool
 ask_for_two_props (condition.OtherProp object prop) (condition.OtherProp other also) =
     object == other && not (prop == also)
 ask_for_two_props _ _ = false
 
--- the condition can fail where others fail
+-- the condition can fail if others fail
 abbrev pub fails_among : List Condition → Condition → Bool
 fails_among others failed =
     can_fail failed && list_all (λ other. not (ask_for_two_props failed other)) others
@@ -44,7 +44,7 @@ fails_among others failed =
 abbrev pub fail_together : List Condition → Bool
 fail_together failed = list_all (fails_among failed) failed
 
--- the condition can hold where others fail
+-- the condition can hold if others fail
 abbrev pub holds_where : List Condition → Condition → Bool
 holds_where failed held =
     can_hold held && list_all (λ other. not (implies held other)) failed
@@ -57,8 +57,8 @@ go_together held failed = list_all (holds_where failed) held && fail_together fa
 abbrev pub never : Condition
 never = condition.OtherProp 0 0
 
--- what a condition asks once the emerald lies where the player is: it is at hand, and isn't in the
--- hands
+-- what a condition asks once the emerald lies where the player is, and so is at hand, but not in
+-- the hands
 unfoldable pub with_emerald_here : ℕ → Condition → Condition
 with_emerald_here emerald (condition.InHands object) =
     if object == emerald then never else condition.InHands object

@@ -1,4 +1,4 @@
--- Which motions come to a row, past rows before it that fail.
+-- Which motions reach a row, past rows before it that fail.
 use Rattle.std.specs.Prelude.{ℕ, Bool, true, false, ◌==◌, ◌&&◌, ◌||◌, not, if◌then◌else◌}
 use Rattle.std.specs.Prelude.{List, [], ◌∷◌, ◌++◌, map}
 use Rattle.std.specs.List.{filter, list_any}
@@ -13,34 +13,34 @@ abbrev pub puts_emerald_down : Destination → Bool
 puts_emerald_down PutsEmeraldDown = true
 puts_emerald_down _ = false
 
--- no motion goes on past the row but where it fails; past one that only puts the emerald down each
--- goes on
+-- a motion goes on past the row only if the row fails; each goes on past one that only puts the
+-- emerald down
 abbrev pub has_to_fail : Going → Bool
 has_to_fail row = not (puts_emerald_down (row_destination row))
 
--- what a row asks of the state that the motion began in, before the emerald was put down and after
--- it; then a row that puts it down is passed in any case, as one that fails
+-- what a row asks of the state in which the motion began, before the emerald was put down and after
+-- it; after it a row that puts it down is passed in any case, as if it failed
 abbrev pub asked_of : ℕ → Bool → Going → Condition
 asked_of emerald false row = row_condition row
 asked_of emerald true row =
     if has_to_fail row then with_emerald_here emerald (row_condition row) else never
 
--- what has to fail for a motion to come past rows, between some of which the emerald is put down
+-- what has to fail for a motion to get past rows, between some of which the emerald is put down
 abbrev pub failed_of : ℕ → List Going → List Going → List Condition
 failed_of emerald early late =
     map (asked_of emerald false) early ++ map (asked_of emerald true) late
 
--- of neighbours with the same target only the first is tried
+-- only the first of neighbours with the same target is tried
 abbrev pub is_tried_after : List Going → Going → Bool
 is_tried_after [] row = true
 is_tried_after (first ∷ []) row = not (first.target == row.target)
 is_tried_after (first ∷ second ∷ rows) row = is_tried_after (second ∷ rows) row
 
--- the row can be taken where all rows before it fail
+-- the row can be taken if all rows before it fail
 abbrev pub holds_after : ℕ → List Going → Going → Bool
 holds_after emerald rows row = go_together (row_condition row ∷ []) (failed_of emerald rows [])
 
--- the row can be taken where one before it is the first that puts the emerald down
+-- the row can be taken if one before it is the first that puts the emerald down
 abbrev pub holds_past : ℕ → List Going → Going → List Going → Going → Bool
 holds_past emerald early putting late row =
     not (has_to_fail putting) && is_tried_after early putting
@@ -48,15 +48,15 @@ holds_past emerald early putting late row =
     (row_condition putting ∷ with_emerald_here emerald (row_condition row) ∷ [])
     (failed_of emerald early late)
 
--- it can where one of some rows after others is
+-- it can be taken if one of these rows after others is the first
 abbrev pub holds_past_some : ℕ → List Going → List Going → Going → Bool
 holds_past_some emerald early [] row = false
 holds_past_some emerald early (first ∷ rows) row =
     holds_past emerald early first rows row
     || holds_past_some emerald (early ++ first ∷ []) rows row
 
--- a motion that begins at the first of some rows, or at the row itself where there are none, can
--- come to the row and take it
+-- a motion that begins at the first of these rows, or at the row itself if there are none, can
+-- reach the row and take it
 unfoldable pub is_taken_after : ℕ → List Going → Going → Bool
 is_taken_after emerald rows row =
     is_tried_after rows row
@@ -76,19 +76,19 @@ motions_begun before row = filter (λ motion. not (any_lists motion before)) row
 unfoldable pub has_begun : List Going → Going → Bool
 has_begun before row = list_any (λ motion. not (any_lists motion before)) row.motions
 
--- some motion comes to the row and can take it, which begins at one of the rows after others, or
--- at the row itself
+-- some motion, which begins at one of the rows after others, or at the row itself, reaches the row
+-- and can take it
 abbrev pub is_reached : ℕ → List Going → List Going → Going → Bool
 is_reached emerald before [] row = has_begun before row && is_taken_after emerald [] row
 is_reached emerald before (first ∷ rows) row =
     (has_begun before first && is_taken_after emerald (first ∷ rows) row)
     || is_reached emerald (before ++ first ∷ []) rows row
 
--- a motion that comes to a row past these is named apart, where rows have to fail first
+-- a motion that reaches a row past these is named apart, if rows have to fail first
 abbrev pub is_named : Bool → List Going → Bool
 is_named later rows = if is_else rows then later else not later
 
--- those that begin at the first of some rows after others and can take the row after them all
+-- those that begin at the first of these rows after others and can take the row after them all
 unfoldable pub motions_from : ℕ → Bool → List Going → List Going → Going → List ℕ
 motions_from emerald later before [] row = []
 motions_from emerald later before (first ∷ rows) row =
@@ -101,7 +101,7 @@ motions_at emerald later before row =
     if not later && is_taken_after emerald [] row then motions_begun before row else []
 
 -- all motions that can take a row, which begin at one of the rows after others or at the row
--- itself: those that come there past rows that have to fail, or the others
+-- itself: those that get there past rows that have to fail, or the others
 abbrev pub motions_taking : ℕ → Bool → List Going → List Going → Going → List ℕ
 motions_taking emerald later before [] row = motions_at emerald later before row
 motions_taking emerald later before (first ∷ rows) row =

@@ -44,7 +44,7 @@ escape_of byte =
 abbrev pub label_of : List ℕ → List ℕ
 label_of text = codes "\"" ++ (flat_map escape_of text ++ codes "\"")
 
--- a byte as a label shows it: one that can't be printed, and ends no line, is a question mark
+-- a byte as a label shows it: one that can't be printed, and doesn't end a line, is a question mark
 abbrev pub shown_byte : ℕ → ℕ
 shown_byte byte =
     if byte == LINE_FEED then byte else (if is_control byte then QUESTION_MARK else byte)

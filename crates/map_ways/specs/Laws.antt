@@ -1,4 +1,4 @@
--- Laws of ways.
+-- Laws about ways.
 use Rattle.std.specs.Prelude.{◌≡◌, ℕ, ◌+◌, ◌<◌, ◌≤◌, Bool, true, false, ◌==◌, ◌&&◌, ◌||◌, not}
 use Rattle.std.specs.Prelude.{if◌then◌else◌, List, [], ◌∷◌, ◌++◌, length}
 use Rattle.std.specs.List.{filter, list_any}
@@ -24,20 +24,21 @@ count_of number numbers = length (filter (λ n. n == number) numbers)
 abbrev pub count_if : Bool → ℕ
 count_if holds = if holds then 1 else 0
 
--- each place that has a text, or a way, is once among the places of the map, and no other is
+-- each place that has a text, or a way, is exactly once among the places of the map, and no other
+-- is
 abbrev pub EachPlaceHasOneNode : Type 0
 EachPlaceHasOneNode =
     (cave : CaveView) (place : ℕ)
     → IsPlaceNumber place
     → count_of place (mapped_places cave) ≡ count_if (is_mapped cave place)
 
--- how many edges are for the way: those from its place, and those back where they are for both
+-- how many edges are for the way: those from its place, and those back if they are for both
 abbrev pub count_edges_of : CaveView → ℕ → ℕ → ℕ
 count_edges_of cave from to =
     count_of to (ends_of_edges cave from)
     + (if is_both_ways cave to from then count_of from (ends_of_edges cave to) else 0)
 
--- one edge is for each way, and none is where no row leads
+-- each way has one edge, and there is none where no row leads
 abbrev pub EachWayHasOneEdge : Type 0
 EachWayHasOneEdge =
     (cave : CaveView) (from to : ℕ)
@@ -45,7 +46,7 @@ EachWayHasOneEdge =
     → IsPlaceNumber to
     → count_edges_of cave from to ≡ count_if (is_way cave from to)
 
--- each place that a way leads from or to is on the map
+-- each place from or to which a way leads is on the map
 abbrev pub EndsAreNodes : Type 0
 EndsAreNodes =
     (cave : CaveView) (from to : ℕ)
@@ -60,15 +61,14 @@ begins_as_any motion [] = true
 begins_as_any motion (row ∷ rows) =
     lists_motion any_motion row || (not (lists_motion motion row) && begins_as_any motion rows)
 
--- a number in a label stands for the motion: its own, and that of any motion where it begins as any
+-- a number in a label stands for the motion: its own, and that of any motion if it begins as any
 abbrev pub stands_for : Bool → ℕ → ℕ → Bool
 stands_for as_any motion number = number == motion || (number == any_motion && as_any)
 
 abbrev pub is_among : Bool → ℕ → List ℕ → Bool
 is_among as_any motion numbers = list_any (stands_for as_any motion) numbers
 
--- a label names the motion at the row after others: where it comes there first, or where rows have
--- to fail
+-- a label names the motion at the row after others: if it gets there first, or if rows have to fail
 abbrev pub is_named_at : ℕ → Bool → ℕ → List Going → Going → Bool
 is_named_at emerald as_any motion before row =
     is_among as_any motion (motions_taking emerald false [] before row)
@@ -81,13 +81,13 @@ is_named_on_way emerald as_any place motion before (row ∷ rows) =
     (ends_at place row && is_named_at emerald as_any motion before row)
     || is_named_on_way emerald as_any place motion (before ++ row ∷ []) rows
 
--- the label of the edge from the one place to the other names the motion
+-- the label of the edge from one place to the other names the motion
 abbrev pub label_names : CaveView → ℕ → ℕ → ℕ → Bool
 label_names cave motion from to =
     let ways = ways_from cave from in
     is_named_on_way (emerald_of cave) (begins_as_any motion ways) to motion [] ways
 
--- a label names a motion exactly where it leads there in some state, with some draws
+-- a label names a motion exactly if it leads there in some state, with some draws
 abbrev pub LabelsNameWhatLeads : Type 0
 LabelsNameWhatLeads =
     (cave : CaveView) (motion from to : ℕ)
@@ -95,7 +95,7 @@ LabelsNameWhatLeads =
     → (label_names cave motion from to ≡ true → CanLead cave motion from to)
     × (CanLead cave motion from to → label_names cave motion from to ≡ true)
 
--- where a motion leads to a place by the stream, the label of the edge there names it
+-- if a motion leads to a place by the stream, the label of the edge there names it
 abbrev pub WhatLeadsIsNamed : Type 0
 WhatLeadsIsNamed =
     (cave : CaveView) (motion from to : ℕ) (s : State)

@@ -22,7 +22,7 @@ abbrev pub names_emerald : WordEntry → Bool
 names_emerald row =
     is_word_in NAME_LETTERS (word_of NAME_LETTERS (word_of_name Emerald)) Object row
 
--- the object that rows put down; 0 where the cave has none
+-- the object that rows put down; 0 if the cave has none
 unfoldable pub emerald_of : CaveView → ℕ
 emerald_of cave = unwrap_or (object_named cave Emerald) 0
 
@@ -30,12 +30,12 @@ emerald_of cave = unwrap_or (object_named cave Emerald) 0
 abbrev pub with_draw : ℕ → State → State
 with_draw draw s = record s { stream = draw }
 
--- the state before the first of some draws; where none is left the stream goes on by itself
+-- the state before the first of these draws; if none is left the stream goes on by itself
 abbrev pub with_first : List ℕ → State → State
 with_first [] s = s
 with_first (draw ∷ draws) s = with_draw draw s
 
--- the tries of rows, where before each the stream is at a number of its own
+-- the tries of rows; before each the stream is at a number of its own
 abbrev pub tries_by : ℕ → List ℕ → State → Option ℕ → ℕ → List Going → List Try
 tries_by emerald draws s failed number [] = []
 tries_by emerald draws s failed number (row ∷ rows) =
@@ -45,8 +45,8 @@ tries_by emerald draws s failed number (row ∷ rows) =
     else tries_by emerald (drop 1 draws) (after_trying_row emerald (with_first draws s) row)
     (Some row.target) (number + 1) rows)
 
--- where a motion leads from where the player is, with these draws; with none it is where it leads
--- by the stream alone
+-- where a motion leads from where the player is, with these draws, or just by the stream if there
+-- are none
 abbrev pub travel_by : CaveView → ℕ → List ℕ → State → TravelResult
 travel_by cave motion draws s =
     let ways = ways_from cave s.trail.here in
@@ -62,7 +62,7 @@ pub record IsStateAt (place : ℕ) (s : State) : Type 0 where
 abbrev pub IsDraw : ℕ → Type 0
 IsDraw draw = draw < STREAM_SIZE
 
--- the motion leads from the one place to the other in some state, with some draws
+-- the motion leads from one place to the other in some state, with some draws
 abbrev pub CanLead : CaveView → ℕ → ℕ → ℕ → Type 0
 CanLead cave motion from to =
     (s : State) × ((draws : List ℕ) × (IsStateAt from s × (All IsDraw draws

@@ -30,8 +30,8 @@ lead_to emerald place before (row ∷ rows) =
     (ends_at place row && is_reached emerald [] before row)
     || lead_to emerald place (before ++ row ∷ []) rows
 
--- a way leads from the one place to the other: some motion can come to a row that leads there, and
--- take it
+-- a way leads from one place to the other: some motion can reach a row that leads there, and take
+-- it
 abbrev pub is_way : CaveView → ℕ → ℕ → Bool
 is_way cave from to = lead_to (emerald_of cave) to [] (ways_from cave from)
 
@@ -40,7 +40,7 @@ abbrev pub has_way : CaveView → ℕ → Bool
 has_way cave place =
     list_any (λ other. is_way cave place other || is_way cave other place) place_numbers
 
--- a place is on the map where it has a text, or a way
+-- a place is on the map if it has a text, or a way
 abbrev pub is_mapped : CaveView → ℕ → Bool
 is_mapped cave place =
     is_some (map.get cave.long place) || is_some (map.get cave.short place) || has_way cave place
@@ -51,7 +51,7 @@ mapped_places cave = filter (is_mapped cave) place_numbers
 unfoldable pub ends_of_ways : CaveView → ℕ → List ℕ
 ends_of_ways cave from = filter (is_way cave from) place_numbers
 
--- the destination is no place, but a message or a way with rules of its own
+-- the destination isn't a place, but a message or a way that has its own rules
 abbrev pub is_no_place : Destination → Bool
 is_no_place (Place place) = place == 0
 is_no_place _ = true
@@ -94,8 +94,7 @@ is_both_ways cave from to =
     not (from == to) && is_way cave from to && is_way cave to from
     && have_one_condition cave from to
 
--- the way begins an edge of its place: where one edge is for both ways, it is that of the lower
--- place
+-- the way begins an edge of its place: if one edge is for both ways, it belongs to the lower place
 abbrev pub begins_edge : CaveView → ℕ → ℕ → Bool
 begins_edge cave from to =
     is_way cave from to && (nat_le from to || not (is_both_ways cave from to))

@@ -1,4 +1,4 @@
-//! Which conditions can hold, and which can fail, where others do.
+//! Which conditions can hold, and which can fail, if others do.
 
 ghost use Rattle.std.specs.Prelude.{◌≡◌};
 ghost use Rattle.map_ways.specs.Conditions.{ask_for_two_props, can_fail, can_hold, implies};
@@ -33,7 +33,7 @@ pub(crate) fn can_fail(condition: Condition) -> bool
     }
 }
 
-/// Whether a condition holds wherever the first one does.
+/// Whether a condition holds whenever the first one does.
 #[tactic(auto, unfolding(crate::specs::Conditions::implies))]
 pub(crate) fn implies(condition: Condition, implied: Condition) -> bool
     ensures { result ≡ implies condition implied }
@@ -62,8 +62,8 @@ pub(crate) fn ask_for_two_props(condition: Condition, other: Condition) -> bool
     }
 }
 
-/// What a condition asks once the emerald lies where the player is: it is at hand, and isn't
-/// in the hands.
+/// What a condition asks once the emerald lies where the player is, and so is at hand, but not in
+/// the hands.
 #[tactic(auto, unfolding(crate::specs::Conditions::with_emerald_here))]
 pub(crate) fn with_emerald_here(emerald: u16, condition: Condition) -> Condition
     ensures { result ≡ with_emerald_here emerald condition }

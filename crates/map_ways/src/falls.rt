@@ -1,4 +1,4 @@
-//! Which motions come to a row, past rows before it that fail.
+//! Which motions reach a row, past rows before it that fail.
 
 ghost use Rattle.std.specs.Prelude.{◌≡◌, ◌∷◌, [], ℕ, IfOk, map, not};
 ghost use Rattle.std.specs.List.{list_all};
@@ -19,14 +19,14 @@ use cave_world::travel_rows::lists_motion;
 use data_rows::{Condition, Destination, Row};
 use std::alloc::{AllocError, Global};
 
-/// Whether no motion goes on past a row but where it fails.
+/// Whether a motion goes on past a row only if the row fails.
 fn has_to_fail(row: &Row) -> bool
     ensures { result ≡ has_to_fail (going row.now) }
 {
     !matches!(row.destination(), Destination::PutsEmeraldDown)
 }
 
-/// What a row asks of the state that a motion began in, before the emerald was put down and after
+/// What a row asks of the state in which a motion began, before the emerald was put down and after
 /// it.
 fn asked_of(emerald: u16, is_down: bool, row: &Row) -> Condition
     ensures { result ≡ asked_of emerald is_down (going row.now) }
@@ -41,7 +41,7 @@ fn asked_of(emerald: u16, is_down: bool, row: &Row) -> Condition
     }
 }
 
-/// Whether no row needs another prop for its failure than a condition does.
+/// Whether no row needs a prop for its failure other than the one that a condition needs.
 fn need_one_prop(emerald: u16, is_down: bool, rows: &[Row], failed: Condition) -> bool
     ensures { result ≡ list_all (λ row. not (ask_for_two_props failed
         (asked_of emerald is_down row))) (map going rows.now) }
@@ -49,7 +49,7 @@ fn need_one_prop(emerald: u16, is_down: bool, rows: &[Row], failed: Condition) -
     rows.iter().all(|row| !ask_for_two_props(failed, asked_of(emerald, is_down, row)))
 }
 
-/// Whether none of the rows does, between which the emerald is put down.
+/// Whether none of the rows, between which the emerald is put down, needs another prop.
 fn all_need_one_prop(emerald: u16, early: &[Row], late: &[Row], failed: Condition) -> bool
     ensures { result ≡ list_all (λ other. not (ask_for_two_props failed other))
         (failed_of emerald (map going early.now) (map going late.now)) }
@@ -57,7 +57,7 @@ fn all_need_one_prop(emerald: u16, early: &[Row], late: &[Row], failed: Conditio
     need_one_prop(emerald, false, early, failed) && need_one_prop(emerald, true, late, failed)
 }
 
-/// Whether a condition can fail where rows fail, between which the emerald is put down.
+/// Whether a condition can fail if rows fail, between which the emerald is put down.
 fn fails_among(emerald: u16, early: &[Row], late: &[Row], failed: Condition) -> bool
     ensures { result
         ≡ fails_among (failed_of emerald (map going early.now) (map going late.now)) failed }
@@ -65,7 +65,7 @@ fn fails_among(emerald: u16, early: &[Row], late: &[Row], failed: Condition) -> 
     can_fail(failed) && all_need_one_prop(emerald, early, late, failed)
 }
 
-/// Whether each of some rows can fail with all.
+/// Whether each of these rows can fail together with all of them.
 fn all_fail_among(emerald: u16, is_down: bool, rows: &[Row], early: &[Row], late: &[Row]) -> bool
     ensures { result
         ≡ list_all (λ row. fails_among (failed_of emerald (map going early.now)
@@ -83,7 +83,7 @@ fn fail_together(emerald: u16, early: &[Row], late: &[Row]) -> bool
         && all_fail_among(emerald, true, late, early, late)
 }
 
-/// Whether a condition that holds lets each of some rows fail.
+/// Whether a condition that holds lets each of these rows fail.
 fn lets_fail(emerald: u16, is_down: bool, rows: &[Row], held: Condition) -> bool
     ensures { result ≡ list_all (λ row. not (implies held (asked_of emerald is_down row)))
         (map going rows.now) }
@@ -100,7 +100,7 @@ fn lets_all_fail(emerald: u16, early: &[Row], late: &[Row], held: Condition) -> 
     lets_fail(emerald, false, early, held) && lets_fail(emerald, true, late, held)
 }
 
-/// Whether a condition can hold where rows fail, between which the emerald is put down.
+/// Whether a condition can hold if rows fail, between which the emerald is put down.
 fn holds_where(emerald: u16, early: &[Row], late: &[Row], held: Condition) -> bool
     ensures { result
         ≡ holds_where (failed_of emerald (map going early.now) (map going late.now)) held }
@@ -108,7 +108,7 @@ fn holds_where(emerald: u16, early: &[Row], late: &[Row], held: Condition) -> bo
     can_hold(held) && lets_all_fail(emerald, early, late, held)
 }
 
-/// Whether a row can be taken where all rows before it fail. No emerald is put down there.
+/// Whether a row can be taken if all rows before it fail. No emerald is put down then.
 fn holds_after(rows: &[Row], row: &Row) -> bool
     ensures { (emerald : ℕ)
         → result ≡ holds_after emerald (map going rows.now) (going row.now) }
@@ -116,7 +116,7 @@ fn holds_after(rows: &[Row], row: &Row) -> bool
     holds_where(0, rows, &[], row.condition()) && fail_together(0, rows, &[])
 }
 
-/// Whether two conditions hold, the one before and the other after the emerald is put down, where
+/// Whether two conditions hold, the first before and the second after the emerald is put down, if
 /// rows fail.
 fn go_together(emerald: u16, early: &[Row], late: &[Row], first: Condition, last: Condition) -> bool
     ensures { result ≡ go_together (first ∷ with_emerald_here emerald last ∷ [])
@@ -127,7 +127,7 @@ fn go_together(emerald: u16, early: &[Row], late: &[Row], first: Condition, last
         && fail_together(emerald, early, late)
 }
 
-/// Whether a row can be taken where one before it is the first that puts the emerald down.
+/// Whether a row can be taken if one before it is the first that puts the emerald down.
 fn holds_past(cave: &Cave, early: &[Row], putting: &Row, late: &[Row], row: &Row) -> bool
     ensures { result ≡ holds_past (emerald_of cave.now) (map going early.now) (going putting.now)
         (map going late.now) (going row.now) }
@@ -143,7 +143,7 @@ fn holds_past(cave: &Cave, early: &[Row], putting: &Row, late: &[Row], row: &Row
         )
 }
 
-/// Whether a row can be taken where some row before it puts the emerald down.
+/// Whether a row can be taken if some row before it puts the emerald down.
 fn holds_past_some(cave: &Cave, rows: &[Row], row: &Row) -> bool
     ensures { result
         ≡ holds_past_some (emerald_of cave.now) [] (map going rows.now) (going row.now) }
@@ -156,7 +156,7 @@ fn holds_past_some(cave: &Cave, rows: &[Row], row: &Row) -> bool
     false
 }
 
-/// Whether a row is tried after others: of neighbours with the same target only the first is.
+/// Whether a row is tried after others: only the first of neighbours with the same target is.
 fn is_tried_after(rows: &[Row], row: &Row) -> bool
     ensures { result ≡ is_tried_after (map going rows.now) (going row.now) }
 {
@@ -166,8 +166,7 @@ fn is_tried_after(rows: &[Row], row: &Row) -> bool
     }
 }
 
-/// Whether a motion that begins at the first of some rows can come to a row after them, and take
-/// it.
+/// Whether a motion that begins at the first of these rows can reach a row after them, and take it.
 #[tactic(auto, unfolding(crate::specs::Falls::is_taken_after))]
 fn is_taken_after(cave: &Cave, rows: &[Row], row: &Row) -> bool
     ensures { result
@@ -176,7 +175,7 @@ fn is_taken_after(cave: &Cave, rows: &[Row], row: &Row) -> bool
     is_tried_after(rows, row) && (holds_after(rows, row) || holds_past_some(cave, rows, row))
 }
 
-/// Whether some row has to fail before a motion comes past them all.
+/// Whether some row has to fail before a motion gets past them all.
 fn is_else(rows: &[Row]) -> bool
     ensures { result ≡ is_else (map going rows.now) }
 {
@@ -210,7 +209,7 @@ fn has_begun(before: &[Row], row: &Row) -> bool
     row.motions.iter().any(|&motion| !any_lists(before, motion))
 }
 
-/// Whether some motion comes to a row after others and can take it.
+/// Whether some motion reaches a row after others and can take it.
 pub(crate) fn is_reached(cave: &Cave, before: &[Row], row: &Row) -> bool
     ensures { result
         ≡ is_reached (emerald_of cave.now) [] (map going before.now) (going row.now) }
@@ -225,14 +224,14 @@ pub(crate) fn is_reached(cave: &Cave, before: &[Row], row: &Row) -> bool
     has_begun(before, row) && is_taken_after(cave, &[], row)
 }
 
-/// Whether a motion that comes past rows is named among those that come there later, or first.
+/// Whether a motion that gets past rows is named among those that arrive there later, or first.
 fn is_named(later: bool, rows: &[Row]) -> bool
     ensures { result ≡ is_named later (map going rows.now) }
 {
     is_else(rows) == later
 }
 
-/// The motions that begin at one of some rows and can take the row after them all.
+/// The motions that begin at one of these rows and can take the row after them all.
 #[tactic(auto, unfolding(crate::specs::Falls::motions_from))]
 fn motions_from(
     alloc: Global,
@@ -271,8 +270,8 @@ fn motions_at(
     motions_begun(alloc, before, row)
 }
 
-/// The motions that can take a row after others: those that come there past rows that have to
-/// fail, or the others.
+/// The motions that can take a row after others: those that get there past rows that have to fail,
+/// or the others.
 pub fn motions_taking(
     alloc: Global,
     cave: &Cave,

@@ -1,29 +1,30 @@
-//! Laws of ways. Each is the contract of a function that does nothing.
+//! Laws about ways. Each is the contract of a function that does nothing.
 
 ghost use Rattle.map_ways.specs.Laws.{EachPlaceHasOneNode, EachWayHasOneEdge, EndsAreNodes};
 ghost use Rattle.map_ways.specs.Laws.{LabelsNameWhatLeads, WhatLeadsIsNamed};
 
-/// Each place that has a text, or a way, is once among the places of the map, and no other is.
+/// Each place that has a text, or a way, is exactly once among the places of the map, and no other
+/// is.
 pub fn each_place_has_one_node()
     ensures { EachPlaceHasOneNode }
 {}
 
-/// One edge is for each way, and none is where no row leads.
+/// Each way has one edge, and there is none where no row leads.
 pub fn each_way_has_one_edge()
     ensures { EachWayHasOneEdge }
 {}
 
-/// Each place that a way leads from or to is on the map.
+/// Each place from or to which a way leads is on the map.
 pub fn ends_are_nodes()
     ensures { EndsAreNodes }
 {}
 
-/// A label names a motion exactly where it leads there in some state, with some draws.
+/// A label names a motion exactly if it leads there in some state, with some draws.
 pub fn labels_name_what_leads()
     ensures { LabelsNameWhatLeads }
 {}
 
-/// Where a motion leads to a place by the stream, the label of the edge there names it.
+/// If a motion leads to a place by the stream, the label of the edge there names it.
 pub fn what_leads_is_named()
     ensures { WhatLeadsIsNamed }
 {}

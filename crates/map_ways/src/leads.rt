@@ -17,7 +17,7 @@ fn names_emerald(word: &[u8], number: u16) -> bool
         && matches!(Meaning::of(number).class, Class::Object)
 }
 
-/// The object that rows put down; 0 where the cave has none.
+/// The object that rows put down; 0 if the cave has none.
 pub(crate) fn emerald_of(cave: &Cave) -> u16
     ensures { result ≡ emerald_of cave.now }
 {

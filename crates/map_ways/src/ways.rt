@@ -23,14 +23,14 @@ pub fn ends_at(row: &Row, place: u16) -> bool
     row.destination().leads_to_place(place)
 }
 
-/// Whether a way leads from the one place to the other.
+/// Whether a way leads from one place to the other.
 pub fn is_way(cave: &Cave, from: u16, to: u16) -> bool
     ensures { result ≡ is_way cave.now from to }
 {
     lead_to(cave, cave.travel(from), to)
 }
 
-/// Whether some motion takes one of some rows to a place.
+/// Whether some motion takes one of these rows to a place.
 fn lead_to(cave: &Cave, rows: &[Row], place: u16) -> bool
     ensures { result ≡ lead_to (emerald_of cave.now) place [] (map going rows.now) }
 {
@@ -66,7 +66,7 @@ pub fn mapped_places(alloc: Global, cave: &Cave) -> Result<Vec<u16>, AllocError>
         .collect(alloc)
 }
 
-/// How many places ways lead to from a place.
+/// To how many places ways lead from a place.
 #[tactic(auto, unfolding(crate::specs::Ways::ends_of_ways, crate::specs::Ways::place_numbers))]
 pub fn count_ends_of_ways(cave: &Cave, from: u16) -> usize
     ensures value { result ≡ length (ends_of_ways cave.now from) }

@@ -13,7 +13,7 @@ use Rattle.play_logs.specs.Faults.{at_none}
 use Rattle.play_program.specs.declared.failure.Failure.{Failure}
 use Rattle.play_program.specs.declared.failure.Failure.TheVariants.{Run}
 
--- no call more
+-- no further call
 pub and_then-none : (known : Option (List Call)) → known ≡ and_then known []
 and_then-none None = refl
 and_then-none (Some calls) = ap (λ l. Some l) (sym (append-nil calls))
@@ -96,7 +96,7 @@ module _ {X : Type 0} (name_of : X → List ℕ) (files : List X) (place : ℕ) 
       subst (λ names. Stops (named_logs names) a c failure) (sym all)
       (subst (λ l. Stops l a c failure) (sym logs) there)
 
-  -- memory ran out once it was open
+  -- memory ran out after it was opened
   pub logs_refused : failure ≡ Run (at_none fault.Memory)
       → c ≡ and_then b (Opens (name_of (get_or files place d)) ∷ [])
       → Stops (named_logs (map name_of files)) a c failure

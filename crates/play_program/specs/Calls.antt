@@ -5,9 +5,9 @@ use Rattle.cave_play.specs.declared.fault.PlayFault.{PlayFault}
 use Rattle.play_program.specs.declared.message.Message.{Message}
 use Rattle.play_program.specs.declared.message.Message.TheVariants as message
 
--- what is told: a fault and the file that it is of; a file that can't be opened or written, and an
--- output that can't be written, with the system's reason; what the parser says of the words, in two
--- parts, or why they can't be read
+-- what a message reports: a fault and the file that it is about; a file that can't be opened or
+-- written, and an output that can't be written, with the system's reason; what the parser says
+-- about the words, in two parts, or why they can't be read
 pub data Told : Type 0 where
   faulty : PlayFault → Option (List ℕ) → Told
   unopened : List ℕ → Error → Told
@@ -16,7 +16,7 @@ pub data Told : Type 0 where
   misused : List ℕ → List ℕ → Told
   unread : Error → Told
 
--- what a message tells, whatever its names are borrowed from
+-- what a message reports, from whatever its names are borrowed
 abbrev pub told_of : Message → Told
 told_of (message.Fault complaint) =
     faulty complaint.fault (option_map (λ s. s.now) complaint.file)
@@ -26,12 +26,12 @@ told_of (message.Unprinted reason) = unprinted reason
 told_of (message.Usage before after) = misused before.now after.now
 told_of (message.Unread reason) = unread reason
 
--- one call of the system: a file is opened, bytes are put into a file, or something is told
+-- one call of the system: a file is opened, bytes are put into a file, or something is reported
 pub data Call : Type 0 where
   Opens : List ℕ → Call
   Puts : List ℕ → List ℕ → Call
   Tells : Told → Call
 
--- the calls that are known, and then these
+-- the known calls, followed by these
 abbrev pub and_then : Option (List Call) → List Call → Option (List Call)
 and_then known more = option_map (λ calls. calls ++ more) known

@@ -1,4 +1,4 @@
--- What a run over files leaves, and what the program tells of it.
+-- What a run over files leaves, and what the program reports of it.
 use Rattle.std.specs.Prelude.{◌≡◌, ◌⊎◌, ℕ, List, [], ◌∷◌, map, Option, None, Some, Result, Ok, Err}
 use Rattle.std.specs.Prelude.{Bool, true, false, IfErr}
 use Rattle.std.specs.List.{AllZip}
@@ -19,7 +19,7 @@ use Rattle.play_program.specs.declared.failure.Failure.{Failure}
 use Rattle.play_program.specs.declared.failure.Failure.TheVariants.{Unopened, Run, Unwritten}
 use Rattle.play_program.specs.declared.failure.Failure.TheVariants.{Unprinted}
 
--- the inputs are the bytes of the files of these names, where they are known
+-- the inputs are the bytes of the files of these names, if they are known
 pub record AreTextsIn (bytes_of : List ℕ → Option (List ℕ)) (names : FileNames)
     (texts : InputTexts) (logs : List (List ℕ)) : Type 0 where
   pub database : Says (bytes_of names.cave) texts.database
@@ -28,12 +28,12 @@ pub record AreTextsIn (bytes_of : List ℕ → Option (List ℕ)) (names : FileN
   pub script : Says (script_bytes bytes_of names.script names.typed) texts.script
   pub each_log : AllZip Says (map bytes_of names.logs) logs
 
--- how a run ended whose files were opened
+-- how a run whose files were opened ended
 abbrev pub ended_run : Result (Unit {0}) LogsFault → Result (Unit {0}) Failure
 ended_run (Ok done) = Ok done
 ended_run (Err found) = Err (Run found)
 
--- all files of the run were opened, and what their bytes come to was done
+-- all files of the run were opened, and what their bytes ask for was done
 pub record RunsOpened (bytes_of : List ℕ → Option (List ℕ)) (asked : Line) (names : FileNames)
     (calls called : Option (List Call)) (old new : Option (List ℕ))
     (ended : Result (Unit {0}) Failure) : Type 0 where
@@ -49,7 +49,7 @@ pub record RunsUnopened (names : FileNames) (calls called : Option (List Call))
   pub stops : (failure : Failure) × (ended ≡ Err failure)
       × Stops (files_in names) calls called failure
 
--- what a run over files leaves, whose output goes to a writer
+-- what a run over files whose output goes to a writer leaves
 abbrev pub RunsFiles : (List ℕ → Option (List ℕ)) → Line → FileNames
     → Option (List Call) → Option (List Call) → Option (List ℕ) → Option (List ℕ)
     → Result (Unit {0}) Failure → Type 0
@@ -73,7 +73,7 @@ abbrev pub in_list : Failure → Failure
 in_list (Run found) = Run (list_fault found found.fault)
 in_list failure = failure
 
--- an output was put into the file where the run ended well, and else nothing was
+-- an output was put into the file if the run ended well, and otherwise nothing was
 abbrev pub PutsEnd : List ℕ → List ℕ → Option (List Call) → Option (List Call)
     → Result (Unit {0}) Failure → Result (Unit {0}) Failure → Type 0
 PutsEnd file output calls called (Ok done) ended =
@@ -81,7 +81,7 @@ PutsEnd file output calls called (Ok done) ended =
 PutsEnd file output calls called (Err failure) ended =
     (called ≡ calls) × (ended ≡ Err (in_list failure))
 
--- what a run over files leaves, whose output is kept until it is whole and then goes into a file
+-- what a run over files leaves if its output is kept until it is whole and then goes into a file
 abbrev pub RunsIntoFile : (List ℕ → Option (List ℕ)) → Line → FileNames → List ℕ
     → Option (List Call) → Option (List Call) → Result (Unit {0}) Failure → Type 0
 RunsIntoFile bytes_of asked names file calls called ended =
@@ -89,7 +89,7 @@ RunsIntoFile bytes_of asked names file calls called ended =
     × RunsFiles bytes_of asked names calls opened (Some []) (Some output) run
     × PutsEnd file output opened called run ended
 
--- what a run leaves, whose output goes where its line says
+-- what a run whose output goes where its line says leaves
 abbrev pub RunsTo : Option (List ℕ) → (List ℕ → Option (List ℕ)) → Line → FileNames
     → Option (List Call) → Option (List Call) → Option (List ℕ) → Option (List ℕ)
     → Result (Unit {0}) Failure → Type 0
@@ -112,12 +112,12 @@ abbrev pub with_reason : Failure → Option Error → Failure
 with_reason failure None = failure
 with_reason failure (Some reason) = failure_by failure reason
 
--- a failure is told, unless nothing is said of it
+-- a failure is reported, unless nothing is said about it
 abbrev pub TellsUnless : Bool → Told → Option (List Call) → Option (List Call) → Type 0
 TellsUnless true what calls called = called ≡ calls
 TellsUnless false what calls called = called ≡ and_then calls (Tells what ∷ [])
 
--- a failure is told once, and its status is the program's; else nothing is told
+-- a failure is reported once, and its status is the program's; otherwise nothing is reported
 abbrev pub TellsEnd : FileNames → Option (List Call) → Option (List Call)
     → Result (Unit {0}) Failure → ℕ → Type 0
 TellsEnd names calls called (Ok done) status = (called ≡ calls) × (status ≡ 0)
@@ -130,7 +130,7 @@ abbrev pub ended_with : Result (Unit {0}) Failure → Option Error → Result (U
 ended_with (Ok done) reason = Ok done
 ended_with (Err failure) reason = Err (with_reason failure reason)
 
--- what the run of a line leaves, with what the program tells of it
+-- what the run of a line leaves, with what the program reports of it
 abbrev pub EndsRun : (List ℕ → Option (List ℕ)) → Line → FileNames
     → Option (List Call) → Option (List Call) → Option (List ℕ) → Option (List ℕ) → ℕ → Type 0
 EndsRun bytes_of asked names calls called old new status =

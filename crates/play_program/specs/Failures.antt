@@ -25,7 +25,7 @@ abbrev pub is_closed_pipe : ErrorKind → Bool
 is_closed_pipe kind.BrokenPipe = true
 is_closed_pipe _ = false
 
--- nothing is said of an output that nobody reads any more
+-- nothing is said about an output that nobody reads any more
 abbrev pub is_silent : Failure → Bool
 is_silent (Unprinted reason) = is_closed_pipe (error_kind reason)
 is_silent failure = false
@@ -35,12 +35,12 @@ abbrev pub file_of_input : FileNames → Option Input → Option ℕ → Option 
 file_of_input names None place = None
 file_of_input names (Some from) place = file_at names from place
 
--- the file that a fault is of
+-- the file that a fault is about
 abbrev pub file_of_fault : FileNames → LogsFault → Option (List ℕ)
 file_of_fault names found = file_of_input names (input_of found.fault) found.log
 
--- what is told of it: the fault with the file that it is of, or which file can't be opened or
--- written, or that the output can't be, with the system's reason
+-- what is reported of it: the fault with the file that it is about, or which file can't be opened
+-- or written, or that the output can't be, with the system's reason
 abbrev pub message_of : FileNames → Failure → Told
 message_of names (Run found) = faulty found.fault (file_of_fault names found)
 message_of names (Unopened from name reason) = unopened name.now reason

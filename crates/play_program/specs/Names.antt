@@ -22,12 +22,12 @@ pub record FileNames : Type 0 where
   pub script : Option (List ℕ)
   pub typed : Option (List ℕ)
 
--- the file of a script, where it has one
+-- the file of a script, if it has one
 abbrev pub script_file : ScriptSource → Option (List ℕ)
 script_file (File file) = Some file.now
 script_file (Typed text) = None
 
--- the text of a script, where it is on the command line
+-- the text of a script, if it is on the command line
 abbrev pub script_typed : ScriptSource → Option (List ℕ)
 script_typed (File file) = None
 script_typed (Typed text) = Some (string_bytes text)
@@ -49,7 +49,7 @@ names_in names = names_by names.files (option_map (λ s. s.now) names.log)
     (map (λ s. s.now) names.logs.now) (option_map (λ s. s.now) names.script)
     (option_map (λ text. text.now) names.typed)
 
--- the files that a line names, where it asks for a run
+-- the files that a line names, if it asks for a run
 abbrev pub names_of : Line → Option FileNames
 names_of (Check files view) = Some (names_by files None [] None None)
 names_of (Doubts files strict) = Some (names_by files None [] None None)
@@ -62,7 +62,7 @@ names_of (Map files logs seed) =
     Some (names_by files None (map (λ s. s.now) logs.items) None None)
 names_of (Text error) = None
 
--- a file that is read: of which input it is, and its name
+-- a file that is read: its input, and its name
 abbrev pub NamedFile : Type 0
 NamedFile = Input × List ℕ
 
@@ -82,13 +82,13 @@ files_in names =
     cave_files names.cave names.bindings ++ (named input.Log names.log
     ++ (named_logs names.logs ++ named input.Script names.script))
 
--- what a script is called: its file, or the option that has its lines
+-- the name of a script: its file, or the option that has its lines
 abbrev pub script_name : Option (List ℕ) → Option (List ℕ) → Option (List ℕ)
 script_name (Some file) typed = Some file
 script_name None (Some text) = Some (codes "--edit")
 script_name None None = None
 
--- the file of an input, where one is named; of several logs it is the one at a place
+-- the file of an input, if one is named; among several logs it is the one at a place
 abbrev pub file_at : FileNames → Input → Option ℕ → Option (List ℕ)
 file_at names input.Cave place = Some names.cave
 file_at names input.Bindings place = names.bindings

@@ -1,4 +1,4 @@
--- In which order the files of a run are opened, and where that ends.
+-- The order in which the files of a run are opened, and where that ends.
 use Rattle.std.specs.Prelude.{◌≡◌, ℕ, List, [], ◌∷◌, ◌++◌, map, Option, None, Some, Result, Ok, Err}
 use Rattle.cave_play.specs.Input.{input_left}
 use Rattle.cave_play.specs.declared.fault.PlayFault.TheVariants as fault
@@ -34,18 +34,18 @@ abbrev pub Stops : List NamedFile → Option (List Call) → Option (List Call) 
 Stops files old new failure = (before : List NamedFile) × (last : NamedFile)
     × (after : List NamedFile) × StopsAt files old new failure before last after
 
--- the files were opened in their order: all of them, or none after one that couldn't be
+-- the files were opened in their order: all of them, or none after one that couldn't be opened
 abbrev pub Opened : {X : Type 0} → List NamedFile → Option (List Call) → Option (List Call)
     → Result X Failure → Type 0
 Opened files old new (Ok readers) = new ≡ and_then old (opening files)
 Opened files old new (Err failure) = Stops files old new failure
 
--- the bytes of a file, where one is named: else there are none
+-- the bytes of a file, if one is named; otherwise there are none
 abbrev pub bytes_named : (List ℕ → Option (List ℕ)) → Option (List ℕ) → Option (List ℕ)
 bytes_named bytes_of None = Some []
 bytes_named bytes_of (Some name) = bytes_of name
 
--- the bytes of a script: those of its file, where one is named, or else its text
+-- the bytes of a script: those of its file, if one is named, or otherwise its text
 abbrev pub script_bytes : (List ℕ → Option (List ℕ)) → Option (List ℕ) → Option (List ℕ)
     → Option (List ℕ)
 script_bytes bytes_of None (Some text) = Some text

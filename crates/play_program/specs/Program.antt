@@ -18,16 +18,16 @@ use Rattle.play_program.specs.Ends.{EndsRun, TellsUnless}
 use Rattle.play_program.specs.Failures.{is_closed_pipe}
 use Rattle.play_program.specs.Names.{FileNames, names_of}
 
--- this is told, and nothing else is asked of the system
+-- this is reported, and nothing else is asked of the system
 abbrev pub TellsOne : Told → Option (List Call) → Option (List Call) → Type 0
 TellsOne what calls called = called ≡ and_then calls (Tells what ∷ [])
 
--- a fault that is of no file is told, with its status
+-- a fault that is about no file is reported, with its status
 abbrev pub TellsFault : PlayFault → Option (List Call) → Option (List Call) → ℕ → Type 0
 TellsFault found calls called status =
     TellsOne (faulty found None) calls called × (status ≡ status_of found)
 
--- the output can't be written for this reason, which is told unless nobody reads it any more
+-- the output can't be written for this reason, which is reported unless nobody reads it any more
 abbrev pub TellsUnprinted : Error → Option (List Call) → Option (List Call) → ℕ → Type 0
 TellsUnprinted reason calls called status =
     TellsUnless (is_closed_pipe (error_kind reason)) (unprinted reason) calls called
@@ -38,7 +38,7 @@ abbrev pub EndsText : Option (List Call) → Option (List Call) → ℕ → Type
 EndsText calls called status = ((called ≡ calls) × (status ≡ 0))
     ⊎ ((reason : Error) × TellsUnprinted reason calls called status)
 
--- what a line leaves that is refused: it is told why, unless memory runs out, and nothing else is
+-- what a refused line leaves: the reason is reported, unless memory runs out, and nothing else is
 -- asked of the system
 abbrev pub EndsRefused : CommandFault → Option (List Call) → Option (List Call) → ℕ → Type 0
 EndsRefused found calls called status =
@@ -46,7 +46,7 @@ EndsRefused found calls called status =
     × (status ≡ status_of_command found))
     ⊎ TellsFault fault.Memory calls called status
 
--- what a line leaves that names these files, or asks for no run
+-- what a line that names these files, or asks for no run, leaves
 abbrev pub EndsNamed : Option FileNames → (List ℕ → Option (List ℕ)) → Line
     → Option (List Call) → Option (List Call) → Option (List ℕ) → Option (List ℕ) → ℕ → Type 0
 EndsNamed None bytes_of asked calls called old new status = EndsText calls called status
@@ -74,7 +74,7 @@ abbrev pub EndsWords : List (List ℕ) → (List ℕ → Option (List ℕ))
 EndsWords words bytes_of calls called old new status = (line : Result Line CommandFault)
     × IsLineOf words line × EndsLine line bytes_of calls called old new status
 
--- the words can't be read, which is told with status 2, or memory ran out
+-- the words can't be read, which is reported with status 2, or memory ran out
 abbrev pub EndsUnread : Option (List Call) → Option (List Call) → ℕ → Type 0
 EndsUnread calls called status =
     ((reason : Error) × TellsOne (unread reason) calls called × (status ≡ 2))

@@ -17,23 +17,23 @@ use Rattle.play_command.specs.declared.line.Line.TheVariants.{Text}
 use Rattle.play_logs.specs.Faults.{RunsLogs, at_none, first_stages}
 use Rattle.play_logs.specs.declared.fault.LogsFault.{LogsFault}
 
--- how a run ended that plays one log at most
+-- how a run that plays at most one log ended
 abbrev pub ended_alone : {A : Type 0} → Result A PlayFault → Result (Unit {0}) LogsFault
 ended_alone (Ok made) = Ok tt
 ended_alone (Err found) = Err (at_none found)
 
--- what a run leaves that plays one log at most
+-- what a run that plays at most one log leaves
 abbrev pub RunsAlone : List Stage → (List ℕ → Type 0)
     → Option (List ℕ) → Option (List ℕ) → Result (Unit {0}) LogsFault → Type 0
 RunsAlone stages IsOutput old new ended = (alone : Result (Unit {0}) PlayFault)
     × (ended ≡ ended_alone alone) × one.Runs stages IsOutput old new alone
 
--- doubts are told of the files of the cave
+-- doubts name the files of the cave
 pub record AreListed (files : Files) (listed : DoubtFiles) : Type 0 where
   pub database : listed.database.now ≡ files.cave.now
   pub bindings : listed.bindings.now ≡ unwrap_or (option_map (λ s. s.now) files.bind) []
 
--- what the run leaves that a line asks for, over the bytes of its inputs
+-- what the run that a line asks for leaves, over the bytes of its inputs
 abbrev pub RunsLine : Line → InputTexts → List (List ℕ)
     → Option (List ℕ) → Option (List ℕ) → Result (Unit {0}) LogsFault → Type 0
 RunsLine (Check files view) texts logs old new ended =

@@ -15,7 +15,7 @@ use play_map::run::run_map;
 use std::alloc::Global;
 use std::io::{Read, Write};
 
-/// How a run ended that plays one log at most.
+/// How a run that plays at most one log ended.
 fn alone<T: Drop>(ended: Result<T, PlayFault>) -> Result<(), LogsFault>
     ensures { result ≡ ended_alone ended }
 {
@@ -25,7 +25,7 @@ fn alone<T: Drop>(ended: Result<T, PlayFault>) -> Result<(), LogsFault>
     }
 }
 
-/// The files that doubts are told of.
+/// The files that doubts are about.
 fn doubt_files<'a>(files: &Files<'a>) -> DoubtFiles<'a>
     ensures { AreListed files.now result }
 {

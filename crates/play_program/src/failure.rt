@@ -54,7 +54,7 @@ impl<'a> Failure<'a> {
         }
     }
 
-    /// Whether the program says nothing of it.
+    /// Whether the program says nothing about it.
     pub fn is_silent(&self) -> bool
         ensures { result ≡ is_silent self.now }
     {
@@ -64,7 +64,7 @@ impl<'a> Failure<'a> {
         }
     }
 
-    /// What the program says of it, where the run has these files.
+    /// What the program says about it, if the run has these files.
     pub fn message(self, names: Names<'a>) -> Message<'a>
         ensures { told_of result ≡ message_of (names_in names.entry) self.entry }
     {

@@ -1,12 +1,12 @@
-//! What the program says beside its output.
+//! What the program says apart from its output.
 
 use cave_play::{Complaint, PlayFault, Unopened};
 use std::{fmt, io};
 
-/// What the program says beside its output, in whole lines.
+/// What the program says apart from its output, in whole lines.
 #[derive(Drop)]
 pub enum Message<'a> {
-    /// A fault of a run, with the file that it is of.
+    /// A fault of a run, with the file that it is about.
     Fault(Complaint<'a>),
     /// The file can't be opened, for this reason.
     Unopened(&'a str, io::Error),
@@ -14,7 +14,7 @@ pub enum Message<'a> {
     Unwritten(&'a str, io::Error),
     /// The output can't be written, for this reason.
     Unprinted(io::Error),
-    /// What the parser says of the words, in two parts.
+    /// What the parser says about the words, in two parts.
     Usage(&'a str, &'a str),
     /// The words can't be read, for this reason.
     Unread(io::Error),

@@ -11,16 +11,16 @@ use play_command::{Files, Line, ScriptSource};
 #[derive(Clone, Copy)]
 pub struct Names<'a> {
     pub files: Files<'a>,
-    /// The log, where there is one alone.
+    /// The log, if there is just one.
     pub log: Option<&'a str>,
     /// The logs of a run over several.
     pub logs: &'a [&'a str],
     pub script: Option<&'a str>,
-    /// The script, where its lines are on the command line.
+    /// The script, if its lines are on the command line.
     pub typed: Option<&'a [u8]>,
 }
 
-/// The file of a script, where it has one.
+/// The file of a script, if it has one.
 fn script_file<'a>(script: &ScriptSource<'a>) -> Option<&'a str>
     ensures { option_map (λ file. file.now) result ≡ script_file script.now }
 {
@@ -30,7 +30,7 @@ fn script_file<'a>(script: &ScriptSource<'a>) -> Option<&'a str>
     }
 }
 
-/// The text of a script, where it is on the command line.
+/// The text of a script, if it is on the command line.
 fn script_typed<'a>(script: &'a ScriptSource<'_>) -> Option<&'a [u8]>
     ensures { option_map (λ text. text.now) result ≡ script_typed script.now }
 {
@@ -40,7 +40,7 @@ fn script_typed<'a>(script: &'a ScriptSource<'_>) -> Option<&'a [u8]>
     }
 }
 
-/// What a script is called: its file, or the option that has its lines.
+/// The name of a script: its file, or the option that has its lines.
 fn script_name<'a>(file: Option<&'a str>, typed: Option<&[u8]>) -> Option<&'a str>
     ensures { option_map (λ name. name.now) result
         ≡ script_name (option_map (λ file. file.now) file.entry)
@@ -81,7 +81,7 @@ impl<'a> Names<'a> {
         })
     }
 
-    /// The file of an input, where one is named. Of several logs it is the one at a place.
+    /// The file of an input, if one is named. Among several logs it is the one at a place.
     pub fn of(self, input: Input, place: Option<usize>) -> Option<&'a str>
         ensures { option_map (λ file. file.now) result ≡ file_at (names_in self.entry) input place }
     {

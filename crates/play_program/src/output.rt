@@ -5,7 +5,7 @@ ghost use Rattle.std.specs.Prelude.{◌≡◌, None};
 use std::io;
 use std::io::Write;
 
-/// A writer of the output, which keeps why it failed.
+/// A writer of the output, which keeps the reason of its failure.
 #[derive(Drop)]
 pub struct Output<W> {
     pub writer: W,
@@ -14,7 +14,7 @@ pub struct Output<W> {
 }
 
 impl<W> Output<W> {
-    /// The output of a writer, which hasn't failed.
+    /// The output of a writer that hasn't failed.
     pub fn of(writer: W) -> Output<W>
         ensures writer { result.writer ≡ writer }
         ensures reason { result.reason ≡ None }

@@ -25,7 +25,7 @@ const DONE: u8 = 0;
 /// The status of a program whose words can't be read.
 const WRONG_WORDS: u8 = 2;
 
-/// Says a fault that is of no file, and returns the status that goes with it.
+/// Reports a fault that is about no file, and returns the status that goes with it.
 fn fail<S: System>(system: &mut S, fault: PlayFault) -> u8
     ensures told { TellsOne (faulty fault None) (S.calls system.old) (S.calls system.new) }
     ensures status { result ≡ status_of fault }
@@ -34,7 +34,8 @@ fn fail<S: System>(system: &mut S, fault: PlayFault) -> u8
     fault.status()
 }
 
-/// Says why the output can't be written, unless nobody reads it any more, and returns the status.
+/// Reports why the output can't be written, unless nobody reads it any more, and returns the
+/// status.
 fn fail_output<S: System>(system: &mut S, reason: io::Error) -> u8
     ensures { TellsUnprinted reason (S.calls system.old) (S.calls system.new) result }
 {
@@ -46,7 +47,7 @@ fn fail_output<S: System>(system: &mut S, reason: io::Error) -> u8
     status
 }
 
-/// Prints help or the version, where a command line asks for it.
+/// Prints help or the version, if a command line asks for it.
 fn print<S: System, W: Write>(system: &mut S, asked: &Line<'_>, output: &mut Output<W>) -> u8
     ensures ends { EndsText (S.calls system.old) (S.calls system.new) result }
 {
@@ -76,8 +77,8 @@ fn answer<S: System, W: Write>(
     }
 }
 
-/// A text without the parser's tip to put `--` before an option that isn't known, so that it would
-/// be taken for a file.
+/// A text without the parser's tip to put `--` before an unknown option, which would then be taken
+/// for a file.
 fn without_tip(text: &str) -> (&str, &str) {
     let Some((before, tip)) = text.split_once("\n  tip: to pass ") else {
         return (text, "");
@@ -88,7 +89,7 @@ fn without_tip(text: &str) -> (&str, &str) {
     }
 }
 
-/// Says what is wrong with a command line, and returns the status that goes with it.
+/// Reports what is wrong with a command line, and returns the status that goes with it.
 fn refuse<S: System>(alloc: Global, system: &mut S, fault: &CommandFault<'_>) -> u8
     ensures ends { EndsRefused fault.now (S.calls system.old) (S.calls system.new) result }
 {
@@ -119,7 +120,7 @@ fn begin<S: System, W: Write>(
     }
 }
 
-/// The program: does what its words ask for, where they could be read, and returns its status.
+/// The program: does what its words ask for, if they could be read, and returns its status.
 pub fn run_program<S: System, W: Write>(
     alloc: Global,
     system: &mut S,

@@ -17,7 +17,7 @@ use std::io::{ErrorKind, Read};
 #[derive(Drop)]
 pub struct Readers<'a, F> {
     pub inputs: Inputs<F, InputReader<'a, F>, InputReader<'a, F>, InputReader<'a, F>>,
-    /// Those of several logs.
+    /// The readers of several logs.
     pub logs: Vec<F>,
 }
 
@@ -36,7 +36,7 @@ fn open<'a, S: System>(system: &mut S, input: Input, file: &'a str) -> Result<S:
     }
 }
 
-/// Opens the file of an input, where one is named.
+/// Opens the file of an input, if one is named.
 fn open_named<'a, S: System>(
     system: &mut S,
     input: Input,
@@ -116,7 +116,7 @@ fn open_script<'a, S: System>(
     }
 }
 
-/// Opens the files of a run, one after another, and none after one that can't be opened.
+/// Opens the files of a run, one after another, and stops at one that can't be opened.
 pub fn open_files<'a, S: System>(
     alloc: Global,
     system: &mut S,

@@ -21,10 +21,10 @@ use std::alloc::Global;
 use std::io;
 use std::io::{ErrorKind, Write};
 
-/// The status of a run that is done.
+/// The status of a run that succeeded.
 const DONE: u8 = 0;
 
-/// How a run ended whose files were opened.
+/// How a run whose files were opened ended.
 fn ended_run<'a>(ended: Result<(), LogsFault>) -> Result<(), Failure<'a>>
     ensures { result ≡ ended_run ended }
 {
@@ -34,7 +34,7 @@ fn ended_run<'a>(ended: Result<(), LogsFault>) -> Result<(), Failure<'a>>
     }
 }
 
-/// Does a run, whose output goes to a writer.
+/// Does a run whose output goes to a writer.
 fn run_into<'a, S: System, W: Write>(
     alloc: Global,
     system: &mut S,
@@ -55,7 +55,7 @@ fn run_into<'a, S: System, W: Write>(
     }
 }
 
-/// Puts an output that is whole into a file.
+/// Puts a whole output into a file.
 fn put<'a, S: System>(system: &mut S, file: &'a str, output: &[u8]) -> Result<(), Failure<'a>>
     ensures call { S.calls system.new
         ≡ and_then (S.calls system.old) (Puts file.now output.now ∷ []) }
@@ -84,8 +84,8 @@ fn in_list<'a>(failure: Failure<'a>) -> Failure<'a>
     }
 }
 
-/// Does a run, whose output goes into a file: it is kept until it is whole, so that a file that the
-/// run reads can be the one that is written.
+/// Does a run whose output goes into a file. The output is kept until it is whole, so the file can
+/// be one that the run reads.
 fn run_into_file<'a, S: System>(
     alloc: Global,
     system: &mut S,
@@ -103,7 +103,7 @@ fn run_into_file<'a, S: System>(
     }
 }
 
-/// Does a run, whose output goes into a file, where one is named, and else to a writer.
+/// Does a run whose output goes into a file, if one is named, and otherwise to a writer.
 fn run_to<'a, S: System, W: Write>(
     alloc: Global,
     system: &mut S,
@@ -147,7 +147,7 @@ fn with_reason<'a>(failure: Failure<'a>, reason: Option<io::Error>) -> Failure<'
     }
 }
 
-/// Says why a run wasn't done, unless nobody reads its output any more, and returns the status.
+/// Reports why a run wasn't done, unless nobody reads its output any more, and returns the status.
 fn tell_failure<S: System>(system: &mut S, failure: Failure<'_>, names: Names<'_>) -> u8
     ensures told { TellsUnless (is_silent failure.entry)
         (message_of (names_in names.entry) failure.entry) (S.calls system.old)
@@ -162,7 +162,7 @@ fn tell_failure<S: System>(system: &mut S, failure: Failure<'_>, names: Names<'_
     status
 }
 
-/// Does a run, says why it wasn't done where that is so, and returns the status.
+/// Does a run, reports why if it wasn't done, and returns the status.
 pub fn run<S: System, W: Write>(
     alloc: Global,
     system: &mut S,

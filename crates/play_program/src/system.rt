@@ -10,13 +10,13 @@ use std::io::Read;
 
 /// What a system gives a program: files by their names, and a place for messages.
 pub trait System {
-    /// A file that is open.
+    /// An open file.
     type File: Read + Drop;
 
-    /// The bytes of the file of a name, where they are known.
+    /// The bytes of the file of a name, if they are known.
     ghost bytes_of: { Self → List ℕ → Option (List ℕ) };
 
-    /// The calls that were made, in order, where they are known.
+    /// The calls that were made, in order, if they are known.
     ghost calls: { Self → Option (List Call) };
 
     /// Opens the file of a name.
@@ -30,7 +30,7 @@ pub trait System {
     fn put(&mut self, file: &str, bytes: &[u8]) -> io::Result<()>
         ensures call { calls self.new ≡ and_then (calls self.old) (Puts file.now bytes.now ∷ []) };
 
-    /// Tells the user a message, beside the output.
+    /// Shows the user a message, apart from the output.
     fn tell(&mut self, message: Message<'_>)
         ensures call { calls self.new ≡ and_then (calls self.old) (Tells (told_of message.entry) ∷ []) };
 }

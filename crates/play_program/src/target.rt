@@ -4,12 +4,12 @@ ghost use Rattle.play_program.specs.Target.{Becomes, BeginsEmpty};
 use std::io;
 use std::io::Write;
 
-/// A file that drafts may take the place of.
+/// A file that drafts may replace.
 pub trait Target {
     /// What is written before the file is replaced.
     type Draft: Write + Drop;
 
-    /// The bytes of the file, where they are known.
+    /// The bytes of the file, if they are known.
     ghost shown: { Self → Option (List ℕ) };
 
     /// An empty draft.
@@ -18,7 +18,7 @@ pub trait Target {
             BeginsEmpty (shown self.old) (Self.Draft.contents draft)) }
         ensures kept { shown self.new ≡ shown self.old };
 
-    /// Puts a draft in the place of the file. Where that fails the draft is gone.
+    /// Puts a draft in the place of the file. If that fails the draft is gone.
     fn publish(&mut self, draft: Self::Draft) -> io::Result<()>
         ensures published { OnOk result (Becomes (shown self.old) (shown self.new)
             (Self.Draft.contents draft)) }

@@ -5,7 +5,7 @@ use crate::target::Target;
 use std::io;
 use std::io::Write;
 
-/// Replaces a file by these bytes. Where that fails, the file is what it was.
+/// Replaces a file by these bytes. If that fails, the file is what it was.
 pub fn replace<T: Target>(target: &mut T, bytes: &[u8]) -> io::Result<()>
     ensures whole { OnOk result
         (Becomes (T.shown target.old) (T.shown target.new) (Some bytes.now)) }

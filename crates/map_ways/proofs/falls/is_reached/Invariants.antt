@@ -4,7 +4,7 @@ use Rattle.map_ways.specs.Falls.{is_reached}
 use Rattle.map_ways.specs.Leads.{emerald_of}
 use Rattle.map_ways.proofs.falls.is_reached.Given as goal
 
--- no motion that begins before comes to the row
+-- no motion that begins before reaches the row
 abbrev pub invariant-loop-first : goal.invariant-loop-first
 invariant-loop-first l =
     is_reached (emerald_of l.cave) (map going (take l.first l.before))

@@ -4,7 +4,7 @@ use Rattle.map_ways.specs.Falls.{motions_taking}
 use Rattle.map_ways.specs.Leads.{emerald_of}
 use Rattle.map_ways.proofs.falls.motions_taking.Given as goal
 
--- the motions that were found, with those that begin at rows that are left, are all
+-- the motions that were found, with those that begin at the remaining rows, are all
 abbrev pub invariant-loop-first : goal.invariant-loop-first
 invariant-loop-first l =
     l.motions.items
