@@ -1,4 +1,4 @@
-//! A file of the system, which a draft in the same folder takes the place of.
+//! A file of the system, which a draft in the same folder replaces.
 
 ghost use Rattle.std.specs.Prelude.{None};
 
@@ -15,9 +15,9 @@ use std::{fs, io};
 pub(crate) struct FileBeside<'a> {
     rt: &'a HostRuntime,
     path: String,
-    /// Who may read and write the file, where it is there.
+    /// Who may read and write the file, if it exists.
     permissions: Option<Permissions>,
-    /// What this run saw of the file, where it has read it.
+    /// What this run saw of the file, if it has read it.
     read: Option<Stamp>,
 }
 
@@ -30,8 +30,8 @@ fn leads_to(rt: &HostRuntime, name: &str, path: &str) -> io::Result<bool> {
     }
 }
 
-/// What was seen of the file of a path and a name, where it was opened by this name, or by another
-/// one that leads to it.
+/// What was seen of the file of a path and a name, if it was opened by this name, or by another one
+/// that leads to it.
 fn stamp_of(
     rt: &HostRuntime,
     seen: &[SeenFile],
@@ -56,8 +56,8 @@ fn folder_of(path: &str) -> &str {
 }
 
 impl<'a> FileBeside<'a> {
-    /// The file of a name, which is a file or isn't there yet, with what was seen of it if it is one
-    /// of those that were opened. A link is followed, so that the file that it leads to is replaced
+    /// The file of a name, which is a file or doesn't exist yet, with what was seen of it if it is
+    /// one of those that were opened. A link is followed, so the file to which it leads is replaced
     /// and the link stays.
     pub(crate) fn at(
         rt: &'a HostRuntime,
@@ -89,7 +89,7 @@ impl<'a> FileBeside<'a> {
         })
     }
 
-    /// Whether the file is still what this run has read, where it has read it.
+    /// Whether the file is still what this run has read, if it has read it.
     fn is_as_read(&self) -> io::Result<bool> {
         let Some(read) = self.read else {
             return Ok(true);
@@ -110,7 +110,7 @@ impl<'a> FileBeside<'a> {
     }
 
     /// Puts a draft that is on the disk in the place of the file. The permissions come last, since
-    /// they may keep the next run from opening a draft that is left.
+    /// they may keep the next run from opening an abandoned draft.
     fn put(&self, draft: &DraftFile) -> io::Result<()> {
         draft.file.sync_all()?;
         if !self.is_as_read()? {
@@ -120,7 +120,7 @@ impl<'a> FileBeside<'a> {
         fs::rename(self.rt, draft.path.as_str(), self.path.as_str())
     }
 
-    /// Has the system write the folder to the disk, too, where it can: the file is replaced anyway.
+    /// Has the system write the folder to the disk as well, if it can: the file is replaced anyway.
     fn sync_folder(&self) {
         if let Ok(folder) = File::open(self.rt, folder_of(self.path.as_str())) {
             let _ = folder.sync_all();

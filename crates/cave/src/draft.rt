@@ -1,6 +1,6 @@
-//! The draft of a file: a file of the same folder, which one run at a time holds by a lock. The lock
-//! ends with the run, however that ends, so a draft that nobody holds was left by a run that was
-//! ended, and the next run removes it.
+//! The draft of a file: a file in the same folder, which one run at a time holds by a lock. The
+//! lock ends with the run, however that ends. So a draft that no run holds was abandoned by a run
+//! that was ended, and the next run removes it.
 
 ghost use Rattle.std.specs.Prelude.{◌≡◌, ◌++◌, IfOk, codes, string_bytes};
 
@@ -10,13 +10,13 @@ use std::io::{ErrorKind, Write};
 use std::os::unix::fs::{MetadataExt, OpenOptionsExt};
 use std::{fs, io};
 
-/// How often a draft is made that another run takes away before this one holds it.
+/// How often this run makes a draft again because another run takes it away first.
 const MAX_TRIES: u32 = 100;
 
-/// Until it is whole, its owner alone may read a draft that takes the place of a file.
+/// Until it is whole, only its owner may read a draft that replaces a file.
 const OWNER_ALONE: u32 = 0o600;
 
-/// A file that is written before it takes the place of another.
+/// A file that is written before it replaces another.
 #[derive(Drop)]
 pub(crate) struct DraftFile {
     pub(crate) file: File,
@@ -40,7 +40,7 @@ fn draft_name(alloc: Global, path: &str) -> Result<String, AllocError>
     format!(in alloc; "{path}.cave-draft")
 }
 
-/// Why a file can't be written whose draft another run holds.
+/// Why a file can't be written if another run holds its draft.
 fn busy() -> io::Error {
     io::Error::other("another run is writing it")
 }
@@ -69,8 +69,9 @@ fn create(rt: &HostRuntime, path: &str, replaces: bool) -> io::Result<Option<Fil
     }
 }
 
-/// Locks a draft that this run has made, and says whether it is still the one of that name: another
-/// run may have taken it for one that was left. Where the file system has no locks, nobody does so.
+/// Locks a draft that this run has made, and says whether it is still the one with that name:
+/// another run may have taken it for an abandoned one. If the file system has no locks, no run does
+/// so.
 fn hold(rt: &HostRuntime, file: &File, path: &str) -> io::Result<bool> {
     match file.try_lock() {
         Ok(()) => is_named(rt, file, path),
@@ -79,7 +80,7 @@ fn hold(rt: &HostRuntime, file: &File, path: &str) -> io::Result<bool> {
     }
 }
 
-/// Opens a draft that was left: to write, as locks of some file systems need, or else to read.
+/// Opens an abandoned draft: to write, as locks of some file systems need, or otherwise to read.
 fn open_left(rt: &HostRuntime, path: &str) -> io::Result<File> {
     match OpenOptions::new().write(true).open(rt, path) {
         Err(reason) if reason.kind() == ErrorKind::PermissionDenied => File::open(rt, path),
@@ -87,7 +88,7 @@ fn open_left(rt: &HostRuntime, path: &str) -> io::Result<File> {
     }
 }
 
-/// Removes a draft that was left, while it is locked, so that no run loses one that it holds.
+/// Removes an abandoned draft while it is locked, so that no run loses one that it holds.
 fn remove_locked(rt: &HostRuntime, file: &File, path: &str) -> io::Result<()> {
     match file.try_lock() {
         Ok(()) => {}
@@ -102,7 +103,7 @@ fn remove_locked(rt: &HostRuntime, file: &File, path: &str) -> io::Result<()> {
     Ok(())
 }
 
-/// Removes a draft that was left, where it is still there.
+/// Removes an abandoned draft, if it is still there.
 fn remove_left(rt: &HostRuntime, path: &str) -> io::Result<()> {
     match fs::symlink_metadata(rt, path) {
         Ok(found) if found.is_file() => {}
@@ -133,7 +134,7 @@ fn make(rt: &HostRuntime, path: &str, replaces: bool) -> io::Result<File> {
 }
 
 impl DraftFile {
-    /// The draft of the file of a path, which it replaces, or which isn't there yet.
+    /// The draft of the file of a path, which it replaces, or which doesn't exist yet.
     pub(crate) fn beside(rt: &HostRuntime, file: &str, replaces: bool) -> io::Result<DraftFile> {
         let path = draft_name(rt.alloc(), file)?;
         let file = make(rt, path.as_str(), replaces)?;

@@ -18,7 +18,7 @@ pub(crate) struct Host<'a> {
 }
 
 impl<'a> Host<'a> {
-    /// The operating system, of which no file is open.
+    /// The operating system, before any file is opened.
     pub(crate) fn new(rt: &'a HostRuntime) -> Host<'a> {
         Host {
             rt,
@@ -41,7 +41,7 @@ impl System for Host<'_> {
 
     ghost calls = { λ _. None };
 
-    /// A folder opens, and can't be read, so it is refused here.
+    /// A folder can be opened, but not read, so it is refused here.
     fn open(&mut self, file: &str) -> io::Result<File> {
         let opened = File::open(self.rt, file)?;
         let found = opened.metadata()?;

@@ -3,7 +3,7 @@
 use std::fs::Metadata;
 use std::os::unix::fs::MetadataExt;
 
-/// Which file it was, how long, and when it and what it holds were last changed.
+/// Which file it was, how long it was, and when it and its content were last changed.
 #[derive(Clone, Copy, PartialEq, Eq)]
 pub(crate) struct Stamp {
     device: u64,
@@ -16,7 +16,7 @@ pub(crate) struct Stamp {
 }
 
 impl Stamp {
-    /// The stamp of a file of which this was found.
+    /// The stamp of a file with these properties.
     pub(crate) fn of(found: &Metadata) -> Stamp {
         Stamp {
             device: found.dev(),

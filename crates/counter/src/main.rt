@@ -13,8 +13,8 @@ const LOG: &[u8] = b"click\nclick\n# a rest\nclick\n";
 
 const SCRIPT: &[u8] = b"# one click more\ninsert 1 click\nbegin\ndelete 0\ndelete 9\nend\n";
 
-/// Makes each item of a script, and says where its replay began and how many lines it played, or
-/// which line of the script is refused.
+/// Applies each item of a script, and prints where its replay began and how many lines it played,
+/// or which line of the script is refused.
 fn edit(rt: &HostRuntime, session: &mut Session<Counter>, script: &Script) -> Result<()> {
     for item in &script.items {
         match session.edit_group(&item.edits, &mut Meter::new()) {

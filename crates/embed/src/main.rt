@@ -37,7 +37,7 @@ fn play(rt: &HostRuntime, rules: &Rules<'_>, lines: &[&[u8]]) -> Result<State> {
     Ok(state)
 }
 
-/// The lamp falls in the boathouse, and the player takes it there, though no line says so.
+/// The lamp falls in the boathouse, and the player takes it there, although no line says so.
 fn take_lamp(rt: &HostRuntime, rules: &Rules<'_>, state: &mut State) -> Result<()> {
     let lamp = Object::new(2);
     state.drop_at(lamp, Place::new(3));

@@ -11,7 +11,7 @@ use Rattle.cave_replay.specs.base_lines.Bytes.{is_digit, number_of}
 use Rattle.ledger.specs.declared.entry.BookEntry.{BookEntry}
 use Rattle.ledger.specs.declared.entry.BookEntry.TheVariants.{In, Out, Comment}
 
--- the account with a new balance; where there is none the payment was refused
+-- the account with a new balance; if there is none the payment was refused
 abbrev pub account_after : Account → Option ℕ → Account
 account_after account (Some balance) = record { balance = balance; refused = account.refused }
 account_after account None = record { balance = account.balance; refused = true }
@@ -24,7 +24,7 @@ amount_after word line =
     && nat_lt 0 (length digits) && nat_le (length digits) 10
     then Some (number_of digits) else None
 
--- what a line says: a payment in or out, else it is a comment
+-- what a line says: a payment in or out, otherwise it is a comment
 abbrev pub entry_of : List ℕ → BookEntry
 entry_of line =
     let paid_in = option_map In (amount_after (codes "in ") line) in
@@ -35,7 +35,7 @@ abbrev pub is_payment : BookEntry → Bool
 is_payment Comment = false
 is_payment _ = true
 
--- the balance after an entry, or none where the payment is refused
+-- the balance after an entry, or none if the payment is refused
 abbrev pub balance_after : BookEntry → ℕ → Option ℕ
 balance_after (In amount) balance =
     if nat_lt (balance + amount) (2 ^ 64) then Some (balance + amount) else None
@@ -48,7 +48,7 @@ account_of balance = record { balance = balance; refused = false }
 abbrev pub booked_by : Account → List ℕ → Option ℕ
 booked_by account line = balance_after (entry_of line) account.balance
 
--- each line says the new balance, or none where its payment is refused
+-- each line says the new balance, or none if its payment is refused
 abbrev pub ledger_rules : MachineRules Account (Option ℕ)
 ledger_rules = record {
   begun = account_of;
@@ -58,6 +58,6 @@ ledger_rules = record {
   ticked = λ account line. is_payment (entry_of line);
 }
 
--- what an account holds in the end, that is opened with the seed and books the whole log
+-- what an account that is opened with the seed, and books the whole log, holds in the end
 abbrev pub balance_of : Game → ℕ
 balance_of game = (state_after ledger_rules (account_of game.seed) game.log).balance

@@ -8,9 +8,9 @@ use cave_replay::number_of;
 /// What a line of a ledger says.
 #[derive(Clone, Copy)]
 pub enum BookEntry {
-    /// `in N`: so much is paid in.
+    /// `in N`: this amount is paid in.
     In(u64),
-    /// `out N`: so much is paid out.
+    /// `out N`: this amount is paid out.
     Out(u64),
     /// Any other line.
     Comment,
@@ -52,7 +52,7 @@ impl BookEntry {
         !matches!(self, BookEntry::Comment)
     }
 
-    /// The balance that it makes of one, or `None` where the payment is refused.
+    /// The balance after it, or `None` if the payment is refused.
     pub fn booked(self, balance: u64) -> Option<u64>
         ensures { result ≡ balance_after self balance }
     {

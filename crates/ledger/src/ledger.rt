@@ -82,7 +82,7 @@ impl Machine for Ledger {
     }
 }
 
-/// What the account holds in the end: as if the held log were booked anew, from its first line.
+/// What the account holds in the end: as if the held log were booked again, from its first line.
 pub fn closing_balance(session: &Session<Ledger>) -> u64
     ensures { result ≡ balance_of session.now.game }
 {

@@ -1,4 +1,4 @@
-//! A ledger as a machine of its own: its log is edited by sessions, as the log of any machine.
+//! A ledger as a machine of its own: sessions edit its log, as they edit the log of any machine.
 #![tactic(auto)]
 
 pub mod account;

@@ -17,7 +17,7 @@ use Rattle.world_objects.specs.declared.spot.Spot.{Spot}
 use Rattle.world_objects.specs.declared.spot.Spot.TheVariants as spot
 use Rattle.map_ways.proofs.Several.{First, Has, Later, if_kept}
 
--- Where an object is: where a condition that has to hold wants it.
+-- Where an object is: where a condition that has to hold requires it to be.
 abbrev pub spot_for : ℕ → List Condition → ℕ → Spot
 spot_for here [] x = spot.Away
 spot_for here (condition.InHands y ∷ cs) x = if y == x then spot.InHands else spot_for here cs x

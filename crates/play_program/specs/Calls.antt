@@ -16,7 +16,7 @@ pub data Told : Type 0 where
   misused : List ℕ → List ℕ → Told
   unread : Error → Told
 
--- what a message reports, from whatever its names are borrowed
+-- what a message reports, regardless of where its names are borrowed from
 abbrev pub told_of : Message → Told
 told_of (message.Fault complaint) =
     faulty complaint.fault (option_map (λ s. s.now) complaint.file)

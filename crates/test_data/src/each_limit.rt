@@ -5,7 +5,7 @@ use data_rows::Cause;
 use std::alloc::{AllocError, Global};
 use std::test::Fail;
 
-/// Why a database of one section is refused that has so many times the line.
+/// Why a database of one section that has the line this many times is refused.
 fn refusal_of_lines(
     alloc: Global,
     section: &[u8],
@@ -21,7 +21,7 @@ fn refusal_of_lines(
     Ok(refusal(alloc, database.as_slice(), b""))
 }
 
-/// Why a database of one section is refused whose only row goes on with so many times the text.
+/// Why a database of one section whose only row goes on with this many times the text is refused.
 fn refusal_of_row(
     alloc: Global,
     section: &[u8],
@@ -36,7 +36,7 @@ fn refusal_of_row(
     refusal_of_lines(alloc, section, row.as_slice(), 1)
 }
 
-/// A section with a row of it, and how many rows of the section there may be.
+/// A section with one of its rows, and how many rows the section may have.
 const ROWS: [(&[u8], &[u8], usize); 3] = [
     (b"3", b"1 1 1", 2000),
     (b"4", b"1 GO", 1000),
@@ -56,8 +56,8 @@ fn the_row_past_a_limit_is_at_fault(rt: HostRuntime) -> Result<(), Fail> {
     Ok(())
 }
 
-/// A section with the start of a row, what the row goes on with, how often it may, and why it is
-/// refused where it does once more.
+/// A section with the start of a row, the text with which the row goes on, how often it may, and
+/// why the row is refused if it does once more.
 const LONG_ROWS: [(&[u8], &[u8], &[u8], usize, Cause); 3] = [
     (b"3", b"1 1", b" 7", 40, Cause::TooManyRows),
     (b"9", b"0", b" 7", 40, Cause::TooManyRows),
@@ -80,7 +80,7 @@ fn a_row_lists_at_most_40_numbers_or_has_255_bytes_of_text(rt: HostRuntime) -> R
     Ok(())
 }
 
-/// A text with blank lines after it, of so many bytes.
+/// A text with blank lines after it, of this many bytes.
 fn padded(alloc: Global, text: &[u8], size: usize) -> Result<Vec<u8>, AllocError> {
     let mut padded = Vec::from_slice(alloc, text)?;
     for _i in text.len()..size {

@@ -1,4 +1,4 @@
-//! Faults: which one of some inputs is reported, and the whole text of each.
+//! Faults: which fault of an input is reported, and the whole text of each.
 
 use crate::reading::refusal;
 use data_rows::{BindingFlaw, Cause, CaveError, FaultSite, Section};
@@ -28,7 +28,7 @@ const REFUSED: [(&[u8], &[u8], Cause, usize); 11] = [
     (b"0\n", b"msg.okay 1\n", Cause::UnknownRole, 1),
 ];
 
-/// Inputs with two faults on one line, the cause that is told, and the line.
+/// Inputs with two faults on one line, the cause that is reported, and the line.
 const TWO_FAULTS: [(&[u8], &[u8], Cause, usize); 4] = [
     (b"3\n1 3 19\n301 3 x\n-1\n0\n", b"", Cause::BadNumber, 3),
     (b"3\n301 1000000\n-1\n0\n", b"", Cause::BadNumber, 2),
@@ -36,7 +36,7 @@ const TWO_FAULTS: [(&[u8], &[u8], Cause, usize); 4] = [
     (b"0\n", b"msg.okay 500\n", BAD_VALUE, 1),
 ];
 
-/// Expects each of the inputs to be refused as it says.
+/// Expects each of the inputs to be refused for its reason.
 fn expect_refused(rt: &impl Abort, alloc: Global, inputs: &[(&[u8], &[u8], Cause, usize)]) {
     for &(database, bindings, cause, line) in inputs {
         let refused = refusal(alloc, database, bindings);

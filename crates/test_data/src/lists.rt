@@ -1,10 +1,10 @@
-//! Two states with equal lists are equal, by whatever moves they came to them.
+//! Two states with equal lists are equal, for any moves that led to them.
 
 use cave_words::Stream;
 use cave_world::State;
 use world_objects::{Object, Place};
 
-/// Where objects are moved.
+/// Where objects are moved to.
 const ROAD: u16 = 1;
 
 const HUT: u16 = 3;
@@ -17,17 +17,17 @@ enum Move {
     Destroy(u8),
 }
 
-/// The object of a number, of which nothing is promised.
+/// The object with a number. Nothing is promised of it.
 fn object(number: u8) -> Object {
     Object::new(number.min(100))
 }
 
-/// The place of a number, of which nothing is promised.
+/// The place with a number. Nothing is promised of it.
 fn place(number: u16) -> Place {
     Place::new(number.min(300))
 }
 
-/// A state after moves, of which nothing is promised.
+/// A state after moves. Nothing is promised of it.
 fn state_after(moves: &[Move]) -> State {
     let mut state = State::starting(place(ROAD), Stream::seeded(0));
     for step in moves {
@@ -42,7 +42,7 @@ fn state_after(moves: &[Move]) -> State {
 
 /// Two lists of moves that lead to equal lists.
 const SAME: [(&[Move], &[Move]); 4] = [
-    // Two objects are taken and dropped in two orders, and end in one.
+    // Two objects are taken and dropped in two orders, and end in the same order.
     (
         &[
             Move::Put(2, ROAD),

@@ -1,4 +1,4 @@
-//! Reading inputs, for what is wrong with them.
+//! Reading inputs, to find what is wrong with them.
 
 use cave_data::Cave;
 use data_rows::{Cause, CaveError};
@@ -10,11 +10,11 @@ pub fn read(alloc: Global, database: &[u8], bindings: &[u8]) -> Result<Cave, Cav
     Cave::read(alloc, database, bindings)
 }
 
-/// Why the inputs are refused, and at which line; nothing where they are read.
+/// Why the inputs are refused, and at which line; nothing if they are read.
 pub fn refusal(alloc: Global, database: &[u8], bindings: &[u8]) -> Option<(Cause, usize)> {
     match read(alloc, database, bindings) {
         Ok(cave) => {
-            // By a call: the check goes through the tables of a cave in one place then.
+            // By a call, because then the check goes through the tables of a cave in one place.
             drop(cave);
             None
         }

@@ -65,7 +65,8 @@ fn numbers_agree(cave: &Cave) -> bool {
         && matches!(cave.hint(4), Some(hint) if hint.turns == 5 && hint.points == 6)
 }
 
-/// Whether roles and places have the numbers of the bindings, or those that they have unbound.
+/// Whether roles and places have the numbers of the bindings, or those that they have if they
+/// aren't bound.
 fn bindings_agree(cave: &Cave) -> bool {
     cave.role(Role::Ok) == Some(1)
         && cave.role(Role::NoWord3) == Some(499)
@@ -103,7 +104,7 @@ fn an_object_alone_in_its_row_is_nowhere(rt: HostRuntime) -> Result<(), Fail> {
     Ok(())
 }
 
-// Passes with any allocation refused too: `rt try --test --fail-alloc N`, N from 1 on.
+// Also passes if any allocation is refused: `rt try --test --fail-alloc N`, N from 1 on.
 #[test]
 fn out_of_memory_is_told_at_no_line(rt: HostRuntime) {
     match read(rt.alloc(), TWELVE, BINDINGS) {

@@ -16,7 +16,7 @@ use std::test::Fail;
 const LENGTHS: [(u32, u32); 3] = [(600, 300), (6_000, 3_000), (60_000, 30_000)];
 
 /// What one edit costs: how many lines it plays, how many states it compares, and how many pieces
-/// it copies. And where the plays meet.
+/// it copies. It also has where the plays meet.
 #[derive(Clone, Copy, PartialEq)]
 struct Cost {
     played: u64,
@@ -71,8 +71,8 @@ fn cost_of_an_insert<R: RowRule>(
     cost
 }
 
-/// Expects that an edit of a counter's log, of whatever length, plays so many lines until the plays
-/// meet, and compares so many states.
+/// Expects that an edit of a counter's log, of any length, plays this many lines until the plays
+/// meet, and compares this many states.
 fn expect_met(
     rt: &impl Abort,
     alloc: Global,

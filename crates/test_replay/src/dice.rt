@@ -10,7 +10,7 @@ fn draw(seed: &mut u32, bound: u32) -> u32 {
     (*seed >> 16) % bound.max(1)
 }
 
-/// An edit that a log of so many lines takes.
+/// An edit that a log of this many lines takes.
 pub(crate) fn any_edit(alloc: Global, seed: &mut u32, lines: u32) -> Result<Edit, AllocError> {
     let at = draw(seed, lines.saturating_add(1));
     let line = LineText::from_slice(alloc, &letters(alloc, draw(seed, 6))?)?;

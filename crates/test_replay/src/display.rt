@@ -1,4 +1,4 @@
-//! What two sessions show, beside one another.
+//! What two sessions show, compared with one another.
 
 use crate::machines::rule::RowRule;
 use crate::play::TestSession;

@@ -3,14 +3,14 @@
 use replay_edits::{Edit, LineText};
 use std::alloc::{AllocError, Global};
 
-/// A log of ten lines, the line of the place i of i + 1 letters.
+/// A log of ten lines; the line at place i has i + 1 letters.
 pub(crate) const STAIRS: &[u8] =
     b"a\naa\naaa\naaaa\naaaaa\naaaaaa\naaaaaaa\naaaaaaaa\naaaaaaaaa\naaaaaaaaaa\n";
 
 /// A log of five lines.
 pub(crate) const FIVE: &[u8] = b"no\nin\ntake lamp\non\ndown\n";
 
-/// A line of so many letters.
+/// A line of this many letters.
 pub(crate) fn letters(alloc: Global, count: u32) -> Result<Vec<u8>, AllocError> {
     let mut line = Vec::new(alloc);
     for _ in 0..count {
@@ -19,7 +19,7 @@ pub(crate) fn letters(alloc: Global, count: u32) -> Result<Vec<u8>, AllocError> 
     Ok(line)
 }
 
-/// A log of so many lines of one letter.
+/// A log of this many lines of one letter.
 pub(crate) fn flat(alloc: Global, lines: u32) -> Result<Vec<u8>, AllocError> {
     let mut log = Vec::new(alloc);
     for _ in 0..lines {
@@ -28,7 +28,7 @@ pub(crate) fn flat(alloc: Global, lines: u32) -> Result<Vec<u8>, AllocError> {
     Ok(log)
 }
 
-/// A log of so many lines, the line of the place i of i + 1 letters.
+/// A log of this many lines; the line at place i has i + 1 letters.
 pub(crate) fn stairs(alloc: Global, lines: u32) -> Result<Vec<u8>, AllocError> {
     let mut log = Vec::new(alloc);
     for place in 0..lines {

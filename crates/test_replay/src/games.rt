@@ -24,7 +24,7 @@ fn row<'a>(line: &'a [u8], piece: &'a [usize], ticked: bool, ticks: u32) -> RowS
     }
 }
 
-/// Expects that a session shows these rows, and nothing at the end but how many lines ticked.
+/// Expects that a session shows these rows, and only how many lines ticked at the end.
 fn expect_rows(rt: &impl Abort, session: &Counting<'_>, rows: &[RowState<'_>]) {
     let mut place = 0u32;
     for row in rows {
@@ -36,7 +36,7 @@ fn expect_rows(rt: &impl Abort, session: &Counting<'_>, rows: &[RowState<'_>]) {
 
 /// Expects that a session shows the game of `a`, `bcd`, nothing and `ab` from the seed 263.
 ///
-/// `seed` and `every` are for users of the library: the program knows what it opens a session with.
+/// `seed` and `every` are for users of the library: the program knows with what it opens a session.
 fn expect_game(rt: &impl Abort, alloc: Global, session: &Counting<'_>) -> Result<(), Fail> {
     assert_eq!(rt; session.seed(), 263);
     assert_eq!(rt; session.every(), 1);
@@ -140,8 +140,8 @@ fn an_edit_of_each_kind_is_replayed_and_taken_back(rt: HostRuntime) -> Result<()
     edit_stairs(&rt, rt.alloc(), &mut session, &counts)
 }
 
-/// Replaces the sixth of forty stairs, where checkpoints are at most four lines apart. The two
-/// plays agree again from the eighth line on, and a checkpoint isn't far from there.
+/// Replaces the sixth of forty stairs, with checkpoints at most four lines apart. The two plays
+/// agree again from the eighth line on, and a checkpoint isn't far from there.
 fn replace_a_stair_of_forty(
     rt: &impl Abort,
     alloc: Global,
@@ -171,7 +171,7 @@ fn checkpoints_four_lines_apart_keep_a_replay_short(rt: HostRuntime) -> Result<(
     replace_a_stair_of_forty(&rt, rt.alloc(), &mut session)
 }
 
-/// Puts a line before the third of five and takes that one out, as one group, which is then taken
+/// Inserts a line before the third of five and deletes that one, as one group, which is then taken
 /// back.
 fn edit_by_group<R: RowRule>(
     rt: &impl Abort,

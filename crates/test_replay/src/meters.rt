@@ -13,13 +13,13 @@ use std::process::Abort;
 use std::slice;
 use std::test::Fail;
 
-/// A meter that has so many steps left.
+/// A meter that has this many steps left.
 fn meter_with(left: u64) -> Meter {
     Meter::starting(u64::MAX.saturating_sub(left))
 }
 
-/// Expects that an edit, and the group of it alone, is refused by a meter with so many steps left,
-/// which counts none of them.
+/// Expects that a meter with this many steps left refuses an edit, and the group of just that edit,
+/// and counts none of them.
 fn expect_refused(rt: &impl Abort, session: &mut Counting<'_>, edit: &Edit, left: u64) {
     let mut meter = meter_with(left);
     let fault = session.edit(edit, &mut meter).err();
@@ -86,7 +86,7 @@ fn a_meter_with_fewer_steps_than_lines_refuses_an_edit(rt: HostRuntime) -> Resul
 }
 
 /// Expects that a line is played by the only step that a meter has left, that the full meter then
-/// refuses to play it again, and that taking the line out needs no step.
+/// refuses to play it again, and that deleting the line needs no step.
 fn expect_last_step(
     rt: &impl Abort,
     alloc: Global,

@@ -78,7 +78,7 @@ impl<'a, R: RowRule> TestSession<'a, R> {
     }
 
     /// Whether the lines as they were played are the rows, one after another, each with how many
-    /// lines ticked up to it and with it.
+    /// lines ticked up to and including it.
     pub(crate) fn plays_its_rows(&self) -> bool {
         let mut place = 0;
         for played in self.session.played_lines() {
@@ -111,7 +111,7 @@ impl<'a, R: RowRule> TestSession<'a, R> {
         self.session.lines()
     }
 
-    /// The places of which the states are kept.
+    /// The places whose states are kept.
     pub(crate) fn checkpoints(&self) -> &[u32] {
         self.session.checkpoints()
     }
@@ -151,12 +151,12 @@ impl<'a, R: RowRule> TestSession<'a, R> {
         }
     }
 
-    /// Whether as many lines ticked in another session, up to each line and with it.
+    /// Whether as many lines ticked in another session, up to and including each line.
     pub(crate) fn has_tick_counts_of(&self, other: &TestSession<'_, R>) -> bool {
         self.session.tick_counts().eq(other.session.tick_counts())
     }
 
-    /// How many lines ticked up to each line and with it.
+    /// How many lines ticked up to and including each line.
     pub(crate) fn tick_counts(&self, alloc: Global) -> Result<Vec<u32>, AllocError> {
         let mut counts = Vec::new(alloc);
         for count in self.session.tick_counts() {

@@ -1,4 +1,4 @@
-//! Random edits, each beside a play from scratch of the log that they give.
+//! Random edits, each compared with a play from scratch of the log that it gives.
 
 use crate::dice::any_edit;
 use crate::display::show_the_same_game;

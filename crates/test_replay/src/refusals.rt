@@ -1,6 +1,6 @@
 //! Calls whose memory is refused.
 //!
-//! Each of these holds whatever one allocation is refused, and shows then that the answer is out of
+//! Each of these passes if any one allocation is refused. It then shows that the answer is out of
 //! memory, that nothing has changed, and that the same call succeeds with ample memory: an edit
 //! with the report that it has in a session to which nothing happened.
 
@@ -17,7 +17,7 @@ use std::alloc::{AllocError, Global};
 use std::process::Abort;
 use std::test::Fail;
 
-/// Opens the game of ten stairs, and where memory is refused once more.
+/// Opens the game of ten stairs, and again if memory is refused.
 fn open<'a>(
     rt: &impl Abort,
     alloc: Global,
@@ -47,7 +47,7 @@ fn open<'a>(
     }
 }
 
-/// A copy of a session, made once more where memory is refused.
+/// A copy of a session, made again if memory is refused.
 fn copy<'a>(session: &Counting<'a>, counts: &'a Counts) -> Result<Counting<'a>, AllocError> {
     match session.copy(Counter, counts) {
         Ok(copy) => Ok(copy),
@@ -55,7 +55,7 @@ fn copy<'a>(session: &Counting<'a>, counts: &'a Counts) -> Result<Counting<'a>, 
     }
 }
 
-/// Edits, made once more where memory is refused.
+/// Edits, made again if memory is refused.
 fn edits_at_last(alloc: Global, changes: &[LineChange<'_>]) -> Result<Vec<Edit>, AllocError> {
     match edits_of(alloc, changes) {
         Ok(edits) => Ok(edits),
@@ -73,8 +73,8 @@ fn group_shown(alloc: Global, report: &Done) -> Result<String, AllocError> {
     format!(in alloc; "{report:?}")
 }
 
-/// Makes an edit, and where memory is refused once more. The refused one leaves the session as it
-/// was, and the later one has the report that it has in a session to which nothing happened.
+/// Makes an edit, and again if memory is refused. The refused one leaves the session as it was, and
+/// the later one has the report that it has in a session to which nothing happened.
 fn edit(
     rt: &impl Abort,
     alloc: Global,
@@ -94,9 +94,8 @@ fn edit(
     Ok(())
 }
 
-/// Makes the edits of a group together, and where memory is refused once more. The refused group
-/// leaves the session as it was, and the later one has the report that it has where nothing
-/// happened.
+/// Makes the edits of a group together, and again if memory is refused. The refused group leaves
+/// the session as it was, and the later one has the report that it has if nothing happened.
 fn edit_group(
     rt: &impl Abort,
     alloc: Global,

@@ -1,5 +1,5 @@
 //! A cave with its lexicon, through calls that promise nothing: the tests are proved without what a
-//! cave and a lexicon promise, and look at what they are.
+//! cave and a lexicon promise, and look at what they do.
 
 ghost use Rattle.cave_words.specs.Lexicon.{IsLexiconOf};
 
@@ -41,7 +41,7 @@ impl Known {
         }
     }
 
-    /// What the first word of a line means, of which as many letters count as in the cave.
+    /// What the first word of a line means. As many of its letters count as in the cave.
     pub(crate) fn meaning(&self, line: &[u8]) -> Option<Meaning> {
         let word = Words::of(line, self.lexicon.letters()).first?;
         self.lexicon.find(word)

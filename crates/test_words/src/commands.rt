@@ -206,7 +206,7 @@ fn words_ask_for_a_run_or_a_text_or_are_refused(rt: HostRuntime) -> Result<(), F
     Ok(())
 }
 
-/// The text that is printed for words, of help or of a fault.
+/// The text that is printed for words: help, or a fault.
 fn printed(alloc: Global, words: &[&str]) -> Result<String, AllocError> {
     match answer_to(alloc, words) {
         Ok(Line::Text(text)) => format!(in alloc; "{text}"),
@@ -320,7 +320,7 @@ fn texts_of_help_and_faults(rt: HostRuntime) -> Result<(), Fail> {
     Ok(())
 }
 
-/// Where an allocation is refused, the answer is that memory ran out and no other.
+/// If an allocation is refused, the answer is that memory ran out, and no other.
 #[test]
 fn out_of_memory_is_no_other_fault(rt: HostRuntime) {
     let words = ["cave", "edit", "a", "--seed=3", "b", "c", "--every", "7"];

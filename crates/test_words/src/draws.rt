@@ -2,12 +2,12 @@
 
 use cave_words::Stream;
 
-/// The stream of a seed, of which nothing is promised.
+/// The stream of a seed. Nothing is promised of it.
 fn stream_of(seed: u32) -> Stream {
     Stream::seeded(seed)
 }
 
-/// A draw of a hundred, of which nothing is promised.
+/// A draw among a hundred. Nothing is promised of it.
 fn draw(stream: &mut Stream) -> u32 {
     stream.draw(100)
 }

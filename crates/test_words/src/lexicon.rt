@@ -11,7 +11,7 @@ use test_data::caves::CAVE;
 const DATABASE: &[u8] = b"4\n1 out\n2003 OUT\n5 OUT\n1009 OUTSIDER\n1050 GOLDEN\n1051 GOLDENROD\n\
 1020 BOTTLES\n2 in\n3 up\n4 down\n-1\n0\n";
 
-/// Of its words eight letters count.
+/// Eight letters of its words count.
 const BINDINGS: &[u8] = b"num.letters 8";
 
 const MEANINGS: [(&[u8], Option<(Class, u16)>); 4] = [
@@ -50,7 +50,7 @@ fn a_word_means_its_first_row(rt: HostRuntime) -> Result<(), Fail> {
 /// How many letters count, by bindings, and the object that `goldenrod` then means.
 const GOLDENRODS: [(&[u8], u16); 3] = [(b"", 50), (b"num.letters 6", 50), (b"num.letters 8", 51)];
 
-/// The first cave with these words more.
+/// The first cave with these additional words.
 fn golden_cave(alloc: Global) -> Result<Vec<u8>, AllocError> {
     let mut database = Vec::from_slice(alloc, CAVE.strip_suffix(b"0\n").unwrap_or(CAVE))?;
     database.extend_from_slice(b"4\n1050 GOLDEN\n1051 GOLDENROD\n-1\n0\n")?;
@@ -69,7 +69,7 @@ fn goldenrod_is_golden_until_eight_letters_count(rt: HostRuntime) -> Result<(), 
     Ok(())
 }
 
-// Passes with any allocation refused too: `rt try --test --fail-alloc N`, N from 1 on.
+// Also passes if any allocation is refused: `rt try --test --fail-alloc N`, N from 1 on.
 #[test]
 fn out_of_memory_is_the_only_refusal(rt: HostRuntime) {
     let Ok(cave) = cave_of(rt.alloc(), DATABASE, BINDINGS) else {

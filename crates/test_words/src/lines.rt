@@ -1,9 +1,9 @@
-//! Lines of a log: what is reported of those that aren't allowed, and what kind each is.
+//! Lines of a log: what is reported for those that aren't allowed, and of what kind each is.
 
 use base_lines::{LogLine, check_line};
 use std::alloc::{AllocError, Global};
 
-/// What is reported of a line.
+/// What is reported for a line.
 fn report_of(alloc: Global, line: &[u8]) -> Result<String, AllocError> {
     match check_line(line) {
         Ok(()) => String::from_str(alloc, "it is valid"),
@@ -11,7 +11,7 @@ fn report_of(alloc: Global, line: &[u8]) -> Result<String, AllocError> {
     }
 }
 
-/// The kind of a line, of which nothing is promised.
+/// The kind of a line. Nothing is promised of it.
 fn kind_of(line: &[u8]) -> LogLine {
     LogLine::of(line)
 }

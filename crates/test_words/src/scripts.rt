@@ -4,12 +4,12 @@ use replay_scripts::{Item, Script, ScriptRefusal};
 use std::alloc::{AllocError, Global};
 use std::test::Fail;
 
-/// The script of a text whose lines may be guards, of which nothing is promised.
+/// The script of a text whose lines may be guards. Nothing is promised of it.
 fn guarded_script_of(alloc: Global, text: &[u8]) -> Result<Script, ScriptRefusal> {
     Script::read_guarded(alloc, text)
 }
 
-/// The script of a text, of which nothing is promised.
+/// The script of a text. Nothing is promised of it.
 fn script_of(alloc: Global, text: &[u8]) -> Result<Script, ScriptRefusal> {
     Script::read(alloc, text)
 }
@@ -36,7 +36,7 @@ fn items_shown(alloc: Global, items: &[Item]) -> Result<String, AllocError> {
     Ok(text)
 }
 
-/// The items of a script as text, or what is reported of it where it is refused.
+/// The items of a script as text, or what is reported if it is refused.
 fn shown(alloc: Global, text: &[u8]) -> Result<String, AllocError> {
     match script_of(alloc, text) {
         Ok(script) => items_shown(alloc, &script.items),
@@ -87,7 +87,7 @@ fn guarded_shown(alloc: Global, text: &[u8]) -> Result<String, AllocError> {
     }
 }
 
-/// Scripts whose lines may be guards, with what is reported of them.
+/// Scripts whose lines may be guards, with what is reported for them.
 const GUARDED: [(&[u8], &str); 6] = [
     (
         b"expect 2 x \n#\nexpect\t0\ndelete 2",
@@ -125,7 +125,7 @@ fn a_script_has_guards(rt: HostRuntime) -> Result<(), Fail> {
     Ok(())
 }
 
-/// Lines that are no edits, and what is reported of them.
+/// Lines that aren't edits, and what is reported for them.
 const FLAWS: [(&[u8], &str); 16] = [
     (
         b"\xef\xbb\xbfdelete 0",
@@ -178,7 +178,7 @@ fn a_line_that_is_no_edit_is_told_by_its_flaw(rt: HostRuntime) -> Result<(), Fai
     Ok(())
 }
 
-/// Malformed scripts, and what is reported of them.
+/// Malformed scripts, and what is reported for them.
 const FAULTS: [(&[u8], &str); 5] = [
     (
         b"delete 0\ninsert 9 a\n# x\nbegone\nend\n",
@@ -210,7 +210,7 @@ fn a_malformed_script_is_told_by_its_first_line_at_fault(rt: HostRuntime) -> Res
     Ok(())
 }
 
-/// Where an allocation is refused, the answer is that memory ran out and no other.
+/// If an allocation is refused, the answer is that memory ran out, and no other.
 #[test]
 fn out_of_memory_is_no_other_fault(rt: HostRuntime) {
     let text = b"insert 2 take lamp\nbegin\nreplace 0 x\ndelete 1\nend\nseed 3\n";

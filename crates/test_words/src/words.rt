@@ -2,12 +2,12 @@
 
 use cave_words::{Word, Words};
 
-/// The words of a line, of which so many letters count, from 5 to 8. Nothing is promised of them.
+/// The words of a line, if this many letters count, from 5 to 8. Nothing is promised of them.
 fn words_of(line: &[u8], letters: u8) -> Words {
     Words::of(line, letters.clamp(5, 8))
 }
 
-/// Whether a word has these letters; where there are none, whether there is no word.
+/// Whether a word has these letters; if there are none, whether there is no word.
 fn has(word: Option<Word>, letters: &[u8]) -> bool {
     match word {
         Some(word) => word.letters() == letters,

@@ -2,7 +2,7 @@ ghost use Rattle.std.specs.Prelude.{◌%◌, length};
 
 use crate::machines::rule::RowRule;
 
-/// The state is the length of the last line, at the start the seed mod 256. A line with a byte
+/// The state is the length of the last line, and at the start the seed mod 256. A line with a byte
 /// ticks.
 #[derive(Default, Drop)]
 pub(crate) struct Counter;

@@ -9,7 +9,7 @@ pub(crate) struct Counts {
 }
 
 impl Counts {
-    /// Nothing was done yet.
+    /// Nothing has been done yet.
     pub(crate) fn new() -> Counts {
         Counts {
             steps: Cell::new(0),

@@ -2,8 +2,8 @@ ghost use Rattle.std.specs.Prelude.{◌%◌, ◌+◌, ◌*◌, ◌==◌, length}
 
 use crate::machines::rule::RowRule;
 
-/// The state is a hash of the seed and the lengths of all lines so far, so that plays of other
-/// lines don't meet. A line ticks where the state after it is even.
+/// The state is a hash of the seed and the lengths of all lines so far, so plays of different lines
+/// don't meet. A line ticks if the state after it is even.
 #[derive(Default, Drop)]
 pub(crate) struct Hasher;
 

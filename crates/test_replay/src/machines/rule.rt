@@ -1,7 +1,7 @@
 ghost use Rattle.std.specs.Prelude.{◌≡◌, ℕ, List, Bool};
 
-/// What a machine answers, as plain functions. A piece is a list of the one number that is the
-/// state after its line.
+/// What a machine answers, as plain functions. A piece is a list of one number, the state after its
+/// line.
 pub(crate) trait RowRule: Drop {
     ghost begun: { ℕ → ℕ };
 

@@ -16,7 +16,7 @@ pub(crate) struct Told<'a, R> {
 }
 
 impl<'a, R> Told<'a, R> {
-    /// The machine of a rule that counts so.
+    /// The machine of a rule that counts like this.
     pub(crate) fn new(rule: R, counts: &'a Counts) -> Told<'a, R> {
         Told { rule, counts }
     }
