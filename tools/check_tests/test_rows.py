@@ -37,11 +37,11 @@ GLOW = "| | it glows |"
 def lamp_shown(*rows, name="**the lamp**"):
     """The table of the lamp on a page, by its rows after their numbers' bars."""
     shown = "".join(f"| {row}\n" for row in rows)
-    return f"{name}\n<!-- rows: lamp_rows -->\n{HEAD}{shown}\n"
+    return f"{name} <!-- rows: lamp_rows -->\n{HEAD}{shown}\n"
 
 
 LAMP = lamp_shown(f"1 | {LOW}", f"2 | {NO_OIL}", f"3 {GLOW}")
-FILLING = f"**the oil**\n\n<!-- rows: fill_rows -->\n\n{HEAD}| 1 | | it is filled |\n\n"
+FILLING = f"**the oil** <!-- rows: fill_rows -->\n{HEAD}| 1 | | it is filled |\n\n"
 TABLES = {
     f"{LAMP}{FILLING}": "",
     lamp_shown(f"1 | {LOW}", f"2 {GLOW}"): "lamp_rows has 3 rows, and the page shows 2",
@@ -59,7 +59,7 @@ TABLES = {
         "the lamp 1: the definition says lamplow lampdead, and the page lampdead lamplow",
     LAMP.replace("OIL is", "it is") + FILLING: "the lamp 2: the definition asks of OIL",
     lamp_shown(f"1 | {LOW}", f"2 | {NO_OIL}", f"3 {GLOW}", name="the lamp") + FILLING:
-        "noted are Lamp of no name",
+        "Lamp has lamp_rows, which no page shows",
     lamp_shown(f"1 | {LOW}", f"2 | {NO_OIL}", f"3 {GLOW}", name="**a lamp**, **a wick**") + FILLING:
         "noted are Lamp of a lamp, a wick",
     LAMP + FILLING.replace("fill_rows", "wick_rows"): "noted are no rows of the oil",
