@@ -51,7 +51,7 @@ fn log_line(line: &[u8]) -> LogLine
     }
 }
 
-/// Whether scripts and bindings pass over a line: a comment, or blanks alone.
+/// Whether scripts and bindings pass over a line: a comment, or only blanks.
 #[tactic(auto, unfolding(crate::specs::LogLine::is_skipped))]
 pub fn is_skipped(line: &[u8]) -> bool
     ensures { result ≡ is_skipped line.now }

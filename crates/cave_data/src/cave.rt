@@ -194,7 +194,7 @@ impl Cave {
     /// Reads a cave from its database and its bindings, or returns the first fault: a size over
     /// 1,048,576 bytes, then the first faulty line, the database's before the bindings'.
     pub fn read(alloc: Global, database: &[u8], bindings: &[u8]) -> Result<Cave, CaveError>
-        // A size over the limit is reported whatever memory there is.
+        // A size over the limit is reported with any amount of memory.
         ensures size { MatchOption (size_fault database.now bindings.now) (Unit {0})
             (λ e. result ≡ Err e) }
         ensures found { IfOk result (λ c. Reads database.now bindings.now c) }

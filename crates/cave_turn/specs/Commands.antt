@@ -78,7 +78,7 @@ unfoldable pub after_travel : CaveView → ℕ → Scene → Scene
 after_travel cave motion p =
     let j = journey_by_request cave motion p in after_arrival cave j.step j.scene
 
--- what is said of a word that the cave doesn't have, by two draws, of which the first was made
+-- what is said of a word that the cave doesn't have, by two draws, the first of which was made
 unfoldable pub unknown_word_rows : List (Row Bool (Unit {0}))
 unknown_word_rows =
     chance_row [] (percent 20) (say role.NoWord3 ∷ [])

@@ -105,7 +105,7 @@ abbrev pub read_next : Effect Phrase
 read_next d =
     record d { about = phrase d.about.half (unwrap_or d.about.next d.about.word) None }
 
--- POUR, whatever the cave's words say
+-- POUR, regardless of what the cave's words say
 abbrev pub pour_in : CaveView → SaidWord
 pour_in cave =
     record {

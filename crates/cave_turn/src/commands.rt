@@ -54,7 +54,7 @@ pub fn command<N: RowNotes>(
     end_turn(rules, &mut scene);
 }
 
-/// The magic words go on from where the last command left them, and stop where it left them twice.
+/// A magic word waits for the next command. If that says none, the words begin again.
 fn wait_for_magic(state: &mut State)
     ensures { state.new ≡ with_magic_waiting state.old }
 {

@@ -16,7 +16,7 @@ use Rattle.cave_verbs.specs.declared.verb.Verb.{Verb}
 use Rattle.cave_verbs.specs.declared.verb.Verb.TheVariants as verb
 use Rattle.cave_verbs.specs.Ranks.{take_rank, drop_rank, bare_rank, rank}
 
--- the bottle is no liquid
+-- the bottle isn't a liquid
 pub bottle-water : (cave : CaveView) → is_called cave (thing cave name.Bottle) name.Water ≡ false
 unfolding is_called thing
 bottle-water cave = grind arith

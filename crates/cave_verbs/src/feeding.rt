@@ -18,7 +18,7 @@ use turn_scene::props::{AXE_FREE, BEAR_DEAD, BEAR_FED, BEAR_WILD, BIRD_FREE, DRA
 use turn_scene::{Rules, Scene, has_other_prop, has_prop, is_near, lose_one};
 use world_objects::{Anchor, Prop};
 
-/// Living beings that are no food.
+/// Living beings that aren't food.
 const LIVING: [Named; 8] = [
     Named::Bird,
     Named::Snake,

@@ -55,7 +55,7 @@ cut_nonblank (suc letters) (byte ∷ bytes) all =
     (list_all is_nonblank (letters_that_count letters bytes)) (upper_nonblank byte parts.0)
     (cut_nonblank letters bytes parts.1)
 
--- the letters of a word are what counts of the run that it was made of
+-- the letters of a word are what counts of the run from which it was made
 pub letters-word_of : (letters : ℕ) (bytes : List ℕ) → IsTrue (list_all is_nonblank bytes)
     → prefix_while is_nonblank (word_of letters bytes) ≡ letters_that_count letters bytes
 unfolding word_of

@@ -5,8 +5,8 @@ ghost use Rattle.cave_world.specs.SameGame.{IsSameGame};
 use crate::state::State;
 
 impl State {
-    /// Two states are equal, by `==`, exactly if each field is the same, where of the lists of
-    /// halves only the list of each place counts.
+    /// Two states are equal, by `==`, exactly if each field is the same; in the lists of halves
+    /// only the list of each place counts.
     pub fn equal_states_are_one_game(&self, other: &State)
         ensures { IsTrue (⟦<State as PartialEq>⟧.eq self.now other.now)
             ↔ IsSameGame self.now other.now }

@@ -27,7 +27,7 @@ pub enum Clue {
     NearKey(Key),
 }
 
-/// Writes a key that is made of a prefix and a name of a table.
+/// Writes a key, which consists of a prefix and a name of a table.
 fn write_key<W: fmt::Write>(
     f: &mut fmt::Formatter<W>,
     prefix: &str,

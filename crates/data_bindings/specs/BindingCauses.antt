@@ -20,7 +20,7 @@ use Rattle.cave_data.specs.Bindings.{value_of}
 use Rattle.cave_data.specs.BindingFault.{binding_cause, first_binding_fault}
 use Rattle.cave_data.specs.Reads.{AreBindings}
 
--- The line is two fields, of which the second is 1 to 9 digits, whether or not they bind anything.
+-- The line is two fields, the second of which is 1 to 9 digits, whether or not they bind anything.
 pub record HasBindingForm (line key : List ℕ) (number : ℕ) : Type 0 where
   pub after_key : List ℕ
   pub digits : List ℕ

@@ -1,5 +1,5 @@
--- What a row of a database is about, and on which line it is. Some kinds of rows, which nobody asks
--- for by line, are left out.
+-- What a row of a database is about, and on which line it is. Some kinds of rows, for which no one
+-- asks by line, are left out.
 use Rattle.std.specs.Prelude.{ℕ, suc, Bool, true, false, ◌==◌, nat_le, if◌then◌else◌, List, []}
 use Rattle.std.specs.Prelude.{◌∷◌, Option, Some, None, option_and_then}
 use Rattle.std.specs.Result.{result_ok}

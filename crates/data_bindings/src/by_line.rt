@@ -8,8 +8,8 @@ use crate::mark::{MarkedRow, RowMark};
 use crate::rows::marked_rows;
 use std::alloc::{AllocError, Global};
 
-/// A way out of a place: the number of its line, and which of the ways of its place it is, the
-/// first of which is 0.
+/// A way out of a place: the number of its line, and which of the ways of its place it is, counted
+/// from 0.
 #[derive(Clone, Copy, Debug, PartialEq, Eq)]
 pub struct WayLine {
     pub line: usize,
@@ -62,7 +62,7 @@ fn push_way(
     }
 }
 
-/// Adds the ways of some rows, before which there are none.
+/// Adds the ways of the first rows of a database.
 fn push_ways(alloc: Global, rows: &[MarkedRow], ways: &mut Vec<WayLine>) -> Result<(), AllocError>
     ensures { OnOk result (ways.new.items ≡ ways.old.items ++ way_lines_from [] rows.now) }
 {

@@ -1,16 +1,16 @@
-//! Laws of what is wrong with bindings, and of the lines of ways. Each is the contract of a function
-//! that does nothing.
+//! Laws about what is wrong with bindings, and about the lines of ways. Each is the contract of a
+//! function that does nothing.
 ghost use Rattle.data_bindings.specs.BindingCauses.{CausesAreExact, FaultsAreFirst};
 ghost use Rattle.data_bindings.specs.WayLaws.{WaysStandOnTheirLines};
 
-/// A cause is reported of a line of bindings exactly where it is there, by the grammar, and none
-/// before it is.
+/// A cause is reported for a line of bindings exactly if the grammar gives it, and no cause before
+/// it.
 pub fn causes_are_exact()
     ensures { CausesAreExact }
 {}
 
-/// A fault of bindings is of the first line at fault, by the grammar: the lines before it are
-/// bindings, and its cause is that of the line that comes after them.
+/// A fault of bindings is that of the first faulty line, by the grammar: the lines before it are
+/// bindings, and its cause is that of the line that follows them.
 pub fn faults_are_first()
     ensures { FaultsAreFirst }
 {}

@@ -57,7 +57,7 @@ joined : (vs : List ℕ) (v : ℕ) (r : Result (List ℕ) Cause)
 joined vs v (Ok ws) = ap few_of (append_assoc vs (v ∷ []) ws)
 joined vs v (Err cause) = refl
 
--- numbers that follow those of a list, of which the first was read as r
+-- numbers that follow those of a list, the first of which was read as r
 abbrev ListedMore : ℕ → ℕ → List Number → List ℕ → Result ℕ Cause → Type 0
 ListedMore low high ns vs r =
     with_numbers low high (with_number (few_of vs) r) ns

@@ -66,8 +66,8 @@ look_of_place cave place =
     else (if has_condition cave place LIGHT_BIT then []
     else codes ", fillcolor=gray80")
 
--- how thickly something is drawn: normally without logs, and with logs thickly where they were and
--- grey elsewhere
+-- how a place or an edge is drawn: normally without logs; with logs thickly if they were there, and
+-- otherwise grey
 unfoldable pub strength : ℕ → Bool → List ℕ
 strength logs is_reached =
     if logs == 0 then []

@@ -1,4 +1,4 @@
--- The report on things of several groups, of which some are covered.
+-- The report on things of several groups, some of which are covered.
 use Rattle.std.specs.Prelude.{ℕ, Bool, not, List, [], ◌∷◌, ◌++◌, length, codes}
 use Rattle.std.specs.Fmt.{decimal}
 use Rattle.std.specs.List.{filter, flat_map, sum_by}

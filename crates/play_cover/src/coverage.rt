@@ -1,4 +1,4 @@
-//! The report on things of several groups, of which some are covered.
+//! The report on things of several groups, some of which are covered.
 
 ghost use Rattle.std.specs.Prelude.{◌≡◌, ◌≤◌, codes, ◌++◌, ◌^◌, length, IfOk, OnOk};
 ghost use Rattle.play_cover.specs.Coverage.{Catalogue, covered, covered_count, group_text};

@@ -34,9 +34,9 @@
 //! | `Blocks::open` | two such searches; the blocks of the stretch joined, and a long one cut |
 //! | `Blocks::replace` | a `splice` in one block; an addition for each block after it |
 //!
-//! A turn is a block move where either side of it is one item or has at most 4,096 bytes; otherwise
-//! it exchanges items. A state that is kept in a Box stays where it is until its checkpoint goes:
-//! only the Box moves, of 8 bytes.
+//! A turn is a block move if either side of it is one item or has at most 4,096 bytes; otherwise it
+//! exchanges items. A state that is kept in a Box stays where it is until its checkpoint goes: only
+//! the Box moves, of 8 bytes.
 //!
 //! None of these takes memory except `Marks::open`, `Checkpoints::marks`, `advance`, `keep_open`,
 //! `reserve`, `Blocks::open`, and what makes or copies a list.

@@ -1,4 +1,4 @@
--- What changes leave alone of a log.
+-- What changes of a log leave alone.
 use Rattle.std.proofs.Common.{◌≡◌, ℕ, ◌+◌, ◌<◌, ◌≤◌, List, [], ◌∷◌, length, refl, arith, None}
 use Rattle.std.proofs.lemmas.List.{length-map}
 use Rattle.replay_edits.specs.LineText.{LineText}

@@ -1,5 +1,5 @@
-//! Calls that users of the library make, and no run as such: with ample memory they succeed. A test
-//! named `out_of_memory` holds whatever is refused.
+//! Calls that users of the library make, but no run itself: with ample memory they succeed. A test
+//! named `out_of_memory` passes whatever is refused.
 
 use crate::caves::LONG_LOG;
 use crate::games::{TestCave, is_same_piece};

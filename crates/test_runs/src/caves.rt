@@ -88,7 +88,7 @@ pub const TABLE: &str = "line\tedit\ttext\tresult\tfrom\tmet\tplayed\tscore\ttur
     2\tdelete 9\t\trefused 1\t-\t-\t-\t-\t-\t-\t-\t-\n\
     3\tgroup of 2\t\tok\t1\tnone\t4\t32\t3\t9\t-\tobjects, visits\n";
 
-/// How the list of keys ends, none of which is bound.
+/// How the list of keys ends, if none of them is bound.
 pub const KEYS_TAIL: &str =
     "\nnum.letters 5\n-- 0 of 156 messages and 2 of 19 places have a text\n";
 

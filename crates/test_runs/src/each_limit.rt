@@ -47,7 +47,7 @@ fn a_reader_without_end_is_asked_for_one_byte_too_many(rt: HostRuntime) {
     }
 }
 
-/// A text that goes on with comments until it has so many bytes.
+/// A text that goes on with comments until it has this many bytes.
 fn filled(alloc: Global, text: &[u8], size: usize) -> Result<Vec<u8>, AllocError> {
     let mut filled = Vec::from_slice(alloc, text)?;
     for place in text.len()..size {
@@ -84,7 +84,7 @@ fn an_input_of_the_greatest_size_is_judged_by_its_bytes_alone(rt: HostRuntime) -
     Ok(())
 }
 
-/// So many lines that go in.
+/// This many lines to be inserted.
 fn lines(alloc: Global, count: usize) -> Result<Vec<u8>, AllocError> {
     let mut log = Vec::new(alloc);
     for _ in 0..count {

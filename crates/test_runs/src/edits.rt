@@ -61,7 +61,7 @@ pub fn replay_shown(
     Ok(text)
 }
 
-/// What came of a group, or why and at which of its edits it was refused.
+/// What a group did, or why and at which of its edits it was refused.
 pub fn answer_shown(
     alloc: Global,
     answer: &Result<Replayed, RefusedEdit>,

@@ -1,4 +1,4 @@
-//! What the program prints at each fault, and the status that it then ends with.
+//! What the program prints at each fault, and the status with which it then ends.
 
 use crate::runs::play;
 use base_lines::LineFlaw;

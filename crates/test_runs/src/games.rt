@@ -29,7 +29,7 @@ impl Drop for TestCave {
 }
 
 impl TestCave {
-    /// The cave of a database, without bindings, where there is memory to read it.
+    /// The cave of a database, without bindings, if there is memory to read it.
     pub fn read(alloc: Global, database: &[u8]) -> Option<TestCave> {
         let cave = Cave::read(alloc, database, b"").ok()?;
         let lexicon = Lexicon::build(alloc, &cave).ok()?;
@@ -40,13 +40,13 @@ impl TestCave {
         &self.cave
     }
 
-    /// What plays in it.
+    /// The machine that plays in it.
     pub fn machine(&self) -> CaveMachine<'_> {
         CaveMachine::new(&self.cave, &self.lexicon)
     }
 }
 
-/// What came of a group of edits.
+/// What a group of edits did.
 #[derive(Drop)]
 pub struct Replayed {
     pub from: u32,
@@ -89,7 +89,7 @@ impl<M: Machine> TestSession<M> {
         Ok(TestSession { session })
     }
 
-    /// Edits the game by an edit alone.
+    /// Edits the game by just one edit.
     pub fn edit(&mut self, edit: &Edit, meter: &mut M::Meter) -> Result<Report, EditFault> {
         self.session.edit(edit, meter)
     }
@@ -141,7 +141,8 @@ impl<M: Machine> TestSession<M> {
             && self.session.ticked(place) == other.session.ticked(place)
     }
 
-    /// Whether two sessions hold the same game, checkpoints and last state, what was said aside.
+    /// Whether two sessions hold the same game, checkpoints and last state, regardless of what was
+    /// said.
     pub fn is_like(&self, other: &TestSession<M>) -> bool {
         for place in 0..self.session.lines() {
             if !self.is_like_at(other, place) {

@@ -1,4 +1,5 @@
-//! Runs whose allocations are refused: `tools/refuse` refuses each in turn, and each from one on.
+//! Runs whose allocations are refused: `tools/refuse` refuses each in turn, and all from each one
+//! on.
 
 use crate::runs::{Feeds, Printed, RUNS, Run};
 use crate::streams::Sink;
@@ -9,8 +10,8 @@ use std::process::Abort;
 /// How many bytes a writer has room for, more than a run writes.
 const ROOM: usize = 32_768;
 
-/// Does a run into a writer that needs no memory any more, so that where memory runs out, it is the
-/// run's own.
+/// Does a run into a writer that needs no memory any more, so if memory runs out, the run itself
+/// ran out of it.
 fn expect_all_or_out_of_memory(rt: &impl Abort, alloc: Global, run: Run, printed: Printed) {
     let Ok(mut sink) = Sink::with_room(alloc, ROOM) else {
         return;

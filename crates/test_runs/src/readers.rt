@@ -12,8 +12,8 @@ use std::process::Abort;
 use std::test::Fail;
 use test_data::caves::CAVE;
 
-/// Expects the reader of an input that fails at one of its asks to be named, nothing to be written,
-/// and no later reader to be asked.
+/// Expects that the reader of an input that fails at one of its asks is named, that nothing is
+/// written, and that no later reader is asked.
 fn expect_named(rt: &impl Abort, alloc: Global, run: Run, number: usize, failing: u64) {
     let mut source = Source::in_pieces(run.text(number), 1);
     source.failing = failing;
@@ -29,7 +29,7 @@ fn expect_named(rt: &impl Abort, alloc: Global, run: Run, number: usize, failing
     assert!(rt; feeds.is_unread_from(later), "{run:?}, {number}");
 }
 
-/// Expects so of each of a run's inputs, at each byte of it and at its end.
+/// Expects that of each of a run's inputs, at each of its bytes and at its end.
 fn expect_each_named(rt: &impl Abort, alloc: Global, run: Run) {
     for number in 0..run.inputs() {
         let asks = run.text(number).len().saturating_add(1) as u64;
@@ -56,7 +56,7 @@ const NO_END: PlayFault = PlayFault::Cave(
     None,
 );
 
-/// Why bindings with a key that nobody knows are refused.
+/// Why bindings with an unknown key are refused.
 const UNKNOWN_ROLE: PlayFault = PlayFault::Cave(
     CaveError {
         cause: Cause::UnknownRole,
@@ -66,13 +66,13 @@ const UNKNOWN_ROLE: PlayFault = PlayFault::Cave(
     None,
 );
 
-/// Why a log is refused whose first line begins with a byte that isn't printable, and one whose
-/// second does.
+/// Why a log whose first line begins with an unprintable byte is refused, and one whose second line
+/// does.
 const BAD_FIRST_LINE: PlayFault = PlayFault::Log(LogFault::BadLine(1, LineFlaw::Byte(127, 1)));
 
 const BAD_SECOND_LINE: PlayFault = PlayFault::Log(LogFault::BadLine(2, LineFlaw::Byte(127, 1)));
 
-/// Why a script is refused whose second line is no line of a script.
+/// Why a script whose second line isn't a line of a script is refused.
 const NO_EDIT: PlayFault = PlayFault::Script(ScriptFault::Malformed(
     2,
     ScriptFlaw::NoEdit(EditFlaw::NoWord),
@@ -132,7 +132,7 @@ fn readers_that_give_one_byte_at_a_time_give_all(rt: HostRuntime) -> Result<(), 
     Ok(())
 }
 
-/// Three edits, of which the second is refused.
+/// Three edits, the second of which is refused.
 const THREE_EDITS: &[u8] = b"insert 2 # note\ndelete 9\nreplace 1 IN\n";
 
 #[test]

@@ -1,7 +1,7 @@
 //! Edits of a game in a cave whose memory is refused, and texts.
 //!
-//! Tests named `out_of_memory` hold whatever allocation is refused, and also where each one after
-//! it is. Those named `refused` hold where it is the only one.
+//! Tests named `out_of_memory` pass whichever allocation is refused, even if each one after it is.
+//! Those named `refused` pass if it is the only one.
 
 use crate::caves::LONG_LOG;
 use crate::edits::{Change, edits_of};
@@ -22,8 +22,8 @@ fn shown(alloc: Global, report: &Report) -> Result<String, AllocError> {
     format!(in alloc; "{report:?}")
 }
 
-/// Makes an edit. Where memory is refused, the session still shows what another shows, and the edit
-/// is made once more.
+/// Makes an edit. If memory is refused, the session still shows what another shows, and the edit is
+/// made again.
 fn edit_checked<'a>(
     rt: &impl Abort,
     session: &mut TestSession<CaveMachine<'a>>,
@@ -40,7 +40,7 @@ fn edit_checked<'a>(
 }
 
 /// Makes an edit in a session, and then in another that shows the same. Both report the same,
-/// though the first one was refused memory, and show the same again.
+/// although memory was refused to the first, and show the same again.
 fn edit_both<'a>(
     rt: &impl Abort,
     alloc: Global,
@@ -121,7 +121,7 @@ fn log_with_comments(alloc: Global) -> Result<Vec<u8>, AllocError> {
     Ok(log)
 }
 
-/// Makes an edit alone by `edit`, and others by `edit_group`: whether that was refused.
+/// Makes a single edit by `edit`, and several by `edit_group`. Returns whether that was refused.
 fn is_refused(
     rt: &impl Abort,
     session: &mut TestSession<CaveMachine<'_>>,
@@ -146,7 +146,7 @@ fn is_refused(
     }
 }
 
-/// Makes edits in a session over a machine. Where memory is refused, no more lines were played than
+/// Makes edits in a session over a machine. If memory is refused, no more lines were played than
 /// the bound allows, and nothing has changed.
 fn expect_bounded<'a>(
     rt: &impl Abort,
@@ -169,7 +169,7 @@ fn expect_bounded<'a>(
     drop(session);
 }
 
-/// Opens a session with this distance of checkpoints, and edits others that show the same. Where
+/// Opens a session with this distance of checkpoints, and edits others that show the same. If
 /// memory is refused at its opening, no more lines were played than the log has.
 fn edit_each_bounded(
     rt: &impl Abort,
@@ -216,7 +216,7 @@ const SAID: [&str; 6] = [
     "[ok]\nYou scored 32 out of a possible 132, using 4 turns.\n[off-scale]\n",
 ];
 
-/// Whether this and nothing else follows the mark of a text.
+/// Whether exactly this follows the mark of a text.
 fn follows_mark(text: &[u8], said: &str) -> bool {
     match text.strip_prefix(b"> ") {
         Some(rest) => rest == said.as_bytes(),
@@ -224,7 +224,7 @@ fn follows_mark(text: &[u8], said: &str) -> bool {
     }
 }
 
-/// Expects what a piece says after a mark, or the mark alone where memory is refused.
+/// Expects what a piece says after a mark, or just the mark if memory is refused.
 fn expect_said(rt: &impl Abort, alloc: Global, cave: &Cave, piece: &Piece, turns: u32, said: &str) {
     let Ok(mut text) = Vec::from_slice(alloc, b"> ") else {
         return;
@@ -235,7 +235,7 @@ fn expect_said(rt: &impl Abort, alloc: Global, cave: &Cave, piece: &Piece, turns
     }
 }
 
-/// Expects so of each line of the log.
+/// Expects that of each line of the log.
 fn expect_all_said(
     rt: &impl Abort,
     alloc: Global,

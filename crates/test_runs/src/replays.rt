@@ -14,7 +14,7 @@ use std::test::Fail;
 use test_data::caves::CAVE;
 use turn_text::render;
 
-/// A log, a group of edits of it, what comes of them, and what is then said at the last line.
+/// A log, a group of edits of it, what they do, and what is then said at the last line.
 type Replay = (&'static [u8], &'static [Change], &'static str, &'static str);
 
 /// What is said at the last line of a log.
@@ -31,7 +31,7 @@ fn last_text(
     Ok(text)
 }
 
-/// Expects an edit alone to come to what the group of it does, and takes it back.
+/// Expects a single edit to do what the group of just that edit does, and takes it back.
 fn expect_alone(
     rt: &impl Abort,
     alloc: Global,
@@ -78,7 +78,7 @@ fn edit_and_back(
     Ok(())
 }
 
-/// Expects the edits to come to what is written, and to be taken back.
+/// Expects the edits to do what is written, and to be taken back.
 fn expect_replay(
     rt: &impl Abort,
     alloc: Global,
@@ -96,7 +96,7 @@ fn expect_replay(
     made
 }
 
-/// Expects so of each.
+/// Expects that of each.
 fn expect_replays(rt: &impl Abort, alloc: Global, replays: &[Replay]) -> Result<(), Fail> {
     let known = TestCave::read(alloc, CAVE).expect(rt, "the cave is read");
     for replay in replays {
@@ -105,7 +105,7 @@ fn expect_replays(rt: &impl Abort, alloc: Global, replays: &[Replay]) -> Result<
     Ok(())
 }
 
-/// The game that ended is said to have taken two turns, and three where one more is put in.
+/// The game that ended says that it took two turns, and three if one more is inserted.
 const ONE_LINE: [Replay; 6] = [
     (
         LONG_LOG,
@@ -251,8 +251,8 @@ fn a_group_is_replayed_once_or_refused_whole(rt: HostRuntime) -> Result<(), Fail
     expect_replays(&rt, rt.alloc(), &GROUPS)
 }
 
-/// Deletes the first of five lines by a meter that has so many steps left: how that ends, and how
-/// many steps are left then.
+/// Deletes the first of five lines by a meter that has this many steps left: how that ends, and how
+/// many steps are then left.
 fn delete_with(
     rt: &impl Abort,
     alloc: Global,

@@ -27,7 +27,7 @@ pub enum Run {
     Map,
 }
 
-/// What a run prints: this, or what begins and ends so.
+/// What a run prints: this, or a text that begins and ends like this.
 #[derive(Clone, Copy)]
 pub enum Printed {
     Whole(&'static str),
@@ -43,7 +43,7 @@ pub const EDIT: Run = Run::Edit(EditView::Transcript);
 /// What several logs cover.
 pub const COVER: Run = Run::Cover(CoverView::Said(TextView::Counts));
 
-/// Each run that the program can be asked for, and what it prints of the usual inputs.
+/// Each run that the program can be asked for, and what it prints for the usual inputs.
 pub const RUNS: [(Run, Printed); 24] = [
     (
         Run::Check(CheckView::Maximum),
@@ -112,7 +112,7 @@ pub const INPUTS: usize = 4;
 const CAVE_INPUTS: usize = 2;
 
 impl Printed {
-    /// Whether a run printed so.
+    /// Whether a run printed this.
     pub fn is(self, output: &[u8]) -> bool {
         match self {
             Printed::Whole(text) => output == text.as_bytes(),
@@ -138,7 +138,7 @@ impl Run {
         matches!(self, Run::Cover(_) | Run::Map)
     }
 
-    /// What the input of a number is.
+    /// What the input with a number is.
     pub fn input(self, number: usize) -> Input {
         match number {
             0 => Input::Cave,
@@ -148,7 +148,7 @@ impl Run {
         }
     }
 
-    /// A fault that it meets at the input of a number: of several logs it is named which.
+    /// A fault that it meets at the input with a number. For one of several logs it says which.
     pub fn fault_at(self, number: usize, fault: PlayFault) -> LogsFault {
         let log = if self.has_several_logs() {
             number.checked_sub(CAVE_INPUTS)
@@ -158,7 +158,7 @@ impl Run {
         LogsFault { fault, log }
     }
 
-    /// What it usually reads as the input of a number.
+    /// What it usually reads as the input with a number.
     pub fn text(self, number: usize) -> &'static [u8] {
         match number {
             0 => CAVE,
@@ -183,12 +183,12 @@ impl RunEnd {
         self.ended == Ok(()) && self.output.as_slice() == output
     }
 
-    /// Whether the run failed so, and wrote nothing.
+    /// Whether the run failed like this, and wrote nothing.
     pub fn failed(&self, fault: PlayFault) -> bool {
         self.failed_at(LogsFault::from(fault))
     }
 
-    /// Whether the run failed so, at a log perhaps, and wrote nothing.
+    /// Whether the run failed like this, perhaps at a log, and wrote nothing.
     pub fn failed_at(&self, fault: LogsFault) -> bool {
         self.ended == Err(fault) && self.output.is_empty()
     }
@@ -293,7 +293,7 @@ impl<'a> Feeds<'a> {
         Feeds::of(run.text(0), run.text(1), run.text(2), run.text(3))
     }
 
-    /// Puts another source in the place of the input of a number.
+    /// Replaces the source of the input with a number.
     pub fn put(&mut self, number: usize, source: Source<'a>) {
         match number {
             0 => self.inputs.cave.database = source,
@@ -310,7 +310,7 @@ impl<'a> Feeds<'a> {
         }
     }
 
-    /// How often the source of the input of a number was asked.
+    /// How often the source of the input with a number was asked.
     pub fn asks(&self, number: usize) -> u64 {
         match number {
             0 => self.inputs.cave.database.asks,

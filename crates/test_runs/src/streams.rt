@@ -12,9 +12,9 @@ pub struct Source<'a> {
     pub bytes: &'a [u8],
     /// The most bytes given at once.
     pub piece: usize,
-    /// The ask that is answered by an error, counted from 1; 0 is none.
+    /// The ask at which it returns an error, counted from 1, or 0 if there is none.
     pub failing: u64,
-    /// Whether it never comes to its end.
+    /// Whether it has no end.
     pub endless: bool,
     /// How often the source was asked.
     pub asks: u64,
@@ -26,7 +26,7 @@ impl<'a> Source<'a> {
         Source::in_pieces(bytes, usize::MAX)
     }
 
-    /// A source that gives at most so many bytes at each ask.
+    /// A source that gives at most this many bytes at each ask.
     pub fn in_pieces(bytes: &'a [u8], piece: usize) -> Source<'a> {
         Source {
             bytes,
@@ -37,7 +37,7 @@ impl<'a> Source<'a> {
         }
     }
 
-    /// A source that answers its first ask by an error.
+    /// A source that returns an error at its first ask.
     pub fn broken() -> Source<'a> {
         let mut source = Source::of(&[]);
         source.failing = 1;
@@ -70,26 +70,26 @@ impl Read for Source<'_> {
     }
 }
 
-/// Takes bytes in pieces, and fails at the call that it is given.
+/// Takes bytes in pieces, and fails at the given call.
 #[derive(Drop)]
 pub struct Sink {
     /// What was taken.
     pub taken: Vec<u8>,
     /// The most bytes taken at once.
     pub piece: usize,
-    /// The call that is answered by an error, counted from 1; 0 is none.
+    /// The call at which it returns an error, counted from 1, or 0 if there is none.
     pub failing: u64,
     /// How often the sink was called.
     pub calls: u64,
 }
 
 impl Sink {
-    /// A sink that takes at most so many bytes at each call.
+    /// A sink that takes at most this many bytes at each call.
     pub fn in_pieces(alloc: Global, piece: usize) -> Sink {
         Sink::over(Vec::new(alloc), piece)
     }
 
-    /// A sink that needs no more memory for its first so many bytes.
+    /// A sink that needs no more memory for its first bytes, this many.
     pub fn with_room(alloc: Global, bytes: usize) -> Result<Sink, AllocError> {
         Ok(Sink::over(Vec::with_capacity(alloc, bytes)?, usize::MAX))
     }

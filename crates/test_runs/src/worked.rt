@@ -1,4 +1,4 @@
-//! Worked examples of runs, in caves with rows more than the first.
+//! Worked examples of runs, in caves with more rows than the first.
 
 use crate::caves::LONG_LOG;
 use crate::runs::{Printed, RunEnd, edit, play};
@@ -9,7 +9,7 @@ use std::alloc::{AllocError, Global};
 use std::test::Fail;
 use test_data::caves::CAVE;
 
-/// The first cave with rows more before its last line.
+/// The first cave with more rows before its last line.
 fn cave_with(alloc: Global, rows: &[u8]) -> Result<Vec<u8>, AllocError> {
     let front = CAVE.strip_suffix(b"0\n").unwrap_or(CAVE);
     let mut database = Vec::from_slice(alloc, front)?;
@@ -18,7 +18,7 @@ fn cave_with(alloc: Global, rows: &[u8]) -> Result<Vec<u8>, AllocError> {
     Ok(database)
 }
 
-/// Plays two lines in the first cave with rows more.
+/// Plays two lines in the first cave with more rows.
 fn play_north(alloc: Global, rows: &[u8]) -> Result<RunEnd, AllocError> {
     let database = cave_with(alloc, rows)?;
     Ok(play(alloc, &database, b"", b"no\nnorth\n"))
@@ -98,7 +98,7 @@ fn ninety_nine_objects_with_both_places_on_a_road_are_198_lines(
     Ok(())
 }
 
-/// Six edits, of which one is refused.
+/// Six edits, one of which is refused.
 const SIX_EDITS: &[u8] =
     b"insert 2 # note\nreplace 1 IN\ndelete 5\nseed 1\ndelete 9\ninsert 0 # a\n";
 

@@ -36,7 +36,7 @@ fn a_writer_gets_all_in_one_call_or_byte_by_byte(rt: HostRuntime) {
     }
 }
 
-/// Expects a writer that takes so many bytes at each call, and fails at one, to have these.
+/// Expects a writer that takes this many bytes at each call, and fails at one, to have these.
 fn expect_front(
     rt: &impl Abort,
     alloc: Global,
@@ -57,8 +57,8 @@ fn expect_front(
     assert_eq!(rt; sink.taken.as_slice(), front, "{run:?}, {failing}");
 }
 
-/// Expects so at each call of a run's writer, which takes so many bytes at each, and of one that
-/// takes nothing.
+/// Expects that at each call of a run's writer, which takes this many bytes at each, and of one
+/// that takes nothing.
 fn expect_fronts(rt: &impl Abort, alloc: Global, run: Run, piece: usize) {
     assert!(rt; piece > 0);
     let mut whole = Sink::in_pieces(alloc, usize::MAX);

@@ -35,7 +35,7 @@ OFFERED_HINTS = 17
 abbrev pub FIRST_UNGUARDED_HINT : ℕ
 FIRST_UNGUARDED_HINT = 9
 
--- those that are offered only where they help
+-- those that are offered only if they help
 abbrev pub GRATE_HINT : ℕ
 GRATE_HINT = 4
 

@@ -13,7 +13,7 @@ use Rattle.turn_scene.specs.Props.{SEEN}
 use Rattle.turn_ends.specs.Counting.{ScoreRow, score_row, score_row_each}
 
 -- what a treasure is worth: less before the chest than after it; if there is no chest, each is
--- worth what those before a chest are
+-- worth what one before a chest is
 unfoldable pub worth : CaveView → ℕ → ℕ
 worth cave x =
     let chest = thing cave name.Chest in

@@ -33,7 +33,7 @@ use Rattle.turn_laws.proofs.Effects.{first_holds, guarded, holds_alone, kept_by,
 use Rattle.turn_laws.proofs.Effects.{quiet, second_holds}
 use Rattle.turn_laws.proofs.View.{Claim, IsKept, Line, On, Ready, Somewhere, some_place, view}
 
--- the pirate is none of the five dwarves
+-- the pirate isn't one of the five dwarves
 not_low : 5 < 5 → ⊥
 not_low low = omega (arith, low)
 

@@ -315,7 +315,7 @@ module _ {game : CaveView} {l : Line} {Q P : Claim} (k : IsKept game l Q P) wher
       let more : min g 13 ≤ min (g + 1) 13 = omega arith in
       banded _ _ (angrier n (banded_as g m w) (min (g + 1) 13) more) r
 
--- what a search goes by: changes, what is chosen or only said, and what is made of both
+-- what a search uses: changes, what is chosen or only said, and what follows from both
 pub ruleset changes_made = (placed, held, propped, juggled, hinted, lost, angered)
 
 pub ruleset choices = (state_chosen, deed_chosen, scene_chosen, act_chosen, say_default, look)

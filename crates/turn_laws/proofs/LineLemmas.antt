@@ -34,7 +34,7 @@ comments_change_nothing cave s line (inl comment) =
 comments_change_nothing cave s line (inr blank) =
     ap (λ k. turn_on_log_line cave line k s) (sym (log_line-only line kind.Blank blank))
 
--- a line of input, by its words alone
+-- a line of input, just by its words
 turn_of_words : CaveView → Words → Option Ending → Option Question → State → Turn
 turn_of_words cave words (Some ending) question s = silent_turn s
 turn_of_words cave words None (Some question) s =

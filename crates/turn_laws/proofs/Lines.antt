@@ -327,7 +327,7 @@ unfolding turn_on_line
 seeds_alone cave s line seed is =
     ap (λ k. turn_on_log_line cave line k s) (sym (log_line-only line (kind.Seed seed) is))
 
--- one of two turns is no turn, and the other is
+-- one of two lines isn't a turn, and the other is
 ticks_if : (b : Bool) (x y : Turn) → x.ticked ≡ false → y.ticked ≡ true
     → (if b then x else y).ticked ≡ not b
 ticks_if true x y silence turn = silence

@@ -30,7 +30,7 @@ as_place (negsuc n) = 0
 abbrev pub second_home : CaveView → ℕ → ℕ
 second_home cave x = as_place (placement_of cave x).second
 
--- the place of a first half, where 0 is nowhere; what is in the hands is at no place
+-- the place of a first half; 0 is nowhere, and what is in the hands is at no place
 abbrev pub place_or_nowhere : Spot → Option ℕ
 place_or_nowhere spot.Away = Some 0
 place_or_nowhere spot.InHands = None

@@ -160,7 +160,7 @@ otherwise effects = otherwise_then effects (always tt)
 abbrev pub by_rows : {C : Type 0} → List (Row C (Unit {0})) → Effect C
 by_rows rows d = record d { scene = (first_fitting_or rows (nothing_but (always tt)) d).scene }
 
--- so the rows of a table, and it is noted which row applies
+-- the same for the rows of a table, with a note of which row applies
 abbrev pub by_table : {C : Type 0} → Table → List (Row C (Unit {0})) → Effect C
 by_table table rows = by_rows (noted table rows)
 

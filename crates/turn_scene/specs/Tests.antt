@@ -83,7 +83,7 @@ module _ {C : Type 0} where
   abbrev pub dwarf : Test C
   dwarf d = is_dwarf_here d.scene.state
 
-  -- the dwarves are so angry
+  -- the dwarves are this angry
   abbrev pub anger : ℕ → Test C
   anger n d = d.scene.state.dwarves.anger == n
 

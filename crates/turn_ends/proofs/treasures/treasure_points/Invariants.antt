@@ -4,7 +4,7 @@ use Rattle.turn_ends.specs.Treasures.{treasures_row}
 use Rattle.turn_ends.proofs.Sums.{points_from}
 use Rattle.turn_ends.proofs.treasures.treasure_points.Given as goal
 
--- what was counted so far and what is left are all, and each treasure counts at most 16 points
+-- what was counted so far, with the rest, is all, and each treasure counts at most 16 points
 abbrev pub invariant-loop-number : goal.invariant-loop-number
 invariant-loop-number l = record {
   counted : l.points + points_from (cave_of l.rules) l.state l.number
