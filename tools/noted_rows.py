@@ -6,7 +6,7 @@ numbers, the table is one of `BY_CASES`.
 
 On a page such a table stands right below a line with its name, in bold, and a comment with the
 names of its definitions. One that is two tables has both names. The rows of all tables begin with
-their numbers.
+their numbers. A table of one row may be a sentence: `1: WHEN → WHAT.`
 """
 
 import re
@@ -17,7 +17,8 @@ Place = namedtuple("Place", "order labels")
 
 PAGES = ("docs/TURN.md", "docs/PLAY.md", "docs/VERBS.md")
 SHOWN = re.compile(
-    r"^(?:((?:\*\*[^*]+\*\*(?:, )?)+) )?<!-- rows: (.*) -->\n((?:^\|.*\n)*)", re.MULTILINE
+    r"^(?:((?:\*\*[^*]+\*\*(?:, )?)+) )?<!-- rows: (.*) -->\n(1: (?:.+\n)+|(?:^\|.*\n)*)",
+    re.MULTILINE,
 )
 NOTED = re.compile(r"\b(?:noted|noted_from|by_table) table\.(\w+) (?:\d+ )?\(?(\w+)")
 ITSELF = re.compile(r"^(\w+) d =\s+\w+_by_table table\.(\w+)", re.MULTILINE)
@@ -28,7 +29,11 @@ BY_CASES = {"Questions": "tell_question", "Yes": "answers_to", "No": "answers_to
 def tables_shown(text):
     """Of each table of rules of a page, its labels, the names of its definitions, and its rows."""
     for labels, names, table in SHOWN.findall(text):
-        rows = [row.strip()[1:-1].split("|") for row in table.splitlines()[2:]]
+        if table.startswith("1: "):
+            when, _, what = " ".join(table[3:].split()).partition(" → ")
+            rows = [["1", when, what.removesuffix(".")]]
+        else:
+            rows = [row.strip()[1:-1].split("|") for row in table.splitlines()[2:]]
         cells = [[cell.strip() for cell in row] for row in rows]
         yield re.findall(r"\*\*([^*]+)\*\*", labels), names.split(), cells
 
