@@ -1,5 +1,5 @@
-"""Two walks beside each other, as a module: where they part, where they come together again, and
-which of their lines are the same.
+"""Compares two walks, as a module: where they part, where they come together again, and which of
+their lines are the same.
 
     from beside import alike_at_end, alike_at_start, same_lines
 
@@ -30,7 +30,7 @@ def plays_alike(one, other):
 
 def alike_at_start(ours, theirs):
     """How many lines of each walk, comments among them, are before the first that plays in another
-    way; None where there is none."""
+    way; None if there is none."""
     first, second = played(ours), played(theirs)
     alike = sum(1 for _ in takewhile(lambda it: plays_alike(it[0][1], it[1][1]),
                                      zip(first, second)))
@@ -42,7 +42,7 @@ def alike_at_start(ours, theirs):
 
 def alike_at_end(ours, theirs):
     """How many lines of each walk, comments among them, are before the first of those at the end
-    that play alike; None where there are none."""
+    that play alike; None if there are none."""
     first, second = played(ours)[::-1], played(theirs)[::-1]
     alike = sum(1 for _ in takewhile(lambda it: plays_alike(it[0][1], it[1][1]),
                                      zip(first, second)))
@@ -98,7 +98,7 @@ def once(lines):
 
 
 def in_order(ours, theirs):
-    """The places of lines that both have once, as many as keep their order."""
+    """The longest choice of lines that both have once, in the same order, by their places."""
     piles, before = [], {}
     for line, at in ours.items():
         if line not in theirs:

@@ -36,7 +36,7 @@ class Failed(Exception):
 
 
 class Browser:
-    """A window of chromium, which is closed where the `with` ends."""
+    """A window of chromium, which is closed at the end of the `with`."""
 
     def __init__(self, width, height):
         self.size, self.session = (width, height), None
@@ -131,7 +131,7 @@ class Browser:
         return self.tell("element", {"using": "css selector", "value": selector})
 
     def click(self, selector, right=0, down=0):
-        """Clicks into the middle of an element, or so far from it."""
+        """Clicks into the middle of an element, or this far from it."""
         self.act("pointer", [
             {"type": "pointerMove", "duration": 0, "origin": self.element(selector),
              "x": round(right), "y": round(down)},
@@ -164,7 +164,7 @@ class Browser:
         self.tell("actions", {"actions": [source]})
 
     def seconds(self):
-        """The processor's time that pages have taken, whatever else the machine does."""
+        """The processor's time that pages have taken, regardless of what else the machine does."""
         self.tool("Performance.enable", timeDomain="threadTicks")
         metrics = self.tool("Performance.getMetrics")["metrics"]
         return next(it["value"] for it in metrics if it["name"] == "TaskDuration")

@@ -5,7 +5,7 @@
 
     command_line.answer_help()            at the beginning of what a script does
     command_line.demand("rt", "git")      before it runs these programs
-    command_line.skip(2, "maps", "dot")   where it leaves out two maps if there is no `dot`
+    command_line.skip(2, "maps", "dot")   as it leaves out two maps if there is no `dot`
 
 As a script it says which of some programs isn't there, with status 1: tools/command_line.py dot rt
 """
@@ -26,7 +26,7 @@ if sys.version_info < OLDEST:
 
 
 def answer_help(words: list[str] | None = None) -> None:
-    """Prints what the script says of itself, and ends it, if one of its words asks for help."""
+    """Prints what the script says about itself, and ends it, if one of its words asks for help."""
     if {"-h", "--help"} & {*(sys.argv[1:] if words is None else words)}:
         print((sys.modules["__main__"].__doc__ or "").strip())
         sys.exit()

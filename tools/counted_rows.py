@@ -1,8 +1,8 @@
 """The files of `play_cover` that count the rows of each table in the definitions of the rules, made
 of these: a module.
 
-A table counts the rows of the list that its definition notes, and one row more where a last row
-stands beside the list. One that notes the cases of a question counts the questions.
+A table counts the rows of the list that its definition notes, and one more row if a last row stands
+beside the list. One that notes the cases of a question counts the questions.
 """
 
 import re
@@ -11,7 +11,7 @@ import textwrap
 from written_words import CRATE, SPECS
 
 MAX_LINE = 100
-# What a proof of the counts opens beside them, and its module.
+# What a proof of the counts opens in addition to them, and its module.
 OWN = {
     "declared": "EachTable",
     "row_count": "RuleTables",
@@ -53,7 +53,7 @@ def module_of(path):
 
 
 def counts_in(texts):
-    """Of each table, the list that it counts, how often it takes a number, and if one is added."""
+    """For each table, the list that it counts, how often it takes a number, and if one is added."""
     found = {}
     for text in texts.values():
         found |= {table: (rows, 0) for table, rows in LIST.findall(text)}

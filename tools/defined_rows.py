@@ -1,6 +1,6 @@
 """The tables of rules in the definitions, of specs/, and what their rows ask and say: a module.
 
-    files = tables_defined(top)     # of each file its tables, in their order
+    files = tables_defined(top)     # for each file its tables, in their order
     rows_of(table), count_rows(table), rows_in_words(files)
 
 A table is a list of rows, what follows by such a list and a last row, a list of effects, or what is
@@ -71,7 +71,7 @@ def items_of(text):
 
 
 def rows_of(table):
-    """The texts of the rows of a table, without those of tables that it ends in."""
+    """The texts of the rows of a table, without those of tables in which it ends."""
     if table.form == "cases":
         return re.split(rf"^(?={table.name} )", table.text, flags=re.MULTILINE)[1:]
     text = f"={table.text}"
@@ -86,7 +86,7 @@ def count_rows(table):
 
 
 def parts_of(texts):
-    """Of each table of a file, the tables of the file that it is made of."""
+    """For each table of a file, the tables of the file from which it is made."""
     parts = {name: set(NAME.findall(text)) & texts.keys() - {name} for name, text in texts.items()}
     for _ in texts:
         parts = {it: own.union(*(parts[part] for part in own)) for it, own in parts.items()}
@@ -96,7 +96,7 @@ def parts_of(texts):
 # ---- what a row asks and says
 
 def tests_of(row):
-    """What the tests of a row say: its first list; of a last row, nothing."""
+    """What the tests of a row say: its first list; nothing for a last row."""
     head, _, rest = row.strip(" ()=∷+").partition(" ")
     if head.startswith("otherwise") or not rest.startswith("("):
         return ""
@@ -126,7 +126,7 @@ def things_in(text, short_names):
 
 
 def effects_of_crates(files):
-    """Of each crate the lists of effects that its files define, by their names."""
+    """For each crate the lists of effects that its files define, by their names."""
     found = {}
     for path, tables in files.items():
         effects = {it.name: it.text for it in tables if it.form == "effects"}
@@ -135,8 +135,8 @@ def effects_of_crates(files):
 
 
 def rows_in_words(files, top):
-    """Of each table, of each row the roles that it says, in order, and the objects of its tests; of
-    a list of effects, the objects of each."""
+    """For each table, and each of its rows, the roles that the row says, in order, and the objects
+    of its tests; for a list of effects, the objects of each."""
     effects, short_names, found = effects_of_crates(files), {}, {}
     for path in files:
         short_names.update(SHORT_NAME.findall(text_of(f"{top}/{path}")))

@@ -28,7 +28,7 @@ Drawing = namedtuple("Drawing", "svg titles")
 
 
 def titles_of(graph):
-    """The title of each place by its number, as its label has it on lines of its own."""
+    """The title of each place by its number, as its label has it on separate lines."""
     found = {}
     for number, label in LABEL.findall(graph):
         shown = [re.sub(r"\\(.)", r"\1", it) for it in re.split(r"\\n", label) if it]

@@ -14,7 +14,7 @@ from collections.abc import Callable, Iterable, Sequence
 TOOLS = os.path.dirname(os.path.dirname(os.path.abspath(__file__)))
 sys.path.insert(0, TOOLS)
 
-# What a repository is made of: the texts of files by their paths.
+# What a repository has: the texts of files by their paths.
 Files = dict[str, str]
 # A case: its name, the files, what the check has to say, and nothing if all is right.
 Case = tuple[str, Files, str]

@@ -1,5 +1,5 @@
-"""What `tools/check-names` and `tools/check-numbers` have to refuse: functions that don't go by the
-word of their definition, and clauses that read a number of the code."""
+"""What `tools/check-names` and `tools/check-numbers` have to refuse: functions that don't share a
+word with their definition, and clauses that read a number of the code."""
 
 from __future__ import annotations
 
@@ -7,7 +7,7 @@ import unittest
 
 from small import Case, tests_of
 
-# A function and the definition that it meets, where the proof looks into it.
+# A function and the definition that it meets, if the proof looks into it.
 MEETING = """#[tactic(auto, unfolding(crate::specs::Lamp::{definition}))]
 pub fn {function}(lamp: &Lamp) -> Lamp
     ensures value {{ result ≡ {definition} lamp }}
@@ -21,7 +21,7 @@ MEETINGS = {
     ("burn", "glow"): "burn meets glow: no word is shared",
     ("trim_wick", "shortened"): "trim_wick meets shortened: no word is shared",
 }
-# A function and what its clause says of it, where nothing looks into the definitions `glow`,
+# A function and what its clause says about it, if nothing looks into the definitions `glow`,
 # `wick_trimmed` and `lamp_lit` of its crate.
 CLAUSE = """ghost use Rattle.lamps.specs.Lamp.{{glow, wick_trimmed, lamp_lit}};
 ghost use Rattle.oil.specs.Oil.{{drop}};

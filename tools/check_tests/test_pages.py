@@ -21,7 +21,7 @@ RIGHT = {
 HEADS = "| Crate | Clause |\n|---|---|\n"
 CALLS = "| Crate | Call |\n|---|---|\n"
 PAGE = "docs/PAGE.md"
-# What a page has, and what is then said of it; nothing where all is there.
+# What a page has, and what is then said about it; nothing if all is there.
 PAGES = {
     "`lamps/src/lamp.rt`, `lamp.rt` and `src/lamp.rt`": "",
     "`lamps/src/lantern.rt`": "there is no lamps/src/lantern.rt",

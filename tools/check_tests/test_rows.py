@@ -1,5 +1,5 @@
 """What `tools/check-rows` and `tools/rule-words --check` have to refuse: rows of rules that a page
-shows otherwise, or counts otherwise, than the definitions."""
+shows or counts differently from the definitions."""
 
 from __future__ import annotations
 
@@ -68,7 +68,7 @@ TABLES = {
     LAMP + FILLING.replace("fill_rows", "wick_rows"): "noted are no rows of the oil",
 }
 # The tables as `play_cover` has them, each with its name and the words of its rows; in what order
-# it counts them; and what is then said of them.
+# it counts them; and what is then said about them.
 WORDS = ("LAMP is low", "OIL is low", "otherwise")
 OIL = {"Oil": ("the oil", ("otherwise",))}
 DECLARED = [

@@ -1,4 +1,4 @@
-"""What `tools/check-unused` has to refuse: what nobody calls, names or imports, and lost tests."""
+"""What `tools/check-unused` has to refuse: what has no caller, name or import, and lost tests."""
 
 from __future__ import annotations
 

@@ -8,7 +8,7 @@ import unittest
 from small import Case, tests_of
 
 HEADS = "| Crate | Clause |\n|---|---|\n"
-# Three functions, wrong bodies of them, and what the gate says of these.
+# Three functions, wrong bodies of them, and what the gate says about these.
 REFUSED = {
     "crates/lamps/src/lamp.rt": "pub fn burn()\n    ensures value { result ≡ burn }\n{\n}\n\n"
     "pub fn glow()\n    ensures light { true }\n    ensures heat { true }\n{\n}\n\n"
@@ -45,7 +45,7 @@ ROWS = {
     "`lamps`": "there is no wrong body",
 }
 
-# What the page of facts says of two functions with clauses, and what is then said.
+# What the page of facts says about two functions with clauses, and what is then said.
 FACTS = {
     f"{HEADS}| `lamps` | `burn`: `value`; `glow`: `light`, `heat` |": "",
     f"{HEADS}| `lamps` | `burn`: `light` |": "lamps: burn has no clause light",
