@@ -6,7 +6,7 @@ numbers, the table is one of `BY_CASES`.
 
 On a page such a table stands right below a line with its name, in bold, and a comment with the
 names of its definitions. One that is two tables has both names. The rows of all tables begin with
-their numbers. A table of one row may be a sentence: `1: WHEN → WHAT.`
+their numbers. The rows of a short table may be sentences instead: `1: WHEN → WHAT.`
 """
 
 import re
@@ -30,12 +30,18 @@ def tables_shown(text):
     """Of each table of rules of a page, its labels, the names of its definitions, and its rows."""
     for labels, names, table in SHOWN.findall(text):
         if table.startswith("1: "):
-            when, _, what = " ".join(table[3:].split()).partition(" → ")
-            rows = [["1", when, what.removesuffix(".")]]
+            rows = [sentence(it) for it in re.split(r"^(?=\d+: )", table, flags=re.MULTILINE)[1:]]
         else:
             rows = [row.strip()[1:-1].split("|") for row in table.splitlines()[2:]]
         cells = [[cell.strip() for cell in row] for row in rows]
         yield re.findall(r"\*\*([^*]+)\*\*", labels), names.split(), cells
+
+
+def sentence(row):
+    """The cells of a row that is a sentence."""
+    number, _, said = " ".join(row.split()).partition(": ")
+    when, _, what = said.partition(" → ")
+    return [number, when, what.removesuffix(".")]
 
 
 def plain(cell):
