@@ -1,6 +1,6 @@
 """What a server of `tools/live` answers over HTTP; used by tools/check-live.
 
-Each part gives, one after another, what it looks at, what is found there, and what is wanted."""
+Each part gives, one after another, what it looks at, what is found there, and what is expected."""
 
 from __future__ import annotations
 
@@ -41,7 +41,7 @@ def pillow(server: Served) -> tuple[int, Head]:
 # ---- who is answered
 
 def strangers(program: str) -> Checks:
-    """Nobody without the token, from another page or by another name is answered."""
+    """No one without the token, from another page or by another name gets an answer."""
     with tour(program) as server:
         home, other = f"http://{server.host}", "http://evil.example"
         yield "the address", server.host.partition(":")[0], "127.0.0.1"
@@ -136,7 +136,7 @@ def walk_now(program: str, server: Served, seed: str = "") -> bytes:
 
 
 def refusals(program: str) -> Checks:
-    """What the program refuses is said in its words, and changes nothing."""
+    """What the program refuses is reported in its words, and changes nothing."""
     with tour(program) as server:
         was = server.walk.texts()[0]
         for what, edit, wanted in [
@@ -195,7 +195,7 @@ def random_change(chance: random.Random, server: Served) -> tuple[int, Head]:
 
 
 def two_pages(program: str) -> Checks:
-    """Two pages of one log: the one is told what the other does, and can't change what it doesn't
+    """Two pages of one log: each gets what the other does, and can't change what it doesn't
     know."""
     with tour(program) as server:
         number = server.walk.number

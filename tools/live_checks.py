@@ -1,6 +1,6 @@
 """What is done on a page of `tools/live`, and what it shows; used by tools/live-test.
 
-Each part gives, one after another, what it looks at, what is found there, and what is wanted."""
+Each part gives, one after another, what it looks at, what is found there, and what is expected."""
 
 from __future__ import annotations
 
@@ -73,7 +73,7 @@ def page_is(window: Window, server: Served, how: str) -> Checks:
 
 
 def edit_line(window: Window, at: int, text: str, key: str = Keys.ESCAPE) -> None:
-    """Types over a line by keys alone, and leaves the field."""
+    """Types over a line by just keys, and leaves the field."""
     window.run("list.focus(); go(arguments[0])", at)
     window.press(Keys.ENTER)
     window.retype(text)
@@ -84,7 +84,7 @@ def edit_line(window: Window, at: int, text: str, key: str = Keys.ESCAPE) -> Non
 # ---- typing
 
 def by_keys(window: Window, program: str) -> Checks:
-    """The tour without its pillow, by keys alone: out, back, out again, and saved."""
+    """The tour without its pillow, by just keys: out, back, out again, and saved."""
     with tour(program) as server:
         window.open(server.address)
         yield "the lines have the keys", window.run(FOCUS), "lines"
@@ -148,7 +148,7 @@ def new_lines(window: Window, program: str) -> Checks:
 
 
 def refused(window: Window, program: str) -> Checks:
-    """What is refused is said at the line, and stays as it was typed."""
+    """A refusal is shown at its line, which stays as it was typed."""
     with tour(program) as server:
         window.open(server.address)
         for text, said in [("caf\u00e9", "a bad line"), ("x" * 256, "a bad line")]:

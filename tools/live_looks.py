@@ -36,7 +36,7 @@ def shapes(window: Window, program: str) -> Checks:
 
 
 def roles(window: Window, program: str) -> Checks:
-    """What a screen reader is told: each thing that can be used has a name."""
+    """What a screen reader gets: each thing that can be used has a name."""
     with tour(program) as server:
         window.open(server.address)
         edit_line(window, 18, "drop vase")
@@ -66,7 +66,8 @@ def roles(window: Window, program: str) -> Checks:
 
 
 def harmless(window: Window, program: str) -> Checks:
-    """Texts of a database, of a log and of their names are texts, whatever they look like."""
+    """Texts of a database, of a log and of their names are texts, regardless of what they look
+    like."""
     with open(f"{TOP}/caves/quotes.txt", "rb") as file:
         cave = file.read()
     harm = page_looks.HARM

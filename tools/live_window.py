@@ -35,7 +35,7 @@ return taken.getData('text/plain')"""
 
 
 class Window:
-    """A window of chromium, which is closed where the `with` ends."""
+    """A window of chromium, which is closed at the end of the `with`."""
 
     def __init__(self, width: int = 1300, height: int = 900) -> None:
         self.size = (width, height)
@@ -81,8 +81,8 @@ class Window:
         self.driver.save_screenshot(path)
 
     def messages(self) -> list[str]:
-        """What was said on the console since the last call, without what chromium says itself of an
-        answer that refuses, and of a server that has ended."""
+        """What was said on the console since the last call, without what chromium itself says about
+        an answer that refuses, and about a server that has ended."""
         said = [it["message"] for it in self.driver.get_log("browser")]
         return [it for it in said if "Failed to load resource: " not in it]
 

@@ -1,7 +1,7 @@
 """What the measuring scripts find, kept in docs/MEASURED.md: each script writes its own section.
 
 A section begins with its heading, has a line with the day and the machine, and ends at the next
-heading of its kind. What else is on the page stays as it is.
+heading of its kind. The rest of the page stays as it is.
 """
 
 import datetime

@@ -1,8 +1,8 @@
 """The tables whose rows are noted, as the definitions and the pages have them: a module.
 
-A definition notes the rows of a table where it has `noted table.NAME ROWS`, or `by_table` so, or
-where it is a table itself: `ROWS d = .._by_table table.NAME`. Where it notes cases by their
-numbers, the table is one of `BY_CASES`.
+A definition notes the rows of a table if it has `noted table.NAME ROWS`, or `by_table` like that,
+or if it is a table itself: `ROWS d = .._by_table table.NAME`. If it notes cases by their numbers,
+the table is one of `BY_CASES`.
 
 On a page such a table stands right below a line with its name, in bold, and a comment with the
 names of its definitions. One that is two tables has both names. The rows of all tables begin with
@@ -27,7 +27,7 @@ BY_CASES = {"Questions": "tell_question", "Yes": "answers_to", "No": "answers_to
 
 
 def tables_shown(text):
-    """Of each table of rules of a page, its labels, the names of its definitions, and its rows."""
+    """For each table of rules of a page, its labels, the names of its definitions, and its rows."""
     for labels, names, table in SHOWN.findall(text):
         if table.startswith("1: "):
             rows = [sentence(it) for it in re.split(r"^(?=\d+: )", table, flags=re.MULTILINE)[1:]]
@@ -51,7 +51,7 @@ def plain(cell):
 
 
 def noted_in(texts):
-    """Of each table whose rows are noted in these definitions, the names of the rows."""
+    """For each table whose rows are noted in these definitions, the names of the rows."""
     found = {}
     for text in texts:
         pairs = NOTED.findall(text) + [(table, rows) for rows, table in ITSELF.findall(text)]

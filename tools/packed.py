@@ -61,7 +61,7 @@ class Kind:
     is_debian: bool = False
 
 
-# With -B no tool writes compiled modules beside its own, which nobody would remove.
+# With -B no tool writes compiled modules beside its own, which would never be removed.
 DEBIAN = Kind("share/zsh/vendor-completions/_cave", "/usr/bin/python3 -B", True)
 PREFIX = Kind("share/zsh/site-functions/_cave", "/usr/bin/env python3")
 
@@ -76,13 +76,13 @@ class File:
 
 
 def said_by(*words: str) -> bytes:
-    """What a command prints for a reader with lines of 80 columns, of whatever terminal."""
+    """What a command prints for a reader with lines of 80 columns, on any terminal."""
     env = os.environ | {"COLUMNS": "80", "NO_COLOR": "1"}
     return subprocess.run(words, cwd=TOP, env=env, stdout=subprocess.PIPE, check=True).stdout
 
 
 def said_by_git(*words: str) -> str:
-    """What git says, or nothing if there is no git, or this is no clone."""
+    """What git says, or nothing if there is no git, or this isn't a clone."""
     if not shutil.which("git"):
         return ""
     ran = subprocess.run(["git", *words], cwd=TOP, text=True, capture_output=True, check=False)
@@ -99,7 +99,7 @@ def is_elf(content: bytes) -> bool:
 
 
 class Build:
-    """A program with the commit that it was proved by, if it was handed to nobody since."""
+    """A program with the commit by which it was proved, unless it was handed over."""
 
     def __init__(self, program: str, is_given: bool, keeps_symbols: bool = False) -> None:
         self.path, self.is_given = program, is_given
@@ -184,7 +184,7 @@ def as_users_call_it(name: str, interpreter: str) -> bytes:
 
 
 def manual_of_tool(name: str) -> bytes:
-    """The manual page of a tool, made of what it says of itself."""
+    """The manual page of a tool, made from what it says about itself."""
     script = TOOLS[name][0]
     said = without_folder(said_by(sys.executable, script, "--help").decode())
     about, _, rest = said.partition("\n\n")

@@ -1,6 +1,6 @@
 """What a page shows and what moves it, checked in a browser; used by tools/page-test.
 
-Each part gives, one after another, what it looks at, what is found there, and what is wanted.
+Each part gives, one after another, what it looks at, what is found there, and what is expected.
 """
 
 from pages import (FULL, FULL_SEED, SEED, SHOAL, TOP, TOUR, happened_at, line_beside, named,
@@ -59,7 +59,7 @@ def chosen(page):
 
 
 def facts_of(walk, line):
-    """What has to be said of a line, by the steps."""
+    """What has to be said about a line, by the steps."""
     at, steps = line - 1, walk.steps
     gained = steps["score"][at] - steps["score"][at - 1] if line > 1 else 0
     sign = f"{'+' if gained > 0 else chr(0x2212)}{abs(gained)}"
@@ -92,7 +92,7 @@ def line_is(page, walk, line, how):
 
 
 def facts(pages, page):
-    """Each line of two walks, one after another: all that is told of it."""
+    """Each line of two walks, one after another: all that is shown of it."""
     full = pages.of_walk("full", SHOAL[0], FULL, [*SHOAL[1], *FULL_SEED])
     for walk in (pages.tour(), full):
         page.open(walk.path)
@@ -350,7 +350,7 @@ def against(pages, page):
 
 
 def beside(pages, page):
-    """After a line more, like stands beside like, and it is told where walks come together."""
+    """After one more line, like stands beside like, and the page says where walks come together."""
     other = pages.tour()
     for name, at, line, told in [
             ("a-look", 12, "look", "Parts from tour.log at 12 by look, not take vase; ends with 73,"

@@ -7,7 +7,7 @@ from page_checks import chosen, line_is
 from pages import FULL, FULL_SEED, SEED, SHOAL, TOP, said_at
 
 WIDTHS = [(1600, 1000), (1200, 800), (900, 1100), (420, 860)]
-CONTRAST = 4.5  # of texts with their ground, as guidelines for all readers want it
+CONTRAST = 4.5  # of texts with their ground, as guidelines for all readers require
 MOST_DRAWN, MOST_MS, MOST_BYTES, MOST_SECONDS = 400, 40, 25_000_000, 10
 LONG, LONGEST = 5_000, 65_535
 NARROW = """return [...document.querySelectorAll('main > section, header, footer')]
@@ -49,7 +49,7 @@ MOVES = """for (const key of arguments[0]) {
 }"""
 SCROLL = """const list = document.getElementById('lines');
 list.scrollTop = list.scrollHeight * arguments[0]"""
-# Whether lines are drawn all over what is in sight of their list, and how many are drawn.
+# Whether lines are drawn all over the visible part of their list, and how many are drawn.
 FULL_SIGHT = """const { left, top, bottom } = document.getElementById('lines').getBoundingClientRect();
 return [top + 20, (top + bottom) / 2, bottom - 20].every((y) =>
   document.elementFromPoint(left + 60, y)?.closest('[data-at]'))"""
@@ -81,7 +81,7 @@ def shapes(pages, page):
 
 
 def roles(pages, page):
-    """What a screen reader is told: each thing that can be used has a name."""
+    """What a screen reader gets: each thing that can be used has a name."""
     walk = pages.tour()
     page.open(walk.path, 11)
     nodes = [it for it in page.tool("Accessibility.getFullAXTree")["nodes"] if not it["ignored"]]
@@ -128,7 +128,8 @@ def prints(pages, page):
 
 
 def harmless(pages, page):
-    """Texts of a database, of a log and of their names are texts, whatever they look like."""
+    """Texts of a database, of a log and of their names are texts, regardless of what they look
+    like."""
     with open(f"{TOP}/caves/quotes.txt", "rb") as file:
         cave = file.read()
     for text in (b"A dark cell, no more.", b"A lamp."):
@@ -176,7 +177,7 @@ def long(pages, page):
 
 
 def quick(page, walk):
-    """That moves are quick, that lines are drawn where they come into sight, and no others."""
+    """That moves are quick, and that lines are drawn when they come into sight, and no others."""
     before = page.seconds()
     page.open(walk.path)
     taken = page.seconds() - before

@@ -83,7 +83,7 @@ def empty_path(pages):
 
 
 def on_a_terminal(pages):
-    """How far the page is, is told on a terminal, and taken away again."""
+    """A terminal shows how far the page is, and loses that line again."""
     ours, theirs = pty.openpty()
     with subprocess.Popen(
             [sys.executable, f"{TOP}/tools/page", SHOAL[0], TOUR, *SHOAL[1], *SEED, "--program",
@@ -98,7 +98,7 @@ def on_a_terminal(pages):
 
 
 def charts(pages):
-    """Charts of steps, and tables that are none."""
+    """Charts of steps, and tables that aren't tables of steps."""
     table = pages.printed("play", SHOAL[0], TOUR, *SHOAL[1], *SEED, "--print", "steps")
     steps, output = pages.file("tour.steps", table), f"{pages.room}/chart.svg"
     head = table.splitlines()[0]

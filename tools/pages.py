@@ -112,7 +112,7 @@ def place_at(walk, line):
 
 
 def visits_of(walk, place):
-    """The lines at which a walk comes to a place."""
+    """The lines at which a walk reaches a place."""
     moves = enumerate(zip(walk.steps["from"], walk.steps["to"]), 1)
     begins = [0] if walk.steps["from"][0] == place else []
     return begins + [at for at, (old, new) in moves if old != new and new == place]
@@ -125,7 +125,7 @@ def trail_of(walk, line):
 
 
 def named(things):
-    """The names of objects, as the page has them."""
+    """The names of objects on the page."""
     names = [it["name"] or f"object {it['object']}" for it in things]
     return ", ".join(names).lower() or "nothing"
 

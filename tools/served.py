@@ -26,13 +26,13 @@ Head = dict[str, object]
 
 
 class Walk:
-    """A walk as a page has it: what it is told of is put in."""
+    """A walk as a page has it: with what events say put in."""
 
     def __init__(self) -> None:
         self.number, self.opening, self.lines = -1, b"", list[bytes]()
 
     def put(self, events: list[tuple[Head, list[bytes]]]) -> None:
-        """Puts what events tell into the walk, by what the manual says of them."""
+        """Puts what events say into the walk, by what the manual says about them."""
         for head, lines in events:
             if head.get("kind") == "whole":
                 self.opening, self.lines = lines[0], lines[1:]
@@ -140,13 +140,13 @@ class Served:
             connection.close()
 
     def post(self, name: str, said: object) -> tuple[int, list[tuple[Head, list[bytes]]]]:
-        """What a page of this server is answered, as events."""
+        """The answer of this server to a page, as events."""
         headers = {"Content-Type": "application/json", "Origin": f"http://{self.host}"}
         status, _, content = self.ask("POST", name, json.dumps(said).encode(), headers=headers)
         return status, events_of(content)
 
     def hear(self, method: str, name: str, said: Head | None = None) -> tuple[int, Head]:
-        """The same as a page does it: what is told is put into the walk."""
+        """The same as a page does it: the answer is put into the walk."""
         if method == "POST":
             status, events = self.post(name, (said or {}) | {"number": self.walk.number})
         else:

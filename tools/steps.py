@@ -75,7 +75,7 @@ def put(path, content):
 
 
 def ended_by(main):
-    """Runs what a tool does; a Stop is told on standard error, and gives the status."""
+    """Runs what a tool does; a Stop is reported on standard error, and gives the status."""
     name = os.path.basename(sys.argv[0])
     try:
         return main()

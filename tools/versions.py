@@ -1,4 +1,4 @@
-"""The version of the program, and what CHANGELOG.md says of each, as a module.
+"""The version of the program, and what CHANGELOG.md says about each, as a module.
 
     import versions
 

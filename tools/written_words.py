@@ -1,7 +1,7 @@
-"""The files of `play_cover` that declare the tables of the rules, made of the pages: a module.
+"""The files of `play_cover` that declare the tables of the rules, made from the pages: a module.
 
 Either side has one file with all tables, in the order of the pages: each with its name and the
-words of its rows. Nobody edits them.
+words of its rows. They aren't edited by hand.
 """
 
 import re
@@ -121,7 +121,7 @@ def in_definitions(table, name, words):
 
 
 def files(shown):
-    """The text of each file by its path, of each page's tables, each with its name and words."""
+    """The text of each file by its path, for each page's tables, each with its name and words."""
     listed = [(table, *it) for tables in shown.values() for table, it in tables.items()]
     yield f"{CRATE}/src/each_table.rt", CODE.format(
         count=len(listed), tables="\n".join(in_code(*it) for it in listed)

@@ -3,9 +3,9 @@
 `rt` says a line of each wrong body, with the beginning of what the prover said first. That names a
 place: a function of src/ by its line, with the goal that has no proof; the answers of a function in
 proofs/, with the goal; or a definition or a lemma. A goal is a clause of the function itself, or,
-as `CALLED-requires`, of one that it calls. It ends in `-clause-LABEL`, or has no such end: where the
-function has one such clause alone, and where the prover says of no clause that it isn't shown. What
-a type promises of its values is its `invariant`. A lemma that has the name of a function shows that
+as `CALLED-requires`, of one that it calls. It ends in `-clause-LABEL`, or has no such end: if the
+function has just one such clause, or if the prover doesn't say which clause isn't shown. What a
+type promises of its values is its `invariant`. A lemma that has the name of a function shows that
 function's clause.
 """
 
@@ -39,7 +39,7 @@ def texts(crate, pattern):
 
 
 def said_of(log):
-    """What was said of each wrong body, by crate and name."""
+    """What was said about each wrong body, by crate and name."""
     return {(crate, name): said for crate, name, said in SAID.findall(log)}
 
 
@@ -65,8 +65,8 @@ def edited(crate, name, path):
 
 
 def function_at(text, line, column):
-    """The function that begins at a place in a text, or whose attributes do, or else of which the
-    place is part."""
+    """The function that begins at a place in a text, or whose attributes do, or otherwise the one
+    of which the place is part."""
     lines = text.splitlines()
     *before, last = lines[:line] or [""]
     if begun := BEGINS.match(last, column - 1):
@@ -93,8 +93,8 @@ def refuser(crate, name, said):
 
 
 def labels_of(function, crate="*"):
-    """The labels of the clauses of a function of a crate, or of any, a list for what each of that
-    name asks and one for what it promises."""
+    """The labels of the clauses of a function of a crate, or of any: a list for what each function
+    of that name asks, and one for what it promises."""
     for text in texts(crate, "src/**/*.rt"):
         for found in re.finditer(rf"^( *)(?:pub(?:\(crate\))? )?fn {function}\b", text, re.M):
             contract = re.split(rf"\n{found[1]}\{{|;\n", text[found.end() :])[0]
@@ -116,7 +116,7 @@ def is_clause(crate, function, label):
 
 
 def is_refused_by(crate, name, said, clause):
-    """Whether what was said of a wrong body names this clause. A function's only one has no name
+    """Whether what was said about a wrong body names this clause. A function's only one has no name
     there."""
     found = refuser(crate, name, said)
     alone = any(labels == [clause[1]] for labels in labels_of(clause[0]))
@@ -135,6 +135,6 @@ def shown(function, label):
 
 
 def told(crate, name, said):
-    """What refused a wrong body, as pages name it, or what else was said of it."""
+    """What refused a wrong body, as pages name it, or what else was said about it."""
     found = refuser(crate, name, said)
     return shown(*found) if found else said

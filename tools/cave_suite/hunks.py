@@ -52,8 +52,8 @@ def visible(line: str) -> str:
 
 
 def echoes_in(log: Log, said: Sequence[str]) -> Iterator[tuple[int, str]]:
-    """Where in what a run prints a line of the log is echoed, and that line: `FILE:LINE: TEXT`.
-    Lines that a script put in are passed over."""
+    """Where a line of the log is echoed in what a run prints, and that line: `FILE:LINE: TEXT`.
+    Lines that a script inserted are passed over."""
     files = (it for it in log.words if it.endswith(".log"))
     paths = ((it, os.path.join(log.suite.top, it)) for it in files)
     name, path = next((it for it in paths if os.path.isfile(it[1])), ("", ""))

@@ -33,7 +33,7 @@ def updated(log: Log, found: Played, asked: Asked | None) -> list[Hunk]:
 
 
 def result_of(log: Log, found: Played) -> Result:
-    """What came of a log, after its head said whether it is known to fail."""
+    """The outcome of a log, by whether its head says that it is known to fail."""
     if log.misplaced or log.xfail is None or not log.has(".out"):
         return Result(log, found.hunks, found.seconds)
     if found.hunks:
@@ -72,7 +72,7 @@ def run_all(logs: list[Log], said: argparse.Namespace) -> int:
 
 
 def show_commands(logs: list[Log], said: argparse.Namespace, here: str) -> int:
-    """Prints the command line of each log, for a shell where the script was called."""
+    """Prints the command line of each log, for a shell in the folder of the call."""
     for log in logs:
         top = log.suite.top
         before = "" if os.path.samefile(here, top) else f"cd {quote(top)} && "

@@ -22,7 +22,7 @@ AHEAD = 2  # logs that a process has been given, so that it need not wait for th
 
 @dataclass
 class Played:
-    """What came of a run: what is wrong, the transcript, and what is printed now."""
+    """The outcome of a run: what is wrong, the transcript, and what is printed now."""
 
     hunks: list[Hunk]
     old: list[str] = field(default_factory=list)
@@ -32,7 +32,7 @@ class Played:
 
 
 def wrong_status(log: Log, status: int, said: bytes) -> Hunk:
-    """What is said of a run that ends with another status."""
+    """What is said about a run that ends with another status."""
     last = map(visible, lines_of(said)[-CONTEXT:])
     lines = [f"status {status}, expected {log.status}", *last]
     cave = log.head.get("cave", [""])[0]
@@ -103,7 +103,7 @@ def in_order(ends: Sequence[Connection], count: int) -> Iterator[Played]:
 @contextmanager
 def all_played(program: str, logs: Sequence[Log], seconds: float, jobs: int,
                has_texts: bool) -> Iterator[Iterator[Played]]:
-    """What came of each log, in their order, with the texts if they are asked for. Each job is a
+    """The outcome of each log, in their order, with the texts if they are asked for. Each job is a
     process: only one thread of a process can begin a program at a time."""
 
     def do(at: int) -> Played:

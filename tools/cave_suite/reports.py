@@ -1,5 +1,5 @@
-"""What is said of a suite that is played: for readers, as TAP and as JUnit's file, and how far the
-run is."""
+"""What is said about a suite that is played: for readers, as TAP and as JUnit's file, and how far
+the run is."""
 
 from __future__ import annotations
 
@@ -20,7 +20,7 @@ SECONDS = 0.1  # between two lines of progress
 
 @dataclass
 class Result:
-    """What came of a log: what is wrong with it, and why that is known, if it is."""
+    """The outcome of a log: what is wrong with it, and why that is known, if it is."""
 
     log: Log
     hunks: list[Hunk]
@@ -32,7 +32,7 @@ class Result:
         return bool(self.hunks) and self.known is None
 
     def shown(self, hunks: Sequence[Hunk], is_all: bool) -> list[str]:
-        """The lines of hunks, and how many lines more there are of the log."""
+        """The lines of hunks, and how many more lines of the log there are."""
         lines = [it for hunk in hunks[: None if is_all else 1] for it in hunk.lines]
         lines = lines if is_all else lines[:MOST]
         left = sum(it.size for it in self.hunks) - len(lines)

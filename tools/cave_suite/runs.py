@@ -42,7 +42,7 @@ def call(program: str, words: list[str], log: Log, seconds: float) -> tuple[int,
             piped = file.read()
     path = os.path.join(log.suite.top, head["stdout"][0]) if "stdout" in head else os.devnull
     with open(path, "wb") as file:
-        # If the disk is full a write answers an error, and there is no signal.
+        # If the disk is full a write returns an error, and there is no signal.
         ran = subprocess.run(
             [program, *words], cwd=log.suite.top, timeout=seconds, input=piped,
             stdout=file if "stdout" in head else subprocess.PIPE, stderr=subprocess.PIPE,
@@ -93,7 +93,7 @@ def play(program: str, log: Log, seconds: float) -> tuple[bytes, int]:
 
 
 def command_line(program: str, log: Log) -> str:
-    """The run of a log as a line for a shell; what a shell can't do of it is said in a comment."""
+    """The run of a log as a line for a shell; what a shell can't do is said in a comment."""
     head, own = log.head, '"$own"'
     words = " ".join(quote(it).replace(OWN, f"{own}/") for it in [program, *log.words])
     words += "".join(

@@ -1,4 +1,4 @@
-"""Suites of logs: which logs they have, which of them words mean, and how they are shared out."""
+"""Suites of logs: which logs they have, which of them words mean, and how they are divided."""
 
 from __future__ import annotations
 
@@ -9,7 +9,7 @@ from typing import Iterable
 
 from .logs import KINDS, Log
 
-NAME = "logs"  # the folder of a suite, above which the files lie that its heads name
+NAME = "logs"  # the folder of a suite; the files that heads name lie above it
 
 
 class Suite:

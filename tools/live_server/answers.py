@@ -1,4 +1,4 @@
-"""The server: on the loopback address alone, for pages that have its token, and for no others."""
+"""The server: only on the loopback address, and only for pages that have its token."""
 
 from __future__ import annotations
 
@@ -56,7 +56,7 @@ class Server(ThreadingHTTPServer):
             self.room.release()
 
     def handle_error(self, request: socket | tuple[bytes, socket], client: object) -> None:
-        """A page that goes away while it is answered is no fault."""
+        """A page that goes away before its answer is complete isn't a fault."""
         if not isinstance(sys.exc_info()[1], (ConnectionError, TimeoutError)):
             super().handle_error(request, client)
 
@@ -74,12 +74,12 @@ class Answers(BaseHTTPRequestHandler):
         """Nothing is logged."""
 
     def send_error(self, code: int, message: str | None = None, explain: str | None = None) -> None:
-        """What isn't understood is answered with a status alone."""
+        """What isn't understood gets just a status as its answer."""
         self.close_connection = True
         self.answer(None, code)
 
     def name(self) -> str | None:
-        """What is asked for, below the token; None if nobody may ask for it."""
+        """What is asked for, below the token; None if it may not be asked for."""
         hosts: list[str] = self.headers.get_all("Host", [])
         origins: list[str] = self.headers.get_all("Origin", [])
         path = self.path.partition("?")[0].split("/")
@@ -120,7 +120,7 @@ class Answers(BaseHTTPRequestHandler):
         return self.rfile.read(int(length))
 
     def answer(self, answer: Answer | None, status: int = 404) -> None:
-        """Sends an answer; nothing but a status if there is none."""
+        """Sends an answer; just a status if there is none."""
         given = answer or Answer(b"", status=status)
         self.close_connection |= answer is None
         self.send_response(given.status)

@@ -1,7 +1,8 @@
-"""A log that is held while it is edited: its changes, what takes them back, and what came of each.
+"""A log that is held while it is edited: its changes, what takes them back, and the outcome of
+each.
 
 Each change is one run of the program. What it leads to is an event, which pages put into what they
-show; pages that were told of an older event are told of all later ones."""
+show; pages that have an older event get all later ones."""
 
 from __future__ import annotations
 
@@ -19,7 +20,7 @@ MOST_FACTS = 60  # that are shown of each kind
 
 
 class Stale(Exception):
-    """A change of a log that has changed since the page was told of it."""
+    """A change of a log that has changed since the page's last event."""
 
 
 class Nothing(Exception):
@@ -41,7 +42,7 @@ class Change:
 
 @dataclass(frozen=True)
 class Event:
-    """What a page is told: a line of JSON, and lines of a walk after it."""
+    """What a page gets: a line of JSON, and lines of a walk after it."""
 
     number: int
     is_change: bool
@@ -102,7 +103,7 @@ class Log:
         return self.put(played, "back" if is_back else "again")
 
     def put(self, played: Played, kind: str) -> Event:
-        """Holds what a run has made of the log, and tells of it."""
+        """Holds the log that a run has made, and announces it."""
         old, self.held = self.held, played.held
         patch = patch_of(old, played.held, played.report)
         gone, come = otherwise(old.facts, played.held.facts)
@@ -114,7 +115,7 @@ class Log:
             "facts": {"gone": gone[:MOST_FACTS], "come": come[:MOST_FACTS]}}
         return self.tell(head, patch)
 
-    # ---- what pages are told
+    # ---- what pages get
 
     def state(self) -> dict[str, object]:
         """What each event says of the log."""
@@ -140,7 +141,7 @@ class Log:
         return event
 
     def whole(self) -> bytes:
-        """All that a page is told when it opens."""
+        """All that a page gets when it opens."""
         changes = [it.told() for it in (*self.done, *reversed(self.undone))]
         return event_text(self.state() | {"kind": "whole", "list": changes}, self.held.walk)
 

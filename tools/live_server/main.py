@@ -98,7 +98,7 @@ def site_of(said: argparse.Namespace, program: Program, draw: Draw) -> Site:
 
 
 def serve(site: Site, at: int, opens: bool) -> None:
-    """Serves a site until it is told to end."""
+    """Serves a site until it is stopped."""
     try:
         server = Server(site, at)
     except OSError as error:

@@ -78,7 +78,7 @@ class Game:
         return Held(log.content(), seed, walk_of(walk), facts_of(facts))
 
     def change(self, held: Held, script: bytes) -> Played:
-        """What a script makes of a held log; Refused if one of its edits is."""
+        """What a script does to a held log; Refused if one of its edits is."""
         with Given("the log", held.log) as log, Given("change", script) as edits:
             words: list[Word] = [
                 "edit", self.cave, log, edits, *self.options(), "--seed", held.seed,
@@ -111,7 +111,7 @@ def said_of(runs: Sequence[Run]) -> list[bytes]:
 
 
 def patch_of(old: Held, new: Held, report: Report) -> Patch:
-    """What the walk of a changed log has otherwise, by the report on the change."""
+    """What differs in the walk of a changed log, by the report on the change."""
     shift = new.count - old.count
     until = new.count if report.met is None else report.met
     old_until = until - shift
@@ -129,7 +129,7 @@ def patch_of(old: Held, new: Held, report: Report) -> Patch:
 
 
 def patch_between(old: Held, new: Held) -> Patch:
-    """What one walk has otherwise than another, if no report says it: all but equal ends."""
+    """What differs between two walks, if no report says it: all except equal ends."""
     pairs = zip(old.walk[1:], new.walk[1:])
     start = sum(1 for _ in itertools.takewhile(lambda it: it[0] == it[1], pairs))
     opening = None if new.walk[0] == old.walk[0] else new.walk[0]
@@ -137,6 +137,6 @@ def patch_between(old: Held, new: Held) -> Patch:
 
 
 def otherwise(old: list[str], new: list[str]) -> tuple[list[str], list[str]]:
-    """The facts that are no longer so, and those that are so now."""
+    """The facts that no longer hold, and those that hold now."""
     before, after = {*old}, {*new}
     return [it for it in old if it not in after], [it for it in new if it not in before]

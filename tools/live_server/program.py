@@ -61,7 +61,7 @@ class Run:
         self.out, self.wrong = Given("out"), Given("wrong")
         command = [program, *(it if isinstance(it, str) else it.path for it in words)]
         try:
-            # A session of its own, so that Ctrl-C on the terminal ends the server alone.
+            # A session of its own, so that Ctrl-C on the terminal ends only the server.
             self.process = subprocess.Popen(
                 command, stdin=subprocess.DEVNULL, stdout=self.out.number, stderr=self.wrong.number,
                 pass_fds=[it.number for it in self.given], start_new_session=True)

@@ -27,7 +27,7 @@ class Home:
         return os.path.basename(self.path)
 
     def save(self, game: Game, log: bytes, seed: str, is_told: bool) -> None:
-        """Puts a log into the file; Changed if the file is another one, unless one is told to."""
+        """Puts a log into the file; Changed if the file is another one, unless that is allowed."""
         if not is_told and read(self.to) != self.found:
             raise Changed
         put(game, log, seed, self.to)
