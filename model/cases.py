@@ -27,7 +27,7 @@ def cave_of(texts):
 
 
 def calls_of(rng, call, options, is_edited):
-    """The call of a game by which something else than its transcript is printed, at random."""
+    """A call of a game that prints something other than its transcript, at random."""
     if is_edited:
         what = rng.choice(["play", "log", "undo", "steps", "score", "reports", "table"])
         every = "1" if what in ("reports", "table") else rng.choice(["1", "2", "7", "50", "10000"])
@@ -39,7 +39,7 @@ def calls_of(rng, call, options, is_edited):
 
 
 def game_cases(rng, seed, number, counts):
-    """A random game, called in three ways, of which one prints the state to which it leads."""
+    """A random game, called in three ways, one of which prints the state to which it leads."""
     stage = stage_of(seed, number)
     maker = generate.Maker(rng, stage)
     texts = {"cave.txt": maker.database(), "bindings.txt": maker.bindings()}

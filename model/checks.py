@@ -1,4 +1,4 @@
-"""What `check` tells of a cave that is accepted (docs/FORMATS.md, Names to Doubts)."""
+"""What `check` prints of an accepted cave (docs/FORMATS.md, Names to Doubts)."""
 
 from database import NAMES, ROLES, SECONDS, SECTIONS, numbered_rows
 from lines import fields_of, folded, lines_of
@@ -53,7 +53,7 @@ def unused_lines(cave):
 # ---- Doubts
 
 def tried(rows):
-    """Of each way out of a place whether a player can come to it."""
+    """For each way out of a place whether a player can get to it."""
     before, failed = set(), None  # motions that are listed, and the target of a way that failed
     for target, motions in rows:
         begins = 1 not in before and any(it not in before for it in motions)
@@ -87,13 +87,13 @@ def is_hidden(cave, number, word):
     return rows[0] != means and not (means[0] in (1, 3) and of_class[0] == means)
 
 def message_doubts(cave, says):
-    """What is said of messages that have no text; 0 is none."""
+    """What is said about messages that have no text; 0 is no message."""
     for words, number in says:
         if number and number not in cave.messages:
             yield f"{words} message {number}, which has no text"
 
 def row_doubts(cave, section, row, before):
-    """What is doubtful of a row, after those before it in its section."""
+    """What is doubtful about a row, after those before it in its section."""
     if section in (1, 2):
         is_first = all(other[0] != row[0] for other in before)
         if is_first and (section == 1 or row[0] not in cave.long) and not is_entered(cave, row[0]):

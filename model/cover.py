@@ -11,7 +11,7 @@ def class_of(cave, score):
     return next((it for it in cave.classes if it[0] >= score), None)
 
 def texts_of(cave):
-    """The texts of a cave: of each kind, by name, a number to sort by and the first line."""
+    """The texts of a cave: for each kind, by name, a number to sort by and the first line."""
     looks = {it: text for it, text in cave.object_texts.items() if it[1] is not None}
     names = {x: text for (x, prop), text in cave.object_texts.items() if prop is None}
     reached = {class_of(cave, it) for it in range(cave.greatest_score() + 1)} - {None}
@@ -27,11 +27,11 @@ def name_of(it):
     return ":".join(map(str, it)) if isinstance(it, tuple) else str(it)
 
 def first_line(text):
-    """What follows the name of a text: its first line, of which a role has none."""
+    """What follows the name of a text: its first line, which a role doesn't have."""
     return "" if text is None else ": " + ("" if text == [">$<"] else text[0])
 
 def report(cave, said, count, view):
-    """The report on the logs of which these texts were said."""
+    """The report on the logs that said these texts."""
     shown = all_texts = 0
     for kind, texts in texts_of(cave):
         never = [it for it in sorted(texts) if (kind, it) not in said]

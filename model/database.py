@@ -8,7 +8,7 @@ from lines import (FIELD, LINE_LENGTH, MARKS, Fault, fields_of, folded, is_near,
 PLACE, MESSAGE = (1, 300), (1, 499)
 LONGEST_LIST = 40
 
-# Of each section: what a row is made of, the ranges of its numbers, how many of them it has to have
+# For each section: the parts of a row, the ranges of its numbers, how many of them it has to have
 # (before its list, if it has one), what is expected, what its ranges are, and its limits. The kinds
 # of rows: a number and a text; a number and a word; numbers; numbers with a list after them.
 Section = namedtuple("Section", "kind ranges fewest expects within limit limits")
@@ -162,7 +162,7 @@ def keyed_by_object(rows):
         yield (owner, number // 100 if is_prop else None), line
 
 def with_mark(judge, text):
-    """What a judge says of a text, of which a byte order mark may spoil the first line."""
+    """What a judge says about a text whose first line a byte order mark may spoil."""
     try:
         return judge(text)
     except Fault as fault:
@@ -239,7 +239,7 @@ class Cave:
         self.treasures = [it for it in range(50, 80) if (it, None) in self.object_texts]
 
     def place(self, role):
-        """The place of a role; None where it isn't bound."""
+        """The place of a role; None if it isn't bound."""
         return self.bound.get(f"place.{role}")
 
     def has(self, place, bit):

@@ -116,8 +116,8 @@ def dwarf_games():
 # ---- The pirate, who comes from 20 to 17.
 
 def pirate(lines, homes, known=("CHEST",), **more):
-    """The lines of a game up to when the pirate comes to 17, and what it says of its world. A chest
-    that isn't known counts as seen, and then the pirate does nothing."""
+    """The lines of a game up to when the pirate comes to 17, and what it says about its world. A
+    chest that isn't known counts as seen, and then the pirate does nothing."""
     bound = {**DEEP, "chest": 20, "message": 18, **more.pop("bound", {})}
     places = [9, 10, 16, 17, 18, 20, *more.pop("places", [])]
     world = {"homes": {"AXE": 0, **homes}, "known": known, "ways": {20: [17]}, "places": places}

@@ -1,4 +1,4 @@
-"""How the lines of a log end, and what edits make of that (docs/FORMATS.md, The edited log)."""
+"""How the lines of a log end, and how edits change that (docs/FORMATS.md, The edited log)."""
 
 import re
 
@@ -29,7 +29,7 @@ class Ends:
                 del self.each[edit.number:edit.number + 1]
 
     def log_text(self, log):
-        """A log, each line with its own end. The last one has none where none was read, unless it is
+        """A log, each line with its own end. The last one has none if none was read, unless it is
         empty."""
         ends = [*self.each, *[self.usual] * len(log)]
         text = "".join(map("".join, zip(log, ends)))

@@ -11,7 +11,7 @@ from verbs import ACTIONS
 # place of a role, `~` to a lake, and `?` anywhere; `!` has dwarves wake, and `!!` so that none is
 # gone; `%` has a draw of the next step fall on a border; `^` waits until the cave closes, and then
 # until it is closed; `*` throws the axe at dwarves for as long as there are some, and `$` brings
-# some treasures home. The word before a colon is for the cave of a game that begins so.
+# some treasures home. The word before a colon is for the cave of a game that begins like this.
 ERRANDS = [it.strip().split(", ") for it in """
     +CAGE, @BIRD, take bird, drop cage, take cage
     +CAGE, @BIRD, take bird, @SNAKE, drop bird
@@ -144,8 +144,8 @@ VERBS_OF = {name: [verb for verb in ACTIONS for label, row in tables.rows.items(
 
 
 def goal_of(label, row):
-    """What a row of a verb's table wants: its verbs, x, what is carried, what is here, and whether
-    x isn't to be carried."""
+    """What a row of a verb's table requires: its verbs, x, what is carried, what is here, and
+    whether x must not be carried."""
     tests, verbs = row.split("|")[0], [it for it in label.split(":")[0].split() if it in ACTIONS]
     named = lambda form: [it for it in re.findall(form, tests) if it in VERBS_OF]
     of = named(r"x is (\w+)") + named(r"x is \w+ or (\w+)")
@@ -169,7 +169,7 @@ def steps_of(goal, rng):
 
 
 def parted(errand):
-    """What an errand wants of a cave and its clocks, and its steps."""
+    """What an errand requires of a cave and its clocks, and its steps."""
     if not errand or ":" not in errand[0]:
         return "", [*errand]
     kind, _, step = errand[0].partition(":")

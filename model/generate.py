@@ -17,8 +17,8 @@ GO = 200  # the first of the motions that lead anywhere
 
 
 class Maker:
-    """Makes a cave: the rows of its sections, as lines. What the errand of a stage names is where
-    the player begins, mostly, so that the rows are reached for which it is."""
+    """Makes a cave: the rows of its sections, as lines. What the errand of a stage names is mostly
+    where the player begins, so that the rows that it is for are reached."""
 
     def __init__(self, rng, stage=()):
         self.rng = rng
@@ -237,7 +237,7 @@ class Maker:
                 rows[11].append(f"{hint} {turns} {points} {self.message()} {self.message()}")
 
     def staged_bit(self, bit, places):
-        """The places that have a bit; of the start an errand may want that it has it, or not."""
+        """The places that have a bit; an errand may require that the start has it, or not."""
         lakes = {"~water", "~oil"} & {*self.errand}
         if self.kind is None or bit in (1, 2) and len(lakes) != 1:
             return places

@@ -1,8 +1,8 @@
 """Random logs for the duel, which reach every rule.
 
-A log is made line by line: of a few lines that fit the state the one is taken that applies the
-rules that applied least so far, as the model says. Everything comes from a random number generator,
-so that a seed gives the same case again.
+A log is made line by line: the line taken, among a few that fit the state, applies the rules that
+applied least so far, as the model says. Everything comes from a random number generator, so a seed
+gives the same case again.
 """
 
 from collections import Counter
@@ -37,7 +37,7 @@ def copy_of(game):
 
 
 class Player:
-    """Makes a log, as a player would who wants to see every rule."""
+    """Makes a log, like a player who wants to see every rule."""
 
     def __init__(self, rng, cave, seed, counts, stage=()):
         self.rng, self.cave, self.counts = rng, cave, counts
@@ -120,7 +120,7 @@ class Player:
         return None
 
     def wait(self):
-        """What lets time pass until the cave closes, or is closed; None where no clock goes."""
+        """What lets time pass until the cave closes, or is closed; None if no clock runs."""
         game = self.game
         if self.plan[0] == "^":
             self.plan[0] = "^closed" if game.closing else "^closing"
@@ -228,7 +228,8 @@ class Player:
             tables.applied = kept
 
     def step(self, tries):
-        """Adds the line to the log that applies the rarest rules of a few, or that of a plan."""
+        """Adds to the log the line, among a few, that applies the rarest rules, or that of a
+        plan."""
         planned, best = self.planned(), None
         follows = planned and self.often(0.9)
         lines = [planned] if follows else [self.candidate() for _ in range(tries)]
@@ -301,7 +302,7 @@ class Player:
         return self.log
 
     def act(self):
-        """Does the errand of the stage, once the clocks are where it wants them."""
+        """Does the errand of the stage, once the clocks are where it needs them."""
         self.add("no" if self.kind == "lamp" else self.rng.choice(["no", "no", "yes"]))
         if self.kind == "lamp":
             self.burn_lamp()

@@ -45,7 +45,7 @@ def wrong(message, usage=None):
     return Stop(2, f"error: {message}{shown}\n\nFor more information, try '--help'.\n")
 
 def wanted(given, names):
-    """What is said of a name that is none of these."""
+    """What is said about a name that isn't one of these."""
     *some, last = names
     near = near_name(given, names)
     return f"wanted is {', '.join(some)} or {last}" + (
@@ -98,20 +98,20 @@ def words_of(words):
     return command, files, judged_options(command, files, options)
 
 def seed_below_zero(command, words):
-    """The seed of a command, where it is a hyphen and digits; after `--` each word is a file."""
+    """The seed of a command, if it is a hyphen and digits; after `--` each word is a file."""
     before = list(takewhile(lambda it: it not in ("--", "--seed", "-s"), words))
     option, seed = [*words[len(before):][:2], "", ""][:2]
     is_one = "--seed" in KNOWN[command] and option in ("--seed", "-s")
     return seed if is_one and fullmatch("-[0-9]+", seed) else None
 
 def unexpected(word, below_zero, usage):
-    """What is said of an argument that is none: of a seed below zero, that it is no seed."""
+    """What is said about a wrong argument: for a seed below zero, that it isn't a seed."""
     if below_zero:
         return not_in("--seed", below_zero, 0, GREATEST_SEED)
     return wrong(f"unexpected argument '{word}' found", usage)
 
 def judged_options(command, files, options):
-    """The options, and what they are where they aren't there."""
+    """The options, and what they are if they aren't given."""
     seed = number_in("--seed", options.get("--seed", "0"), 0, GREATEST_SEED)
     number_in("--every", options.get("--every", "50"), 1, 10_000)
     is_strict_check = command == "check" and "--strict" in options
@@ -163,7 +163,7 @@ def judged_as(status, name, judge, *of):
 
 @lru_cache(maxsize=2)
 def cave_of(name, database, bind, bindings):
-    """The cave of a database and of bindings, the last of which are kept for another run."""
+    """The cave of a database and of bindings; the last one is kept for another run."""
     sections = judged_as(1, name, with_mark, sections_of, database)
     return Cave(sections, judged_as(1, bind, with_mark, bindings_of, bindings))
 
@@ -201,8 +201,8 @@ def check_lines(cave, options, name, database, bindings):
 
 def stretch(group, log, new_log, old, new):
     """Where a replay begins, the place where it meets the old play or None, and how many lines it
-    plays. `old` and `new` are the states at all places, each of which is a checkpoint, but the end
-    of a log that isn't empty."""
+    plays. `old` and `new` are the states at all places, each of which is a checkpoint except the
+    end of a log that isn't empty."""
     prefix, suffix, length = len(log), len(log), len(log)
     for edit in group.edits:
         if edit.kind == "seed":
@@ -276,7 +276,7 @@ def run_edit(cave, file, log, script, log_ends, options):
             "transcript": [*reports, *ended.transcript]}[options["print"]]
 
 def run_cover(cave, names, files, options):
-    """Plays logs, and gives what is printed of the texts that none of them says, as lines."""
+    """Plays logs, and returns what is printed about the texts that none of them says, as lines."""
     said = set()
     for name, file in zip(names, files):
         log = judged_as(3, name, log_of, text_of(file))

@@ -1,4 +1,4 @@
-"""The score: what counts, what costs, and what it comes to.
+"""The score: what counts, what costs, and what it adds up to.
 
 docs/TURN.md, The score; docs/FORMATS.md, The score.
 """
@@ -35,7 +35,7 @@ def score(game):
     return max(sum(points for *_, points, _ in rows_of(game)), 0)
 
 def named(kind, number, text):
-    """A thing by its number and the first line of its text, where a tab is shown as a blank."""
+    """A thing by its number and the first line of its text, with a blank for each tab."""
     first = "" if text == [">$<"] else text[0].replace("\t", " ")
     return f"{kind} {number}: {first}"
 

@@ -2,8 +2,8 @@
 
 
 def script_for(rng, log, suggestions, guarded):
-    """A script of edits of a log; `suggestions` are lines that may come in. Where it may have
-    guards, most of them are of the log as all edits before leave it."""
+    """A script of edits of a log; `suggestions` are lines that may come in. If it may have guards,
+    most of them are for the log that all edits before leave."""
     lines, now, is_open = [], log[:], False
 
     def text():

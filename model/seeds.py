@@ -1,10 +1,10 @@
-"""The stream of chance, backwards: seeds by which a draw falls where it is wanted."""
+"""The stream of chance, backwards: seeds by which a draw falls as it should."""
 
 from itertools import chain
 
 
 def seed_before(x, draws):
-    """A seed from which the stream comes to x after this many draws."""
+    """A seed from which the stream reaches x after this many draws."""
     inverse = pow(1093, -1, 1 << 20)
     for _ in range(draws):
         x = (x - 221_587) * inverse % (1 << 20)
@@ -19,7 +19,7 @@ def border_seed(rng, below, border):
     return seed_before(x, rng.choice([0, 0, 0, 1, 1, 2, 3, 4, 5, 6]))
 
 
-# ---- Seeds for draws that are wanted
+# ---- Seeds for draws that fall as they should
 
 
 def seed_at(number, below, before=0):
@@ -35,7 +35,7 @@ def seeds_about(border, below, before=0):
 
 def seed_where(*wanted, after=0):
     """A seed by which each of the next draws is one of those wanted: below what it is drawn, the
-    least number, and the greatest. Where there is one after a number of the stream, it is that."""
+    least number, and the greatest. If there is one after a number of the stream, it is that."""
     def fits(x):
         for below, least, most in wanted:
             if not least <= below * x >> 20 <= most:

@@ -110,8 +110,8 @@ def fewer_lines(text, lasts, least, until, in_place=lambda lines: []):
 
 
 def alike_lines(text, lasts, until):
-    """The text with its commonest line in the place of each run of others, where nothing differs by
-    that: so of a log that waits for long there is little to read."""
+    """The text with its commonest line in the place of each run of others, if nothing differs by
+    that: so a log that waits for long has little to read."""
     lines = text.splitlines(True)
     if len(lines) < 20:
         return text

@@ -14,14 +14,14 @@ ASKED_BY_ROLE = {"welcome": "welcome", "quit": "quit", "score quit": "score-quit
 class Game:
     """A game in a cave. `out` is what the line that is played has said so far."""
 
-    letters = {}  # what the letters of tables stand for, but x and k
+    letters = {}  # what the letters of tables stand for, except x and k
 
     def __init__(self, cave, seed):
         self.cave, self.out, self.turns = cave, [], 0
         self.names = {**cave.things, "x": 0, "k": 0}
         self.here = self.last = self.older = cave.place("start")
         self.where, self.held, self.prop = [0] * 101, [0] * 101, [0] * 101
-        self.lists = {}  # of each place the halves there, latest first; -x is the second half of x
+        self.lists = {}  # for each place the halves there, latest first; -x is the second half of x
         self.visits = {}
         self.lamp, self.warned = 330, False
         self.clock1, self.clock2 = 30, 50
@@ -80,7 +80,7 @@ class Game:
         self.put_half(x, self.where, place)
 
     def anchor(self, x, place):
-        """Moves the second half of x; at -1 NATURE alone holds x, and at 0 nothing."""
+        """Moves the second half of x; at -1 only NATURE holds x, and at 0 nothing."""
         self.put_half(-x, self.held, place)
 
     def juggle(self, x):
@@ -130,7 +130,7 @@ class Game:
         return self.cave.homes.get(x, (0, 0))
 
     def prop_of(self, x):
-        """The prop of an object; None of an absent one, whose prop no test holds of."""
+        """The prop of an object; None for an absent one, of whose prop no test holds."""
         return self.prop[x] if x else None
 
     def liquid(self):
@@ -139,7 +139,7 @@ class Game:
         return {0: self.thing("WATER"), 2: self.thing("OIL")}.get(prop)
 
     def lake(self):
-        """What the lake of this place is of, as `liquid` says it; None where there is no lake."""
+        """What the lake of this place is of, as `liquid` says it; None if there is no lake."""
         oil, lake = (self.cave.has(self.here, bit) for bit in (1, 2))
         return None if not lake else self.thing("OIL" if oil else "WATER")
 
@@ -164,7 +164,7 @@ class Game:
         return [x for x in range(1, 101) if self.where[x] == HANDS]
 
     def dwarf_here(self):
-        """The first of the five dwarves that is here, if they are awake; else None."""
+        """The first of the five dwarves that is here, if they are awake; otherwise None."""
         here = [it for it in DWARVES if self.dwarf_at[it] == self.here and self.anger >= 2]
         return here[0] if here else None
 
@@ -258,7 +258,7 @@ class Game:
     # ---- A state as a text
 
     def named(self, number, after=1000):
-        """A number with the first word of it beside it, where the cave has one."""
+        """A number with the first word of it beside it, if the cave has one."""
         word = self.cave.first_words.get(after + number)
         return f"{number} {word}" if word else f"{number}"
 

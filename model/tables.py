@@ -1,10 +1,10 @@
 """Tables of rules: rows of tests and effects, in the words of the pages, and their interpreter.
 
-A row is `test, test | effect; effect`. The rows are tried from the top, and the first one whose
-tests hold is done alone. A test or an effect is a phrase; modules say, by `phrases`, which
-functions they call. Each row counts how often it applied, and `rule` counts what is a row of no
-table. A phrase for which there is no such function is the name of one: `ask back` is `ask_back`, of
-the module that has the table.
+A row is `test, test | effect; effect`. The rows are tried from the top, and only the first one
+whose tests hold is done. A test or an effect is a phrase; modules say, by `phrases`, which
+functions they call. Each row counts how often it applied, and `rule` counts what isn't a row of a
+table. A phrase without such a function is the name of one: `ask back` is `ask_back`, of the module
+that has the table.
 """
 
 import re
@@ -13,7 +13,7 @@ from collections import Counter
 from database import NAMES, SECONDS
 
 applied = Counter()
-rows = {}  # of each row its text, in the order in which the tables were made
+rows = {}  # for each row its text, in the order in which the tables were made
 TESTS, EFFECTS, TABLES = [], [], {}
 # In a phrase A is an object by its name, or by a letter (x is what a verb is for), N a number, and
 # W a word.
@@ -47,7 +47,7 @@ def called(function, of):
     return lambda game: function(game, *[it(game) if callable(it) else it for it in of])
 
 def meaning(kind, text, names):
-    """Whether a phrase says that something is so, and what it calls, as a function of a game."""
+    """Whether a phrase says that something holds, and what it calls, as a function of a game."""
     plain = re.sub(r" (isn't|aren't|are) ", " is ", text).replace("doesn't come", "comes")
     for form, function in kind:
         if found := form.fullmatch(plain):

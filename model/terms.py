@@ -9,7 +9,7 @@ COMPARED = {"is": operator.eq, "is other than": operator.ne, "is below": operato
             "is at most": operator.le, "is at least": operator.ge, "is above": operator.gt}
 
 def move_to_role(game, x, role):
-    """To the place of a role; where that isn't bound, nothing is moved."""
+    """To the place of a role; if that isn't bound, nothing is moved."""
     if place := game.cave.place(role):
         game.move(x, place)
 

@@ -14,7 +14,7 @@ def travel(game, motion):
     TABLES["motion"].apply(game)
 
 def look_round(game):
-    """The place is described anew, as to one who saw by light before."""
+    """The place is described again, as to one who saw by light before."""
     game.visits[game.here], game.was_dark = 0, False
     arrive(game, game.here)
 
@@ -60,7 +60,7 @@ def follow_rows(game, motion):
     arrive(game, game.here)
 
 def other_end(game, ends):
-    """The other one of two places than this one, or None where this is neither."""
+    """The other one of two places than this one, or None if this is neither."""
     if game.here not in ends or None in ends or min(ends) < 1:
         return None
     return ends[1] if game.here == ends[0] else ends[0]

@@ -73,7 +73,7 @@ def read(game, word, after=None, rows="what a word means"):
     TABLES[rows].apply(game)
 
 def read_it(game):
-    """An object is read where the ladder gives one, and then what comes after it."""
+    """An object is read if the ladder gives one, and then what follows it."""
     game.names["k"], game.meant = game.number, 0
     TABLES["a word for an object"].apply(game)
     if game.meant:
@@ -156,7 +156,7 @@ def come_back(game):
     travel.describe(game)
 
 def all_meet_half_way(game):
-    """Where the dragon died all goes on half-way between its two places."""
+    """After the dragon died all goes on half-way between its two places."""
     dragon, rug = game.thing("DRAGON"), game.thing("RUG")
     homes = [it for it in game.home(dragon) if it > 0]
     place = sum(homes) // len(homes) if homes else game.here

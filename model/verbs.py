@@ -9,10 +9,10 @@ ACTIONS = {name: number for number, name in enumerate(
     INVENTORY FEED FILL BLAST SCORE FOO BRIEF READ BREAK WAKE SUSPEND HOURS""".split(), 1)}
 MOST_IN_HANDS, MAGIC_WORDS, MOST_ANGER = 7, 4, 13
 
-# ---- What verbs mean that are said alone, and what is one of several things
+# ---- What verbs that are said by themselves mean, and what is one of several things
 
 def there(game, *tests):
-    """The objects of the names whose tests hold, but for absent ones."""
+    """The objects of the names whose tests hold, except absent ones."""
     found = [(game.thing(name), is_so) for name, is_so in tests]
     return [x for x, is_so in found if x and is_so(x)]
 
@@ -44,7 +44,7 @@ def foes(game):
                  ("BEAR", lambda x: game.is_at_hand(x) and game.prop[x] == 0))
 
 def preys(game):
-    """What it may be meant for where there is no foe."""
+    """What it may be meant for if there is no foe."""
     throws = game.player_verb == ACTIONS["THROW"]
     return there(game, ("BIRD", lambda x: game.is_at_hand(x) and not throws),
                  ("CLAM", lambda x: game.is_at_hand(x) or game.is_at_hand(game.thing("OYSTER"))))
@@ -120,7 +120,7 @@ phrases({
     "anger them": lambda game: vars(game).update(anger=min(game.anger + 1, MOST_ANGER)),
 })
 
-# ---- The tables. A verb has one for itself alone, one with an object, or one for both.
+# ---- The tables. A verb has one by itself, one with an object, or one for both.
 
 TABLES = tables("""
     TAKE alone
@@ -350,7 +350,7 @@ for heading, table in TABLES.items():
     WITH.update(verbs if "alone" not in heading else {})
 
 def perform(game, verb, x):
-    """Does a verb with an object, or by itself where x is 0."""
+    """Does a verb with an object, or by itself if x is 0."""
     game.verb, game.names["x"] = verb, x
     rows = (WITH if x else ALONE).get(verb)
     if rows:

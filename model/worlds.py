@@ -44,7 +44,7 @@ class World:
         return self.numbers[SECONDS[name]] + 1 if name in SECONDS else self.numbers[name]
 
     def travel_rows(self):
-        """The rows of the travel table: those that a game wants of a place come first."""
+        """The rows of the travel table: those that a game requires of a place come first."""
         yield from self.rows
         for place in self.places:
             to = self.ways.get(place)

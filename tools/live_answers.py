@@ -205,7 +205,7 @@ def two_pages(program: str) -> Checks:
         status, _ = pillow(server)
         waiting.join(60)
         yield "the change is made", status, 200
-        yield "the other page is told", b'"kind":"change"' in told[0], True
+        yield "the other page gets the change", b'"kind":"change"' in told[0], True
         status, events = server.post("change", {"number": number, "edits": [
             {"kind": "delete", "place": 0, "was": server.walk.texts()[0]}]})
         yield "who doesn't know it can't change it", [status, events[0][0]["kind"]], [409, "stale"]
@@ -229,7 +229,7 @@ def saving(program: str) -> Checks:
         yield "not over another file", [status, head["kind"]], [409, "changed"]
         yield "which is as it was", server.file(), opened + b"look\n"
         status, _ = server.hear("POST", "save", {"told": True})
-        yield "unless one is told to", [status, server.file()], [200, opened]
+        yield "unless that is asked for", [status, server.file()], [200, opened]
         yield "no other file", os.listdir(server.room.name), ["tour.log"]
         yield "the end", [server.end(), server.errors], [0, ""]
         yield "no draft", os.listdir(server.room.name), ["tour.log"]

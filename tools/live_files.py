@@ -51,7 +51,7 @@ def on_disk(window: Window, program: str) -> Checks:
         yield "it is said", "changed on disk" in window.text("#notice"), True
         yield "nothing is saved", lines_of(server.path), [*lines_of(TOUR), "look"]
         window.click("#save-over")
-        yield "until one is told to", lines_of(server.path), window.run(LOG)
+        yield "until that is asked for", lines_of(server.path), window.run(LOG)
         yield "saved", window.text("#unsaved"), "saved"
 
 

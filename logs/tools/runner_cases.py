@@ -25,7 +25,7 @@ ENDS = {
     "exit 3": "status 3, expected 0",
     "exec sleep 5": "the run takes longer than 2 s",
 }
-# Transcripts that have the lines of what is printed, and aren't it.
+# Transcripts that have the lines of what is printed, but differ from it.
 ALIKE = {
     "in another order": "".join(sorted(SAID.splitlines(True))),
     "with two lines exchanged": SAID.replace("> up\nSo up.", "So up.\n> up"),
@@ -242,7 +242,7 @@ def faults_of_updates():
 
 
 def faults_of_stops():
-    """Runners that say something of a closed pipe or of an interrupt, or go on after it."""
+    """Runners that say something about a closed pipe or an interrupt, or go on after it."""
     folder = Folder({f"logs/{it}.out": "" for it in range(300)})
     to = {"cwd": folder.top, "stdout": subprocess.PIPE, "stderr": subprocess.PIPE}
     with subprocess.Popen(folder.command(), **to) as ran:
@@ -253,7 +253,7 @@ def faults_of_stops():
     slow = {f"logs/{it}.log": "# run: play\n" for it in range(9)}
     folder = Folder(slow, "#!/bin/sh\necho > begun\nexec sleep 2\n")
     began = time.monotonic()
-    # What runs in the background may have been told to ignore an interrupt, and the runner would too.
+    # What runs in the background may ignore interrupts, and the runner then would too.
     heard = {"preexec_fn": lambda: signal.signal(signal.SIGINT, signal.default_int_handler)}
     with subprocess.Popen(folder.command("-j", "1"), **to | heard | {"cwd": folder.top}) as ran:
         while not os.path.exists(f"{folder.top}/begun") and time.monotonic() - began < PATIENCE:

@@ -9,7 +9,7 @@ const known = { lines: new Map(), texts: new Map([["", 0]]) };
 
 // ---- texts, each of which is kept once
 
-// A line of bytes as people read it: as UTF-8, or else as Latin-1.
+// A line of bytes as people read it: as UTF-8, or otherwise as Latin-1.
 function readable(line) {
   if (!HIGH.test(line)) return line;
   try {

@@ -1,4 +1,4 @@
-// What crosses to the server and back: what this page asks, and what it is told of the log.
+// What crosses to the server and back: what this page asks, and what it gets of the log.
 
 const wire = { number: -1, asked: Promise.resolve(), isAsking: false, goTo: null, waiting: null,
   isEnded: false };
