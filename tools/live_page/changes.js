@@ -29,7 +29,7 @@ function showList() {
   byId("change-list").replaceChildren(...rows.reverse());
 }
 
-// A row of the list: what the change is, what came of it, its script, and a way to it.
+// A row of the list: what the change is, what it did, its script, and a way to it.
 function rowOf(change, count) {
   const isHere = count === changes.done;
   const title = change ? change.title : "As it was opened";

@@ -1,6 +1,7 @@
 // Several lines that are chosen together: copied, cut, pasted over and taken out as one change.
 
-// From where lines are chosen; up to the one that is looked at. None are where it is null.
+// Where the chosen lines begin; they go up to the one that is looked at. None are chosen if it is
+// null.
 const chosen = { anchor: null };
 
 const chosenRange = () => {
@@ -134,7 +135,7 @@ list.addEventListener("click", (event) => {
     if (event.target.closest(".command code") && at) openEditor(at);
   }
 });
-// Before the line is looked at, a click with the shift key notes from where lines are chosen.
+// Before the line is looked at, a click with the shift key notes where the chosen lines begin.
 list.addEventListener("pointerdown", (event) => {
   if (event.shiftKey && event.target.closest("[data-at]")) {
     event.preventDefault();

@@ -1,7 +1,7 @@
 // The line that is typed over: one field, at the line that is edited or below it.
 
 // `at` is the line, `isNew` whether it isn't in the log yet and comes after it, `was` its text in
-// the log. What was refused stays as it was typed, with what was said of it, until it is right.
+// the log. What was refused stays as it was typed, with what was said about it, until it is right.
 // While a line is sent, what is typed goes on: `lines` are those that were ended meanwhile, and the
 // text from `begun` on is the next one.
 const editor = { isOpen: false, at: 0, isNew: false, was: "", refused: "", completed: null,
@@ -102,7 +102,7 @@ function showCompletions() {
   else typedField.setAttribute("aria-activedescendant", `completion-${chosenAt}`);
 }
 
-// Puts the next word in that completes the one before the caret; tells whether there is one.
+// Puts the next word in that completes the one before the caret; returns whether there is one.
 function complete(step) {
   editor.completed ??= { ...completionsOf(typedField.value, typedField.selectionStart), at: -1,
     end: typedField.selectionStart };

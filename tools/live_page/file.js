@@ -14,7 +14,7 @@ async function save(isTold = false) {
   }
 }
 
-// The seed is no part of a log.
+// The seed isn't a part of a log.
 const savedSeed = () => (byId("seed").value === byId("seed").dataset.opened ? []
   : [make("span", {}, `The seed isn't part of it: play it with --seed ${byId("seed").value}.`)]);
 
@@ -41,7 +41,7 @@ function showNotice(text, parts) {
 
 const isWrong = (head) => !isPatch(head) && head.kind !== "saved" && head.kind !== "ended";
 
-// What is said of a request that came to nothing.
+// What is said about a request that failed.
 function wrongOf(head) {
   switch (head.kind) {
     case "refused": return head.message.replace(/^cave: change:\d+: /, "");

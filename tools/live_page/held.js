@@ -1,4 +1,4 @@
-// The walk of the held log: what the server tells of it is put in, line by line.
+// The walk of the held log: what the server sends of it is put in, line by line.
 
 const held = walks[0];
 const NUMBERED = ["from", "to", "turns", "score", "lamp", "draws", "stream"];

@@ -3,7 +3,7 @@
 
 const near = make("div", { id: "near", role: "group", "aria-label": "From here" });
 
-// The ways that lead from a place, each with where to and by which motions.
+// The ways that lead from a place, each with where it leads and by which motions.
 function waysFrom(place) {
   return Object.entries(data.live.motions).flatMap(([name, [there, back]]) => {
     const [from, to] = name.split(".").map(Number);

@@ -6,8 +6,8 @@ const FIRST_LINES = 400; // that are shown before all others have come
 
 // ---- reading
 
-// Reads events, each a line of JSON with lines of a walk after it. `onPart` has what came of one
-// that is long, and `onWhole` gives the rest.
+// Reads events, each a line of JSON with lines of a walk after it. `onPart` gets what has arrived
+// of a long one, and `onWhole` gives the rest.
 async function readEvents(response, onPart, onWhole) {
   const events = [];
   let [rest, event] = ["", null];

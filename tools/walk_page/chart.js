@@ -43,8 +43,8 @@ function ticks(low, high, count) {
 
 // ---- lines of the chart
 
-// The points of a column, one a pixel and no more: the last of those that share a pixel, and the
-// least and the greatest of them.
+// The points of a column, at most one a pixel: the last of those that share a pixel, and the least
+// and the greatest of them.
 function pointsOf(it, column, from, until = last(it)) {
   const points = [];
   let bucket = null;

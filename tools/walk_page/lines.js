@@ -1,4 +1,4 @@
-// The transcript: lines are drawn in blocks, those in sight and some around them alone.
+// The transcript: lines are drawn in blocks, only those in sight and some around them.
 
 const list = byId("lines");
 const BLOCK = 25;

@@ -32,8 +32,8 @@ function firstsOf(it) {
   return found;
 }
 
-// A way that the map says was taken, and places that it says were seen, by no line alone: they are
-// seen as soon as all around them is.
+// A way that the map says was taken, and places that it says were seen, although no single line
+// shows it: they are seen as soon as all around them is.
 function addForced(first) {
   for (let round = 0; round < 3; round += 1) {
     for (const [name, [group]] of ways) {
@@ -154,7 +154,7 @@ function glideTo(x, y, width) {
   glide = requestAnimationFrame(step);
 }
 
-// The place of the line, or the last one before it where a death has left the player at none.
+// The place of the line, or the last one before it if a death has left the player at none.
 function placeInView() {
   let { at } = now;
   while (at > 0 && !placeAt(walk(), at)) at -= 1;

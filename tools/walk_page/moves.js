@@ -259,7 +259,7 @@ function showParting() {
   byId("other").replaceChildren("Look at ", name.cloneNode(true));
 }
 
-// Where the walks part, and what both come to.
+// Where the walks part, and what both lead to.
 function partingFrom(name) {
   if (!data.parting) return ["Plays as ", name, " does."];
   const line = (it) => make("code", {}, it.lines[sharedOf(it)] ?? "its end");

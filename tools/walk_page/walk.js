@@ -60,7 +60,7 @@ const unpackMove = ([object, first, second]) =>
 if (data.opening.moves) data.opening.moved = data.opening.moves.map(unpackMove);
 for (const it of walks) if (it.hands) unpackObjects(it);
 
-// The lines at which a walk comes to each place.
+// The lines at which a walk reaches each place.
 function visitsOf(it) {
   const visits = new Map();
   const note = (place, at) => visits.set(place, [...(visits.get(place) ?? []), at]);
@@ -74,7 +74,7 @@ function visitsOf(it) {
 
 for (const it of walks) it.visits = visitsOf(it);
 
-// How many lines of a walk are before the two part, or null where they don't; and before they come
+// How many lines of a walk are before the two part, or null if they don't; and before they come
 // together again.
 const sharedOf = (it) => data.parting && data.parting[walks.indexOf(it)];
 const metOf = (it) => (data.meeting ? data.meeting[walks.indexOf(it)] : Infinity);
