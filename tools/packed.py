@@ -109,7 +109,7 @@ class Build:
 
     @cached_property
     def packed(self) -> bytes:
-        """The program as it is packed, without its symbols."""
+        """The program as it is packed, without its symbols, which lintian takes for an error."""
         if self.keeps_symbols:
             return self.built
         with tempfile.NamedTemporaryFile() as file:

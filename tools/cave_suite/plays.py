@@ -113,6 +113,7 @@ def all_played(program: str, logs: Sequence[Log], seconds: float, jobs: int,
     if min(jobs, len(logs)) == 1:
         yield map(do, range(len(logs)))
         return
+    # Processes, since only one thread of a Python process can begin a program at a time.
     context = get_context("fork")
     ends: list[Connection] = []
     processes = []
