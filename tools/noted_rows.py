@@ -6,7 +6,7 @@ the table is one of `BY_CASES`.
 
 On a page such a table stands right below a line with its name, in bold, and a comment with the
 names of its definitions. One that is two tables has both names. The rows of all tables begin with
-their numbers. The rows of a short table may be sentences instead: `1: WHEN → WHAT.`
+their numbers. The rows of a short table may be a list instead: `1. WHEN → WHAT.`
 """
 
 import re
@@ -17,7 +17,7 @@ Place = namedtuple("Place", "order labels")
 
 PAGES = ("docs/TURN.md", "docs/PLAY.md", "docs/VERBS.md")
 SHOWN = re.compile(
-    r"^(?:((?:\*\*[^*]+\*\*(?:, )?)+) )?<!-- rows: (.*) -->\n(1: (?:.+\n)+|(?:^\|.*\n)*)",
+    r"^(?:((?:\*\*[^*]+\*\*(?:, )?)+) )?<!-- rows: (.*) -->\n(1\. (?:.+\n)+|(?:^\|.*\n)*)",
     re.MULTILINE,
 )
 NOTED = re.compile(r"\b(?:noted|noted_from|by_table) table\.(\w+) (?:\d+ )?\(?(\w+)")
@@ -29,17 +29,17 @@ BY_CASES = {"Questions": "tell_question", "Yes": "answers_to", "No": "answers_to
 def tables_shown(text):
     """For each table of rules of a page, its labels, the names of its definitions, and its rows."""
     for labels, names, table in SHOWN.findall(text):
-        if table.startswith("1: "):
-            rows = [sentence(it) for it in re.split(r"^(?=\d+: )", table, flags=re.MULTILINE)[1:]]
+        if table.startswith("1. "):
+            rows = [listed(it) for it in re.split(r"^(?=\d+\. )", table, flags=re.MULTILINE)[1:]]
         else:
             rows = [row.strip()[1:-1].split("|") for row in table.splitlines()[2:]]
         cells = [[cell.strip() for cell in row] for row in rows]
         yield re.findall(r"\*\*([^*]+)\*\*", labels), names.split(), cells
 
 
-def sentence(row):
-    """The cells of a row that is a sentence."""
-    number, _, said = " ".join(row.split()).partition(": ")
+def listed(row):
+    """The cells of a row that is an item of a list."""
+    number, _, said = " ".join(row.split()).partition(". ")
     when, _, what = said.partition(" → ")
     return [number, when, what.removesuffix(".")]
 

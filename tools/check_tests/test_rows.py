@@ -42,16 +42,16 @@ def lamp_shown(*rows, name="**the lamp**"):
 
 LAMP = lamp_shown(f"1 | {LOW}", f"2 | {NO_OIL}", f"3 {GLOW}")
 FILLING = f"**the oil** <!-- rows: fill_rows -->\n{HEAD}| 1 | | it is filled |\n\n"
-FILLED = "**the oil** <!-- rows: fill_rows -->\n1: always →\nit is filled.\n\n"
+FILLED = "**the oil** <!-- rows: fill_rows -->\n1. always →\nit is filled.\n\n"
 LAMP_IN_WORDS = (
-    "**the lamp** <!-- rows: lamp_rows -->\n1: LAMP is low → `lamp-low`, `lamp-dead`.\n"
-    "2: OIL is low → `lamp-low`.\n3: otherwise → it glows.\n\n"
+    "**the lamp** <!-- rows: lamp_rows -->\n1. LAMP is low → `lamp-low`, `lamp-dead`.\n"
+    "2. OIL is low → `lamp-low`.\n3. otherwise → it glows.\n\n"
 )
 TABLES = {
     f"{LAMP}{FILLING}": "",
     f"{LAMP}{FILLED}": "",
     f"{LAMP_IN_WORDS}{FILLED}": "",
-    LAMP + FILLED.replace("1:", "2:"): "fill_rows has 1 rows, and the page shows 0",
+    LAMP + FILLED.replace("1. ", "2. "): "fill_rows has 1 rows, and the page shows 0",
     lamp_shown(f"1 | {LOW}", f"2 {GLOW}"): "lamp_rows has 3 rows, and the page shows 2",
     LAMP.replace("lamp_rows", "wick_rows"): "wick_rows is no table of rows",
     HEAD: "lamp_rows has rows that no page shows",
