@@ -7,7 +7,7 @@ import os
 
 from selenium.webdriver.common.keys import Keys
 
-from live_checks import LOG, TOUR, Checks, edit_line, lines_of, page_is, tour
+from live_checks import LOG, TOUR, TYPED, Checks, edit_line, lines_of, page_is, tour
 from live_window import Window
 from served import SHOAL, TOP, Served
 
@@ -100,6 +100,22 @@ def leaving(window: Window, program: str) -> Checks:
         window.run("list.focus(); go(4)")
         yield "a server that ended", window.wait("return wire.isEnded"), True
         yield "is said", "ended" in window.text("#notice"), True
+    yield from lost(window, program)
+
+
+def lost(window: Window, program: str) -> Checks:
+    """A line that is typed as the server ends isn't lost."""
+    with tour(program) as server:
+        window.open(server.address)
+        window.run("list.focus(); go(4)")
+        window.press(Keys.ENTER)
+        window.retype("look")
+        server.end()
+        window.press(Keys.ENTER)
+        yield "a line for a server that ended stays", window.run(TYPED), "look"
+        yield "and what is wrong is said at it", "ended" in window.text("#typed-wrong"), True
+        yield "the log is as it was", window.run(LOG), lines_of(TOUR)
+        window.press(Keys.ESCAPE)
 
 
 def asks(window: Window) -> bool:
@@ -135,7 +151,7 @@ def quick(window: Window, program: str, count: int, most: float) -> Checks:
         window.open(server.address)
         window.wait("return held.lines.length === arguments[0]", count)
         for at in (count // 2, count // 4, count - 20):
-            for text in ("look", "inventory"):
+            for text in ("read lamp", "wave lamp"):  # which no line of the log is
                 window.run("list.focus(); performance.clearMeasures('shown'); go(arguments[0])", at)
                 window.press(Keys.ENTER)
                 window.retype(text)

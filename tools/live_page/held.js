@@ -87,9 +87,7 @@ function countAgain() {
 // Each object that is somewhere once `at` lines are played, with its places: 0 is nowhere, and -1
 // in the hands.
 function thingsAt(at) {
-  const things = new Map();
-  const note = (moved) => moved.forEach((it) => things.set(it.object, it));
-  note(data.opening.moved);
-  for (let row = 0; row < at; row += 1) if (held.moved[row].length) note(held.moved[row]);
-  return things;
+  const lastMove = (moves) => moves.findLast((it) => it.at <= at)?.thing;
+  const things = [...movesOf(held)].map(([object, moves]) => [object, lastMove(moves)]);
+  return new Map(things.filter(([, thing]) => thing));
 }

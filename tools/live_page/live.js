@@ -34,28 +34,50 @@ function landing() {
   return now.at > first ? now.at + shift : now.at;
 }
 
-function showPatch(head, { isWhole }) {
+// Shows what is otherwise by a patch: the lines after one and up to another, and once all lines are
+// there, what follows from them.
+function showPatch(head, after, until, isWhole) {
   markReplayed(head);
   byId("notice").hidden = true;
   const at = Math.max(Math.min(landing(), last(held)), 0);
   const { first, shift } = endsAlike();
   if (!wire.isAsking && editor.at > first) editor.at = Math.max(editor.at + shift, 0);
-  showAgain(at, isWhole);
+  const isMoved = head.until !== head.was || Boolean(head.turns);
+  showAgain(at, () => {
+    drawAgain(head.opening ? -1 : after, until, isMoved);
+    if (isWhole) drawWhole();
+  });
   if (isWhole) showTold(head);
   stopClock(head);
 }
 
-// Shows the walk as it is now, with the line that is looked at where it was on the screen. The
-// chart waits until all lines are there.
-function showAgain(at, isWhole = true) {
+function drawWhole() {
+  showSum();
+  findAll();
+  drawChart();
+}
+
+// Draws the lines again that are after one, and up to another; and where later lines have another
+// place or turn, those of them that are drawn.
+function drawAgain(after, until, isMoved) {
+  fitBlocks();
+  const [first, final] = [after + 1, until].map((at) => Math.floor(at / BLOCK));
+  blocks.slice(first).forEach((block, row) => {
+    if (first + row <= final || (isMoved && block.isFull)) redrawBlock(block);
+  });
+  const size = last(held) + 1;
+  for (const it of list.querySelectorAll("[data-at]")) it.setAttribute("aria-setsize", size);
+}
+
+// Shows the walk as it is now, with the line that is looked at where it was on the screen.
+function showAgain(at, drawLines) {
   const anchorAt = Math.min(now.at, at);
   const row = byId(`line-${anchorAt}`);
   const before = row ? topOf(row) : null;
   const caret = document.activeElement === typedField ? typedField.selectionStart : -1;
   editor.isMoving = true;
   now.at = at;
-  if (isWhole) begin();
-  else makeBlocks();
+  drawLines();
   go(at, false);
   const after = byId(`line-${anchorAt}`);
   if (before !== null && after) {
@@ -69,6 +91,21 @@ function showAgain(at, isWhole = true) {
     typedField.setSelectionRange(caret, caret);
   }
   editor.isMoving = false;
+}
+
+// Does what a change does once before the first of them, without one, so that it is quick then: the
+// browser has prepared by then all that it runs, and laid out all that it draws.
+function rehearse() {
+  if (told.before || wire.isAsking || editor.isOpen || !last(held)) return;
+  const at = Math.max(now.at, 1);
+  keepCurve({ from: at - 1, until: at, was: at });
+  countAgain();
+  drawAgain(at - 1, at, false);
+  drawWhole();
+  otherwise({ from: at - 1, until: at, score: told.before.final, facts: { gone: [], come: [] } });
+  told.before = null;
+  under.score = [];
+  drawChart();
 }
 
 // What each event says of the log as a whole.
@@ -146,7 +183,8 @@ const EDIT_KEYS = [["Enter", "types over the line; then makes a line below"],
 function buildPage() {
   document.querySelector("header").append(liveTools());
   document.querySelector("header").after(make("p", { id: "notice", role: "alert", hidden: "" }),
-    make("div", { id: "told", role: "status", hidden: "" }));
+    make("div", { id: "told", role: "status" },
+      "Type over a line. What becomes of the rest is said here."));
   document.querySelector("#keys dl").prepend(...EDIT_KEYS.flatMap(([key, what]) =>
     [make("dt", {}, make("kbd", {}, key)), make("dd", {}, what)]));
   const on = (id, kind, call) => byId(id).addEventListener(kind, call);
@@ -196,4 +234,7 @@ onShown.push(showChosen, showNear);
 new MutationObserver((changed) => {
   if (changed.some((it) => it.target.matches?.(".block"))) decorate();
 }).observe(list, { childList: true, subtree: true });
-ask("GET", "walk").then(listen);
+ask("GET", "walk").then(() => {
+  listen();
+  requestIdleCallback(rehearse);
+});

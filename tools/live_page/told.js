@@ -9,7 +9,8 @@ const MOST_LETTERS = 90;
 
 function keepCurve(head) {
   const { score, said, lines, happened } = held;
-  told.before = { score, said, lines, happened: { ...happened },
+  told.before = { score, said, lines, happened: { ...happened }, first: head.from,
+    tail: lines.length - head.was,
     ended: word(held, "ended", last(held)), final: figure(held, "score", last(held)) };
   under.score = score;
   const shift = head.until - head.was;
@@ -19,11 +20,12 @@ function keepCurve(head) {
   };
 }
 
-// How many lines at both ends are as they were, and how many more lines there are.
+// How many lines at both ends are as they were, and how many more lines there are. No line before
+// those that were replayed is another one, and none after them.
 function endsAlike() {
   const [old, after] = [told.before.lines, held.lines];
   const least = Math.min(old.length, after.length);
-  let [first, tail] = [0, 0];
+  let { first, tail } = told.before;
   while (first < least && old[first] === after[first]) first += 1;
   while (tail < least - first && old.at(-1 - tail) === after.at(-1 - tail)) tail += 1;
   return { first, tail, shift: after.length - old.length };
@@ -44,7 +46,7 @@ function shortly(text) {
   return first.length > MOST_LETTERS ? `${first.slice(0, MOST_LETTERS - 1)}\u2026` : first;
 }
 
-const grouped = (number) => number.toLocaleString("en");
+const grouped = (number) => String(number).replace(/\B(?=(\d{3})+$)/g, ",");
 const quoted = (at) =>
   `at ${inLog(at)} ${held.lines[at - 1]}: \u201c${shortly(saidAt(held, at))}\u201d`;
 
@@ -124,7 +126,6 @@ function showTold(head) {
     parts.push(" ", make("details", named, summary, make("ul", {}, ...list)));
   }
   byId("told").replaceChildren(...parts);
-  byId("told").hidden = false;
 }
 
 // ---- marks

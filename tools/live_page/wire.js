@@ -102,7 +102,7 @@ function showPart(head, raw) {
   if (!isPart) return false;
   keepCurve(head);
   putLines(head.from, raw.length - shift, parsed(raw));
-  showPatch(head, { isWhole: false });
+  showPatch(head, head.from, head.from + raw.length, false);
   return true;
 }
 
@@ -128,8 +128,8 @@ function showWhole(head, lines) {
   putLines(0, held.lines.length, rest);
   countAgain();
   changes.list = head.list;
-  if (!goByAddress()) showAgain(Math.min(now.at, last(held)));
-  else showAgain(now.at);
+  if (!goByAddress()) showAgain(Math.min(now.at, last(held)), begin);
+  else showAgain(now.at, begin);
 }
 
 function putPatch(head, lines, shown) {
@@ -144,5 +144,5 @@ function putPatch(head, lines, shown) {
   for (const it of others) putLines(it.place, 1, [it]);
   countAgain();
   noteChange(head);
-  showPatch(head, { isWhole: true });
+  showPatch(head, from, head.until, true);
 }

@@ -51,7 +51,7 @@ class Event:
 
 def event_text(head: dict[str, object], lines: list[bytes]) -> bytes:
     told = json.dumps({**head, "lines": len(lines)}, ensure_ascii=True, separators=(",", ":"))
-    return b"".join(it + b"\n" for it in (told.encode(), *lines))
+    return b"\n".join([told.encode(), *lines, b""])
 
 
 @dataclass

@@ -9,7 +9,8 @@ REPORT = re.compile(
     r"^line \d+: ok, from (?P<start>\d+), met (?P<met>\d+|none), played (?P<played>\d+) of"
     r" (?P<count>\d+), score (?P<score>-?\d+) of (?P<most>\d+), turns (?P<turns>\d+), at \d+"
     r"(?:, ended: (?P<ended>[a-z ]+))?", re.MULTILINE)
-PLACE, TURNS = re.compile(rb'\{"place":\d+,'), re.compile(rb',"turns":(\d+),')
+TURNS, TURNS_KEY = re.compile(rb',"turns":(\d+),'), b',"turns":'
+DIGITS = b"0123456789"
 
 
 class Unread(Exception):
@@ -60,9 +61,10 @@ def turns_of(line: bytes) -> int:
     return int(found[1])
 
 
-def beside_its_numbers(line: bytes) -> bytes:
-    """A line of a walk without its place and its turns."""
-    return TURNS.sub(b"", PLACE.sub(b"", line, count=1), count=1)
+def beside_its_numbers(line: bytes) -> tuple[bytes, bytes]:
+    """A line of a walk without its place, which is before its first comma, and its turns."""
+    before, _, after = line.partition(TURNS_KEY)
+    return before.lstrip(b'{"place":' + DIGITS), after.lstrip(DIGITS)
 
 
 def facts_of(said: bytes) -> list[str]:

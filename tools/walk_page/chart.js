@@ -3,7 +3,7 @@
 const chart = byId("chart");
 const EDGES = { left: 40, right: 40, top: 12, bottom: 20 };
 const MARKED = ["treasure found", "treasure home", "hint", "closing", "closed", "died"];
-const scale = {};
+const scale = { width: 0, height: 0 }; // until they are measured, and again after each change
 // A score that is drawn under that of the walk, and the line at which each of its lines is; a page
 // that changes its walk has here how it was before.
 const under = { score: [], lineOf: (at) => at };
@@ -16,8 +16,10 @@ const most = (column, start) => walks.reduce((high, it) =>
   it[column].reduce((a, b) => Math.max(a, b), high), start);
 
 function setScale() {
-  const box = chart.getBoundingClientRect();
-  Object.assign(scale, { width: Math.max(box.width, 200), height: Math.max(box.height, 80) });
+  if (!scale.width) {
+    const box = chart.getBoundingClientRect();
+    Object.assign(scale, { width: Math.max(box.width, 200), height: Math.max(box.height, 80) });
+  }
   scale.lines = Math.max(...walks.map((it) => columnOf(it, last(it))), 1);
   scale.score = [0, under.score.reduce((a, b) => Math.max(a, b), most("score", 10)) * 1.08];
   scale.lamp = [least("lamp", 0), most("lamp", 10) * 1.08];
@@ -43,15 +45,15 @@ function ticks(low, high, count) {
 
 // ---- lines of the chart
 
-// The points of a column, at most one a pixel: the last of those that share a pixel, and the least
-// and the greatest of them.
-function pointsOf(it, column, from, until = last(it)) {
+// The points of the figures of lines, at most three at a half of a pixel: the last of those that
+// share it, and the least and the greatest of them.
+function pointsOf(figures, columnAt, from = 1, until = figures.length) {
   const points = [];
   let bucket = null;
   const end = () => bucket && points.push(...[...new Set([bucket.low, bucket.high, bucket.last])]
     .map((value) => [bucket.x, value]));
   for (let at = Math.max(from, 1); at <= until; at += 1) {
-    const [x, value] = [Math.round(xIn(it, at) * 2) / 2, it[column][at - 1]];
+    const [x, value] = [Math.round(xOf(columnAt(at)) * 2) / 2, figures[at - 1]];
     if (!bucket || bucket.x !== x) {
       end();
       bucket = { x, low: value, high: value, last: value };
@@ -64,13 +66,16 @@ function pointsOf(it, column, from, until = last(it)) {
   return points;
 }
 
+const pointsIn = (it, name, from, until) =>
+  pointsOf(it[name], (at) => columnOf(it, at), from, until);
+
 function stairs(points, range) {
   const rows = points.map(([x, value]) => [x, yOf(value, range).toFixed(1)]);
   return rows.map(([x, y], at) => (at ? `H${x}V${y}` : `M${x},${y}`)).join("");
 }
 
 function scorePath(it, from, until) {
-  return stairs(pointsOf(it, "score", from, until), scale.score);
+  return stairs(pointsIn(it, "score", from, until), scale.score);
 }
 
 const SHAPES = {
@@ -84,7 +89,10 @@ const SHAPES = {
 
 function marksOf(it) {
   const marks = [];
+  const isOne = it.happened.words.map((words) =>
+    words.split(",").some((name) => MARKED.includes(name)));
   for (let at = 1; at <= last(it); at += 1) {
+    if (!isOne[it.happened.rows[at - 1]]) continue;
     for (const event of eventsAt(it, at).filter((name) => MARKED.includes(name))) {
       if (it !== walk() && isShared(at, it)) continue;
       const [x, y] = [xIn(it, at), yOf(it.score[at - 1], scale.score)];
@@ -119,9 +127,9 @@ function axes() {
 function drawChart() {
   setScale();
   const path = (name, d) => draw("path", { class: name, d });
-  const mine = pointsOf(walk(), "score", 1);
+  const mine = pointsIn(walk(), "score");
   const foot = yOf(0, scale.score);
-  const lamp = pointsOf(walk(), "lamp", 1)
+  const lamp = pointsIn(walk(), "lamp")
     .map(([x, value], at) => `${at ? "L" : "M"}${x},${yOf(value, scale.lamp).toFixed(1)}`).join("");
   const parts = [...axes()];
   if (mine.length) {
@@ -129,8 +137,7 @@ function drawChart() {
   }
   parts.push(path("lamp", lamp));
   if (under.score.length) {
-    const points = under.score.map((score, at) => [xOf(under.lineOf(at + 1)), score]);
-    parts.push(path("score before", stairs(points, scale.score)));
+    parts.push(path("score before", stairs(pointsOf(under.score, under.lineOf), scale.score)));
   }
   if (data.parting) {
     for (const at of [sharedOf(walk()), metOf(walk())]) {
@@ -231,7 +238,8 @@ function factsOf(at) {
   if (!at) return facts;
   const happened = eventsAt(walk(), at).join(", ");
   const [question, ended] = ["question", "ended"].map((name) => word(walk(), name, at));
-  facts.push(["At", `${inLog(at)}, of ${last(walk())} lines`], ["Turn", String(figure(walk(), "turns", at))],
+  facts.push(["At", `${inLog(at)}, of ${last(walk())} lines`],
+    ["Turn", String(figure(walk(), "turns", at))],
     ["Score", scoreFact(), "wide"],
     ["Lamp", String(figure(walk(), "lamp", at)), "wide"],
     ["Carried", listed(carriedAt(walk(), at)), "wide"],

@@ -2,6 +2,7 @@
 
 const list = byId("lines");
 const BLOCK = 25;
+const SHELF = 40; // blocks that are laid out together, so that the others aren't when one changes
 const BETWEEN_TEXTS = 36; // pixels of a line of the log without what was said, as is guessed
 const OF_A_TEXT = 21;
 let blocks = [];
@@ -52,30 +53,49 @@ function lineAt(at) {
 
 // ---- blocks of lines
 
-function guessedHeight(from, to) {
+// The line after those of a block.
+const endOf = (block) => Math.min(block.from + BLOCK, last(walk()) + 1);
+
+function guessHeight(block) {
   let height = 0;
-  for (let at = from; at < to; at += 1) {
+  for (let at = block.from; at < endOf(block); at += 1) {
     height += BETWEEN_TEXTS + OF_A_TEXT * linesSaid(walk(), at).length;
   }
-  return height;
+  block.box.style.height = `${height}px`;
+}
+
+function addBlock() {
+  const isFirst = blocks.length % SHELF === 0;
+  if (isFirst) list.append(make("div", { class: "shelf", role: "presentation" }));
+  const box = make("div", { class: "block", role: "presentation" });
+  list.lastElementChild.append(box);
+  blocks.push({ box, from: blocks.length * BLOCK, isFull: false });
+}
+
+function dropBlock() {
+  blocks.pop().box.remove();
+  if (!list.lastElementChild.childElementCount) list.lastElementChild.remove();
+}
+
+// As many blocks as the lines take.
+function fitBlocks() {
+  const count = Math.floor(last(walk()) / BLOCK) + 1;
+  while (blocks.length > count) dropBlock();
+  while (blocks.length < count) addBlock();
 }
 
 function makeBlocks() {
   blocks = [];
-  for (let from = 0; from <= last(walk()); from += BLOCK) {
-    const to = Math.min(from + BLOCK, last(walk()) + 1);
-    const box = make("div", { class: "block", role: "presentation" });
-    box.style.height = `${guessedHeight(from, to)}px`;
-    blocks.push({ box, from, to, isFull: false });
-  }
-  list.replaceChildren(...blocks.map((it) => it.box));
+  list.replaceChildren();
+  fitBlocks();
+  blocks.forEach(guessHeight);
 }
 
 function fillBlock(block) {
   if (block.isFull) return;
   block.isFull = true;
   const made = [];
-  for (let at = block.from; at < block.to; at += 1) made.push(lineAt(at));
+  for (let at = block.from; at < endOf(block); at += 1) made.push(lineAt(at));
   block.box.replaceChildren(...made);
   block.box.style.height = "";
 }
@@ -121,13 +141,13 @@ function showBlocks() {
   if (held?.isConnected) list.scrollTop += topOf(held) - before;
 }
 
-function redrawBlocks() {
-  for (const block of blocks) {
-    if (!block.isFull) continue;
-    block.isFull = false;
-    fillBlock(block);
-  }
+function redrawBlock(block) {
+  if (!block.isFull) return guessHeight(block);
+  block.isFull = false;
+  return fillBlock(block);
 }
+
+const redrawBlocks = () => blocks.filter((it) => it.isFull).forEach(redrawBlock);
 
 // ---- the line that is looked at
 

@@ -4,6 +4,7 @@ const drawing = byId("drawing");
 const TRAIL = 10;
 const whole = drawing.dataset.whole.split(" ").map(Number);
 const sight = { x: 0, y: 0, width: 0, isWhole: false };
+const MOST_PLACES = 2 ** 26; // more than a number of a place can be
 const READABLE = 1.12; // pixels of a unit, ten of which are a letter
 const places = new Map();
 const ways = new Map();
@@ -24,9 +25,12 @@ for (const group of drawing.querySelectorAll("[data-way]")) {
 function firstsOf(it) {
   const found = { places: new Map(), ways: new Map() };
   for (const [place, visits] of it.visits) found.places.set(place, visits[0]);
-  for (let at = last(it); at > 0; at -= 1) {
+  const taken = new Set();
+  for (let at = 1; at <= last(it); at += 1) {
     const [from, to] = [it.from[at - 1], it.to[at - 1]];
-    if (from === to) continue;
+    const way = Math.min(from, to) * MOST_PLACES + Math.max(from, to);
+    if (from === to || taken.has(way)) continue;
+    taken.add(way);
     for (const name of [`${from}.${to}`, `${to}.${from}`]) found.ways.set(name, at);
   }
   return found;
@@ -123,8 +127,11 @@ function showTrails() {
 // ---- what is in sight
 
 const size = () => drawing.getBoundingClientRect();
-const heightOf = (width) => (width * size().height) / Math.max(size().width, 1);
-const wholeWidth = () => Math.max(whole[2], (whole[3] * size().width) / Math.max(size().height, 1));
+let room = null; // the width and height, which are measured once, and again after each change
+const roomNow = () => (room ??= size());
+const heightOf = (width) => (width * roomNow().height) / Math.max(roomNow().width, 1);
+const wholeWidth = () =>
+  Math.max(whole[2], (whole[3] * roomNow().width) / Math.max(roomNow().height, 1));
 
 function look(x, y, width) {
   sight.width = Math.min(Math.max(width, 120), wholeWidth());

@@ -60,20 +60,24 @@ const lowered = (text) => text.toLowerCase().replaceAll("\n", " ");
 
 function lookFor(text) {
   search.wanted = lowered(text);
-  search.found = [];
-  if (search.wanted) {
-    const has = new Map();
-    const isIn = (at) => {
-      const said = walk().said[at];
-      if (!has.has(said)) has.set(said, lowered(saidAt(walk(), at)).includes(search.wanted));
-      return has.get(said);
-    };
-    for (let at = 0; at <= last(walk()); at += 1) {
-      const line = at ? lowered(walk().lines[at - 1]) : "";
-      if (line.includes(search.wanted) || isIn(at)) search.found.push(at);
-    }
-  }
+  findAll();
   redrawBlocks();
+}
+
+// The lines that have what is looked for, in themselves or in what was said.
+function findAll() {
+  search.found = [];
+  if (!search.wanted) return;
+  const has = new Map();
+  const isIn = (at) => {
+    const said = walk().said[at];
+    if (!has.has(said)) has.set(said, lowered(saidAt(walk(), at)).includes(search.wanted));
+    return has.get(said);
+  };
+  for (let at = 0; at <= last(walk()); at += 1) {
+    const line = at ? lowered(walk().lines[at - 1]) : "";
+    if (line.includes(search.wanted) || isIn(at)) search.found.push(at);
+  }
 }
 
 function goToMatch(step, isFromHere = false) {
@@ -287,13 +291,20 @@ function showTable() {
     make("tbody", {}, ...rows.map((row) => make("tr", {}, ...cells("td", row)))));
 }
 
+// What is said of a walk as a whole, and the places that it visits.
+function showSum() {
+  byId("sum").textContent = walk().sum.replace(/^-- /, "");
+  const visited = [...walk().visits.keys()].filter(Boolean).sort((a, b) => a - b).join();
+  if (byId("visited").dataset.places === visited) return;
+  byId("visited").dataset.places = visited;
+  byId("visited").replaceChildren(...visited.split(",").filter(Boolean).map((place) =>
+    make("option", { value: place }, `${place} ${titleOf(place)}`)));
+}
+
 function begin() {
   const kind = walks[1] ? colour(walk()) : "";
   byId("name").replaceChildren(make("span", { class: kind }, walk().name));
-  byId("sum").textContent = walk().sum.replace(/^-- /, "");
-  const visited = [...walk().visits.keys()].filter(Boolean).sort((a, b) => a - b);
-  byId("visited").replaceChildren(...visited.map((place) =>
-    make("option", { value: place }, `${place} ${titleOf(place)}`)));
+  showSum();
   showParting();
   showTable();
   makeBlocks();
@@ -306,8 +317,12 @@ function lookAtFirst() {
   else lookReadably();
 }
 
-new ResizeObserver(drawChart).observe(chart);
 new ResizeObserver(() => {
+  scale.width = 0;
+  drawChart();
+}).observe(chart);
+new ResizeObserver(() => {
+  room = null;
   if (sight.isWhole) lookAtWhole();
   else look(sight.x, sight.y, Math.min(size().width / READABLE, sight.width));
 }).observe(drawing);
