@@ -93,13 +93,13 @@ def by_keys(window: Window, program: str) -> Checks:
         window.retype("")
         yield "an empty line is still there", window.run("return held.lines.length"), 22
         window.press(Keys.BACKSPACE)
+        yield "lines are marked", max(window.run(MARKED), default=0) > 9, True
         yield "Backspace takes it out", window.run(LOG)[9], "se"
         yield "the line above is typed over", window.run(TYPED), "nw"
         yield "score", "Score 59 in place of 73" in window.text("#otherwise"), True
         yield "the vase", "VASE: at 3, fixed, prop 2" in window.text("#otherwise"), True
         yield "where it meets", window.text("#meeting").startswith("Meets nowhere: "), True
         yield "the old curve", window.run(BEFORE), 1
-        yield "lines are marked", max(window.run(MARKED), default=0) > 9, True
         yield "not saved", window.text("#unsaved"), "not saved"
         yield from page_is(window, server, "without the pillow")
         window.press(Keys.ESCAPE)
