@@ -102,11 +102,13 @@ def charts(pages):
     table = pages.printed("play", SHOAL[0], TOUR, *SHOAL[1], *SEED, "--print", "steps")
     steps, output = pages.file("tour.steps", table), f"{pages.room}/chart.svg"
     head = table.splitlines()[0]
-    for what, status, given, path in [
+    refused = [("no gnuplot", 2, steps, empty_path(pages))]
+    if shutil.which("gnuplot"):
+        refused += [
             ("no file", 5, "nowhere.steps", None), ("no steps", 2, pages.file("no.steps", "a\n"), None),
             ("a row that is short", 2, pages.file("short.steps", f"{head}\n0\tno\n"), None),
-            ("no line", 2, pages.file("head.steps", f"{head}\n"), None),
-            ("no gnuplot", 2, steps, empty_path(pages))]:
+            ("no line", 2, pages.file("head.steps", f"{head}\n"), None)]
+    for what, status, given, path in refused:
         ran = chart_of(given, output, path)
         yield f"a chart of {what}: the status", ran.returncode, status
         yield f"a chart of {what}: {ran.stderr!r}", ran.stderr.startswith("chart: "), True
