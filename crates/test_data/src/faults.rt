@@ -1,6 +1,5 @@
-//! Faults: which fault of an input is reported, and the whole text of each.
+//! Faults: the whole text of each.
 
-use crate::reading::refusal;
 use data_rows::{BindingFlaw, Cause, CaveError, FaultSite, Section};
 use std::alloc::Global;
 use std::process::Abort;
@@ -12,47 +11,6 @@ const MALFORMED: Cause = Cause::BadBinding(BindingFlaw::Malformed);
 const BAD_VALUE: Cause = Cause::BadBinding(BindingFlaw::BadValue);
 /// A key was bound before.
 const REPEATED: Cause = Cause::BadBinding(BindingFlaw::Repeated);
-
-/// A database and bindings, why they are refused and at which line.
-const REFUSED: [(&[u8], &[u8], Cause, usize); 11] = [
-    (b"", b"", Cause::NoEnd, 1),
-    (b"13\n", b"foo", Cause::BadSection, 1),
-    (b"0000000001\n", b"", Cause::BadSection, 1),
-    (b"1\n-1\n4\n1000 GO\n-1\n0\n", b"", Cause::OutOfRange, 4),
-    (b"1\n1 Road.\n", b"", Cause::NoEnd, 3),
-    (b"0\n", b"# x\n\nmsg.ok\n", MALFORMED, 3),
-    (b"0\n", b"msg.ok 0000000001\n", MALFORMED, 1),
-    (b"0\n", b"num.letters 9\n", BAD_VALUE, 1),
-    (b"0\n", b"place.y2 301\n", BAD_VALUE, 1),
-    (b"0\n", b"msg.ok 1\nmsg.ok 2\n", REPEATED, 2),
-    (b"0\n", b"msg.okay 1\n", Cause::UnknownRole, 1),
-];
-
-/// Inputs with two faults on one line, the cause that is reported, and the line.
-const TWO_FAULTS: [(&[u8], &[u8], Cause, usize); 4] = [
-    (b"3\n1 3 19\n301 3 x\n-1\n0\n", b"", Cause::BadNumber, 3),
-    (b"3\n301 1000000\n-1\n0\n", b"", Cause::BadNumber, 2),
-    (b"7\n101 301 x\n-1\n0\n", b"", Cause::BadNumber, 2),
-    (b"0\n", b"msg.okay 500\n", BAD_VALUE, 1),
-];
-
-/// Expects each of the inputs to be refused for its reason.
-fn expect_refused(rt: &impl Abort, alloc: Global, inputs: &[(&[u8], &[u8], Cause, usize)]) {
-    for &(database, bindings, cause, line) in inputs {
-        let refused = refusal(alloc, database, bindings);
-        assert_eq!(rt; refused, Some((cause, line)), "at {database:?}");
-    }
-}
-
-#[test]
-fn the_first_fault_of_inputs_is_told(rt: HostRuntime) {
-    expect_refused(&rt, rt.alloc(), &REFUSED);
-}
-
-#[test]
-fn of_two_faults_on_one_line_the_lower_cause_is_told(rt: HostRuntime) {
-    expect_refused(&rt, rt.alloc(), &TWO_FAULTS);
-}
 
 /// Expects the text of a fault at this line.
 fn expect_told(

@@ -7,8 +7,6 @@ mod each_limit;
 #[cfg(test)]
 mod faults;
 #[cfg(test)]
-mod lists;
-#[cfg(test)]
 mod reading;
 #[cfg(test)]
 mod twelve;

@@ -15,7 +15,7 @@ const TWELVE: &[u8] = b"6\r\n1 Old.\r\n2 >$<\r\n-1\r\n\
 4\n3\tin\n1002\tLAMP\n-1\n\
 5\n2\tLamp\n000\tHere.\n100\tLit.\n-1\n\
 6\n1\tDone.\n1\tWell done.\n-1\n\
-7\n2\t1\t-1\n-1\n\
+7\n2\t1\t-1\n3\n4\t5\n-1\n\
 8\n1\t1\n-1\n\
 9\n0\t1\t2\n-1\n\
 10\n35\tNovice.\n-1\n\
@@ -57,9 +57,11 @@ fn ways_agree(cave: &Cave) -> bool {
     }
 }
 
-/// Whether the numbers are those of the database.
+/// Whether the numbers are those of the database: an object alone in its row is nowhere.
 fn numbers_agree(cave: &Cave) -> bool {
     cave.placement(2) == (1, -1)
+        && cave.placement(3) == (0, 0)
+        && cave.placement(4) == (5, 0)
         && cave.default_of(1) == 1
         && cave.cond(2) == 1
         && matches!(cave.hint(4), Some(hint) if hint.turns == 5 && hint.points == 6)
@@ -91,15 +93,6 @@ fn expect_twelve(rt: &impl Abort, cave: &Cave) {
 fn twelve_sections_are_read_through_each_getter(rt: HostRuntime) -> Result<(), Fail> {
     let cave = read(rt.alloc(), TWELVE, BINDINGS)?;
     expect_twelve(&rt, &cave);
-    drop(cave);
-    Ok(())
-}
-
-#[test]
-fn an_object_alone_in_its_row_is_nowhere(rt: HostRuntime) -> Result<(), Fail> {
-    let cave = read(rt.alloc(), b"7\n2\n3 5\n-1\n0\n", b"")?;
-    assert_eq!(rt; cave.placement(2), (0, 0));
-    assert_eq!(rt; cave.placement(3), (5, 0));
     drop(cave);
     Ok(())
 }
