@@ -1,3 +1,4 @@
 pub mod Falls
 pub mod Listed
 pub mod Near
+pub mod Numbered

@@ -10,6 +10,7 @@ pub mod dropping;
 pub mod feeding;
 pub mod finding;
 pub mod killing;
+pub mod laws;
 pub mod light;
 pub mod magic;
 pub mod next;

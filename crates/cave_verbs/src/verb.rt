@@ -36,7 +36,7 @@ pub enum Verb {
 }
 
 /// Each verb.
-pub const EACH_VERB: [Verb; 28] = [
+const EACH_VERB: [Verb; 28] = [
     Verb::Take,
     Verb::Drop,
     Verb::Say,
