@@ -2,7 +2,7 @@ ghost use Rattle.std.specs.Prelude.{◌≡◌, ◌<◌, ◌-ℤ◌, not, pos, []
 ghost use Rattle.std.specs.Ordering.{int_eq};
 ghost use Rattle.turn_scene.specs.Bounds.{HasRoom};
 ghost use Rattle.cave_verbs.specs.declared.next.Next.TheVariants.{Stay};
-ghost use Rattle.cave_verbs.specs.Rows.{DoneByRows};
+ghost use Rattle.cave_verbs.specs.Rows.{DoneByRows, noted_after};
 ghost use Rattle.turn_scene.specs.Rows.{Does, by_table, noted};
 ghost use Rattle.turn_scene.specs.Effects.{move};
 ghost use Rattle.turn_scene.specs.Tests.{home_of};
@@ -92,6 +92,53 @@ fn send_eggs_home<N: RowNotes>(
     Next::Stay
 }
 
+/// The eggs go home, and a troll that went away with them comes back for them.
+#[tactic(auto, unfolding(crate::specs::Magic::bare_foo_rows))]
+fn call_eggs<N: RowNotes>(rules: &Rules<'_>, command: Command, scene: &mut Scene<'_, N>) -> Next
+    requires { HasRoom 1 scene.old }
+    ensures row { DoneByRows N.rows (noted_after table.BareFoo 6 bare_foo_rows) rules.now command
+        scene.old scene.new result }
+{
+    let eggs = rules.thing(Named::Eggs);
+    let troll = rules.thing(Named::Troll);
+    let is_given_away = scene.state.is_gone(eggs)
+        && scene.state.is_gone(troll)
+        && has_prop(scene.state, troll, TROLL_CALM);
+    set_magic(scene.state, 0);
+    if is_given_away {
+        scene.note(Table::BareFoo, 7);
+        scene
+            .state
+            .objects
+            .set_prop(troll, Prop::new(TROLL_RETURNING));
+    } else {
+        scene.note(Table::BareFoo, 8);
+    }
+    send_eggs_home(rules, &command, scene)
+}
+
+/// The last of the magic words is said in its turn.
+#[tactic(auto, unfolding(crate::specs::Magic::bare_foo_rows))]
+fn say_last_word<N: RowNotes>(rules: &Rules<'_>, command: Command, scene: &mut Scene<'_, N>) -> Next
+    requires { HasRoom 1 scene.old }
+    ensures row { DoneByRows N.rows (noted_after table.BareFoo 3 bare_foo_rows) rules.now command
+        scene.old scene.new result }
+{
+    let eggs = rules.thing(Named::Eggs);
+    let row = if eggs.is_none() {
+        4
+    } else if is_at_home(rules, scene.state, eggs) {
+        5
+    } else if is_carried(rules, scene.state, eggs) && is_home_here(rules, scene.state, eggs) {
+        6
+    } else {
+        return call_eggs(rules, command, scene);
+    };
+    scene.note(Table::BareFoo, row);
+    set_magic(scene.state, 0);
+    Next::say(Role::Magic, scene)
+}
+
 /// FOO without an object.
 #[tactic(auto, unfolding(crate::specs::Magic::bare_foo_rows))]
 pub fn foo<N: RowNotes>(rules: &Rules<'_>, command: Command, scene: &mut Scene<'_, N>) -> Next
@@ -100,48 +147,18 @@ pub fn foo<N: RowNotes>(rules: &Rules<'_>, command: Command, scene: &mut Scene<'
         scene.new result }
 {
     let k = special(rules, command.word);
-    if k == 0 || is_out_of_turn(scene.state, k) {
+    let (row, role) = if k == 0 || is_out_of_turn(scene.state, k) {
         if magic_of(scene.state) == 0 {
-            scene.note(Table::BareFoo, 1);
-            return Next::say(Role::Magic, scene);
+            (1, Role::Magic)
+        } else {
+            (2, Role::FooOrder)
         }
-        scene.note(Table::BareFoo, 2);
-        return Next::say(Role::FooOrder, scene);
-    }
-    if k != 4 {
-        scene.note(Table::BareFoo, 3);
+    } else if k != 4 {
         remember(scene.state, k);
-        return Next::say(Role::Ok, scene);
-    }
-    let (eggs, troll) = (rules.thing(Named::Eggs), rules.thing(Named::Troll));
-    if eggs.is_none() {
-        scene.note(Table::BareFoo, 4);
-        set_magic(scene.state, 0);
-        return Next::say(Role::Magic, scene);
-    }
-    if is_at_home(rules, scene.state, eggs) {
-        scene.note(Table::BareFoo, 5);
-        set_magic(scene.state, 0);
-        return Next::say(Role::Magic, scene);
-    }
-    if is_carried(rules, scene.state, eggs) && is_home_here(rules, scene.state, eggs) {
-        scene.note(Table::BareFoo, 6);
-        set_magic(scene.state, 0);
-        return Next::say(Role::Magic, scene);
-    }
-    if scene.state.is_gone(eggs)
-        && scene.state.is_gone(troll)
-        && has_prop(scene.state, troll, TROLL_CALM)
-    {
-        scene.note(Table::BareFoo, 7);
-        set_magic(scene.state, 0);
-        scene
-            .state
-            .objects
-            .set_prop(troll, Prop::new(TROLL_RETURNING));
-        return send_eggs_home(rules, &command, scene);
-    }
-    scene.note(Table::BareFoo, 8);
-    set_magic(scene.state, 0);
-    send_eggs_home(rules, &command, scene)
+        (3, Role::Ok)
+    } else {
+        return say_last_word(rules, command, scene);
+    };
+    scene.note(Table::BareFoo, row);
+    Next::say(role, scene)
 }

@@ -92,40 +92,30 @@ pub fn pour<N: RowNotes>(rules: &Rules<'_>, command: Command, scene: &mut Scene<
         scene.note(Table::Pour, 3);
         return Next::say(Role::CantPour, scene);
     }
-    let bottle = rules.thing(Named::Bottle);
     let door = rules.thing(Named::Door);
-    if scene.state.at(door) {
-        scene
-            .state
-            .objects
-            .set_prop(bottle, Prop::new(BOTTLE_EMPTY));
-        if is_oil {
-            scene.note(Table::Pour, 4);
-            scene.state.objects.set_prop(door, Prop::new(DOOR_OILED));
-            return Next::say(Role::DoorOiled, scene);
-        }
-        scene.note(Table::Pour, 5);
-        scene.state.objects.set_prop(door, Prop::new(DOOR_RUSTY));
-        return Next::say(Role::DoorWet, scene);
-    }
-    if scene.state.at(rules.thing(Named::Plant)) {
-        scene
-            .state
-            .objects
-            .set_prop(bottle, Prop::new(BOTTLE_EMPTY));
-        if is_water {
-            scene.note(Table::Pour, 6);
-            return water_plant(rules, command, scene);
-        }
-        scene.note(Table::Pour, 7);
-        return Next::say(Role::PlantOil, scene);
-    }
+    let is_at_door = scene.state.at(door);
+    let is_at_plant = scene.state.at(rules.thing(Named::Plant));
+    let bottle = rules.thing(Named::Bottle);
     scene
         .state
         .objects
         .set_prop(bottle, Prop::new(BOTTLE_EMPTY));
-    scene.note(Table::Pour, 8);
-    Next::say(Role::PourGround, scene)
+    let (row, role) = if is_at_door && is_oil {
+        scene.state.objects.set_prop(door, Prop::new(DOOR_OILED));
+        (4, Role::DoorOiled)
+    } else if is_at_door {
+        scene.state.objects.set_prop(door, Prop::new(DOOR_RUSTY));
+        (5, Role::DoorWet)
+    } else if is_at_plant && is_water {
+        scene.note(Table::Pour, 6);
+        return water_plant(rules, command, scene);
+    } else if is_at_plant {
+        (7, Role::PlantOil)
+    } else {
+        (8, Role::PourGround)
+    };
+    scene.note(Table::Pour, row);
+    Next::say(role, scene)
 }
 
 /// DRINK, with an object or without one.

@@ -65,48 +65,39 @@ pub fn take<N: RowNotes>(rules: &Rules<'_>, command: Command, scene: &mut Scene<
 {
     let x = command.object;
     let bottle = rules.thing(Named::Bottle);
-    if is_carried(rules, scene.state, x) {
+    let (row, role) = if is_carried(rules, scene.state, x) {
         scene.note(Table::Take, 1);
         return VerbStep::Done(command.say_default(rules, scene));
-    }
-    if is_fixed(scene.state, x) {
+    } else if is_fixed(scene.state, x) {
         let bear = rules.thing(Named::Bear);
         if rules.is(x, Named::Plant) && has_prop_up_to(scene.state, x, PLANT_SMALL) {
-            scene.note(Table::Take, 2);
-            return VerbStep::Done(Next::say(Role::PlantRoots, scene));
+            (2, Role::PlantRoots)
+        } else if rules.is(x, Named::Bear) && has_prop(scene.state, x, BEAR_FED) {
+            (3, Role::BearChained)
+        } else if rules.is(x, Named::Chain) && has_other_prop(scene.state, bear, BEAR_WILD) {
+            (4, Role::ChainLocked)
+        } else {
+            (5, Role::Immovable)
         }
-        if rules.is(x, Named::Bear) && has_prop(scene.state, x, BEAR_FED) {
-            scene.note(Table::Take, 3);
-            return VerbStep::Done(Next::say(Role::BearChained, scene));
-        }
-        if rules.is(x, Named::Chain) && has_other_prop(scene.state, bear, BEAR_WILD) {
-            scene.note(Table::Take, 4);
-            return VerbStep::Done(Next::say(Role::ChainLocked, scene));
-        }
-        scene.note(Table::Take, 5);
-        return VerbStep::Done(Next::say(Role::Immovable, scene));
-    }
-    if is_liquid(x, liquid(rules, scene.state)) && is_near(rules, scene.state, bottle) {
+    } else if is_liquid(x, liquid(rules, scene.state)) && is_near(rules, scene.state, bottle) {
         scene.note(Table::Take, 6);
         return VerbStep::GoOn(Verb::Take, bottle);
-    }
-    if rules.is(x, Named::Water) || rules.is(x, Named::Oil) {
+    } else if rules.is(x, Named::Water) || rules.is(x, Named::Oil) {
         if !is_carried(rules, scene.state, bottle) {
-            scene.note(Table::Take, 9);
-            return VerbStep::Done(Next::say(Role::NoBottle, scene));
-        }
-        if has_prop(scene.state, bottle, BOTTLE_EMPTY) {
+            (9, Role::NoBottle)
+        } else if has_prop(scene.state, bottle, BOTTLE_EMPTY) {
             scene.note(Table::Take, 7);
             return VerbStep::GoOn(Verb::Fill, bottle);
+        } else {
+            (8, Role::BottleFull)
         }
-        scene.note(Table::Take, 8);
-        return VerbStep::Done(Next::say(Role::BottleFull, scene));
-    }
-    if scene.state.holding() >= MAX_TAKEN {
-        scene.note(Table::Take, 10);
-        return VerbStep::Done(Next::say(Role::TooMuch, scene));
-    }
-    VerbStep::Done(take_freely(rules, command, scene))
+    } else if scene.state.holding() >= MAX_TAKEN {
+        (10, Role::TooMuch)
+    } else {
+        return VerbStep::Done(take_freely(rules, command, scene));
+    };
+    scene.note(Table::Take, row);
+    VerbStep::Done(Next::say(role, scene))
 }
 
 /// TAKE an object that isn't fixed, with hands that aren't full.

@@ -1,13 +1,16 @@
-ghost use Rattle.std.specs.Prelude.{◌≡◌, ◌≤◌, IsTrue};
+ghost use Rattle.std.specs.Prelude.{◌≡◌, ◌≤◌, [], ◌∷◌, IsTrue};
 ghost use Rattle.std.specs.List.{position};
 ghost use Rattle.turn_scene.specs.Bounds.{HasRoom, parts_of_row};
 ghost use Rattle.cave_verbs.specs.Rows.{ByRows, DoneByRows, noted_after};
-ghost use Rattle.turn_scene.specs.Scene.{cave_of};
+ghost use Rattle.turn_scene.specs.Scene.{cave_of, scene_of};
 ghost use Rattle.turn_scene.specs.Reach.{is_dwarf_at, is_dwarf_here};
 ghost use Rattle.turn_scene.specs.Parts.{with_objects};
 ghost use Rattle.world_objects.specs.Objects.{after_move_to};
 ghost use Rattle.cave_verbs.specs.declared.next.Next.TheVariants.{Arrive};
-ghost use Rattle.turn_scene.specs.Rows.{noted};
+ghost use Rattle.turn_scene.specs.Rows.{all_hold, deed, noted};
+ghost use Rattle.turn_scene.specs.Tests.{is_here, treasure};
+ghost use Rattle.cave_verbs.specs.Tests.{x};
+ghost use Rattle.cave_verbs.specs.Things.{troll};
 ghost use Rattle.cave_world.specs.declared.tables.Table.TheVariants as table;
 ghost use Rattle.cave_verbs.specs.Ranks.{rank_of, throw_rank};
 ghost use Rattle.cave_verbs.specs.Throwing.{with_one_killed, throw_rows};
@@ -121,6 +124,49 @@ fn throw_axe<N: RowNotes>(rules: &Rules<'_>, command: Command, scene: &mut Scene
     VerbStep::GoOn(Verb::Kill, Object::none())
 }
 
+/// A treasure is thrown to the troll, which goes away with it.
+#[tactic(auto, unfolding(crate::specs::Throwing::throw_rows))]
+fn pay_troll<N: RowNotes>(rules: &Rules<'_>, command: Command, scene: &mut Scene<'_, N>) -> Next
+    requires room { HasRoom parts_of_row scene.old }
+    requires troll { IsTrue (all_hold (treasure x ∷ is_here troll ∷ [])
+        (deed (cave_of rules.now) command (scene_of N.rows scene.old))) }
+    ensures row { DoneByRows N.rows (noted_after table.Throw 2 throw_rows) rules.now command
+        scene.old scene.new result }
+{
+    scene.note(Table::Throw, 3);
+    scene.state.destroy(command.object);
+    remove_troll(rules, scene);
+    Next::say(Role::TrollPaid, scene)
+}
+
+/// THROW an object that is carried.
+#[tactic(auto, unfolding(crate::specs::Throwing::throw_rows))]
+fn throw_held<N: RowNotes>(
+    rules: &Rules<'_>,
+    command: Command,
+    scene: &mut Scene<'_, N>,
+) -> VerbStep
+    requires { HasRoom parts_of_row scene.old }
+    ensures row { ByRows N.rows (noted_after table.Throw 2 throw_rows) rules.now command scene.old
+        scene.new result }
+    ensures ranks { rank_of (cave_of rules.now) result ≤ 2 }
+{
+    let object = command.object;
+    let bear = rules.thing(Named::Bear);
+    if is_treasure(object) && scene.state.at(rules.thing(Named::Troll)) {
+        return VerbStep::Done(pay_troll(rules, command, scene));
+    }
+    if rules.is(object, Named::Food) && is_near(rules, scene.state, bear) {
+        scene.note(Table::Throw, 4);
+        return VerbStep::GoOn(Verb::Feed, bear);
+    }
+    if !rules.is(object, Named::Axe) {
+        scene.note(Table::Throw, 5);
+        return VerbStep::GoOn(Verb::Drop, object);
+    }
+    throw_axe(rules, command, scene)
+}
+
 /// THROW an object.
 #[tactic(auto, unfolding(crate::specs::Throwing::throw_rows))]
 pub fn throw<N: RowNotes>(rules: &Rules<'_>, command: Command, scene: &mut Scene<'_, N>) -> VerbStep
@@ -130,30 +176,15 @@ pub fn throw<N: RowNotes>(rules: &Rules<'_>, command: Command, scene: &mut Scene
     ensures ranks { let cave = cave_of rules.now in
         rank_of cave result ≤ throw_rank cave command.object }
 {
-    let x = command.object;
-    let bear = rules.thing(Named::Bear);
-    if !is_carried(rules, scene.state, x) {
-        let second_rod = rules.thing(Named::SecondRod);
-        if rules.is(x, Named::Rod) && is_carried(rules, scene.state, second_rod) {
-            scene.note(Table::Throw, 1);
-            return VerbStep::GoOn(Verb::Throw, second_rod);
-        }
-        scene.note(Table::Throw, 2);
-        return VerbStep::Done(command.say_default(rules, scene));
+    let object = command.object;
+    if is_carried(rules, scene.state, object) {
+        return throw_held(rules, command, scene);
     }
-    if is_treasure(x) && scene.state.at(rules.thing(Named::Troll)) {
-        scene.note(Table::Throw, 3);
-        scene.state.destroy(x);
-        remove_troll(rules, scene);
-        return VerbStep::Done(Next::say(Role::TrollPaid, scene));
+    let second_rod = rules.thing(Named::SecondRod);
+    if rules.is(object, Named::Rod) && is_carried(rules, scene.state, second_rod) {
+        scene.note(Table::Throw, 1);
+        return VerbStep::GoOn(Verb::Throw, second_rod);
     }
-    if rules.is(x, Named::Food) && is_near(rules, scene.state, bear) {
-        scene.note(Table::Throw, 4);
-        return VerbStep::GoOn(Verb::Feed, bear);
-    }
-    if !rules.is(x, Named::Axe) {
-        scene.note(Table::Throw, 5);
-        return VerbStep::GoOn(Verb::Drop, x);
-    }
-    throw_axe(rules, command, scene)
+    scene.note(Table::Throw, 2);
+    VerbStep::Done(command.say_default(rules, scene))
 }

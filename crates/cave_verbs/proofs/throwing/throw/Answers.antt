@@ -11,7 +11,7 @@ throw-falls : (cave : CaveView) (x : ℕ) → is_called cave x name.Rod ≡ true
     → suc (throw_rank cave (thing cave name.SecondRod)) ≤ throw_rank cave x
 throw-falls cave x rod = let other = second-rod cave in grind (arith, rod, other)
 
-pub returns-then-is_carried-clause-ranks : goal.returns-then-is_carried-clause-ranks
-returns-then-is_carried-clause-ranks g c =
+pub returns-then-is_carried-2-clause-ranks : goal.returns-then-is_carried-2-clause-ranks
+returns-then-is_carried-2-clause-ranks g c =
     rw c.thing-second_rod.ensures
     (throw-falls (cave_of c.args.rules.now) c.args.command.object (search rules))
