@@ -30,8 +30,12 @@ NOW = "return now.at"
 FOCUS = "return document.activeElement.id"
 TYPED = "return typedField.isConnected ? typedField.value : null"
 LOG = "return held.lines"
-MARKED = """return [...document.querySelectorAll('#lines .replayed')].map((it) =>
-  Number(it.dataset.at))"""
+# Notes the last line that is marked from here on, since marks are soon taken away.
+NOTE_MARKS = """window.lastMarked = 0;
+new MutationObserver(() => document.querySelectorAll('#lines .replayed').forEach((it) => {
+  window.lastMarked = Math.max(window.lastMarked, Number(it.dataset.at));
+})).observe(list, { subtree: true, childList: true, attributes: true });"""
+REHEARSED = "return performance.getEntriesByName('rehearsed').length > 0"
 BEFORE = "return document.querySelectorAll('#chart .score.before').length"
 
 
@@ -88,12 +92,16 @@ def by_keys(window: Window, program: str) -> Checks:
     with tour(program) as server:
         window.open(server.address)
         yield "the lines have the keys", window.run(FOCUS), "lines"
+        yield "what to do is said", window.text("#told").startswith("Type over a line."), True
+        window.wait(REHEARSED)
+        yield "no change, so no curve before it", window.run(BEFORE), 0
         window.press(Keys.HOME, *[Keys.ARROW_DOWN] * 10, Keys.ENTER)
         yield "Enter types over the line", window.run(TYPED), "take pillow"
         window.retype("")
         yield "an empty line is still there", window.run("return held.lines.length"), 22
+        window.run(NOTE_MARKS)
         window.press(Keys.BACKSPACE)
-        yield "lines are marked", max(window.run(MARKED), default=0) > 9, True
+        yield "lines are marked", window.wait("return window.lastMarked > 9"), True
         yield "Backspace takes it out", window.run(LOG)[9], "se"
         yield "the line above is typed over", window.run(TYPED), "nw"
         yield "score", "Score 59 in place of 73" in window.text("#otherwise"), True

@@ -7,7 +7,8 @@ import os
 
 from selenium.webdriver.common.keys import Keys
 
-from live_checks import LOG, TOUR, TYPED, Checks, edit_line, lines_of, page_is, tour
+from live_checks import (LOG, REHEARSED, TOUR, TYPED, Checks, edit_line, lines_of, page_is,
+                         tour)
 from live_window import Window
 from served import SHOAL, TOP, Served
 
@@ -150,6 +151,7 @@ def quick(window: Window, program: str, count: int, most: float) -> Checks:
     with Served(program, [*SHOAL], log=log, name=f"{count}.log") as server:
         window.open(server.address)
         window.wait("return held.lines.length === arguments[0]", count)
+        window.wait(REHEARSED)
         for at in (count // 2, count // 4, count - 20):
             for text in ("read lamp", "wave lamp"):  # which no line of the log is
                 window.run("list.focus(); performance.clearMeasures('shown'); go(arguments[0])", at)

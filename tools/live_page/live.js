@@ -96,6 +96,7 @@ function showAgain(at, drawLines) {
 // Does what a change does once before the first of them, without one, so that it is quick then: the
 // browser has prepared by then all that it runs, and laid out all that it draws.
 function rehearse() {
+  performance.mark("rehearsed");
   if (told.before || wire.isAsking || editor.isOpen || !last(held)) return;
   const at = Math.max(now.at, 1);
   keepCurve({ from: at - 1, until: at, was: at });
