@@ -71,11 +71,14 @@ impl<'a> Rules<'a> {
     }
 
     /// Whether an object is the one of a name.
-    #[tactic(auto, unfolding(crate::specs::Scene::is_called))]
+    #[tactic(auto, unfolding(crate::specs::Scene::is_called, crate::specs::Scene::thing))]
     pub fn is(&self, object: Object, name: Named) -> bool
         ensures { result ≡ is_called (cave_of self.now) object name }
     {
-        !object.is_none() && self.thing(name) == object
+        // The bottle is looked at only if the word means the object.
+        !object.is_none()
+            && self.called(name) == object
+            && !(Self::is_liquid_name(name) && object == self.called(Named::Bottle))
     }
 
     /// Whether an object is the one of one of the names.
