@@ -1,9 +1,10 @@
 -- How many lines ticked up to and including each line.
-use Rattle.std.proofs.Common.{◌≡◌, ℕ, ◌+◌, ◌-◌, ◌<◌, ◌≤◌, zero, suc, Bool, List, [], ◌∷◌, ◌++◌, length}
+use Rattle.std.proofs.Common.{◌≡◌, ℕ, ◌+◌, ◌<◌, zero, suc, Bool, List, [], ◌∷◌, ◌++◌, length}
 use Rattle.std.proofs.Common.{take, drop, count_by, arith, refl, ap, sym, ◌∙◌}
 use Rattle.std.specs.List.{splice}
 use Rattle.std.specs.Prelude.{slice_index, if◌then◌else◌}
-use Rattle.std.proofs.lemmas.List.{drop-drop, take-append-drop}
+use Rattle.std.proofs.Math.Seq.{take-length}
+use Rattle.std.proofs.lemmas.List.{take-append-drop}
 use Rattle.std.proofs.lemmas.List.Sums.{sum_by-append, sum_by-cons}
 use Rattle.cave_replay.specs.Play.{counts_after}
 
@@ -19,15 +20,11 @@ total-parts ts i =
     sym (sum_by-append (λ x. if x then 1 else 0) (take i ts) (drop i ts))
     ∙ ap total (take-append-drop i ts)
 
--- those of a stretch as well
-pub total-stretch : (ts : List Bool) (i j : ℕ) → i ≤ j
-    → total (take i ts) + total (take (j - i) (drop i ts)) + total (drop j ts) ≡ total ts
-total-stretch ts i j ordered =
-    let there : i + (j - i) ≡ j = omega arith in
-    let rest = ap total (drop-drop (j - i) i ts) ∙ ap (λ k. total (drop k ts)) there in
-    omega (arith, total-parts ts i, total-parts (drop i ts) (j - i), rest)
+-- those of as many lines as there are
+pub total-to : (ts : List Bool) (n : ℕ) → n ≡ length ts → total (take n ts) ≡ total ts
+total-to ts n all = ap (λ k. total (take k ts)) all ∙ ap total (take-length ts)
 
--- and of others in its place
+-- those of others in the place of a stretch
 pub total-splice : (ts new : List Bool) (i j : ℕ)
     → total (splice ts i j new) ≡ total (take i ts) + total new + total (drop j ts)
 total-splice ts new i j =

@@ -20,7 +20,7 @@ use Rattle.cave_replay.specs.Replay.{Revision, IsShift, AreStates, IsRerun, Reru
 use Rattle.cave_replay.specs.Replay.{HasMet, MetAt, states_of_new}
 use Rattle.cave_replay.specs.Report.{IsReport}
 use Rattle.cave_replay.specs.Takeover.{end_of_stretch, checkpoints_passed, FitsMarks, IsStretch}
-use Rattle.cave_replay.specs.Takeover.{MarksEnd, lines_gone, new_places, new_states, new_state}
+use Rattle.cave_replay.specs.Takeover.{MarksEnd, new_places, new_states, new_state}
 use Rattle.cave_replay.proofs.Bounds.{bounded_to, near_last, contains_at}
 use Rattle.cave_replay.proofs.Joins.{met_texts, met_ticks, met_state, end_texts, end_ticks}
 use Rattle.cave_replay.proofs.Joins.{met_states, end_states}
@@ -73,12 +73,6 @@ pub stretch_same : {State : Type 0} (C1 C : CheckpointsView State) → C1.lines 
     → C1.places ≡ C.places → (met : Option ℕ) → end_of_stretch C1 met ≡ end_of_stretch C met
 stretch_same C1 C lines places None = lines
 stretch_same C1 C lines places (Some index) = ap (λ p. slice_index p index) places
-
--- as many lines go if only the room of the checkpoints has changed
-pub gone_same : {State : Type 0} (C1 C : CheckpointsView State) → C1.lines ≡ C.lines
-    → C1.places ≡ C.places → (at : ℕ) (met : Option ℕ) → lines_gone C1 at met ≡ lines_gone C at met
-gone_same C1 C lines places at None = rw (lines, places) refl
-gone_same C1 C lines places at (Some index) = rw places refl
 
 module _ {State S T : Type 0} {meaning : State → S} {is_state : State → Type 0}
     {revision : Revision S T} {opening : T} {pieces : List T} {ticks : List Bool} {state : State}

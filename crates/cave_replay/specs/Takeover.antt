@@ -1,6 +1,6 @@
 -- What remains when a replay is taken over.
 use Rattle.std.specs.Prelude.{◌≡◌, ℕ, ◌+◌, ◌-◌, ◌<◌, ◌≤◌, List, ◌++◌, length, take, slice_index}
-use Rattle.std.specs.Prelude.{Option, Some, None, MatchOption, vec_len, vec_capacity}
+use Rattle.std.specs.Prelude.{Option, Some, None, MatchOption, vec_len}
 use Rattle.std.specs.List.{splice}
 use Rattle.replay_checkpoints.specs.Blocks.{IsOpenAt}
 use Rattle.replay_checkpoints.specs.Marks.{MarksView, CheckpointsView, IsBegunAt, places_met, states_met}
@@ -32,10 +32,6 @@ pub record IsStretch {S : Type 0} (checkpoints : CheckpointsView S) (marks : Mar
   pub ends : MarksEnd checkpoints marks at met
   pub forward : slice_index checkpoints.places at ≤ end_of_stretch checkpoints met
 
--- how many lines of the old play go if a replay from the checkpoint of the index `at` is taken over
-abbrev pub lines_gone : {S : Type 0} → CheckpointsView S → ℕ → Option ℕ → ℕ
-lines_gone checkpoints at met = end_of_stretch checkpoints met - slice_index checkpoints.places at
-
 -- how many checkpoints are before that place: all of them if it is the end
 abbrev pub checkpoints_passed : {S : Type 0} → CheckpointsView S → Option ℕ → ℕ
 checkpoints_passed checkpoints None = length checkpoints.places
@@ -51,7 +47,7 @@ FitsMarks checkpoints marks at count =
 pub record IsWhole {Machine State Kept Piece Meter Scratch : Type 0}
     (kept : Playthrough Machine State Kept Piece Meter Scratch) : Type 0 where
   pub pieces : length kept.pieces.items ≡ length kept.log.items
-  pub ticked : vec_len kept.ticked.each ≡ length kept.log.items
+  pub ticked : length kept.ticked.each.items ≡ length kept.log.items
   pub lines : kept.checkpoints.lines ≡ length kept.log.items
 
 -- There is room for the lines of the edits of a rerun, and for what it played, if the lines and the
@@ -63,8 +59,8 @@ pub record HasRoomFor {Machine State Kept Piece Meter Scratch : Type 0}
   pub log : IsOpenAt kept.log rerun.ready.head rerun.ready.rest (vec_len rerun.ready.middle)
   pub pieces : IsOpenAt kept.pieces (slice_index kept.checkpoints.places rerun.at)
       (end_of_stretch kept.checkpoints rerun.played.met) (vec_len rerun.played.pieces)
-  pub ticked : vec_len kept.ticked.each + vec_len rerun.played.ticked
-      ≤ vec_capacity kept.ticked.each + lines_gone kept.checkpoints rerun.at rerun.played.met
+  pub ticked : IsOpenAt kept.ticked.each (slice_index kept.checkpoints.places rerun.at)
+      (end_of_stretch kept.checkpoints rerun.played.met) (vec_len rerun.played.ticked)
   pub marks : FitsMarks kept.checkpoints rerun.played.marks rerun.at
       (checkpoints_passed kept.checkpoints rerun.played.met)
 

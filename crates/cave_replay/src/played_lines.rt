@@ -24,7 +24,7 @@ pub struct PlayedLine<'a, P> {
 pub struct PlayedLines<'a, P> {
     log: Items<'a, LineText>,
     pieces: Items<'a, P>,
-    ticked: &'a [bool],
+    ticked: Items<'a, bool>,
     place: u32,
     ticks: u32,
 }
@@ -36,23 +36,27 @@ impl<'a, P> Model for PlayedLines<'a, P> {
 
     ghost Value = { List (PlayedRow P) };
 
-    ghost view = { λ l. rows_from l.place l.ticks (log_of l.log) l.pieces l.ticked.now };
+    ghost view = { λ l. rows_from l.place l.ticks (log_of l.log) l.pieces l.ticked };
 
     ghost invariant = { λ l. record {
       places : l.place + length l.log < 2 ^ 32;
-      ticks : l.ticks + length l.ticked.now < 2 ^ 32;
+      ticks : l.ticks + length l.ticked < 2 ^ 32;
     } };
 }
 
 impl<'a, P> PlayedLines<'a, P> {
     /// Lines to which these pieces were said, each of which ticked or not.
-    pub(crate) fn of(log: Items<'a, LineText>, pieces: Items<'a, P>, ticked: &'a [bool]) -> Self
+    pub(crate) fn of(
+        log: Items<'a, LineText>,
+        pieces: Items<'a, P>,
+        ticked: Items<'a, bool>,
+    ) -> Self
         requires few { length log < 2 ^ 32 }
         requires pieces { length pieces ≡ length log }
-        requires ticked { length ticked.now ≡ length log }
+        requires ticked { length ticked ≡ length log }
         ensures each_line { length result ≡ length log.entry }
         ensures rows { (place : ℕ) → place < length log.entry → IfSome (slice_get result place)
-            (IsRowAt (log_of log.entry) pieces.entry ticked.now place) }
+            (IsRowAt (log_of log.entry) pieces.entry ticked.entry place) }
     {
         PlayedLines {
             log,
@@ -77,16 +81,15 @@ impl<'a, P> Iterator for PlayedLines<'a, P> {
     fn next(&mut self) -> Option<PlayedLine<'a, P>> {
         let line = self.log.next()?;
         let piece = self.pieces.next()?;
-        let (ticked, rest) = self.ticked.split_first()?;
+        let ticked = *self.ticked.next()?;
         let place = self.place;
-        self.ticked = rest;
         self.place += 1;
-        self.ticks += u32::from(*ticked);
+        self.ticks += u32::from(ticked);
         Some(PlayedLine {
             place,
             line,
             piece,
-            ticked: *ticked,
+            ticked,
             ticks: self.ticks,
         })
     }

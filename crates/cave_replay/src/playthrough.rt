@@ -70,7 +70,7 @@ pub(crate) fn play_game<M: Machine>(
         log: Blocks::of(alloc, log)?,
         opening,
         pieces: Blocks::of(alloc, pieces)?,
-        ticked: TickedLines::of(ticked),
+        ticked: TickedLines::of(alloc, ticked)?,
         checkpoints: Checkpoints::of(marks),
         state,
     })

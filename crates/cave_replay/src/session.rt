@@ -289,7 +289,7 @@ impl<M: Machine> Session<M> {
         requires { place < length self.now.game.log }
         ensures { slice_get self.now.ticks place ≡ Some result }
     {
-        self.kept.ticked.each[place as usize]
+        *self.kept.ticked.each.at(place as usize)
     }
 
     /// How many of the lines before a place ticked. Those from the place on are counted, so at the
@@ -308,7 +308,7 @@ impl<M: Machine> Session<M> {
             → slice_index result place
             ≡ count_by (λ ticks. ticks) (take (place + 1) self.now.ticks) }
     {
-        TickCounts::of(&self.kept.ticked.each)
+        TickCounts::of(self.kept.ticked.each.items())
     }
 
     /// The lines of the held log as they were played, from the first to the last.
@@ -318,6 +318,10 @@ impl<M: Machine> Session<M> {
             → IfSome (slice_get result place) (IsRowOf self.now place) }
     {
         let kept = &self.kept;
-        PlayedLines::of(kept.log.items(), kept.pieces.items(), &kept.ticked.each)
+        PlayedLines::of(
+            kept.log.items(),
+            kept.pieces.items(),
+            kept.ticked.each.items(),
+        )
     }
 }

@@ -40,8 +40,7 @@ pub(crate) fn make_room<M: Machine>(
     let from = kept.checkpoints.places()[rerun.at] as usize;
     let to = end_of_stretch(&kept.checkpoints, met);
     kept.pieces.open(from, to, rerun.played.pieces.len())?;
-    let ticks = rerun.played.ticked.len().saturating_sub(to - from);
-    kept.ticked.reserve(ticks)?;
+    kept.ticked.open(from, to, rerun.played.ticked.len())?;
     let going = checkpoints_passed(&kept.checkpoints, met) - rerun.at.saturating_sub(1);
     kept.checkpoints
         .reserve(rerun.played.marks.len().saturating_sub(going))?;

@@ -2,13 +2,14 @@ ghost use Rattle.std.specs.Prelude.{◌≡◌, ℕ, ◌+◌, ◌<◌, ◌^◌, l
 ghost use Rattle.std.specs.Prelude.{count_by};
 ghost use Rattle.std.specs.Iterator.{YieldsFirst, item_count};
 
+use replay_checkpoints::Items;
 use std::marker::Model;
 
 /// How many lines ticked up to and including each line, one line after another. It counts as it
 /// goes.
 #[derive(Drop)]
 pub struct TickCounts<'a> {
-    ticked: &'a [bool],
+    ticked: Items<'a, bool>,
     count: u32,
 }
 
@@ -18,18 +19,18 @@ impl<'a> Model for TickCounts<'a> {
 
     ghost Value = { List ℕ };
 
-    ghost view = { λ c. counts_after c.count c.ticked.now };
+    ghost view = { λ c. counts_after c.count c.ticked };
 
-    ghost invariant = { λ c. c.count + length c.ticked.now < 2 ^ 32 };
+    ghost invariant = { λ c. c.count + length c.ticked < 2 ^ 32 };
 }
 
 impl<'a> TickCounts<'a> {
     /// The counts of lines, each of which ticked or not.
-    pub(crate) fn of(ticked: &'a [bool]) -> Self
-        requires { length ticked.now < 2 ^ 32 }
-        ensures each_line { length result ≡ length ticked.now }
-        ensures counts { (line : ℕ) → line < length ticked.now
-            → slice_index result line ≡ count_by (λ ticks. ticks) (take (line + 1) ticked.now) }
+    pub(crate) fn of(ticked: Items<'a, bool>) -> Self
+        requires { length ticked < 2 ^ 32 }
+        ensures each_line { length result ≡ length ticked.entry }
+        ensures counts { (line : ℕ) → line < length ticked.entry
+            → slice_index result line ≡ count_by (λ ticks. ticks) (take (line + 1) ticked.entry) }
     {
         TickCounts { ticked, count: 0 }
     }
@@ -43,9 +44,8 @@ impl<'a> Iterator for TickCounts<'a> {
     ghost remaining = { item_count (λ counts. counts) };
 
     fn next(&mut self) -> Option<u32> {
-        let (ticked, rest) = self.ticked.split_first()?;
-        self.ticked = rest;
-        self.count += u32::from(*ticked);
+        let ticked = *self.ticked.next()?;
+        self.count += u32::from(ticked);
         Some(self.count)
     }
 }

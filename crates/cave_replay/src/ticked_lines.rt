@@ -1,66 +1,69 @@
-ghost use Rattle.std.specs.Prelude.{◌≡◌, ◌+◌, ◌-◌, ◌≤◌, take, count_by, IfOk, OnOk};
-ghost use Rattle.std.specs.Prelude.{vec_len, vec_capacity};
+ghost use Rattle.std.specs.Prelude.{◌≡◌, ◌+◌, ◌≤◌, length, take, count_by, IfOk, OnOk, vec_len};
 ghost use Rattle.std.specs.List.{splice};
+ghost use Rattle.replay_checkpoints.specs.Blocks.{IsOpenAt};
 
-use replay_checkpoints::splice;
+use replay_checkpoints::Blocks;
 use std::alloc::{AllocError, Global};
 
 /// Which lines of a log ticked, and how many did. An edit counts only the lines that it plays again
 /// and those that they replace.
 #[derive(Drop)]
 pub(crate) struct TickedLines {
-    pub(crate) each: Vec<bool>,
+    pub(crate) each: Blocks<bool>,
     count: usize,
     ghost counted: { count ≡ count_by (λ ticks. ticks) each.items },
 }
 
 impl TickedLines {
     /// Lines, each of which ticked or not.
-    pub(crate) fn of(each: Vec<bool>) -> TickedLines
-        ensures { result.each.items ≡ each.items }
+    pub(crate) fn of(alloc: Global, each: Vec<bool>) -> Result<TickedLines, AllocError>
+        ensures { IfOk result (λ made. made.each.items ≡ each.items) }
     {
         let count = count_ticks(&each);
-        TickedLines { each, count }
+        let each = Blocks::of(alloc, each)?;
+        Ok(TickedLines { each, count })
     }
 
     /// How many of the lines before a place ticked. Those from there on are counted.
     pub(crate) fn before(&self, place: usize) -> usize
-        requires { place ≤ vec_len self.now.each }
+        requires { place ≤ length self.now.each.items }
         ensures { result ≡ count_by (λ ticks. ticks) (take place self.now.each.items) }
     {
-        self.count - count_ticks(&self.each[place..])
+        self.count - count_between(&self.each, place, self.each.len())
     }
 
-    /// Reserves room for this many more.
-    pub(crate) fn reserve(&mut self, additional: usize) -> Result<(), AllocError>
+    /// Opens the stretch from `from` up to `to`, and reserves room for `count` lines in its place.
+    pub(crate) fn open(&mut self, from: usize, to: usize, count: usize) -> Result<(), AllocError>
+        requires ordered { from ≤ to }
+        requires within { to ≤ length self.old.each.items }
         ensures same { self.new.each.items ≡ self.old.each.items }
-        ensures room { OnOk result
-            (vec_len self.new.each + additional ≤ vec_capacity self.new.each) }
+        ensures open { OnOk result (IsOpenAt self.new.each from to count) }
     {
-        self.each.reserve(additional)
+        self.each.open(from, to, count)
     }
 
-    /// Replaces the lines from `from` up to `to` by others, without taking memory.
+    /// Replaces the lines of the open stretch by others, without taking memory.
     pub(crate) fn replace(&mut self, from: usize, to: usize, lines: &mut Vec<bool>)
         requires ordered { from ≤ to }
-        requires within { to ≤ vec_len self.old.each }
-        requires room { vec_len self.old.each + vec_len lines.old
-            ≤ vec_capacity self.old.each + (to - from) }
+        requires within { to ≤ length self.old.each.items }
+        requires open { IsOpenAt self.old.each from to (vec_len lines.old) }
         ensures { self.new.each.items ≡ splice self.old.each.items from to lines.old.items }
     {
-        let gone = count_ticks(&self.each[from..to]);
+        let gone = count_between(&self.each, from, to);
         let come = count_ticks(lines);
-        splice(&mut self.each, from, to, lines);
+        prove!(self.count <= self.each.len());
+        self.each.replace(from, to, lines);
         self.count = self.count - gone + come;
     }
 
     pub(crate) fn copy(&self, alloc: Global) -> Result<TickedLines, AllocError>
         ensures { IfOk result (λ copy. copy.each.items ≡ self.now.each.items) }
     {
-        Ok(TickedLines {
-            each: Vec::from_slice(alloc, &self.each)?,
-            count: self.count,
-        })
+        let mut each = Vec::with_capacity(alloc, self.each.len())?;
+        for place in 0..self.each.len() {
+            each.push(*self.each.at(place))?;
+        }
+        TickedLines::of(alloc, each)
     }
 }
 
@@ -68,4 +71,18 @@ fn count_ticks(ticked: &[bool]) -> usize
     ensures { result ≡ count_by (λ ticks. ticks) ticked.now }
 {
     ticked.iter().filter(|ticks| **ticks).count()
+}
+
+/// How many of the lines from `from` up to `to` ticked.
+fn count_between(ticked: &Blocks<bool>, from: usize, to: usize) -> usize
+    requires ordered { from ≤ to }
+    requires within { to ≤ length ticked.now.items }
+    ensures { count_by (λ ticks. ticks) (take from ticked.now.items) + result
+        ≡ count_by (λ ticks. ticks) (take to ticked.now.items) }
+{
+    let mut count = 0;
+    for place in from..to {
+        count += usize::from(*ticked.at(place));
+    }
+    count
 }

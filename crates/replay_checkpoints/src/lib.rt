@@ -15,7 +15,6 @@
 //!   next one lies more than `every` past the last one kept. The state at it is changed in place.
 //! - [`Checkpoints::meet`] and [`Checkpoints::replace_from`] take marks over. Earlier
 //!   checkpoints stay where they are, and later ones move with the one that was met.
-//! - [`splice`] replaces a stretch of a list by another.
 //! - [`Blocks`] is a list that lies in blocks, so a splice moves the items of only one of them.
 //!   [`Items`] goes over its items.
 //!
@@ -59,4 +58,3 @@ pub use items::Items;
 pub use kept_state::{KeptState, Whole};
 pub use marks::Marks;
 pub use search::{first_from, last_to};
-pub use stretch::splice;

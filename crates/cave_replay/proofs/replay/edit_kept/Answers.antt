@@ -42,7 +42,6 @@ whole_of text kept keeps =
     let pieces = length-pieces keeps.plays in
     let ticks = length-ticks keeps.plays in
     let lines = keeps.lines in
-    let count = kept.ticked.each.ok.0 in
     record { pieces = omega arith; ticked = omega arith; lines = omega arith }
 
 pub take_over-inverse-requires-clause-whole : goal.take_over-inverse-requires-clause-whole

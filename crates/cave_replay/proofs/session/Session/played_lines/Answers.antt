@@ -22,7 +22,7 @@ of-requires-clause-pieces g c =
 pub of-requires-clause-ticked : goal.of-requires-clause-ticked
 of-requires-clause-ticked g c =
     let k = c.self.inside.kept in
-    rw (c.deref.ensures.value, c.items.ensures)
+    rw (c.items-3.ensures, c.items.ensures)
     (length-ticks c.self.invariant.plays
     ∙ length-log_of k.log.items)
 
@@ -37,5 +37,5 @@ returns-clause-rows g c =
     let n = length-log_of c.self.inside.kept.log.items in
     rw (← c.self.view_is)
     (λ place below.
-    rw (← c.items.ensures, ← c.items-2.ensures, ← c.deref.ensures.value)
+    rw (← c.items.ensures, ← c.items-2.ensures, ← c.items-3.ensures)
     (c.of.ensures.rows place (rw c.items.ensures (omega arith))))

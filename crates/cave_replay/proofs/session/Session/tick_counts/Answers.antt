@@ -9,17 +9,16 @@ of-requires g c =
     let ticks = length-ticks c.self.invariant.plays in
     let few = c.self.invariant.game_is.few in
     let n = length-log_of k.log.items in
-    let value = c.deref.ensures.value in
-    rw value (omega arith)
+    rw c.items.ensures (omega arith)
 
 pub returns-clause-each_line : goal.returns-clause-each_line
 returns-clause-each_line g c =
     let ticks = length-ticks c.self.invariant.plays in
-    rw (← c.self.view_is) (c.of.ensures.each_line ∙ ap length c.deref.ensures.value ∙ ticks)
+    rw (← c.self.view_is) (c.of.ensures.each_line ∙ ap length c.items.ensures ∙ ticks)
 
 pub returns-clause-counts : goal.returns-clause-counts
 returns-clause-counts g c =
     let ticks = length-ticks c.self.invariant.plays in
     rw (← c.self.view_is)
-    (λ place below. rw (← c.deref.ensures.value)
-    (c.of.ensures.counts place (rw c.deref.ensures.value (omega arith))))
+    (λ place below. rw (← c.items.ensures)
+    (c.of.ensures.counts place (rw c.items.ensures (omega arith))))
