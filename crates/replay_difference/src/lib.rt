@@ -13,6 +13,4 @@ mod same;
 pub mod script;
 mod search;
 mod stretch;
-#[cfg(test)]
-mod tests;
 mod walk;

@@ -13,19 +13,6 @@ fn show_the_same_rows<R: RowRule>(one: &TestSession<'_, R>, other: &TestSession<
     true
 }
 
-/// Whether two sessions show the same game and the same play.
-pub(crate) fn show_the_same_game<R: RowRule>(
-    one: &TestSession<'_, R>,
-    other: &TestSession<'_, R>,
-) -> bool {
-    one.seed() == other.seed()
-        && one.lines() == other.lines()
-        && one.opening() == other.opening()
-        && one.number() == other.number()
-        && one.has_tick_counts_of(other)
-        && show_the_same_rows(one, other)
-}
-
 /// Whether two sessions show the same through every getter.
 pub(crate) fn show_the_same<R: RowRule>(
     one: &TestSession<'_, R>,
@@ -33,5 +20,10 @@ pub(crate) fn show_the_same<R: RowRule>(
 ) -> bool {
     one.every() == other.every()
         && one.checkpoints() == other.checkpoints()
-        && show_the_same_game(one, other)
+        && one.seed() == other.seed()
+        && one.lines() == other.lines()
+        && one.opening() == other.opening()
+        && one.number() == other.number()
+        && one.has_tick_counts_of(other)
+        && show_the_same_rows(one, other)
 }

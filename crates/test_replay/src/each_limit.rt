@@ -1,65 +1,15 @@
-//! The greatest logs, lines, distances and seeds, and those that are too great.
+//! The greatest log, with the greatest line, distance and seed, and edits that are too great.
 
 use crate::edits::{LineChange, edits_of, flat, letters};
 use crate::machines::counter::Counter;
 use crate::machines::counts::Counts;
 use crate::machines::told::Told;
 use crate::play::{Counting, TestSession};
-use base_lines::{LineFlaw, Meter, Steps};
-use cave_replay::OpenFault;
+use base_lines::Meter;
 use replay_edits::EditFault;
 use std::alloc::Global;
 use std::process::Abort;
 use std::test::Fail;
-
-/// Expects that a log isn't opened, and that no step is taken.
-fn expect_closed(
-    rt: &impl Abort,
-    alloc: Global,
-    seed: u32,
-    log: &[u8],
-    every: u32,
-    fault: OpenFault,
-) {
-    let counts = Counts::new();
-    let mut meter = Meter::new();
-    let opened = TestSession::open(
-        alloc,
-        Told::new(Counter, &counts),
-        seed,
-        log,
-        every,
-        &mut meter,
-    );
-    assert!(rt; opened.err() == Some(fault), "{fault:?}");
-    assert_eq!(rt; meter.used(), 0);
-    assert_eq!(rt; counts.steps(), 0);
-}
-
-#[test]
-fn the_first_fault_of_an_opening_is_told(rt: HostRuntime) -> Result<(), Fail> {
-    let full = flat(rt.alloc(), 65_536)?;
-    let long = letters(rt.alloc(), 256)?;
-    for (fault, log, every) in [
-        (OpenFault::BadEvery, b"\x01".as_slice(), 0),
-        (OpenFault::BadEvery, b"\x01".as_slice(), 10_001),
-        (
-            OpenFault::BadLine(2, LineFlaw::Byte(1, 1)),
-            b"ok\n\x01\n\x02".as_slice(),
-            10_000,
-        ),
-        (
-            OpenFault::BadLine(1, LineFlaw::Long(256)),
-            long.as_slice(),
-            1,
-        ),
-        (OpenFault::LogFull, full.as_slice(), 1),
-        (OpenFault::BadSeed, b"ok".as_slice(), 1),
-    ] {
-        expect_closed(&rt, rt.alloc(), 2_147_483_648, log, every, fault);
-    }
-    Ok(())
-}
 
 /// Edits that a full log refuses, by the lowest cause.
 const REFUSED: [(LineChange<'static>, EditFault); 7] = [

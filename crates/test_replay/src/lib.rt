@@ -1,4 +1,4 @@
-//! Tests of sessions, over machines of their own.
+//! Tests of sessions, over machines of their own, and of the edits between two logs.
 #![tactic(auto)]
 
 #[cfg(test)]
@@ -7,6 +7,8 @@ mod copies;
 mod costs;
 #[cfg(test)]
 mod dice;
+#[cfg(test)]
+mod differences;
 #[cfg(test)]
 mod display;
 #[cfg(test)]

@@ -4,7 +4,7 @@ use crate::machines::rule::RowRule;
 
 /// The state is the length of the last line, and at the start the seed mod 256. A line with a byte
 /// ticks.
-#[derive(Default, Drop)]
+#[derive(Drop)]
 pub(crate) struct Counter;
 
 impl RowRule for Counter {

@@ -4,7 +4,7 @@ use crate::machines::rule::RowRule;
 
 /// The state is a hash of the seed and the lengths of all lines so far, so plays of different lines
 /// don't meet. A line ticks if the state after it is even.
-#[derive(Default, Drop)]
+#[derive(Drop)]
 pub(crate) struct Hasher;
 
 impl RowRule for Hasher {
