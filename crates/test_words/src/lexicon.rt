@@ -2,10 +2,8 @@
 
 use crate::calls::{Known, cave_of};
 use cave_words::{Class, Meaning, Named};
-use std::alloc::{AllocError, Global};
 use std::process::Abort;
 use std::test::Fail;
-use test_data::caves::CAVE;
 
 /// A cave of words, two of which are in several rows.
 const DATABASE: &[u8] = b"4\n1 out\n2003 OUT\n5 OUT\n1009 OUTSIDER\n1050 GOLDEN\n1051 GOLDENROD\n\
@@ -44,28 +42,6 @@ fn a_word_means_its_first_row(rt: HostRuntime) -> Result<(), Fail> {
     let cave = cave_of(rt.alloc(), DATABASE, BINDINGS)?;
     let known = Known::of(rt.alloc(), cave)?;
     expect_words(&rt, &known);
-    Ok(())
-}
-
-/// How many letters count, by bindings, and the object that `goldenrod` then means.
-const GOLDENRODS: [(&[u8], u16); 3] = [(b"", 50), (b"num.letters 6", 50), (b"num.letters 8", 51)];
-
-/// The first cave with these additional words.
-fn golden_cave(alloc: Global) -> Result<Vec<u8>, AllocError> {
-    let mut database = Vec::from_slice(alloc, CAVE.strip_suffix(b"0\n").unwrap_or(CAVE))?;
-    database.extend_from_slice(b"4\n1050 GOLDEN\n1051 GOLDENROD\n-1\n0\n")?;
-    Ok(database)
-}
-
-#[test]
-fn goldenrod_is_golden_until_eight_letters_count(rt: HostRuntime) -> Result<(), Fail> {
-    let database = golden_cave(rt.alloc())?;
-    for &(bindings, object) in &GOLDENRODS {
-        let cave = cave_of(rt.alloc(), &database, bindings)?;
-        let known = Known::of(rt.alloc(), cave)?;
-        let found = parts(known.meaning_in(b"goldenrod", Class::Object));
-        assert_eq!(rt; found, Some((Class::Object, object)), "{bindings:?}");
-    }
     Ok(())
 }
 
