@@ -57,6 +57,7 @@ checks: ## checks names, imports, pages and scripts, in seconds, without any pro
 	tools/check-numbers
 	tools/check-pages
 	tools/check-clauses
+	tools/check-edits
 	tools/check-words
 	tools/check-rows
 	tools/check-version

@@ -1,5 +1,6 @@
-"""What `tools/check-wrong-bodies` and `tools/check-clauses` have to refuse: bodies that are refused by
-another clause than the page says, or by none, and clauses that no function has."""
+"""What `tools/check-wrong-bodies`, `tools/check-clauses` and `tools/check-edits` have to refuse: wrong
+bodies that are refused by another clause than the page says, or by none, clauses that no function
+has, and wrong bodies that change a text that isn't there."""
 
 from __future__ import annotations
 
@@ -66,6 +67,28 @@ def cases(pages: dict[str, str]) -> list[Case]:
 
 WrongBodies = tests_of("check-wrong-bodies", cases(ROWS), ["wrong_bodies.py"])
 Clauses = tests_of("check-clauses", cases(FACTS), ["wrong_bodies.py"])
+LAMP = "pub fn burn()\n    ensures value { true }\n{\n    light();\n    light_all();\n}\n"
+GATE, SOAK = "crates/lamps/must-fail/burns.edit", "tools/loops/lamps/burns.edit"
+CHANGE = "file: src/lamp.rt\nold:     light();\nnew:     fade();\n"
+EDITS = [
+    (GATE, CHANGE, ""),
+    (SOAK, f"by: `burn`: `value`\n{CHANGE}", ""),
+    (SOAK, CHANGE, "it names no clause"),
+    (SOAK, f"by: `burn`: `light`\n{CHANGE}", "there is no clause `burn`: `light`"),
+    (GATE, CHANGE.replace("lamp.rt", "wick.rt"), "there is no src/wick.rt"),
+    (GATE, CHANGE.replace("    light();", "glow();"), "src/lamp.rt has 'glow();' 0 times"),
+    (GATE, CHANGE.replace("    light();", "light"), "src/lamp.rt has 'light' 2 times"),
+    (GATE, "file: src/lamp.rt\n", "it changes nothing"),
+    ("tools/loops/README", "", "there is no wrong body"),
+]
+Edits = tests_of(
+    "check-edits",
+    [
+        (f"{path} {text}", {"crates/lamps/src/lamp.rt": LAMP, path: text}, said)
+        for path, text, said in EDITS
+    ],
+    ["wrong_bodies.py"],
+)
 
 if __name__ == "__main__":
     unittest.main()
