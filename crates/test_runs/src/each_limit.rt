@@ -1,9 +1,8 @@
 //! How much the inputs of a run may have.
 
-use crate::caves::{LONG_LOG, LONG_TEXT};
+use crate::caves::LONG_TEXT;
 use crate::runs::{COVER, EDIT, Feeds, PLAY, Run, RunEnd, edit, play};
 use crate::streams::Source;
-use base_lines::LineFlaw;
 use base_lines::limits::MAX_INPUT_BYTES;
 use cave_play::{Input, LogFault, PlayFault, ScriptFault};
 use data_rows::{Cause, CaveError, FaultSite};
@@ -103,19 +102,6 @@ fn a_log_has_at_most_65535_lines(rt: HostRuntime) -> Result<(), Fail> {
     let more = lines(rt.alloc(), 65_536)?;
     let full = PlayFault::Log(LogFault::Full);
     assert!(rt; play(rt.alloc(), CAVE, b"", &more).failed(full));
-    Ok(())
-}
-
-#[test]
-fn a_line_of_a_log_has_at_most_255_bytes(rt: HostRuntime) -> Result<(), Fail> {
-    let mut script = Vec::from_slice(rt.alloc(), b"insert 0 #")?;
-    script.extend_from_slice(&[b'#'; 254])?;
-    script.extend_from_slice(b"\nreplace 0 ##")?;
-    script.extend_from_slice(&[b'#'; 254])?;
-    let want = format!(in rt.alloc(); "line 1: ok\nline 2: refused 2\n{LONG_TEXT}")?;
-    assert!(rt; edit(rt.alloc(), CAVE, LONG_LOG, &script, 50).wrote(want.as_bytes()));
-    let bad = PlayFault::Log(LogFault::BadLine(1, LineFlaw::Long(256)));
-    assert!(rt; play(rt.alloc(), CAVE, b"", &[b'#'; 256]).failed(bad));
     Ok(())
 }
 

@@ -1,6 +1,5 @@
 //! What the program prints at each fault, and the status with which it then ends.
 
-use crate::runs::play;
 use base_lines::LineFlaw;
 use cave_play::{Complaint, Input, LogFault, PlayFault, ScriptFault, Unopened};
 use data_rows::{Cause, CaveError, FaultSite};
@@ -8,7 +7,6 @@ use replay_scripts::ScriptFlaw;
 use std::alloc::{AllocError, Global};
 use std::io;
 use std::test::Fail;
-use test_data::caves::CAVE;
 
 /// The line that the program writes to standard error.
 fn complaint_of(alloc: Global, fault: PlayFault) -> Result<String, AllocError> {
@@ -109,52 +107,5 @@ fn a_file_that_is_not_opened_is_told_with_the_reason(rt: HostRuntime) -> Result<
     let told = format!(in rt.alloc(); "{}", Unopened { file, reason })?;
     let want = "cave: a.txt: the file can't be opened: no such file";
     assert_eq!(rt; told.as_str(), want);
-    Ok(())
-}
-
-/// What is printed of a play that is refused.
-fn refusal(alloc: Global, database: &[u8], bind: &[u8], log: &[u8]) -> Result<String, AllocError> {
-    match play(alloc, database, bind, log).ended {
-        Err(found) => complaint_of(alloc, found.fault),
-        Ok(()) => Ok(String::new(alloc)),
-    }
-}
-
-/// A database, bindings and a log, and what is printed of the play.
-const REFUSED: [(&[u8], &[u8], &[u8], &str); 4] = [
-    (
-        b"1\n1 Road.\n",
-        b"",
-        b"",
-        "cave: a.txt:3: the database has no end: section 1 has to end with -1, and the database \
-        with 0",
-    ),
-    (
-        b"3\n1 1000000 45\n",
-        b"",
-        b"",
-        "cave: a.txt:2: a number or a text is out of its range: a place is from 1 to 300, a \
-        target from 0 to 999999, and a motion from 1 to 999",
-    ),
-    (
-        CAVE,
-        b"msg.ok 1\nmsg.ok 2\n",
-        b"",
-        "cave: a.bind:2: the key was bound before: each key is bound at most once",
-    ),
-    (
-        CAVE,
-        b"",
-        b"no\ni\x7f\n",
-        "cave: a.log:2: the byte in column 2 is 127, and a line of a log has printable ASCII, 32 \
-        to 126, and tabs",
-    ),
-];
-
-#[test]
-fn a_refused_input_is_told_by_its_line_and_what_belongs_there(rt: HostRuntime) -> Result<(), Fail> {
-    for &(database, bind, log, line) in &REFUSED {
-        assert_eq!(rt; refusal(rt.alloc(), database, bind, log)?.as_str(), line);
-    }
     Ok(())
 }

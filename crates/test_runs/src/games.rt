@@ -5,11 +5,11 @@ ghost use Rattle.cave_words.specs.Lexicon.{IsLexiconOf};
 
 use base_lines::Steps;
 use cave_data::Cave;
-use cave_replay::{Machine, OpenFault, Report, Session};
+use cave_replay::{Done, Machine, OpenFault, Report, Session};
 use cave_words::Lexicon;
 use play_machine::{CaveMachine, Piece};
 use replay_checkpoints::Blocks;
-use replay_edits::{Edit, EditFault};
+use replay_edits::{Edit, EditFault, GroupFault};
 use std::alloc::Global;
 use std::process::Abort;
 
@@ -46,22 +46,6 @@ impl TestCave {
     }
 }
 
-/// What a group of edits did.
-#[derive(Drop)]
-pub struct Replayed {
-    pub from: u32,
-    pub met: Option<u32>,
-    pub played: u32,
-    pub inverse: Vec<Edit>,
-}
-
-/// Why a group of edits is refused, and at which of them, from 0.
-#[derive(Clone, Copy, Debug, PartialEq, Eq)]
-pub struct RefusedEdit {
-    pub cause: EditFault,
-    pub number: usize,
-}
-
 /// A session over any machine.
 pub struct TestSession<M: Machine> {
     session: Session<M>,
@@ -95,27 +79,8 @@ impl<M: Machine> TestSession<M> {
     }
 
     /// Edits the game by a group of edits.
-    pub fn edit_group(
-        &mut self,
-        edits: &[Edit],
-        meter: &mut M::Meter,
-    ) -> Result<Replayed, RefusedEdit> {
-        match self.session.edit_group(edits, meter) {
-            Ok(report) => {
-                let (from, met, played) = (report.from, report.met, report.played);
-                let inverse = report.inverse;
-                Ok(Replayed {
-                    from,
-                    met,
-                    played,
-                    inverse,
-                })
-            }
-            Err(fault) => {
-                let (cause, number) = (fault.cause, fault.at);
-                Err(RefusedEdit { cause, number })
-            }
-        }
+    pub fn edit_group(&mut self, edits: &[Edit], meter: &mut M::Meter) -> Result<Done, GroupFault> {
+        self.session.edit_group(edits, meter)
     }
 
     /// What was said at the start.

@@ -12,8 +12,6 @@ mod edits;
 #[cfg(test)]
 mod faults;
 #[cfg(test)]
-mod final_state;
-#[cfg(test)]
 mod games;
 #[cfg(test)]
 mod memory;
@@ -22,12 +20,8 @@ mod readers;
 #[cfg(test)]
 mod refusals;
 #[cfg(test)]
-mod replays;
-#[cfg(test)]
 mod runs;
 #[cfg(test)]
 mod streams;
-#[cfg(test)]
-mod worked;
 #[cfg(test)]
 mod writers;

@@ -131,18 +131,3 @@ fn readers_that_give_one_byte_at_a_time_give_all(rt: HostRuntime) -> Result<(), 
     assert_eq!(rt; feeds.inputs.script.asks, 17);
     Ok(())
 }
-
-/// Three edits, the second of which is refused.
-const THREE_EDITS: &[u8] = b"insert 2 # note\ndelete 9\nreplace 1 IN\n";
-
-#[test]
-fn an_edit_whose_inputs_fail_one_by_one_at_their_first_ask_writes_nothing(rt: HostRuntime) {
-    for number in 0..EDIT.inputs() {
-        let mut feeds = Feeds::of(CAVE, b"", LONG_LOG, THREE_EDITS);
-        feeds.put(number, Source::broken());
-        let end = feeds.run(rt.alloc(), EDIT);
-        let fault = EDIT.fault_at(number, PlayFault::Read(EDIT.input(number)));
-        assert!(rt; end.failed_at(fault), "{number}");
-        assert_eq!(rt; fault.fault.status(), 5);
-    }
-}

@@ -140,7 +140,7 @@ fn is_refused(
         Ok(_) => false,
         Err(refused) => {
             assert_eq!(rt; refused.cause, EditFault::Memory);
-            assert_eq!(rt; refused.number, 0);
+            assert_eq!(rt; refused.at, 0);
             true
         }
     }
