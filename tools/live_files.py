@@ -4,6 +4,7 @@ end, and how fast it is; used by tools/live-test."""
 from __future__ import annotations
 
 import os
+import random
 
 from selenium.webdriver.common.keys import Keys
 
@@ -14,6 +15,15 @@ from served import SHOAL, TOP, Served
 
 SHOWN = "return performance.getEntriesByName('shown').map((it) => [it.duration, it.detail])"
 MOVES = ["e", "w", "take lamp", "light lamp", "look", "drop lamp", "inventory"]
+FULL, FULL_SEED = f"{TOP}/logs/shoal/full-score.log", ["--seed", "229"]
+AT_RANDOM = 300
+# Changes by what the page calls for its keys: at a line, with texts, up to another line.
+CALLS = {
+    "insert": "go(arguments[0]); return insertBelow(arguments[1][0])",
+    "paste": "go(arguments[0]); return pasteLines(arguments[1])",
+    "delete": "go(arguments[0]); chosen.anchor = arguments[2]; return takeOutChosen()",
+    "paste over": "go(arguments[0]); chosen.anchor = arguments[2]; return pasteLines(arguments[1])",
+    "undo": "return undo()", "redo": "return redo()"}
 LARGEST, LARGEST_SEED = f"{TOP}/logs/shoal/batteries-used.log", ["--seed", "1"]
 CHANGES = 10
 
@@ -144,6 +154,27 @@ def largest(window: Window, program: str) -> Checks:
         yield "saved as it was", lines_of(server.path) == opened, True
 
 
+def at_random(window: Window, program: str) -> Checks:
+    """Changes at random, taken back and made again: the page has what the program prints."""
+    chance = random.Random(67)
+    with Served(program, [*SHOAL, *FULL_SEED], log=FULL, name="full.log") as server:
+        window.open(server.address)
+        for at in range(AT_RANDOM):
+            line = chance.randrange(1, 300)
+            texts = [chance.choice([*MOVES, "", "# a remark", "seed 7", "drop vase", "xyzzy"])
+                     for _ in range(chance.randrange(1, 5))]
+            kind = chance.choice([*CALLS])
+            window.run(CALLS[kind], line, texts, max(line - chance.randrange(4), 1))
+            window.settle()
+            if at % 30 == 29:
+                yield from page_is(window, server, f"after {at + 1}")
+        window.press_with(Keys.CONTROL, "s")
+        yield "saved", lines_of(server.path), window.run(LOG)
+        window.run("return goToChange(() => 0)")
+        yield "all taken back", window.run(LOG), lines_of(FULL)
+        yield from page_is(window, server, "all taken back")
+
+
 def quick(window: Window, program: str, count: int, most: float) -> Checks:
     """How many milliseconds pass from a key to what it leads to, in a log of this many lines."""
     lines = ["no", *(MOVES[at % 7] if at % 3 else f"word{at}" for at in range(1, count))]
@@ -172,5 +203,5 @@ def quick(window: Window, program: str, count: int, most: float) -> Checks:
 
 
 PARTS = {"seeds": seeds, "the file on disk": on_disk, "two pages": two_pages, "leaving": leaving,
-         "the largest log": largest}
+         "changes at random": at_random, "the largest log": largest}
 SPEEDS = {3_000: 100.0, 60_000: 400.0}

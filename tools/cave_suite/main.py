@@ -128,7 +128,8 @@ def options(doc: str, usage: str, is_front: bool) -> argparse.ArgumentParser:
     asks.add_argument("--tap", action="store_true", help="prints TAP, version 13")
     asks.add_argument("--junit", metavar="FILE", help="writes a file for a CI, in JUnit's form")
     asks.add_argument("--update", action="store_true",
-                      help="writes transcripts again, hunk by hunk as you accept them")
+                      help="writes transcripts of the logs that are named again, hunk by hunk"
+                           " as you accept them")
     asks.add_argument("--yes", action="store_true", help="with --update, writes without asking")
     asks.add_argument("--accept", action="store_true",
                       help="as --update; away from a terminal it writes without asking")

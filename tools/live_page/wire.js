@@ -3,6 +3,7 @@
 const wire = { number: -1, asked: Promise.resolve(), isAsking: false, goTo: null, waiting: null,
   isEnded: false };
 const FIRST_LINES = 400; // that are shown before all others have come
+const MOST_SENT = 4_000_000; // letters of what is asked: the server reads no more
 
 // ---- reading
 
@@ -44,6 +45,7 @@ const parsed = (lines) => JSON.parse(`[${lines.join(",")}]`);
 async function ask(method, name, said) {
   try {
     const body = said && JSON.stringify(said);
+    if (body?.length > MOST_SENT) return [{ kind: "malformed", message: "That is too much." }];
     const headers = said ? { "Content-Type": "application/json" } : {};
     const response = await fetch(name, { method, headers, body, cache: "no-store" });
     return await readEvents(response, showPart, showEvent);

@@ -1,7 +1,7 @@
 """A log that is held while it is edited: its changes, what takes them back, and the outcome of
 each.
 
-Each change is one run of the program. What it leads to is an event, which pages put into what they
+Each change is one edit by the program. What it leads to is an event, which pages put into what they
 show; pages that have an older event get all later ones."""
 
 from __future__ import annotations
