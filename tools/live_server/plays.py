@@ -5,14 +5,16 @@ from __future__ import annotations
 import itertools
 import time
 from collections.abc import Sequence
+from concurrent.futures import ThreadPoolExecutor
 from dataclasses import dataclass
 
-from .program import Given, Program, Refused, Run, Word
+from .program import Given, Program, Word
 from .scripts import seed_after
 from .views import Report, beside_its_numbers, facts_of, report_of, turns_of, walk_of
 
 CHECKPOINTS = 300  # of a log, about: fewer cost less, and a replay begins farther ahead
 MOST_EVERY = 10_000
+AT_ONCE = 3  # runs: the walk takes as long as all others together, and more get in its way
 
 
 @dataclass(frozen=True)
@@ -71,10 +73,16 @@ class Game:
         """What `check` prints of the cave."""
         return self.program.said("check", self.cave, *self.options(), "--print", view)
 
+    def said_in(self, words: Sequence[Word], views: Sequence[str]) -> list[bytes]:
+        """What runs with these words print in each of these views; Refused if one of them is."""
+        with ThreadPoolExecutor(AT_ONCE) as pool:
+            runs = [pool.submit(self.program.said, *words, it) for it in views]
+        return [it.result() for it in runs]
+
     def play(self, log: Given, seed: str) -> Held:
         """A log, played from its first line."""
         words: list[Word] = ["play", self.cave, log, *self.options(), "--seed", seed, "--print"]
-        walk, facts = said_of([self.program.start(*words, it) for it in ("walk", "state")])
+        walk, facts = self.said_in(words, ("walk", "state"))
         return Held(log.content(), seed, walk_of(walk), facts_of(facts))
 
     def change(self, held: Held, script: bytes) -> Played:
@@ -84,8 +92,7 @@ class Game:
                 "edit", self.cave, log, edits, *self.options(), "--seed", held.seed,
                 "--every", str(every_of(held.count)), "--guarded", "--strict", "--print"]
             views, begun = ("walk", "reports", "log", "undo", "state"), time.monotonic()
-            walk, report, changed, undo, facts = said_of(
-                [self.program.start(*words, it) for it in views])
+            walk, report, changed, undo, facts = self.said_in(words, views)
             taken = (time.monotonic() - begun) * 1_000
         seed = seed_after(script, held.seed)
         after = Held(changed, seed, walk_of(walk), facts_of(facts))
@@ -95,19 +102,6 @@ class Game:
 def every_of(count: int) -> int:
     """The most lines between two checkpoints, in a log of this many."""
     return min(1 + count // CHECKPOINTS, MOST_EVERY)
-
-
-def said_of(runs: Sequence[Run]) -> list[bytes]:
-    """What runs print that go on side by side; all have ended if one is refused."""
-    said, refused = [], None
-    for run in runs:
-        try:
-            said.append(run.said())
-        except Refused as wrong:
-            refused = refused or wrong
-    if refused:
-        raise refused
-    return said
 
 
 def patch_of(old: Held, new: Held, report: Report) -> Patch:

@@ -102,9 +102,6 @@ class Program:
     def __init__(self, path: str) -> None:
         self.path = path
 
-    def start(self, *words: Word) -> Run:
-        return Run(self.path, words)
-
     def said(self, *words: Word) -> bytes:
         """What a run prints; Refused if it fails."""
-        return self.start(*words).said()
+        return Run(self.path, words).said()
