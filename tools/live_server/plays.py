@@ -83,7 +83,7 @@ class Game:
         """A log, played from its first line."""
         words: list[Word] = ["play", self.cave, log, *self.options(), "--seed", seed, "--print"]
         walk, facts = self.said_in(words, ("walk", "state"))
-        return Held(log.content(), seed, walk_of(walk), facts_of(facts))
+        return Held(log.content(), seed, walk_of(walk, []), facts_of(facts))
 
     def change(self, held: Held, script: bytes) -> Played:
         """What a script does to a held log; Refused if one of its edits is."""
@@ -92,11 +92,13 @@ class Game:
                 "edit", self.cave, log, edits, *self.options(), "--seed", held.seed,
                 "--every", str(every_of(held.count)), "--guarded", "--strict", "--print"]
             views, begun = ("walk", "reports", "log", "undo", "state"), time.monotonic()
-            walk, report, changed, undo, facts = self.said_in(words, views)
+            walk, said, changed, undo, facts = self.said_in(words, views)
             taken = (time.monotonic() - begun) * 1_000
         seed = seed_after(script, held.seed)
-        after = Held(changed, seed, walk_of(walk), facts_of(facts))
-        return Played(after, report_of(report), undo, taken)
+        report = report_of(said)
+        known = held.walk[:1 + report.start] if seed == held.seed else []
+        after = Held(changed, seed, walk_of(walk, known), facts_of(facts))
+        return Played(after, report, undo, taken)
 
 
 def every_of(count: int) -> int:

@@ -8,6 +8,7 @@
 from __future__ import annotations
 
 import os
+import select
 import subprocess
 from types import TracebackType
 
@@ -72,14 +73,25 @@ class Run:
     def said(self) -> bytes:
         """What the run printed, once it has ended."""
         try:
-            status = self.process.wait(SECONDS)
+            if not self.has_ended():
+                raise Refused(f"the program takes longer than {SECONDS} seconds", LOST)
+            status = self.process.wait()
             if status:
                 raise Refused(self.told(), status)
             return self.out.content()
-        except subprocess.TimeoutExpired:
-            raise Refused(f"the program takes longer than {SECONDS} seconds", LOST) from None
         finally:
             self.close()
+
+    def has_ended(self) -> bool:
+        """Waits until the run has ended, and says whether it has. `Popen.wait` with a limit only looks
+        now and then, and so would take up to 50 milliseconds more."""
+        ending = os.pidfd_open(self.process.pid)
+        try:
+            waiting = select.poll()
+            waiting.register(ending, select.POLLIN)
+            return bool(waiting.poll(SECONDS * 1_000))
+        finally:
+            os.close(ending)
 
     def told(self) -> str:
         """What the run said on standard error, with the names of what was handed over."""

@@ -45,9 +45,14 @@ def report_of(said: bytes) -> Report:
                   ended=found["ended"] or "", **numbers)
 
 
-def walk_of(said: bytes) -> list[bytes]:
-    """The lines of `--print walk`: that of the opening, and one for each line of the log."""
-    lines = said.split(b"\n")
+def walk_of(said: bytes, known: list[bytes]) -> list[bytes]:
+    """The lines of `--print walk`: that of the opening, and one for each line of the log. To split a
+    long walk takes time, so the lines that are known, those before a change, are only compared."""
+    begin = b"".join(it + b"\n" for it in known)
+    if said.startswith(begin):
+        lines = [*known, *said[len(begin):].split(b"\n")]
+    else:
+        lines = said.split(b"\n")
     if lines.pop() or not lines or not lines[0].startswith(b'{"place":null,'):
         raise Unread("a walk has an opening, and ends with a line")
     return lines
