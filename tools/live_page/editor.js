@@ -32,8 +32,9 @@ function openEditor(at, { isNew = false, text = null } = {}) {
   typedField.setSelectionRange(typedField.value.length, typedField.value.length);
 }
 
-// Takes the field away; not if it has what was refused, unless it is given up.
-function closeEditor({ isGivenUp = false } = {}) {
+// Takes the field away; not if it has what was refused, unless it is given up. The lines have the
+// focus then, if nothing is opened after it.
+function closeEditor({ isGivenUp = false, isLast = true } = {}) {
   if (editor.refused && !isGivenUp) {
     typedField.focus({ preventScroll: true });
     return false;
@@ -41,7 +42,7 @@ function closeEditor({ isGivenUp = false } = {}) {
   const hadFocus = typedBox.contains(document.activeElement);
   Object.assign(editor, { isOpen: false, refused: "", completed: null });
   detachEditor();
-  if (hadFocus) list.focus({ preventScroll: true });
+  if (hadFocus && isLast) list.focus({ preventScroll: true });
   return true;
 }
 
@@ -81,13 +82,17 @@ function showTyped() {
   const line = typedField.value;
   shadow.replaceChildren(...runsOf(line).map(({ text, isUnknown }) =>
     make("span", isUnknown ? { class: "unknown" } : {}, text)));
-  shadow.style.transform = `translateX(${-typedField.scrollLeft}px)`;
+  requestAnimationFrame(moveShadow); // by then all is laid out
   const unknown = unknownIn(line);
   const doubt = unknown.length ? `The cave doesn't know ${unknown.join(" and ")}.` : "";
   typedWrong.textContent = editor.refused || doubt;
   typedBox.classList.toggle("refused", Boolean(editor.refused));
   typedField.setAttribute("aria-invalid", Boolean(editor.refused));
   showCompletions();
+}
+
+function moveShadow() {
+  shadow.style.transform = `translateX(${-typedField.scrollLeft}px)`;
 }
 
 function showCompletions() {
@@ -126,6 +131,9 @@ function putWord(at) {
 
 // ---- the change that is typed
 
+// The line that the field is for, once it is in the log.
+const lineTyped = () => editor.at + (editor.isNew ? 1 : 0);
+
 // What the field has to say of the log: one edit, or none.
 function typedEdits() {
   const text = typedField.value;
@@ -134,7 +142,8 @@ function typedEdits() {
 }
 
 // Plays what was typed, and closes the field; then it does what comes after, if it wasn't refused.
-async function commit(then = () => {}, extra = []) {
+// The line `next` is looked at by then.
+async function commit(then = () => {}, { extra = [], next = lineTyped() } = {}) {
   const edits = [...typedEdits(), ...extra];
   if (!editor.isOpen || editor.isSending) return;
   if (!edits.length) {
@@ -142,11 +151,13 @@ async function commit(then = () => {}, extra = []) {
     return then();
   }
   Object.assign(editor, { lines: [], begun: typedField.value.length });
-  if (await isRefused(edits, editor.at + (editor.isNew ? 1 : 0))) return;
+  if (await isRefused(edits, next)) return;
   const { lines } = editor;
   const text = typedField.value.slice(editor.begun);
-  closeEditor({ isGivenUp: true });
+  const hadFocus = typedBox.contains(document.activeElement);
+  closeEditor({ isGivenUp: true, isLast: false });
   then(text || null);
+  if (hadFocus && !editor.isOpen) list.focus({ preventScroll: true });
   if (lines.length && editor.isOpen) sendMore(lines);
 }
 
@@ -162,15 +173,20 @@ async function leave() {
   showTyped();
 }
 
-// Sends the lines that were typed while another one was sent, as one change.
+// Sends the lines that were typed while another one was sent, as one change; then those that were
+// ended while these were sent.
 async function sendMore(lines) {
   const { at } = editor;
+  Object.assign(editor, { isSending: editor.isNew, lines: [], begun: 0 });
   const wrong = await sendChange(insertions(at, lines), { at: at + lines.length });
+  const more = editor.lines;
+  const text = typedField.value.slice(editor.begun);
+  Object.assign(editor, { isSending: false, refused: wrong });
   if (!wrong) editor.at += lines.length;
-  else typedField.value = [...lines, typedField.value].join(" ");
-  editor.refused = wrong;
+  typedField.value = wrong ? [...lines, ...more, text].join(" ") : text;
   attachEditor();
   showTyped();
+  if (more.length && editor.isOpen && !wrong) sendMore(more);
 }
 
 // Sends what was typed; if it is refused, the field says so.
@@ -193,18 +209,18 @@ const EDITOR_KEYS = {
       editor.begun = typedField.value.length;
       return;
     }
-    const at = editor.at + (editor.isNew ? 1 : 0);
+    const at = lineTyped();
     const isBlank = editor.isNew && !typedField.value;
-    const blank = isBlank ? [insertion(editor.at, "")] : [];
-    commit((text) => openEditor(at, { isNew: true, text }), blank);
+    const extra = isBlank ? [insertion(editor.at, "")] : [];
+    commit((text) => openEditor(at, { isNew: true, text }), { extra });
   },
   ArrowUp: () => {
     const at = editor.isNew ? editor.at : editor.at - 1;
-    commit(() => (at > 0 ? openEditor(at) : go(0)));
+    commit(() => (at > 0 ? openEditor(at) : go(0, false)), { next: at });
   },
   ArrowDown: () => {
     const at = after() + 1;
-    commit(() => (at <= last(held) ? openEditor(at) : go(last(held))));
+    commit(() => (at <= last(held) ? openEditor(at) : go(last(held), false)), { next: at });
   },
   Escape: () => closeEditor({ isGivenUp: true }),
 };
@@ -251,7 +267,7 @@ function onTypedPaste(event) {
   const lines = (value.slice(0, selectionStart) + text.replace(/\n$/, "")
     + value.slice(selectionEnd)).split("\n");
   typedField.value = lines[0];
-  const place = editor.at + (editor.isNew ? 1 : 0);
+  const place = lineTyped();
   const more = lines.slice(1).map((it, row) => insertion(place + row, it, row > 0 || editor.isNew));
   const at = place + more.length;
   const first = editor.isNew && !lines[0] ? [insertion(editor.at, "")] : [];

@@ -43,15 +43,21 @@ function numberOfWords(column, words) {
 // ---- lines of the walk
 
 // A column with some of its cells taken out, and others put in their place.
-const spliced = (column, at, removed, added) =>
-  column.slice(0, at).concat(added, column.slice(at + removed));
+function spliced(column, at, removed, added) {
+  if (removed !== added.length) {
+    return column.slice(0, at).concat(added, column.slice(at + removed));
+  }
+  const made = column.slice(); // one copy, as most changes leave as many lines as there were
+  added.forEach((it, row) => { made[at + row] = it; });
+  return made;
+}
 
 function putLines(at, removed, lines) {
   const splice = (column, cell) => spliced(column, at, removed, lines.map(cell));
   for (const name of NUMBERED) held[name] = splice(held[name], (it) => it[name]);
   held.lines = splice(held.lines, (it) => it.line);
-  held.said = splice(held.said.slice(1), (it) => numberOfText(it.said));
-  held.said.unshift(openingSaid());
+  held.said = spliced(held.said, at + 1, removed, lines.map((it) => numberOfText(it.said)));
+  held.said[0] = openingSaid();
   held.carried = splice(held.carried, (it) => it.carried.length);
   held.carriedThings = splice(held.carriedThings, (it) => it.carried);
   held.moved = splice(held.moved, (it) => it.moved);

@@ -1,6 +1,7 @@
 // The page of a held log: what is added to the page of a walk, and how it begins.
 
 const clock = { begun: 0 };
+const REHEARSALS = 6;
 
 // From when on the time is counted until a change is shown.
 function startClock(event) {
@@ -47,6 +48,7 @@ function showPatch(head, after, until, isWhole) {
     drawAgain(head.opening ? -1 : after, until, isMoved);
     if (isWhole) drawWhole();
   });
+  decorate(); // the lines that are drawn as they were have their marks too
   if (isWhole) showTold(head);
   stopClock(head);
 }
@@ -93,16 +95,22 @@ function showAgain(at, drawLines) {
   editor.isMoving = false;
 }
 
-// Does what a change does once before the first of them, without one, so that it is quick then: the
-// browser has prepared by then all that it runs, and laid out all that it draws.
-function rehearse() {
-  performance.mark("rehearsed");
+// Does what a change does a few times before the first of them, without one, so that it is quick
+// then: the browser has prepared by then all that it runs, and laid out all that it draws.
+function rehearse(times = REHEARSALS) {
+  if (times > 1) requestIdleCallback(() => rehearse(times - 1));
+  else performance.mark("rehearsed");
   if (told.before || wire.isAsking || editor.isOpen || !last(held)) return;
   const at = Math.max(now.at, 1);
   keepCurve({ from: at - 1, until: at, was: at });
+  putLines(at, 0, []);
   countAgain();
-  drawAgain(at - 1, at, false);
-  drawWhole();
+  const top = list.scrollTop;
+  showAgain(now.at, () => {
+    drawAgain(at - 1, at, false);
+    drawWhole();
+  });
+  list.scrollTop = top;
   otherwise({ from: at - 1, until: at, score: told.before.final, facts: { gone: [], come: [] } });
   told.before = null;
   under.score = [];
@@ -237,5 +245,5 @@ new MutationObserver((changed) => {
 }).observe(list, { childList: true, subtree: true });
 ask("GET", "walk").then(() => {
   listen();
-  requestIdleCallback(rehearse);
+  requestIdleCallback(() => rehearse());
 });

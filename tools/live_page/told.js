@@ -24,11 +24,13 @@ function keepCurve(head) {
 // those that were replayed is another one, and none after them.
 function endsAlike() {
   const [old, after] = [told.before.lines, held.lines];
+  if (told.before.alike?.after === after) return told.before.alike;
   const least = Math.min(old.length, after.length);
   let { first, tail } = told.before;
   while (first < least && old[first] === after[first]) first += 1;
   while (tail < least - first && old.at(-1 - tail) === after.at(-1 - tail)) tail += 1;
-  return { first, tail, shift: after.length - old.length };
+  told.before.alike = { first, tail, shift: after.length - old.length, after };
+  return told.before.alike;
 }
 
 // The old line that a line was; 0 if it is a new one.

@@ -10,10 +10,16 @@ const under = { score: [], lineOf: (at) => at };
 
 // ---- scales
 
-const least = (column, start) => walks.reduce((low, it) =>
-  it[column].reduce((a, b) => Math.min(a, b), low), start);
-const most = (column, start) => walks.reduce((high, it) =>
-  it[column].reduce((a, b) => Math.max(a, b), high), start);
+// The least and the greatest of some figures and of two more.
+function extentOf(columns, low, high) {
+  for (const figures of columns) {
+    for (let at = 0; at < figures.length; at += 1) {
+      if (figures[at] < low) low = figures[at];
+      if (figures[at] > high) high = figures[at];
+    }
+  }
+  return [low, high];
+}
 
 function setScale() {
   if (!scale.width) {
@@ -21,8 +27,10 @@ function setScale() {
     Object.assign(scale, { width: Math.max(box.width, 200), height: Math.max(box.height, 80) });
   }
   scale.lines = Math.max(...walks.map((it) => columnOf(it, last(it))), 1);
-  scale.score = [0, under.score.reduce((a, b) => Math.max(a, b), most("score", 10)) * 1.08];
-  scale.lamp = [least("lamp", 0), most("lamp", 10) * 1.08];
+  const [, score] = extentOf([under.score, ...walks.map((it) => it.score)], 0, 10);
+  const [low, lamp] = extentOf(walks.map((it) => it.lamp), 0, 10);
+  scale.score = [0, score * 1.08];
+  scale.lamp = [low, lamp * 1.08];
 }
 
 const xOf = (column) => EDGES.left
@@ -151,7 +159,7 @@ function drawChart() {
   parts.push(path(`score ${colour(walk())}`, stairs(mine, scale.score)));
   for (const it of walks) parts.push(...marksOf(it));
   chart.setAttribute("viewBox", `0 0 ${scale.width} ${scale.height}`);
-  chart.replaceChildren(...parts, draw("g", { id: "cursor" }));
+  renew(chart, [...parts, draw("g", { id: "cursor" })]);
   showLegend();
   showCursor();
 }
@@ -173,7 +181,7 @@ function showLegend() {
     const shape = draw("path", { class: name, d: SHAPES[event] });
     entries.push(entry(shape, event));
   }
-  byId("legend").replaceChildren(...entries);
+  renew(byId("legend"), entries);
 }
 
 // ---- the line that is looked at
@@ -253,6 +261,6 @@ function factsOf(at) {
 }
 
 function showFacts() {
-  byId("facts").replaceChildren(...factsOf(now.at).flatMap(([name, value, kind = ""]) =>
+  renew(byId("facts"), factsOf(now.at).flatMap(([name, value, kind = ""]) =>
     [make("dt", {}, name), make("dd", { class: kind, "data-fact": name }, ...[value].flat())]));
 }

@@ -96,7 +96,7 @@ function fillBlock(block) {
   block.isFull = true;
   const made = [];
   for (let at = block.from; at < endOf(block); at += 1) made.push(lineAt(at));
-  block.box.replaceChildren(...made);
+  renew(block.box, made);
   block.box.style.height = "";
 }
 

@@ -28,8 +28,9 @@ function firstsOf(it) {
   const taken = new Set();
   for (let at = 1; at <= last(it); at += 1) {
     const [from, to] = [it.from[at - 1], it.to[at - 1]];
+    if (from === to) continue;
     const way = Math.min(from, to) * MOST_PLACES + Math.max(from, to);
-    if (from === to || taken.has(way)) continue;
+    if (taken.has(way)) continue;
     taken.add(way);
     for (const name of [`${from}.${to}`, `${to}.${from}`]) found.ways.set(name, at);
   }
@@ -114,7 +115,7 @@ drawing.prepend(draw("defs", {}, arrow("mine"), arrow("theirs")));
 function showTrails() {
   const theirs = walks[1] && beside(now.at);
   const parts = walks[1] && !isShared(now.at) ? trailOf(other(), theirs) : [];
-  byId("trails").replaceChildren(...parts, ...trailOf(walk(), now.at));
+  renew(byId("trails"), [...parts, ...trailOf(walk(), now.at)]);
   const mark = (name, place) => {
     for (const it of drawing.querySelectorAll(`.place.${name}`)) it.classList.remove(name);
     places.get(place)?.group.classList.add(name);

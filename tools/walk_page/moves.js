@@ -11,7 +11,6 @@ const onShown = []; // what a page that shows more does after each move
 function go(at, isSaid = true) {
   now.at = Math.min(Math.max(at, 0), last(walk()));
   showMap();
-  showLine();
   showCursor();
   showFacts();
   showFound();
@@ -20,6 +19,7 @@ function go(at, isSaid = true) {
   clearTimeout(linking);
   linking = setTimeout(() => history.replaceState(null, "", addressOf(now.at)), 150);
   for (const show of onShown) show();
+  showLine(); // last, as it measures what the others may have moved
 }
 
 const OPENING = "#opening";

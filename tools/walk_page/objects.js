@@ -56,5 +56,5 @@ function showThings() {
     names.slice(0, SHOWN_THINGS).join(", ").toLowerCase() + more,
     draw("title", {}, names.join(", "))));
   }
-  thingTexts.replaceChildren(...texts);
+  renew(thingTexts, texts);
 }

@@ -22,6 +22,17 @@ const make = (tag, attributes = {}, ...held) =>
 const draw = (tag, attributes = {}, ...held) =>
   fill(document.createElementNS(SVG, tag), attributes, held);
 
+// Puts elements into one in place of those that it has. One that is as it was stays, so that the
+// browser neither lays it out nor paints it again.
+function renew(held, made) {
+  const old = [...held.children];
+  made.forEach((it, at) => {
+    if (!old[at]) held.append(it);
+    else if (!it.isEqualNode(old[at])) old[at].replaceWith(it);
+  });
+  for (const it of old.slice(made.length)) it.remove();
+}
+
 const walk = () => walks[now.walk];
 const other = () => walks[1 - now.walk];
 const last = (it) => it.lines.length;
