@@ -43,13 +43,13 @@ $(BUILT): $(SOURCES)
 	@cd crates/cave && ../../tools/progress cave ../../out/build.log rt run -- $(FIRST_GAME)
 	@touch $@
 
-# What takes seconds and needs no proof and no program: what nobody uses, imports from a crate that
+# What takes a minute or two and needs no proof and no program: what nobody uses, imports from a crate that
 # doesn't have the item, functions that don't go by the word of their definition, what the pages
 # name and show, that the changelog has the version of the code, that the checks of pages and of
 # suites fail what they should, how scripts answer `--help`, and what shells complete. A check that
 # skips something says so in a line, and adds it to the file SKIPPED: `make test` ends with the sum.
 checks test: export SKIPPED = $(CURDIR)/out/skipped
-checks: ## checks names, imports, pages and scripts, in seconds, without any proof
+checks: ## checks names, imports, pages and scripts, in a minute or two, without any proof
 	@rm -f out/skipped
 	tools/check-unused
 	tools/check-homes
