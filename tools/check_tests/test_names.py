@@ -70,6 +70,9 @@ NUMBERS = {
     "defined.MAX_DROPS": "",
     "MAX_DROPS": "a clause reads the code's MAX_DROPS",
 }
+# A definition that writes the number itself, and one that takes it from the code.
+WRITTEN = "abbrev pub MAX_DROPS : ℕ\nMAX_DROPS = 9\n"
+IMPORTED = "use Rattle.oil.specs.declared.oil.TheConstants.{MAX_DROPS}\n"
 
 
 def named() -> list[Case]:
@@ -93,12 +96,18 @@ def with_code(code: str, kept: str) -> dict[str, str]:
 
 
 def numbered() -> list[Case]:
-    """A clause with a number, beside the number of the definitions."""
-    specs = {"crates/oil/specs/Oil.antt": "abbrev pub MAX_DROPS : ℕ\nMAX_DROPS = 9\n"}
-    return [
-        (number, specs | {"crates/oil/src/oil.rt": NUMBER.format(number=number)}, said)
+    """A clause with a number beside the definitions' number, and definitions of the number alone."""
+    specs = "crates/oil/specs/Oil.antt"
+    found: list[Case] = [
+        (
+            number,
+            {specs: WRITTEN, "crates/oil/src/oil.rt": NUMBER.format(number=number)},
+            said,
+        )
         for number, said in NUMBERS.items()
     ]
+    imports = f"{specs}: a definition reads the code's MAX_DROPS"
+    return [*found, ("written", {specs: WRITTEN}, ""), ("imported", {specs: IMPORTED}, imports)]
 
 
 Names = tests_of("check-names", named())

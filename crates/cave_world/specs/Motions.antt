@@ -1,10 +1,10 @@
 -- The motions that rules name, and their numbers in a database.
-use Rattle.std.specs.Prelude.{◌≡◌, ℕ, ◌==◌, List, Option, Some, None, Result, MatchResult}
+use Rattle.std.specs.Prelude.{◌≡◌, ℕ, ◌==◌, List, [], ◌∷◌, Option, Some, None, Result}
+use Rattle.std.specs.Prelude.{MatchResult}
 use Rattle.std.specs.List.{find}
 use Rattle.cave_world.specs.declared.motion.Motion.{Motion}
 use Rattle.cave_world.specs.declared.motion.Motion.TheVariants as motion
 use Rattle.cave_world.specs.declared.motion.NoNamedMotion.{NoNamedMotion}
-use Rattle.cave_world.specs.declared.motion.TheConstants.{EACH_MOTION}
 
 -- the number by which a database knows it
 abbrev pub motion_number : Motion → ℕ
@@ -35,6 +35,15 @@ motion_number motion.Plugh = 65
 motion_number motion.Cave = 67
 motion_number motion.Plover = 71
 
+-- each motion that rules name, once
+abbrev pub EACH_MOTION : List Motion
+EACH_MOTION =
+    motion.Any ∷ motion.Forward ∷ motion.Back ∷ motion.Out ∷ motion.Crawl ∷ motion.Inside ∷
+    motion.Nowhere ∷ motion.Up ∷ motion.Down ∷ motion.Left ∷ motion.Right ∷ motion.East ∷
+    motion.West ∷ motion.North ∷ motion.South ∷ motion.Northeast ∷ motion.Southeast ∷
+    motion.Southwest ∷ motion.Northwest ∷ motion.Look ∷ motion.Xyzzy ∷ motion.Depression ∷
+    motion.Entrance ∷ motion.Plugh ∷ motion.Cave ∷ motion.Plover ∷ []
+
 -- a row that lists it is taken by every motion, and a first row that begins with it is forced
 abbrev pub any_motion : ℕ
 any_motion = motion_number motion.Any
@@ -48,3 +57,7 @@ motion_of number = motion_among EACH_MOTION number
 
 abbrev pub IsMotionOf : ℕ → Result Motion NoNamedMotion → Type 0
 IsMotionOf number r = MatchResult r (λ m. motion_of number ≡ Some m) (λ e. motion_of number ≡ None)
+
+-- each motion that rules name is the one of its number
+abbrev pub MotionsAreNumbered : Type 0
+MotionsAreNumbered = (m : Motion) → motion_of (motion_number m) ≡ Some m

@@ -1,5 +1,6 @@
-//! What follows from the definitions of equality: a law's function does nothing.
+//! What follows from the definitions of equality and of motions: a law's function does nothing.
 ghost use Rattle.std.specs.Prelude.{◌↔◌, IsTrue};
+ghost use Rattle.cave_world.specs.Motions.{MotionsAreNumbered};
 ghost use Rattle.cave_world.specs.SameGame.{IsSameGame};
 
 use crate::state::State;
@@ -15,3 +16,9 @@ impl State {
         other.objects.lists_are_in_order();
     }
 }
+
+/// Each motion that rules name is the one of its number.
+#[tactic(auto, using(crate::proofs::Numbered::motions_are_numbered))]
+pub fn motions_are_numbered()
+    ensures { MotionsAreNumbered }
+{}

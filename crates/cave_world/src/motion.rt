@@ -38,7 +38,7 @@ pub enum Motion {
 }
 
 /// Each motion.
-pub const EACH_MOTION: [Motion; 26] = [
+const EACH_MOTION: [Motion; 26] = [
     Motion::Any,
     Motion::Forward,
     Motion::Back,

@@ -2,8 +2,7 @@
 use Rattle.std.specs.Prelude.{ℕ, ◌≤◌, List, [], ◌∷◌, take}
 use Rattle.replay_edits.specs.declared.line_text.LineBytes.{LineBytes}
 use Rattle.replay_edits.specs.declared.line_text.LineBytes.TheVariants.{Short, Long}
-use Rattle.replay_edits.specs.declared.line_text.TheConstants.{MAX_SHORT_LINE}
-use Rattle.replay_edits.specs.LineText.{LineText}
+use Rattle.replay_edits.specs.LineText.{LineText, MAX_SHORT_LINE}
 
 -- the bytes themselves
 abbrev pub bytes_of : LineBytes → List ℕ

@@ -1,4 +1,5 @@
 ghost use Rattle.std.specs.Prelude.{◌≡◌, ◌≤◌, [], length, IsOk, IfOk};
+ghost use Rattle.replay_edits.specs.LineText as defined;
 
 use std::alloc::{AllocError, Global};
 use std::fmt;
@@ -42,7 +43,7 @@ impl LineText {
     /// A line of these bytes.
     pub fn from_slice(alloc: Global, bytes: &[u8]) -> Result<LineText, AllocError>
         ensures ok { IfOk result (λ line. line.items ≡ bytes.now) }
-        ensures short { length bytes.now ≤ MAX_SHORT_LINE → IsOk result }
+        ensures short { length bytes.now ≤ defined.MAX_SHORT_LINE → IsOk result }
     {
         match u8::try_from(bytes.len()) {
             Ok(len) if bytes.len() <= MAX_SHORT_LINE => {
