@@ -50,7 +50,7 @@ SECTIONS = {number: Section(*of) for number, *of in [
     (12, "text", [MESSAGE], 1, "a message and a line of its text", OF_MESSAGE, None, ""),
 ]}
 CAUSES = ["a number or a word is missing: section {0} expects {1.expects}, or -1 at its end",
-          "a number or a text is out of its range: {1.within}", "a limit is passed: {1.limits}"]
+          "a number or a text is out of its range: {1.within}", "too many rows: {1.limits}"]
 
 ROLES = """
     answer around axe-bear axe-dragon axe-first axe-kill axe-miss axe-thrown axe-troll back-no
@@ -130,7 +130,7 @@ def numbered_rows(text):
         elif value in SECTIONS:
             section = value
         else:
-            raise Fault(at, "this opens no section: expected the number of a section, 1 to 12, or 0"
+            raise Fault(at, "not a section number: expected the number of a section, 1 to 12, or 0"
                             " at the end of the database")
     ends = f"section {section} has to end with -1, and the database with 0"
     says = ends if section else "its last line has to be 0"
@@ -169,7 +169,7 @@ def with_mark(judge, text):
         cause = fault.message.split(": ")[0]
         if fault.line == 1 and text.startswith(MARKS):
             more = "the file begins with a byte order mark: save it without one"
-        elif fault.line == 1 and cause == "this opens no section" and text.strip(" \t")[0] not in "0123456789-":
+        elif fault.line == 1 and cause == "not a section number" and text.strip(" \t")[0] not in "0123456789-":
             more = ("expected the number of a section, 1 to 12; if this is a log, CAVE comes before"
                     " it")
         else:
@@ -184,7 +184,7 @@ def bindings_of(text):
             continue
         key, number = (fields_of(line) + [""])[:2]
         if len(fields_of(line)) != 2 or number.startswith("-") or number_of(number) is None:
-            raise Fault(at, "this is no binding: expected two fields, `msg.NAME N`, `place.NAME N`"
+            raise Fault(at, "not a binding: expected two fields, `msg.NAME N`, `place.NAME N`"
                             " or `num.letters N`, with N of 1 to 9 digits")
         family = (5, 8) if key == "num.letters" else FAMILIES.get(key[:key.find(".") + 1])
         if family and not is_within(int(number), family):

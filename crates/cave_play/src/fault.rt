@@ -35,7 +35,10 @@ impl fmt::Display for LineWords {
         let flaw = self.flaw;
         match (self.line, flaw) {
             (1, LineFlaw::Byte(239 | 254 | 255, 1)) => {
-                write!(f, "{flaw}: a byte order mark begins so")
+                write!(
+                    f,
+                    "{flaw}: this looks like a byte order mark: save the log without one"
+                )
             }
             _ => write!(f, "{flaw}"),
         }

@@ -4,7 +4,7 @@
 mod copies;
 pub mod fault;
 pub mod laws;
-mod log;
+pub mod log;
 pub mod machine;
 mod played_lines;
 mod playthrough;

@@ -16,7 +16,7 @@ use std::alloc::{AllocError, Global};
 type Copies = Result<Vec<LineText>, AllocError>;
 
 /// The lines of a log, or the first fault of what is given to open a session.
-pub(crate) fn read_lines(
+pub fn read_lines(
     alloc: Global,
     every: u32,
     log: &[u8],

@@ -8,7 +8,7 @@ use thiserror::Error;
 /// Why a line of bindings binds nothing, although its key may be known.
 #[derive(Clone, Copy, Debug, PartialEq, Eq, Error)]
 pub enum BindingFlaw {
-    #[error("this is no binding")]
+    #[error("not a binding")]
     Malformed,
     #[error("the number of a binding is out of its range")]
     BadValue,
@@ -22,7 +22,7 @@ pub enum BindingFlaw {
 pub enum Cause {
     #[error("the input is too large")]
     TooLarge,
-    #[error("this opens no section")]
+    #[error("not a section number")]
     BadSection,
     #[error("a number or a word is missing")]
     BadNumber,
@@ -30,7 +30,7 @@ pub enum Cause {
     OutOfRange,
     #[error("the database has no end")]
     NoEnd,
-    #[error("a limit is passed")]
+    #[error("too many rows")]
     TooManyRows,
     #[error("{0}")]
     BadBinding(BindingFlaw),

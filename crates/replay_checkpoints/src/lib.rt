@@ -15,7 +15,8 @@
 //!   next one lies more than `every` past the last one kept. The state at it is changed in place.
 //! - [`Checkpoints::meet`] and [`Checkpoints::replace_from`] take marks over. Earlier
 //!   checkpoints stay where they are, and later ones move with the one that was met.
-//! - [`Blocks`] is a list that lies in blocks, so a splice moves the items of only one of them.
+//! - [`Blocks`] is a list that lies in blocks, so putting a stretch in the place of another moves
+//!   the items of only one of them.
 //!   [`Items`] goes over its items.
 //!
 //! What an edit costs here, in addition to one `advance` for each place that is played:
@@ -27,11 +28,11 @@
 //! | `Marks::open` | the start kept and copied, and room for all places that can be kept |
 //! | `Marks::advance` | a comparison; if the open place is kept, its state kept |
 //! | `Marks::keep_open` | one state kept |
-//! | `meet`, `replace_from` | a `splice` of those passed; a pass over later ones that move |
-//! | `splice` | the stretch item by item; a turn with the items after it that move |
+//! | `meet`, `replace_from` | a stretch for those passed; a pass over later ones that move |
+//! | a stretch | item by item; a turn with the items after it that move |
 //! | `Blocks::at` | a look at a block, and at those beside it until the item's one is found |
 //! | `Blocks::open` | two such searches; the blocks of the stretch joined, and a long one cut |
-//! | `Blocks::replace` | a `splice` in one block; an addition for each block after it |
+//! | `Blocks::replace` | a stretch in one block; an addition for each block after it |
 //!
 //! A turn is a block move if either side of it is one item or has at most 4,096 bytes; otherwise it
 //! exchanges items. A state that is kept in a Box stays where it is until its checkpoint goes: only

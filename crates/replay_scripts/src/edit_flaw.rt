@@ -135,10 +135,10 @@ impl fmt::Display for EditFlaw {
                 )
             }
             EditFlaw::Indented => write!(f, "the line begins with a blank: its word comes first"),
-            EditFlaw::NearWord(word) => write!(f, "no edit begins so: did you mean {word}?"),
+            EditFlaw::NearWord(word) => write!(f, "unknown word: did you mean {word}?"),
             EditFlaw::NoWord => write!(
                 f,
-                "no edit begins so: expected `insert N TEXT`, `delete N`, `replace N TEXT`, \
+                "unknown word: expected `insert N TEXT`, `delete N`, `replace N TEXT`, \
                  `seed N`, `begin`, `end` or, as a guard, `expect N TEXT`"
             ),
             EditFlaw::NoNumber(word) => write!(f, "a number is missing: expected {word}"),

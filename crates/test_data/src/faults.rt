@@ -180,7 +180,7 @@ const TOLD: [(Cause, usize, FaultSite, &str); 14] = [
         Cause::BadSection,
         1,
         FaultSite::Database,
-        "line 1 of the database: this opens no section: expected the number of a section, 1 to \
+        "line 1 of the database: not a section number: expected the number of a section, 1 to \
         12, or 0 at the end of the database",
     ),
     (
@@ -200,32 +200,32 @@ const TOLD: [(Cause, usize, FaultSite, &str); 14] = [
         Cause::TooManyRows,
         2002,
         FaultSite::Section(Section::Travel),
-        "line 2002 of the database: a limit is passed: section 3 has at most 2000 rows, and a row \
+        "line 2002 of the database: too many rows: section 3 has at most 2000 rows, and a row \
         at most 40 motions",
     ),
     (
         Cause::TooManyRows,
         1002,
         FaultSite::Section(Section::Words),
-        "line 1002 of the database: a limit is passed: section 4 has at most 1000 rows",
+        "line 1002 of the database: too many rows: section 4 has at most 1000 rows",
     ),
     (
         Cause::TooManyRows,
         2,
         FaultSite::Section(Section::Conditions),
-        "line 2 of the database: a limit is passed: a row of section 9 has at most 40 places",
+        "line 2 of the database: too many rows: a row of section 9 has at most 40 places",
     ),
     (
         Cause::TooManyRows,
         52,
         FaultSite::Section(Section::Classes),
-        "line 52 of the database: a limit is passed: section 10 has at most 50 rows",
+        "line 52 of the database: too many rows: section 10 has at most 50 rows",
     ),
     (
         MALFORMED,
         1,
         FaultSite::Bindings,
-        "line 1 of the bindings: this is no binding: expected two fields, `msg.NAME N`, \
+        "line 1 of the bindings: not a binding: expected two fields, `msg.NAME N`, \
         `place.NAME N` or `num.letters N`, with N of 1 to 9 digits",
     ),
     (

@@ -137,13 +137,13 @@ const FLAWS: [(&[u8], &str); 16] = [
     ),
     (
         b"replce 0 x",
-        "no edit begins so: did you mean `replace N TEXT`?",
+        "unknown word: did you mean `replace N TEXT`?",
     ),
     (
         b"Insert 0 x",
-        "no edit begins so: did you mean `insert N TEXT`?",
+        "unknown word: did you mean `insert N TEXT`?",
     ),
-    (b"END", "no edit begins so: did you mean `end`?"),
+    (b"END", "unknown word: did you mean `end`?"),
     (b"send 3", "expected an edit, a guard, `begin` or `end`"),
     (b"delete ", "a number is missing: expected `delete N`"),
     (
