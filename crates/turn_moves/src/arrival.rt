@@ -67,10 +67,11 @@ fn is_barred<N: RowNotes>(rules: &Rules<'_>, place: Place, scene: &Scene<'_, N>)
         (deed (cave_of rules.now) place (scene_of N.rows scene.now)) }
 {
     let here = scene.state.trail.here;
-    place != here
+    // Most often no dwarf comes from there, and then the cave isn't asked.
+    some_comes_from(place, &scene.state.dwarves.each[..PIRATE])
+        && place != here
         && !forced(rules.cave, here)
         && !has_condition_of(rules, here, PlaceCondition::NoPirate)
-        && some_comes_from(place, &scene.state.dwarves.each[..PIRATE])
 }
 
 /// Where the player arrives: a closing cave or a dwarf blocks the way.
