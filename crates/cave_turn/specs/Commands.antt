@@ -124,22 +124,22 @@ do_request cave (request.WhatToDo word) p =
     act_of (after_telling (part.Word line.WhatToDo word) p) next_is.Stay
 
 -- what was read, and what followed
-pub record Done : Type 0 where
+pub record Followed : Type 0 where
   pub understood : Understood
   pub next : Next
 
-abbrev pub done : Understood → Next → Done
-done understood next = record { understood = understood; next = next }
+abbrev pub followed : Understood → Next → Followed
+followed understood next = record { understood = understood; next = next }
 
 -- the verb that asks for its object, if one does
 abbrev pub verb_that_asks : Request → Next → Option ℕ
 verb_that_asks (request.Act number x word) next_is.Keep = Some number
 verb_that_asks _ _ = None
 
-abbrev pub asking_verb : Deed Done → Option ℕ
+abbrev pub asking_verb : Deed Followed → Option ℕ
 asking_verb d = verb_that_asks d.about.understood.request d.about.next
 
-abbrev pub asks_for_object : Test Done
+abbrev pub asks_for_object : Test Followed
 asks_for_object d = is_some (asking_verb d)
 
 abbrev pub is_what_to_do : Request → Bool
@@ -147,7 +147,7 @@ is_what_to_do (request.WhatToDo word) = true
 is_what_to_do _ = false
 
 -- the player is asked for the verb
-abbrev pub asks_for_verb : Test Done
+abbrev pub asks_for_verb : Test Followed
 asks_for_verb d = is_what_to_do d.about.understood.request
 
 abbrev pub is_unknown : Request → Bool
@@ -155,24 +155,24 @@ is_unknown request.Unknown = true
 is_unknown _ = false
 
 -- the cave doesn't have the word
-abbrev pub unknown_word : Test Done
+abbrev pub unknown_word : Test Followed
 unknown_word d = is_unknown d.about.understood.request
 
 -- just the verb, or what was said so far
-abbrev pub verb_alone : Deed Done → Option HalfCommand
+abbrev pub verb_alone : Deed Followed → Option HalfCommand
 verb_alone d = Some (record { verb = asking_verb d; object = 0 })
 
-abbrev pub said_so_far : Deed Done → Option HalfCommand
+abbrev pub said_so_far : Deed Followed → Option HalfCommand
 said_so_far d = Some d.about.understood.half
 
 -- what is kept for the next command
-abbrev pub half_command_rows : List (Row Done (Option HalfCommand))
+abbrev pub half_command_rows : List (Row Followed (Option HalfCommand))
 half_command_rows =
     answer_row (asks_for_object ∷ []) verb_alone
     ∷ answer_row (asks_for_verb ∷ []) said_so_far
     ∷ answer_row (unknown_word ∷ []) said_so_far ∷ []
 
-unfoldable pub keep_half_command : Deed Done → Act (Option HalfCommand)
+unfoldable pub keep_half_command : Deed Followed → Act (Option HalfCommand)
 keep_half_command d = act_by_table table.HalfCommand half_command_rows
     (otherwise_row [] (always None)) d
 
@@ -188,7 +188,7 @@ after_keeping kept x p = with_state (after_remembering kept x p.state) p
 unfoldable pub after_understood : CaveView → Understood → Scene → Scene
 after_understood cave u p =
     let a = do_request cave u.request p in
-    let kept = keep_half_command (deed cave (done u a.step) a.scene) in
+    let kept = keep_half_command (deed cave (followed u a.step) a.scene) in
     after_keeping kept.step u.half.object kept.scene
 
 -- an input line has a first word

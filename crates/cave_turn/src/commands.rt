@@ -7,7 +7,7 @@ ghost use Rattle.turn_scene.specs.Bounds.{room_of_timed_request};
 ghost use Rattle.turn_scene.specs.Scene.{scene_of, cave_of};
 ghost use Rattle.cave_turn.specs.Commands.{with_magic_waiting, is_elsewhere, forget_knife_rows};
 ghost use Rattle.cave_turn.specs.Commands.{after_travel, after_unknown_word, after_vanished_knives};
-ghost use Rattle.cave_turn.specs.Commands.{after_next, done, keep_half_command, do_verb};
+ghost use Rattle.cave_turn.specs.Commands.{after_next, followed, keep_half_command, do_verb};
 ghost use Rattle.cave_turn.specs.Commands.{do_request, after_remembering, after_keeping};
 ghost use Rattle.cave_turn.specs.Commands.{after_understood, after_words, after_unread};
 ghost use Rattle.cave_turn.specs.Commands.{after_clocks, after_timed_words, after_command};
@@ -223,7 +223,7 @@ fn keep_half_command<N: RowNotes>(
 ) -> Option<HalfCommand>
     ensures kept { (cave : CaveView) → act_of (scene_of N.rows scene.new) result
         ≡ keep_half_command
-        (deed cave (done understood.now next.now) (scene_of N.rows scene.old)) }
+        (deed cave (followed understood.now next.now) (scene_of N.rows scene.old)) }
     ensures says { GoesOnSaying 0 scene.old scene.new }
 {
     match &understood.request {

@@ -15,9 +15,9 @@ use Rattle.turn_scene.specs.Scene.{after_look_at}
 use Rattle.turn_scene.specs.Places.{building_place}
 use Rattle.cave_verbs.specs.declared.next.Next.{Next}
 use Rattle.cave_verbs.specs.declared.verb.Verb.{Verb}
-use Rattle.cave_turn.specs.Commands.{Done, after_clocks, after_unknown_word, after_travel}
+use Rattle.cave_turn.specs.Commands.{Followed, after_clocks, after_unknown_word, after_travel}
 use Rattle.cave_turn.specs.Commands.{begin_command}
-use Rattle.cave_turn.specs.Commands.{after_timed_words, after_command, done, do_action}
+use Rattle.cave_turn.specs.Commands.{after_timed_words, after_command, followed, do_action}
 use Rattle.cave_turn.specs.Commands.{do_request, do_verb, keep_half_command, after_keeping}
 use Rattle.cave_turn.specs.Commands.{forget_knife_rows, after_next, unknown_word_rows}
 use Rattle.cave_turn.specs.Commands.{after_understood}
@@ -98,7 +98,7 @@ unfolding after_keeping
 settled_kept P None x p h = h
 settled_kept P (Some half) x p h = h
 
-half_same : (d : Deed Done) → (keep_half_command d).scene.state ≡ d.scene.state
+half_same : (d : Deed Followed) → (keep_half_command d).scene.state ≡ d.scene.state
 unfolding keep_half_command
 half_same d = grind arith
 
@@ -197,7 +197,7 @@ module _ {cave : CaveView} {l : Line} {Q P : Claim} (k : IsKept cave l Q P) wher
   unfolding after_understood
   carried_out_kept u p h =
       let a = do_request cave u.request p in
-      let d = deed cave (done u a.step) a.scene in
+      let d = deed cave (followed u a.step) a.scene in
       settled_kept P _ _ _ (subst (On P) (sym (half_same d)) (done_kept u.request p h))
 
   -- the words of a line are done
