@@ -1,5 +1,5 @@
 """What `tools/check-names` and `tools/check-numbers` have to refuse: functions that don't share a
-word with their definition, and clauses that read a number of the code."""
+word with their definition, types that are namesakes, and clauses that read a number of the code."""
 
 from __future__ import annotations
 
@@ -22,9 +22,11 @@ MEETINGS = {
     ("trim_wick", "shortened"): "trim_wick meets shortened: no word is shared",
 }
 # A function and what its clause says about it, if nothing looks into the definitions `glow`,
-# `wick_trimmed` and `lamp_lit` of its crate.
+# `wick_trimmed` and `lamp_lit` of its crate, or `spill` and `fill` of another one.
 CLAUSE = """ghost use Rattle.lamps.specs.Lamp.{{glow, wick_trimmed, lamp_lit}};
-ghost use Rattle.oil.specs.Oil.{{drop}};
+ghost use Rattle.oil.specs.Oil.{{spill, MAX_DROPS}};
+ghost use Rattle.oil.specs.Can as defined;
+ghost use Rattle.std.specs.Prelude.{{drop}};
 
 impl Lamp {{
     fn {function}(&mut self)
@@ -42,6 +44,11 @@ CLAUSES = {
     ("burn", "glow self.old ≡ self.new"): "burn meets glow: no word is shared",
     ("burn", "(glow self.old).wick ≡ result"): "burn meets glow: no word is shared",
     ("burn", "result ≡ drop self.now"): "",
+    ("burn", "result ≡ MAX_DROPS"): "",
+    ("burn", "result ≡ spill self.now"): "burn meets spill: no word is shared",
+    ("burn", "result ≡ defined.fill self.now"): "burn meets fill: no word is shared",
+    ("burn", "result ≡ Some (spill self.now)"): "burn meets spill: no word is shared",
+    ("spill", "result ≡ spill self.now"): "",
     ("burn", "glow self.now ≡ self.old"): "",
     ("trim_wick", "self.new ≡ wick_trimmed self.old"): "",
     ("trims", "self.new ≡ wick_trimmed self.old"): "",
@@ -54,7 +61,16 @@ CLAUSES = {
 # Functions that may differ from what they meet.
 KEPT_NAMES = {
     "burn glow": "",
-    "glow burn": "glow meets burn: it isn't so",
+    "glow burn": "tools/kept-names: glow burn: it isn't so",
+}
+
+# A type of one crate, one of another, and what is said of the two.
+NAMESAKES = {
+    ("pub struct Wick {", "pub record Oil : Type 0 where"): "",
+    ("pub struct Wick {", "pub record Wick : Type 0 where"): "type Wick lamps oil isn't listed",
+    ("    pub enum Wick {", "pub data Wick : Type 0 where"): "type Wick lamps oil isn't listed",
+    ("struct Wick {", "pub record Wick : Type 0 where"): "",
+    ("pub struct Oil {", "pub record Oil : Type 0 where"): "",
 }
 
 # A constant that code and definitions have, and a clause of it.
@@ -87,12 +103,16 @@ def named() -> list[Case]:
     differs = CLAUSE.format(function="burn", clause="result ≡ glow self.now")
     for kept, said in KEPT_NAMES.items():
         found.append((f"kept {kept}", with_code(differs, f"# why\nburn glow\n{kept}\n"), said))
+    for (code, definition), said in NAMESAKES.items():
+        two = with_code(f"{code}\n}}\n", "type Oil lamps oil\n" if "Oil {" in code else "")
+        found.append((f"{code} {definition}", two | {"crates/oil/specs/Oil.antt": definition}, said))
     return found
 
 
 def with_code(code: str, kept: str) -> dict[str, str]:
     """A repository with this function, and these names that may differ."""
-    return {"crates/lamps/src/lamp.rt": code, "tools/kept-names": kept}
+    crates = "lamps: oil\noil:\n"
+    return {"crates.txt": crates, "crates/lamps/src/lamp.rt": code, "tools/kept-names": kept}
 
 
 def numbered() -> list[Case]:
