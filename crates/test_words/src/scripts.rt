@@ -139,10 +139,7 @@ const FLAWS: [(&[u8], &str); 16] = [
         b"replce 0 x",
         "unknown word: did you mean `replace N TEXT`?",
     ),
-    (
-        b"Insert 0 x",
-        "unknown word: did you mean `insert N TEXT`?",
-    ),
+    (b"Insert 0 x", "unknown word: did you mean `insert N TEXT`?"),
     (b"END", "unknown word: did you mean `end`?"),
     (b"send 3", "expected an edit, a guard, `begin` or `end`"),
     (b"delete ", "a number is missing: expected `delete N`"),
