@@ -90,6 +90,7 @@ test: has-rt has-cc checks ## runs the gate: all proofs anew, wrong bodies, test
 	logs/tools/check-undo $(PROGRAM)
 	logs/tools/check-drafts $(PROGRAM)
 	tools/check-live $(PROGRAM)
+	logs/tools/check-script $(PROGRAM)
 	tools/prefixes --lines $(PROGRAM)
 	tools/prefixes $(PROGRAM)
 	tools/check-memory
@@ -113,6 +114,7 @@ suite: checks $(PROGRAM) ## plays the logs of logs/, and compares them with thei
 	@logs/tools/check-maps $(PROGRAM)
 	@logs/tools/check-undo $(PROGRAM)
 	@logs/tools/check-drafts $(PROGRAM)
+	@logs/tools/check-script $(PROGRAM)
 	@model/suite
 
 # Plays directed and random games, and reads mutated databases, with the program and with the model

@@ -1,7 +1,7 @@
 """The program `cave` (docs/PROGRAM.md): its words, files, output, messages and statuses.
 
-What is left out: `map`, `--output`, `--help`, and what `edit --print reports` and `table` say with
-a distance of checkpoints above 1, for which the pages leave room.
+What is left out: `map`, `script`, `--to`, `--output`, `--help`, and what `edit --print reports` and
+`table` say with a distance of checkpoints above 1, for which the pages leave room.
 """
 
 import os
@@ -55,7 +55,7 @@ def words_of(words):
     """The command, its files and its options."""
     if not words or words[0] not in FILES:
         word = (words or [""])[0]
-        commands = [*FILES, "map"]
+        commands = ["check", "play", "edit", "script", "cover", "map"]
         raise wrong(f"unrecognized subcommand '{word}': {wanted(word, commands)}", "<COMMAND>")
     command, files, options, rest, only_files = words[0], [], {}, list(words[1:]), False
     below_zero = seed_below_zero(command, rest)
@@ -120,9 +120,9 @@ def judged_options(command, files, options):
         raise wrong(f"invalid value '{prints}' for '--print <WHAT>':"
                     f" {wanted(prints, PRINTS[command])}")
     if command == "edit" and len(files) == 3 and "--edit" in options:
-        raise wrong("the argument '--edit <EDIT>' cannot be used with SCRIPT")
+        raise wrong("only one of SCRIPT, '--edit <EDIT>' and '--to <FILE>' can be used")
     if command == "edit" and len(files) == 2 and "--edit" not in options:
-        raise wrong("SCRIPT or '--edit <EDIT>' is wanted")
+        raise wrong("SCRIPT, '--edit <EDIT>' or '--to <FILE>' is wanted")
     return {"edit": options.get("--edit"), "bind": options.get("--bind"), "print": prints, "strict": "--strict" in options,
             "guarded": "--guarded" in options,
             "seed": seed}
@@ -263,7 +263,7 @@ def run_edit(cave, file, log, script, log_ends, options):
         return [*reports, f"played {played} lines; from the start it would have been {wanted}"]
     if options["print"] == "undo":
         lines = [line for lines in reversed(backs) for line in lines]
-        return small(log_ends.script_text(lines), "the script that takes the edits back")
+        return small(log_ends.script_text(lines), "the script")
     if options["print"] == "log":
         return small(log_ends.log_text(log), "the edited log")
     if options["print"] == "steps":

@@ -12,6 +12,7 @@ pub mod StageLemmas
 mod SizeLemmas
 mod StrictLemmas
 mod TextsLemmas
+mod TwoLogLemmas
 mod UndoLemmas
 mod UndoLines
 mod ViewLemmas

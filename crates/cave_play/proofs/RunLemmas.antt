@@ -35,7 +35,7 @@ use Rattle.cave_play.specs.declared.fault.PlayFault.{PlayFault}
 use Rattle.cave_play.specs.declared.fault.PlayFault.TheVariants as fault
 
 -- no stage decides that the output can't be written
-unwritten_by_none : None ≡ Some fault.Write → ⊥
+pub unwritten_by_none : None ≡ Some fault.Write → ⊥
 unwritten_by_none found = cc
 
 unwritten_by_inputs : (database bindings : List ℕ) (refused : Option CaveError)
@@ -43,7 +43,7 @@ unwritten_by_inputs : (database bindings : List ℕ) (refused : Option CaveError
 unwritten_by_inputs database bindings None found = cc
 unwritten_by_inputs database bindings (Some error) found = cc
 
-unwritten_by_both : (first later : Option PlayFault) → (first ≡ Some fault.Write → ⊥)
+pub unwritten_by_both : (first later : Option PlayFault) → (first ≡ Some fault.Write → ⊥)
     → (later ≡ Some fault.Write → ⊥) → option_or first later ≡ Some fault.Write → ⊥
 unwritten_by_both None later not_first not_later found = not_later found
 unwritten_by_both (Some other) later not_first not_later found = not_first found
@@ -84,7 +84,7 @@ unwritten_by_either : (large : Bool) (first : PlayFault) (later : Option PlayFau
 unwritten_by_either true first later not_first not_later found = not_first found
 unwritten_by_either false first later not_first not_later found = not_later found
 
-unwritten_by_log : (bytes : List ℕ) → log_fault bytes ≡ Some fault.Write → ⊥
+pub unwritten_by_log : (bytes : List ℕ) → log_fault bytes ≡ Some fault.Write → ⊥
 unfolding log_fault lines_fault
 unwritten_by_log bytes =
     unwritten_by_either (nat_lt MAX_INPUT_BYTES (length bytes)) (fault.Log log.TooLarge)
@@ -157,11 +157,12 @@ EndsBy-unwritten (fault.Doubt doubt) stages IsOutput old new never there kept = 
 EndsBy-unwritten fault.Seed stages IsOutput old new never there kept = (there, kept)
 EndsBy-unwritten fault.Every stages IsOutput old new never there kept = (there, kept)
 EndsBy-unwritten (fault.Log refused) stages IsOutput old new never there kept = (there, kept)
+EndsBy-unwritten (fault.NewLog refused) stages IsOutput old new never there kept = (there, kept)
 EndsBy-unwritten (fault.Script refused) stages IsOutput old new never there kept = (there, kept)
 EndsBy-unwritten (fault.Refused refusal) stages IsOutput old new never there kept = (there, kept)
 EndsBy-unwritten (fault.Read from) stages IsOutput old new never there kept = (there, kept)
 EndsBy-unwritten fault.LargeLog stages IsOutput old new never there kept = (there, kept)
-EndsBy-unwritten fault.LargeUndo stages IsOutput old new never there kept = (there, kept)
+EndsBy-unwritten fault.LargeScript stages IsOutput old new never there kept = (there, kept)
 EndsBy-unwritten fault.Memory stages IsOutput old new never there kept = (there, kept)
 
 -- what writing a right output leaves if it fails

@@ -27,7 +27,7 @@ unwritten_by_bytes : (view : EditView) (bytes : ℕ) → size_fault view bytes �
 unwritten_by_bytes asked.Log bytes =
     by_test (nat_lt MAX_INPUT_BYTES bytes) fault.LargeLog (λ found. cc)
 unwritten_by_bytes asked.Undo bytes =
-    by_test (nat_lt MAX_INPUT_BYTES bytes) fault.LargeUndo (λ found. cc)
+    by_test (nat_lt MAX_INPUT_BYTES bytes) fault.LargeScript (λ found. cc)
 unwritten_by_bytes asked.Transcript bytes = λ found. cc
 unwritten_by_bytes asked.Play bytes = λ found. cc
 unwritten_by_bytes asked.Reports bytes = λ found. cc

@@ -95,10 +95,11 @@ outside_unread input (fault.Doubt found) outside = absurd outside
 outside_unread input fault.Seed outside = absurd outside
 outside_unread input fault.Every outside = absurd outside
 outside_unread input (fault.Log refused) outside = absurd outside
+outside_unread input (fault.NewLog refused) outside = absurd outside
 outside_unread input (fault.Script refused) outside = absurd outside
 outside_unread input (fault.Refused refusal) outside = absurd outside
 outside_unread input fault.LargeLog outside = absurd outside
-outside_unread input fault.LargeUndo outside = absurd outside
+outside_unread input fault.LargeScript outside = absurd outside
 outside_unread input fault.Write outside = absurd outside
 
 -- what is right of an input that was read is also right of the reading
@@ -122,10 +123,11 @@ outside_of reads (fault.Doubt found) outside = absurd outside
 outside_of reads fault.Seed outside = absurd outside
 outside_of reads fault.Every outside = absurd outside
 outside_of reads (fault.Log refused) outside = absurd outside
+outside_of reads (fault.NewLog refused) outside = absurd outside
 outside_of reads (fault.Script refused) outside = absurd outside
 outside_of reads (fault.Refused refusal) outside = absurd outside
 outside_of reads fault.LargeLog outside = absurd outside
-outside_of reads fault.LargeUndo outside = absurd outside
+outside_of reads fault.LargeScript outside = absurd outside
 outside_of reads fault.Write outside = absurd outside
 
 decided_after : (stage : Stage) (stages : List Stage) (found : PlayFault)

@@ -21,12 +21,13 @@ status_of (fault.Doubt found) = 1
 status_of fault.Seed = 2
 status_of fault.Every = 2
 status_of (fault.Log refused) = 3
+status_of (fault.NewLog refused) = 3
 status_of (fault.Script refused) = 4
 status_of (fault.Refused refusal) = 4
 status_of (fault.Read from) = 5
 status_of fault.Write = 6
 status_of fault.LargeLog = 6
-status_of fault.LargeUndo = 6
+status_of fault.LargeScript = 6
 status_of fault.Memory = 7
 
 -- which of a cave's two inputs a place of a fault is in
@@ -44,6 +45,7 @@ abbrev pub input_of : PlayFault → Option Input
 input_of (fault.Cave error clue) = Some (input_at error.site)
 input_of (fault.Doubt found) = Some (input_from found.source)
 input_of (fault.Log refused) = Some input.Log
+input_of (fault.NewLog refused) = Some input.Script
 input_of (fault.Script refused) = Some input.Script
 input_of (fault.Refused refusal) = Some input.Script
 input_of (fault.Read from) = Some from
@@ -61,6 +63,7 @@ abbrev pub faulty_line : PlayFault → Option ℕ
 faulty_line (fault.Cave error clue) = if nat_lt 0 error.line then Some error.line else None
 faulty_line (fault.Doubt found) = Some found.line
 faulty_line (fault.Log refused) = log_line_of refused
+faulty_line (fault.NewLog refused) = log_line_of refused
 faulty_line (fault.Script refused) = script_line_of refused
 faulty_line (fault.Refused refusal) = Some (refusal_line refusal)
 faulty_line _ = None

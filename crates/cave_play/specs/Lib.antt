@@ -12,6 +12,7 @@ pub mod Ended
 pub mod Size
 pub mod Bytes
 pub mod GuardLaws
+pub mod TwoLogs
 pub use Rattle.base_lines.specs as base_lines
 pub use Rattle.cave_data.specs as cave_data
 pub use Rattle.replay_checkpoints.specs as replay_checkpoints

@@ -21,7 +21,7 @@ abbrev pub size_fault : EditView → ℕ → Option PlayFault
 size_fault asked.Log bytes =
     if nat_lt MAX_INPUT_BYTES bytes then Some fault.LargeLog else None
 size_fault asked.Undo bytes =
-    if nat_lt MAX_INPUT_BYTES bytes then Some fault.LargeUndo else None
+    if nat_lt MAX_INPUT_BYTES bytes then Some fault.LargeScript else None
 size_fault asked.Transcript bytes = None
 size_fault asked.Play bytes = None
 size_fault asked.Reports bytes = None

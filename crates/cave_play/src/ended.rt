@@ -37,7 +37,7 @@ pub(crate) fn check_size(view: EditView, output: &[u8]) -> Result<(), PlayFault>
 {
     match view {
         EditView::Log if is_large_input(output.len()) => Err(PlayFault::LargeLog),
-        EditView::Undo if is_large_input(output.len()) => Err(PlayFault::LargeUndo),
+        EditView::Undo if is_large_input(output.len()) => Err(PlayFault::LargeScript),
         _ => Ok(()),
     }
 }

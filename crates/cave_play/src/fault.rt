@@ -20,6 +20,7 @@ pub enum Input {
     Cave,
     Bindings,
     Log,
+    /// What a log is edited by: a script, or the log that the edits are to make.
     Script,
 }
 
@@ -124,6 +125,9 @@ pub enum PlayFault {
     /// The log is refused.
     #[error("{0}")]
     Log(LogFault),
+    /// The log that edits are to make is refused.
+    #[error("{0}")]
+    NewLog(LogFault),
     /// The script is refused.
     #[error("{0}")]
     Script(ScriptFault),
@@ -139,9 +143,9 @@ pub enum PlayFault {
     /// The edited log has more bytes than an input may have, so no run could read it.
     #[error("the edited log would be larger than 1,048,576 bytes, and no run could read it")]
     LargeLog,
-    /// So has the script that takes the edits back.
-    #[error("the script that takes the edits back would be larger than 1,048,576 bytes, and no run could read it")]
-    LargeUndo,
+    /// So has a script that a run makes.
+    #[error("the script would be larger than 1,048,576 bytes, and no run could read it")]
+    LargeScript,
     /// Memory was refused.
     #[error("there isn't enough memory")]
     Memory,
@@ -173,10 +177,10 @@ impl PlayFault {
         match self {
             PlayFault::Cave(_, _) | PlayFault::Doubt(_) => 1,
             PlayFault::Seed | PlayFault::Every => 2,
-            PlayFault::Log(_) => 3,
+            PlayFault::Log(_) | PlayFault::NewLog(_) => 3,
             PlayFault::Script(_) | PlayFault::Refused(_) => 4,
             PlayFault::Read(_) => 5,
-            PlayFault::Write | PlayFault::LargeLog | PlayFault::LargeUndo => 6,
+            PlayFault::Write | PlayFault::LargeLog | PlayFault::LargeScript => 6,
             PlayFault::Memory => 7,
         }
     }
@@ -190,10 +194,12 @@ impl PlayFault {
             PlayFault::Cave(_, _) => Some(Input::Cave),
             PlayFault::Doubt(found) => Some(input_from(found.source)),
             PlayFault::Log(_) => Some(Input::Log),
-            PlayFault::Script(_) | PlayFault::Refused(_) => Some(Input::Script),
+            PlayFault::NewLog(_) | PlayFault::Script(_) | PlayFault::Refused(_) => {
+                Some(Input::Script)
+            }
             PlayFault::Read(input) => Some(input),
             PlayFault::Seed | PlayFault::Every | PlayFault::Write | PlayFault::Memory => None,
-            PlayFault::LargeLog | PlayFault::LargeUndo => None,
+            PlayFault::LargeLog | PlayFault::LargeScript => None,
         }
     }
 
@@ -205,6 +211,7 @@ impl PlayFault {
             PlayFault::Cave(error, _) if error.line > 0 => Some(error.line),
             PlayFault::Doubt(found) => Some(found.line),
             PlayFault::Log(LogFault::BadLine(line, _)) => Some(line),
+            PlayFault::NewLog(LogFault::BadLine(line, _)) => Some(line),
             PlayFault::Script(ScriptFault::Malformed(line, _)) => Some(line),
             PlayFault::Refused(refusal) => Some(refusal.line()),
             _ => None,

@@ -129,7 +129,7 @@ pub fn read_cave<C: Read, B: Read>(
 }
 
 /// The fault of a run in which a session couldn't be opened.
-fn opening_fault(fault: OpenFault) -> PlayFault
+pub(crate) fn opening_fault(fault: OpenFault) -> PlayFault
     ensures { result ≡ opening_fault fault }
 {
     match fault {

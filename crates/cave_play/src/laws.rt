@@ -8,6 +8,7 @@ ghost use Rattle.cave_play.specs.GuardLaws.{MetGuardsNoOtherLog, NoGuardsNoOther
 ghost use Rattle.cave_play.specs.GuardLaws.{NoGuardsNoOtherScript};
 ghost use Rattle.cave_play.specs.Laws.{CavesAreJudgedWhole, FirstIsFound, RefusalsAreOfChanges};
 ghost use Rattle.cave_play.specs.Laws.{OneCheckedOutput, OneEditedOutput, OnePlayedOutput};
+ghost use Rattle.cave_play.specs.TwoLogs.{DifferencesMakeTheLog};
 
 /// A fault that is found comes from outside, or is the first that a stage decides.
 pub fn first_is_found()
@@ -71,4 +72,9 @@ pub fn no_guards_no_other_output()
 /// If all guards are met, the edited log has the lines that it has without them.
 pub fn met_guards_no_other_log()
     ensures { MetGuardsNoOtherLog }
+{}
+
+/// A script that makes one log of another leaves that log.
+pub fn differences_make_the_log()
+    ensures { DifferencesMakeTheLog }
 {}

@@ -12,6 +12,7 @@ pub mod laws;
 pub mod output;
 mod read;
 pub mod run;
+pub mod two_logs;
 mod views;
 
 pub use base_lines::{LineFlaw, Meter, Steps};
@@ -32,7 +33,9 @@ pub use play_command::{
 pub use play_edits::{KeptLine, Refusal};
 pub use play_machine::{CaveMachine, Piece};
 pub use play_state_text::{Counts, push_state};
+pub use replay_difference::script::ScriptForm;
 pub use replay_edits::{Edit, EditFault, LineText};
 pub use replay_scripts::{EditFlaw, ScriptFlaw, ScriptWord};
 pub use run::{run_check, run_edit, run_play};
+pub use two_logs::{run_edit_to, run_script};
 pub use world_objects::Object;

@@ -67,6 +67,7 @@ found_run met (Ok (run.Play files log seed view)) is = is
 found_run met (Ok (run.Edit files log script editing)) is = is
 found_run met (Ok (run.Cover files logs seed view)) is = is
 found_run met (Ok (run.Map files logs seed)) is = is
+found_run met (Ok (run.Script old new output form)) is = is
 found_run met (Ok (run.Text error)) is = tt
 found_run met (Err fault) is = tt
 
@@ -82,6 +83,7 @@ found_asked kinds met (Ok (run.Play files log seed view)) none is = none
 found_asked kinds met (Ok (run.Edit files log script editing)) none is = none
 found_asked kinds met (Ok (run.Cover files logs seed view)) none is = none
 found_asked kinds met (Ok (run.Map files logs seed)) none is = none
+found_asked kinds met (Ok (run.Script old new output form)) none is = none
 found_asked kinds met (Ok (run.Text error)) none is = absurd (no_text met error is)
 found_asked kinds met (Err fault) none is = tt
 

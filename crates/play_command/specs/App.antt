@@ -32,6 +32,17 @@ abbrev pub lines_argument : Rule
 lines_argument = record (new_rule (codes "edit"))
     { short = Some 101; long = Some (codes "edit"); value_names = 1; action = Some Append }
 
+-- the log that the edits are to make
+abbrev pub to_argument : Rule
+to_argument = record (new_rule (codes "to")) { long = Some (codes "to"); value_names = 1 }
+
+-- the two logs of a script
+abbrev pub old_argument : Rule
+old_argument = record (new_rule (codes "old")) { required = true; value_names = 1 }
+
+abbrev pub new_argument : Rule
+new_argument = record (new_rule (codes "new")) { required = true; value_names = 1 }
+
 -- the options, some of which also have a letter: b, s, p and o
 abbrev pub bind_argument : Rule
 bind_argument = record (new_rule (codes "bind"))
@@ -55,6 +66,10 @@ strict_argument =
 abbrev pub guarded_argument : Rule
 guarded_argument =
     record (new_rule (codes "guarded")) { long = Some (codes "guarded"); action = Some SetTrue }
+
+abbrev pub group_argument : Rule
+group_argument =
+    record (new_rule (codes "group")) { long = Some (codes "group"); action = Some SetTrue }
 
 abbrev pub output_argument : Rule
 output_argument = record (new_rule (codes "output"))
@@ -90,9 +105,9 @@ with_options app = with_rule (with_rule app bind_argument) seed_argument
 abbrev pub with_cover_options : App → App
 with_cover_options app = with_rule (with_options app) print_argument
 
--- a command with where a script is read from
+-- a command with what edits are read from
 abbrev pub with_script : App → App
-with_script app = with_rule (with_rule app script_argument) lines_argument
+with_script app = with_rule (with_rule (with_rule app script_argument) lines_argument) to_argument
 
 abbrev pub with_edit_options : App → App
 with_edit_options app =
@@ -106,6 +121,15 @@ play_app = with_output (with_rule (with_options (with_game (new_app (codes "play
 abbrev pub edit_app : App
 edit_app = with_output
     (with_edit_options (with_options (with_script (with_game (new_app (codes "edit"))))))
+
+-- a command with two logs, and with how the script of their difference is written
+abbrev pub with_difference : App → App
+with_difference app =
+    with_rule (with_rule (with_rule (with_rule app old_argument) new_argument) guarded_argument)
+    group_argument
+
+abbrev pub script_app : App
+script_app = with_output (with_difference (new_app (codes "script")))
 
 abbrev pub cover_app : App
 cover_app = with_output (with_cover_options (with_logs (new_app (codes "cover"))))
@@ -133,5 +157,10 @@ check_and_play_command = with_subcommand (with_subcommand plain_command check_ap
 abbrev pub check_play_and_edit_command : App
 check_play_and_edit_command = with_subcommand check_and_play_command edit_app.top
 
+-- the program with these three and the command that compares two logs
+abbrev pub check_play_edit_and_script_command : App
+check_play_edit_and_script_command = with_subcommand check_play_and_edit_command script_app.top
+
 abbrev pub cave_app : App
-cave_app = with_subcommand (with_subcommand check_play_and_edit_command cover_app.top) map_app.top
+cave_app =
+    with_subcommand (with_subcommand check_play_edit_and_script_command cover_app.top) map_app.top

@@ -19,7 +19,7 @@ use Rattle.play_command.specs.declared.fault.CommandFault.TheVariants as fault_i
 use Rattle.play_command.specs.declared.line.Files.{Files}
 use Rattle.play_command.specs.declared.line.Line.{Line}
 use Rattle.play_command.specs.declared.line.Line.TheVariants.{Check, Doubts, Play, Edit, Cover, Map}
-use Rattle.play_command.specs.declared.line.Line.TheVariants.{Text}
+use Rattle.play_command.specs.declared.line.Line.TheVariants.{Script, Text}
 use Rattle.play_command.specs.App.{cave_app}
 use Rattle.play_command.specs.Found.{is_set}
 use Rattle.play_command.specs.Source.{IsBadScript, IsScriptSource}
@@ -156,6 +156,11 @@ IsRunOf name rows (Map files logs seed) =
     (name ≡ codes "map") × IsFiles rows files
     × (unwrap_or (all_of (codes "log") rows) [] ≡ map (λ log. log.now) logs.items)
     × IsSeed rows seed
+IsRunOf name rows (Script old new output form) =
+    (name ≡ codes "script") × (first_of (codes "old") rows ≡ Some old.now)
+    × (first_of (codes "new") rows ≡ Some new.now)
+    × (first_of (codes "output") rows ≡ option_map (λ s. s.now) output)
+    × (form.guarded ≡ is_set (codes "guarded") rows) × (form.grouped ≡ is_set (codes "group") rows)
 IsRunOf name rows (Text error) = ⊥
 
 abbrev pub IsRunMet : MetCommand → Line → Type 0
@@ -175,14 +180,21 @@ abbrev pub IsAsked : Kinds → Line → Type 0
 IsAsked kinds (Text error) = IsRequest (kind_of error) × IsAmong (kind_of error) kinds
 IsAsked kinds run = kinds ≡ []
 
--- all the files of a command were found
-abbrev pub has_files : List ℕ → List Row → Bool
-has_files name rows =
+-- all the files of a command on a cave were found
+abbrev pub has_cave_files : List ℕ → List Row → Bool
+has_cave_files name rows =
     is_some (first_of (codes "cave") rows)
     && (bytes_eq name (codes "check") || bytes_eq name (codes "map")
     || (bytes_eq name (codes "cover") && is_some (all_of (codes "log") rows))
     || (is_some (first_of (codes "log") rows)
     && (bytes_eq name (codes "play") || bytes_eq name (codes "edit"))))
+
+-- all the files of a command were found
+abbrev pub has_files : List ℕ → List Row → Bool
+has_files name rows =
+    if bytes_eq name (codes "script")
+    then is_some (first_of (codes "old") rows) && is_some (first_of (codes "new") rows)
+    else has_cave_files name rows
 
 abbrev pub is_complete : MetCommand → Bool
 is_complete None = false

@@ -5,15 +5,18 @@ ghost use Rattle.clap.specs.Words.{App, app_of, with_subcommand};
 ghost use Rattle.clap.specs.declared.builder.command.Command.TheViews.{out-Command};
 ghost use Rattle.play_command.specs.App.{IsLocal, cave_app, check_and_play_command, check_app};
 ghost use Rattle.play_command.specs.App.{check_play_and_edit_command, cover_app, edit_app, map_app};
-ghost use Rattle.play_command.specs.App.{plain_command, play_app, with_check_options};
-ghost use Rattle.play_command.specs.App.{with_cover_options, with_edit_options, with_game};
+ghost use Rattle.play_command.specs.App.{check_play_edit_and_script_command};
+ghost use Rattle.play_command.specs.App.{plain_command, play_app, script_app, with_check_options};
+ghost use Rattle.play_command.specs.App.{with_cover_options, with_difference, with_edit_options};
+ghost use Rattle.play_command.specs.App.{with_game};
 ghost use Rattle.play_command.specs.App.{with_logs, with_options, with_output, with_script};
 
 use crate::arguments::{
     bind_argument, cave_argument, check_print_argument, check_strict_argument,
-    cover_print_argument, edit_print_argument, every_argument, guarded_argument, lines_argument,
-    log_argument, logs_argument, output_argument, play_print_argument, script_argument,
-    seed_argument, some_logs_argument, strict_argument,
+    cover_print_argument, edit_print_argument, every_argument, group_argument, guarded_argument,
+    lines_argument, log_argument, logs_argument, new_argument, old_argument, output_argument,
+    play_print_argument, script_argument, seed_argument, some_logs_argument, strict_argument,
+    to_argument, with_guards_argument,
 };
 use clap::Command;
 use std::alloc::{AllocError, Global};
@@ -47,6 +50,11 @@ const MAP_EXAMPLE: &str = "Example: cave map caves/b.txt logs/round.log --bind c
 
 Graphviz draws it, if `| dot -Tsvg > map.svg` follows.";
 
+/// What stands below the help of `script`.
+const SCRIPT_EXAMPLE: &str = "Example: cave script logs/script/old.txt logs/script/new.txt
+
+Who edits a log in an editor keeps the old one, and has a script of what was changed.";
+
 /// What stands below the help of `edit`.
 const EDIT_EXAMPLE: &str = "Example: cave edit caves/a.txt logs/first.log logs/first.script
 
@@ -58,7 +66,8 @@ A script has lines as these, whose places count the lines of the log from 0:
   seed 7
   end
 
-With `-e 'replace 3 out'` a script of a few lines needs no file.
+With `-e 'replace 3 out'` a script of a few lines needs no file, and with
+`--to logs/script/new.txt` the edits are those that make this log.
 
 An edit that is refused is reported by a number, or ends the run under --strict:
 
@@ -130,14 +139,27 @@ fn with_cover_options<'a>(alloc: Global, command: Command<'a>) -> Result<Command
     with_options(alloc, command)?.arg(cover_print_argument(alloc))
 }
 
-/// Adds where the script of an edit is read from: a file, or lines on the command line.
+/// Adds what edits are read from: the file of a script, its lines on the command line, or a log.
 fn with_script<'a>(alloc: Global, command: Command<'a>) -> Result<Command<'a>, AllocError>
     requires { (out-Command command).has_globals ≡ false }
     ensures { IfOk result (IsLocal (with_script (app_of command.entry))) }
 {
     command
         .arg(script_argument(alloc))?
-        .arg(lines_argument(alloc))
+        .arg(lines_argument(alloc))?
+        .arg(to_argument(alloc))
+}
+
+/// Adds two logs, and how the script of their difference is written.
+fn with_difference<'a>(alloc: Global, command: Command<'a>) -> Result<Command<'a>, AllocError>
+    requires { (out-Command command).has_globals ≡ false }
+    ensures { IfOk result (IsLocal (with_difference (app_of command.entry))) }
+{
+    command
+        .arg(old_argument(alloc))?
+        .arg(new_argument(alloc))?
+        .arg(with_guards_argument(alloc))?
+        .arg(group_argument(alloc))
 }
 
 /// Adds the options that only an edit has: the distance of checkpoints, what is printed, whether a
@@ -180,6 +202,16 @@ fn edit_command<'a>(alloc: Global) -> Result<Command<'a>, AllocError>
     with_output(alloc, command)
 }
 
+fn script_command<'a>(alloc: Global) -> Result<Command<'a>, AllocError>
+    ensures { IfOk result (IsLocal script_app) }
+{
+    let command = Command::new(alloc, "script")
+        .about("Prints the edits that make one log of another, as a script for `edit`")
+        .after_help(SCRIPT_EXAMPLE);
+    let command = with_difference(alloc, command)?;
+    with_output(alloc, command)
+}
+
 fn cover_command<'a>(alloc: Global) -> Result<Command<'a>, AllocError>
     ensures { IfOk result (IsLocal cover_app) }
 {
@@ -207,9 +239,18 @@ fn map_command<'a>(alloc: Global) -> Result<Command<'a>, AllocError>
 pub fn cave_app<'a>(alloc: Global) -> Result<Command<'a>, AllocError>
     ensures { IfOk result (λ command. app_of command ≡ cave_app) }
 {
-    let command = check_play_and_edit_command(alloc)?;
+    let command = check_play_edit_and_script_command(alloc)?;
     let command = with_subcommand(command, cover_command(alloc))?;
     with_subcommand(command, map_command(alloc))
+}
+
+/// The program's command with the four subcommands that check a cave, play a log, edit one and
+/// compare two.
+fn check_play_edit_and_script_command<'a>(alloc: Global) -> Result<Command<'a>, AllocError>
+    ensures { IfOk result (λ command. app_of command ≡ check_play_edit_and_script_command) }
+{
+    let command = check_play_and_edit_command(alloc)?;
+    with_subcommand(command, script_command(alloc))
 }
 
 /// The program's command with the three subcommands that check a cave, play a log and edit one.

@@ -6,7 +6,9 @@ ghost use Rattle.play_command.specs.App.{bind_argument, cave_argument, every_arg
 ghost use Rattle.play_command.specs.App.{lines_argument, log_argument, logs_argument};
 ghost use Rattle.play_command.specs.App.{output_argument};
 ghost use Rattle.play_command.specs.App.{print_argument, script_argument, seed_argument};
-ghost use Rattle.play_command.specs.App.{guarded_argument, some_logs_argument, strict_argument};
+ghost use Rattle.play_command.specs.App.{group_argument, guarded_argument, new_argument};
+ghost use Rattle.play_command.specs.App.{old_argument, some_logs_argument, strict_argument};
+ghost use Rattle.play_command.specs.App.{to_argument};
 
 use clap::{Arg, ArgAction};
 use std::alloc::Global;
@@ -75,6 +77,36 @@ pub(crate) fn lines_argument<'a>(alloc: Global) -> Arg<'a>
             "A line of the script, as 'replace 17 drop vase'; given several times, the lines \
              stand in the place of SCRIPT in that order",
         )
+}
+
+pub(crate) fn to_argument<'a>(alloc: Global) -> Arg<'a>
+    ensures rule { rule_of result ≡ to_argument }
+    ensures local { result.global ≡ false }
+{
+    Arg::new(alloc, "to").long("to").value_name("FILE").help(
+        "The log that LOG becomes, in the place of SCRIPT: the edits are those that \
+         `cave script LOG FILE` prints",
+    )
+}
+
+pub(crate) fn old_argument<'a>(alloc: Global) -> Arg<'a>
+    ensures rule { rule_of result ≡ old_argument }
+    ensures local { result.global ≡ false }
+{
+    Arg::new(alloc, "old")
+        .required(true)
+        .value_name("OLD")
+        .help("The log before the edits")
+}
+
+pub(crate) fn new_argument<'a>(alloc: Global) -> Arg<'a>
+    ensures rule { rule_of result ≡ new_argument }
+    ensures local { result.global ≡ false }
+{
+    Arg::new(alloc, "new")
+        .required(true)
+        .value_name("NEW")
+        .help("The log after them")
 }
 
 pub(crate) fn bind_argument<'a>(alloc: Global) -> Arg<'a>
@@ -221,4 +253,24 @@ pub(crate) fn guarded_argument<'a>(alloc: Global) -> Arg<'a>
             "Lets SCRIPT have lines `expect N TEXT`: the edit or group after one is refused where \
              the log has no line N then, or another one",
         )
+}
+
+pub(crate) fn with_guards_argument<'a>(alloc: Global) -> Arg<'a>
+    ensures rule { rule_of result ≡ guarded_argument }
+    ensures local { result.global ≡ false }
+{
+    Arg::new(alloc, "guarded")
+        .long("guarded")
+        .action(ArgAction::SetTrue)
+        .help("Puts a line `expect N TEXT` before each edit at whose place there is a line")
+}
+
+pub(crate) fn group_argument<'a>(alloc: Global) -> Arg<'a>
+    ensures rule { rule_of result ≡ group_argument }
+    ensures local { result.global ≡ false }
+{
+    Arg::new(alloc, "group")
+        .long("group")
+        .action(ArgAction::SetTrue)
+        .help("Makes the edits one group, which is accepted or refused as a whole")
 }

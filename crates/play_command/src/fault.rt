@@ -10,7 +10,7 @@ use std::alloc::{AllocError, AllocFailed};
 use thiserror::Error;
 
 /// The commands.
-const COMMANDS: [&str; 5] = ["check", "play", "edit", "cover", "map"];
+const COMMANDS: [&str; 6] = ["check", "play", "edit", "script", "cover", "map"];
 
 /// Why a command line asks for no run. Its text is whole lines, for standard error.
 #[derive(Debug, Drop, Error)]
@@ -46,12 +46,12 @@ pub enum CommandFault<'a> {
         Usage: cave <COMMAND>\n\n\
         For more information, try '--help'.\n", .0, Wanted {given: *.0, names: &COMMANDS})]
     NoCommand(&'a str),
-    /// An edit has no script.
-    #[error("error: SCRIPT or '--edit <EDIT>' is wanted\n\n\
+    /// An edit has neither a script nor a log to make.
+    #[error("error: SCRIPT, '--edit <EDIT>' or '--to <FILE>' is wanted\n\n\
         For more information, try '--help'.\n")]
     NoScript,
-    /// An edit has a file of a script, and lines of one.
-    #[error("error: the argument '--edit <EDIT>' cannot be used with SCRIPT\n\n\
+    /// An edit has two of the three.
+    #[error("error: only one of SCRIPT, '--edit <EDIT>' and '--to <FILE>' can be used\n\n\
         For more information, try '--help'.\n")]
     TwoScripts,
     #[error("cave: there isn't enough memory\n")]

@@ -1,6 +1,7 @@
 use crate::editing::Editing;
 use crate::views::{CheckView, CoverView, PlayView};
 use clap::Error;
+use replay_difference::script::ScriptForm;
 
 /// The files of a cave, and the one for the output.
 #[derive(Clone, Copy, Debug, PartialEq, Eq)]
@@ -12,13 +13,15 @@ pub struct Files<'a> {
     pub output: Option<&'a str>,
 }
 
-/// Where the script of an edit is.
+/// What the edits of a log are read from.
 #[derive(Debug, Drop)]
 pub enum ScriptSource<'a> {
-    /// In the file of this name.
+    /// A script, in the file of this name.
     File(&'a str),
-    /// On the command line: this is its text.
+    /// A script on the command line: this is its text.
     Typed(String),
+    /// A log that they make, in the file of this name.
+    Log(&'a str),
 }
 
 /// What the words ask for.
@@ -57,6 +60,14 @@ pub enum Line<'a> {
         /// The logs whose visits the map shows. There may be none.
         logs: Vec<&'a str>,
         seed: u32,
+    },
+    /// The script of edits that make one log of another.
+    Script {
+        old: &'a str,
+        new: &'a str,
+        /// The file of the output, unless it goes to standard output.
+        output: Option<&'a str>,
+        form: ScriptForm,
     },
     /// Help or the version: the text to print.
     Text(Error),

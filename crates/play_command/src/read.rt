@@ -27,6 +27,7 @@ use crate::views::{CheckView, CoverView, PlayView, TextView};
 use base_lines::limits::{MAX_EVERY, MAX_SEED, USUAL_EVERY};
 use clap::error::ErrorKind;
 use clap::{ArgMatches, Error};
+use replay_difference::script::ScriptForm;
 use std::alloc::Global;
 use std::convert::AsStr;
 
@@ -117,6 +118,9 @@ fn run_of<'a>(
     ensures { MatchResult result (IsRunOf name.now (rows_in found.now))
         (IsUnmade (Some (name.now, rows_in found.now))) }
 {
+    if name == "script" {
+        return script_of(found);
+    }
     let Some(files) = files_in(found) else {
         return Err(CommandFault::Incomplete);
     };
@@ -205,6 +209,25 @@ fn edit_of<'a>(
         log,
         script,
         editing,
+    })
+}
+
+/// The run of `script`, of two logs.
+fn script_of<'a>(found: &ArgMatches<'a>) -> Result<Line<'a>, CommandFault<'a>>
+    ensures { MatchResult result (IsRunOf (codes "script") (rows_in found.now))
+        (IsUnmade (Some (codes "script", rows_in found.now))) }
+{
+    let (Some(old), Some(new)) = (value_in(found, "old"), value_in(found, "new")) else {
+        return Err(CommandFault::Incomplete);
+    };
+    Ok(Line::Script {
+        old,
+        new,
+        output: value_in(found, "output"),
+        form: ScriptForm {
+            guarded: is_set(found, "guarded"),
+            grouped: is_set(found, "group"),
+        },
     })
 }
 

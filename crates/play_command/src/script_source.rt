@@ -1,4 +1,4 @@
-//! Where the script of an edit is, by what the parser found.
+//! What the edits of a log are read from, by what the parser found.
 
 ghost use Rattle.std.specs.Prelude.{◌≡◌, ◌⊎◌, IfOk, MatchResult, map, string_bytes};
 ghost use Rattle.replay_scripts.specs.ScriptText.{text_of_lines};
@@ -11,7 +11,7 @@ use crate::line::ScriptSource;
 use clap::ArgMatches;
 use std::alloc::{AllocError, Global};
 
-/// Where the script of an edit is.
+/// What the edits of a log are read from.
 pub(crate) fn script_in<'a>(
     alloc: Global,
     found: &ArgMatches<'a>,
@@ -19,11 +19,18 @@ pub(crate) fn script_in<'a>(
     ensures { MatchResult result (IsScriptSource (rows_in found.now))
         (λ fault. (fault ≡ CommandFault.Memory) ⊎ IsBadScript (rows_in found.now) fault) }
 {
-    match (value_in(found, "script"), values_in(found, "edit")) {
-        (Some(file), None) => Ok(ScriptSource::File(file)),
-        (None, Some(lines)) => Ok(ScriptSource::Typed(text_of_lines(alloc, lines)?)),
-        (None, None) => Err(CommandFault::NoScript),
-        (Some(_), Some(_)) => Err(CommandFault::TwoScripts),
+    match (
+        value_in(found, "script"),
+        values_in(found, "edit"),
+        value_in(found, "to"),
+    ) {
+        (Some(file), None, None) => Ok(ScriptSource::File(file)),
+        (None, Some(lines), None) => Ok(ScriptSource::Typed(text_of_lines(alloc, lines)?)),
+        (None, None, Some(log)) => Ok(ScriptSource::Log(log)),
+        (None, None, None) => Err(CommandFault::NoScript),
+        (Some(_), Some(_), _) | (Some(_), _, Some(_)) | (_, Some(_), Some(_)) => {
+            Err(CommandFault::TwoScripts)
+        }
     }
 }
 

@@ -100,7 +100,7 @@ module _ (changes : List Change) (log : List (List ℕ)) where
   unfolding unmet
   unmet-IsMet guard met = meets_after guard (take guard.after changes) log _ refl met
 
-  all_met : (guards : List Expectation) → AllByRecursion (IsMet changes log) guards
+  pub all_met : (guards : List Expectation) → AllByRecursion (IsMet changes log) guards
       → first_unmet changes guards log ≡ None
   all_met [] met = refl
   all_met (guard ∷ guards) met = rw (unmet-IsMet guard met.0) (all_met guards met.1)

@@ -71,7 +71,7 @@ as_many : (changes : List Change) (game : Game)
 as_many changes game =
     length-reverse (inverse_of_each changes game) ∙ each_as_many changes game
 
-unrefused_group : (changes : List Change) (log : List (List ℕ)) → 0 < length changes
+pub unrefused_group : (changes : List Change) (log : List (List ℕ)) → 0 < length changes
     → fault_of_all changes log 0 ≡ None → length (log_after_all changes log) ≤ MAX_LOG_LINES
     → group_refusal changes log ≡ None
 unfolding group_refusal

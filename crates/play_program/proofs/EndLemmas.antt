@@ -11,7 +11,8 @@ pub AreTextsIn-read : {F : Type 0} (left : F → Option (List ℕ))
     (bytes_of : List ℕ → Option (List ℕ)) (names : FileNames) (readers : Readers F)
     (texts : InputTexts) (logs : List (List ℕ))
     → AreReadersOf left bytes_of names readers
-    → AreTextsOf left (input_left left) (input_left left) (input_left left) readers.inputs texts
+    → AreTextsOf (input_left left) (input_left left) (input_left left) (input_left left)
+    readers.inputs texts
     → AllZip Says (map left readers.logs.items) logs → AreTextsIn bytes_of names texts logs
 AreTextsIn-read left bytes_of names readers texts logs reads are says = record {
   database = subst (λ known. Says known texts.database) reads.database are.database;

@@ -22,7 +22,7 @@ use Rattle.play_program.specs.declared.failure.Failure.TheVariants.{Unprinted}
 -- the inputs are the bytes of the files of these names, if they are known
 pub record AreTextsIn (bytes_of : List ℕ → Option (List ℕ)) (names : FileNames)
     (texts : InputTexts) (logs : List (List ℕ)) : Type 0 where
-  pub database : Says (bytes_of names.cave) texts.database
+  pub database : Says (bytes_named bytes_of names.cave) texts.database
   pub bindings : Says (bytes_named bytes_of names.bindings) texts.bindings
   pub log : Says (bytes_named bytes_of names.log) texts.log
   pub script : Says (script_bytes bytes_of names.script names.typed) texts.script

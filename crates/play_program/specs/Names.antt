@@ -5,16 +5,16 @@ use Rattle.std.specs.List.{slice_get}
 use Rattle.play_command.specs.declared.line.Files.{Files}
 use Rattle.play_command.specs.declared.line.Line.{Line}
 use Rattle.play_command.specs.declared.line.Line.TheVariants.{Check, Doubts, Play, Edit, Cover, Map}
-use Rattle.play_command.specs.declared.line.Line.TheVariants.{Text}
+use Rattle.play_command.specs.declared.line.Line.TheVariants.{Script, Text}
 use Rattle.play_command.specs.declared.line.ScriptSource.{ScriptSource}
-use Rattle.play_command.specs.declared.line.ScriptSource.TheVariants.{File, Typed}
+use Rattle.play_command.specs.declared.line.ScriptSource.TheVariants.{File, Log, Typed}
 use Rattle.cave_play.specs.declared.fault.Input.{Input}
 use Rattle.cave_play.specs.declared.fault.Input.TheVariants as input
 use Rattle.play_program.specs.declared.names.Names.{Names}
 
 -- the names of the files of a run
 pub record FileNames : Type 0 where
-  pub cave : List ℕ
+  pub cave : Option (List ℕ)
   pub bindings : Option (List ℕ)
   pub output : Option (List ℕ)
   pub log : Option (List ℕ)
@@ -22,44 +22,69 @@ pub record FileNames : Type 0 where
   pub script : Option (List ℕ)
   pub typed : Option (List ℕ)
 
--- the file of a script, if it has one
+-- the file that edits are read from: that of a script, or of a log that they make
 abbrev pub script_file : ScriptSource → Option (List ℕ)
 script_file (File file) = Some file.now
 script_file (Typed text) = None
+script_file (Log file) = Some file.now
 
 -- the text of a script, if it is on the command line
 abbrev pub script_typed : ScriptSource → Option (List ℕ)
 script_typed (File file) = None
 script_typed (Typed text) = Some (string_bytes text)
+script_typed (Log file) = None
 
-abbrev pub names_by : Files → Option (List ℕ) → List (List ℕ) → Option (List ℕ) → Option (List ℕ)
-    → FileNames
-names_by files log logs script typed = record {
-  cave = files.cave.now;
+-- the files of a cave and of the output, and no other
+abbrev pub cave_names : Files → FileNames
+cave_names files = record {
+  cave = Some files.cave.now;
   bindings = option_map (λ s. s.now) files.bind;
   output = option_map (λ s. s.now) files.output;
-  log = log;
-  logs = logs;
-  script = script;
-  typed = typed;
+  log = None;
+  logs = [];
+  script = None;
+  typed = None;
+}
+
+-- two logs, of which one is read as a script is, and the output
+abbrev pub log_names : List ℕ → List ℕ → Option (List ℕ) → FileNames
+log_names old new output = record {
+  cave = None;
+  bindings = None;
+  output = output;
+  log = Some old;
+  logs = [];
+  script = Some new;
+  typed = None;
 }
 
 abbrev pub names_in : Names → FileNames
-names_in names = names_by names.files (option_map (λ s. s.now) names.log)
-    (map (λ s. s.now) names.logs.now) (option_map (λ s. s.now) names.script)
-    (option_map (λ text. text.now) names.typed)
+names_in names = record {
+  cave = option_map (λ s. s.now) names.cave;
+  bindings = option_map (λ s. s.now) names.bind;
+  output = option_map (λ s. s.now) names.output;
+  log = option_map (λ s. s.now) names.log;
+  logs = map (λ s. s.now) names.logs.now;
+  script = option_map (λ s. s.now) names.script;
+  typed = option_map (λ text. text.now) names.typed;
+}
 
 -- the files that a line names, if it asks for a run
 abbrev pub names_of : Line → Option FileNames
-names_of (Check files view) = Some (names_by files None [] None None)
-names_of (Doubts files strict) = Some (names_by files None [] None None)
-names_of (Play files log seed view) = Some (names_by files (Some log.now) [] None None)
-names_of (Edit files log script editing) =
-    Some (names_by files (Some log.now) [] (script_file script) (script_typed script))
+names_of (Check files view) = Some (cave_names files)
+names_of (Doubts files strict) = Some (cave_names files)
+names_of (Play files log seed view) = Some (record (cave_names files) { log = Some log.now })
+names_of (Edit files log script editing) = Some (record (cave_names files) {
+  log = Some log.now;
+  script = script_file script;
+  typed = script_typed script;
+})
 names_of (Cover files logs seed view) =
-    Some (names_by files None (map (λ s. s.now) logs.items) None None)
+    Some (record (cave_names files) { logs = map (λ s. s.now) logs.items })
 names_of (Map files logs seed) =
-    Some (names_by files None (map (λ s. s.now) logs.items) None None)
+    Some (record (cave_names files) { logs = map (λ s. s.now) logs.items })
+names_of (Script old new output form) =
+    Some (log_names old.now new.now (option_map (λ s. s.now) output))
 names_of (Text error) = None
 
 -- a file that is read: its input, and its name
@@ -73,8 +98,8 @@ named from (Some name) = (from, name) ∷ []
 abbrev pub named_logs : List (List ℕ) → List NamedFile
 named_logs names = map (λ name. (input.Log, name)) names
 
-abbrev pub cave_files : List ℕ → Option (List ℕ) → List NamedFile
-cave_files cave bindings = (input.Cave, cave) ∷ named input.Bindings bindings
+abbrev pub cave_files : Option (List ℕ) → Option (List ℕ) → List NamedFile
+cave_files cave bindings = named input.Cave cave ++ named input.Bindings bindings
 
 -- the files that are read, in the order in which they are opened
 abbrev pub files_in : FileNames → List NamedFile
@@ -90,7 +115,7 @@ script_name None None = None
 
 -- the file of an input, if one is named; among several logs it is the one at a place
 abbrev pub file_at : FileNames → Input → Option ℕ → Option (List ℕ)
-file_at names input.Cave place = Some names.cave
+file_at names input.Cave place = names.cave
 file_at names input.Bindings place = names.bindings
 file_at names input.Log (Some place) = slice_get names.logs place
 file_at names input.Log None = names.log

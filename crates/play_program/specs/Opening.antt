@@ -54,7 +54,8 @@ script_bytes bytes_of file typed = bytes_named bytes_of file
 -- the readers have what the files of these names hold
 pub record AreReadersOf {F : Type 0} (left : F → Option (List ℕ))
     (bytes_of : List ℕ → Option (List ℕ)) (names : FileNames) (readers : Readers F) : Type 0 where
-  pub database : left readers.inputs.cave.database ≡ bytes_of names.cave
+  pub database : input_left left readers.inputs.cave.database
+      ≡ bytes_named bytes_of names.cave
   pub bindings : input_left left readers.inputs.cave.bindings
       ≡ bytes_named bytes_of names.bindings
   pub log : input_left left readers.inputs.log ≡ bytes_named bytes_of names.log

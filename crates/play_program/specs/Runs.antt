@@ -7,13 +7,17 @@ use Rattle.cave_play.specs.Output.{IsChecked, IsPlayed}
 use Rattle.cave_play.specs.Run as one
 use Rattle.cave_play.specs.Stages.{Stage, cave_stages, play_stages, edit_stages}
 use Rattle.cave_play.specs.Ended.{IsEdited}
+use Rattle.cave_play.specs.TwoLogs.{RunsEditTo, RunsScript}
 use Rattle.cave_play.specs.declared.fault.PlayFault.{PlayFault}
 use Rattle.play_map.specs.Plays.{IsMapped}
 use Rattle.play_cover.specs.Plays.{IsCovered}
+use Rattle.play_command.specs.declared.editing.Editing.{Editing}
 use Rattle.play_command.specs.declared.line.Files.{Files}
 use Rattle.play_command.specs.declared.line.Line.{Line}
 use Rattle.play_command.specs.declared.line.Line.TheVariants.{Check, Doubts, Play, Edit, Cover, Map}
-use Rattle.play_command.specs.declared.line.Line.TheVariants.{Text}
+use Rattle.play_command.specs.declared.line.Line.TheVariants.{Script, Text}
+use Rattle.play_command.specs.declared.line.ScriptSource.{ScriptSource}
+use Rattle.play_command.specs.declared.line.ScriptSource.TheVariants.{Log}
 use Rattle.play_logs.specs.Faults.{RunsLogs, at_none, first_stages}
 use Rattle.play_logs.specs.declared.fault.LogsFault.{LogsFault}
 
@@ -33,6 +37,15 @@ pub record AreListed (files : Files) (listed : DoubtFiles) : Type 0 where
   pub database : listed.database.now ≡ files.cave.now
   pub bindings : listed.bindings.now ≡ unwrap_or (option_map (λ s. s.now) files.bind) []
 
+-- what the run of edits leaves that come from this source: those of a script, or those that make
+-- a log
+abbrev pub RunsEdits : ScriptSource → InputTexts → Editing → Option (List ℕ) → Option (List ℕ)
+    → Result ℕ PlayFault → Type 0
+RunsEdits (Log file) texts editing old new ended = RunsEditTo texts editing old new ended
+RunsEdits _ texts editing old new ended =
+    one.RunsWith (edit_stages texts.database texts.bindings texts.log texts.script editing)
+    (IsEdited texts.database texts.bindings texts.log texts.script editing) old new ended
+
 -- what the run that a line asks for leaves, over the bytes of its inputs
 abbrev pub RunsLine : Line → InputTexts → List (List ℕ)
     → Option (List ℕ) → Option (List ℕ) → Result (Unit {0}) LogsFault → Type 0
@@ -47,12 +60,14 @@ RunsLine (Play files log seed view) texts logs old new ended =
     (IsPlayed texts.database texts.bindings texts.log seed view) old new ended
 RunsLine (Edit files log script editing) texts logs old new ended =
     (counted : Result ℕ PlayFault) × (ended ≡ ended_alone counted)
-    × one.RunsWith (edit_stages texts.database texts.bindings texts.log texts.script editing)
-    (IsEdited texts.database texts.bindings texts.log texts.script editing) old new counted
+    × RunsEdits script texts editing old new counted
 RunsLine (Cover files log seed view) texts logs old new ended =
     RunsLogs (first_stages texts.database texts.bindings seed) logs
     (IsCovered texts.database texts.bindings logs seed view) old new ended
 RunsLine (Map files log seed) texts logs old new ended =
     RunsLogs (first_stages texts.database texts.bindings seed) logs
     (IsMapped texts.database texts.bindings logs seed) old new ended
+RunsLine (Script before after output form) texts logs old new ended =
+    (alone : Result (Unit {0}) PlayFault) × (ended ≡ ended_alone alone)
+    × RunsScript form texts old new alone
 RunsLine (Text error) texts logs old new ended = (ended ≡ Ok tt) × (new ≡ old)

@@ -3,12 +3,12 @@
 ghost use Rattle.std.specs.Prelude.{◌≡◌, ℕ, List, map};
 ghost use Rattle.std.specs.List.{AllZip};
 ghost use Rattle.cave_play.specs.Input.{AreTextsOf, InputTexts, Says, input_left};
-ghost use Rattle.play_program.specs.Runs.{AreListed, RunsLine, ended_alone};
+ghost use Rattle.play_program.specs.Runs.{AreListed, RunsEdits, RunsLine, ended_alone};
 
-use crate::readers::Readers;
-use cave_play::{PlayFault, run_check, run_doubts, run_edit, run_play};
+use crate::readers::{FileInputs, Readers};
+use cave_play::{PlayFault, run_check, run_doubts, run_edit, run_edit_to, run_play, run_script};
 use check_doubts::DoubtFiles;
-use play_command::{Files, Line};
+use play_command::{Editing, Files, Line, ScriptSource};
 use play_cover::run::run_cover;
 use play_logs::fault::LogsFault;
 use play_map::run::run_map;
@@ -35,6 +35,28 @@ fn doubt_files<'a>(files: &Files<'a>) -> DoubtFiles<'a>
     }
 }
 
+/// Edits a log by a script, or so that it becomes another.
+fn run_edits<F: Read, W: Write>(
+    alloc: Global,
+    source: &ScriptSource<'_>,
+    inputs: &mut FileInputs<'_, F>,
+    editing: Editing,
+    output: &mut W,
+) -> Result<u64, PlayFault>
+    ensures runs { (texts : InputTexts)
+        × AreTextsOf (input_left F.remaining) (input_left F.remaining) (input_left F.remaining)
+        (input_left F.remaining) inputs.old texts
+        × RunsEdits source.now texts editing (W.contents output.old) (W.contents output.new)
+        result }
+{
+    match source {
+        ScriptSource::Log(_) => run_edit_to(alloc, inputs, editing, output),
+        ScriptSource::File(_) | ScriptSource::Typed(_) => {
+            run_edit(alloc, inputs, editing, output)
+        }
+    }
+}
+
 /// Does the run that a command line asks for over readers of its files.
 pub fn run_command<F: Read, W: Write>(
     alloc: Global,
@@ -43,7 +65,7 @@ pub fn run_command<F: Read, W: Write>(
     output: &mut W,
 ) -> Result<(), LogsFault>
     ensures runs { (texts : InputTexts) × (logs : List (List ℕ))
-        × AreTextsOf F.remaining (input_left F.remaining) (input_left F.remaining)
+        × AreTextsOf (input_left F.remaining) (input_left F.remaining) (input_left F.remaining)
         (input_left F.remaining) readers.old.inputs texts
         × AllZip Says (map F.remaining readers.old.logs.items) logs
         × RunsLine asked.now texts logs (W.contents output.old) (W.contents output.new) result }
@@ -55,7 +77,12 @@ pub fn run_command<F: Read, W: Write>(
             alone(run_doubts(alloc, inputs, &doubt_files(files), *strict, output))
         }
         Line::Play { seed, view, .. } => alone(run_play(alloc, inputs, *seed, *view, output)),
-        Line::Edit { editing, .. } => alone(run_edit(alloc, inputs, *editing, output)),
+        Line::Edit {
+            script,
+            editing,
+            ..
+        } => alone(run_edits(alloc, script, inputs, *editing, output)),
+        Line::Script { form, .. } => alone(run_script(alloc, inputs, *form, output)),
         Line::Cover { seed, view, .. } => {
             let logs = logs.as_mut_slice();
             run_cover(alloc, &mut inputs.cave, logs, *seed, *view, output)

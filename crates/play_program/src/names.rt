@@ -1,8 +1,8 @@
 //! The names of the files of a run.
 
 ghost use Rattle.std.specs.Prelude.{◌≡◌, option_map};
-ghost use Rattle.play_program.specs.Names.{names_in, names_of, file_at, script_file, script_name};
-ghost use Rattle.play_program.specs.Names.{script_typed};
+ghost use Rattle.play_program.specs.Names.{cave_names, names_in, names_of, file_at, script_file};
+ghost use Rattle.play_program.specs.Names.{script_name, script_typed};
 
 use cave_play::Input;
 use play_command::{Files, Line, ScriptSource};
@@ -10,22 +10,25 @@ use play_command::{Files, Line, ScriptSource};
 /// The files that a run reads, in the order in which they are opened, and the one that it writes.
 #[derive(Clone, Copy)]
 pub struct Names<'a> {
-    pub files: Files<'a>,
+    pub cave: Option<&'a str>,
+    pub bind: Option<&'a str>,
+    pub output: Option<&'a str>,
     /// The log, if there is just one.
     pub log: Option<&'a str>,
     /// The logs of a run over several.
     pub logs: &'a [&'a str],
+    /// The script, or the log that edits are to make.
     pub script: Option<&'a str>,
     /// The script, if its lines are on the command line.
     pub typed: Option<&'a [u8]>,
 }
 
-/// The file of a script, if it has one.
+/// The file that edits are read from: that of a script, or of a log that they make.
 fn script_file<'a>(script: &ScriptSource<'a>) -> Option<&'a str>
     ensures { option_map (λ file. file.now) result ≡ script_file script.now }
 {
     match script {
-        ScriptSource::File(file) => Some(*file),
+        ScriptSource::File(file) | ScriptSource::Log(file) => Some(*file),
         ScriptSource::Typed(_) => None,
     }
 }
@@ -35,7 +38,7 @@ fn script_typed<'a>(script: &'a ScriptSource<'_>) -> Option<&'a [u8]>
     ensures { option_map (λ text. text.now) result ≡ script_typed script.now }
 {
     match script {
-        ScriptSource::File(_) => None,
+        ScriptSource::File(_) | ScriptSource::Log(_) => None,
         ScriptSource::Typed(text) => Some(text.as_bytes()),
     }
 }
@@ -54,31 +57,63 @@ fn script_name<'a>(file: Option<&'a str>, typed: Option<&[u8]>) -> Option<&'a st
 }
 
 impl<'a> Names<'a> {
+    /// The files of a cave and of the output, and no other.
+    fn of_cave(files: &Files<'a>) -> Names<'a>
+        ensures { names_in result ≡ cave_names files.now }
+    {
+        Names {
+            cave: Some(files.cave),
+            bind: files.bind,
+            output: files.output,
+            log: None,
+            logs: &[],
+            script: None,
+            typed: None,
+        }
+    }
+
     /// The files of the run that a command line asks for, if it asks for one.
     pub fn in_run(asked: &'a Line<'a>) -> Option<Names<'a>>
         ensures { option_map names_in result ≡ names_of asked.now }
     {
-        let (files, log, logs): (_, _, &'a [&'a str]) = match asked {
-            Line::Check { files, .. } | Line::Doubts { files, .. } => (*files, None, &[]),
-            Line::Play { files, log, .. } | Line::Edit { files, log, .. } => {
-                (*files, Some(*log), &[])
-            }
-            Line::Cover { files, logs, .. } | Line::Map { files, logs, .. } => {
-                (*files, None, logs.as_slice())
-            }
+        let names = match asked {
+            Line::Check { files, .. } | Line::Doubts { files, .. } => Names::of_cave(files),
+            Line::Play { files, log, .. } => Names {
+                log: Some(*log),
+                ..Names::of_cave(files)
+            },
+            Line::Edit {
+                files,
+                log,
+                script,
+                ..
+            } => Names {
+                log: Some(*log),
+                script: script_file(script),
+                typed: script_typed(script),
+                ..Names::of_cave(files)
+            },
+            Line::Cover { files, logs, .. } | Line::Map { files, logs, .. } => Names {
+                logs: logs.as_slice(),
+                ..Names::of_cave(files)
+            },
+            Line::Script {
+                old,
+                new,
+                output,
+                ..
+            } => Names {
+                cave: None,
+                bind: None,
+                output: *output,
+                log: Some(*old),
+                logs: &[],
+                script: Some(*new),
+                typed: None,
+            },
             Line::Text(_) => return None,
         };
-        let (script, typed) = match asked {
-            Line::Edit { script, .. } => (script_file(script), script_typed(script)),
-            _ => (None, None),
-        };
-        Some(Names {
-            files,
-            log,
-            logs,
-            script,
-            typed,
-        })
+        Some(names)
     }
 
     /// The file of an input, if one is named. Among several logs it is the one at a place.
@@ -86,8 +121,8 @@ impl<'a> Names<'a> {
         ensures { option_map (λ file. file.now) result ≡ file_at (names_in self.entry) input place }
     {
         match (input, place) {
-            (Input::Cave, _) => Some(self.files.cave),
-            (Input::Bindings, _) => self.files.bind,
+            (Input::Cave, _) => self.cave,
+            (Input::Bindings, _) => self.bind,
             (Input::Log, Some(place)) => self.logs.get(place).copied(),
             (Input::Log, None) => self.log,
             (Input::Script, _) => script_name(self.script, self.typed),

@@ -9,14 +9,21 @@ use crate::failure::Failure;
 use crate::names::Names;
 use crate::system::System;
 use cave_play::{CaveReaders, Input, InputReader, Inputs};
-use play_command::Files;
 use std::alloc::Global;
 use std::io::{ErrorKind, Read};
+
+/// The readers of a run's inputs, each of which may be absent.
+pub type FileInputs<'a, F> = Inputs<
+    InputReader<'a, F>,
+    InputReader<'a, F>,
+    InputReader<'a, F>,
+    InputReader<'a, F>,
+>;
 
 /// The readers of a run's files.
 #[derive(Drop)]
 pub struct Readers<'a, F> {
-    pub inputs: Inputs<F, InputReader<'a, F>, InputReader<'a, F>, InputReader<'a, F>>,
+    pub inputs: FileInputs<'a, F>,
     /// The readers of several logs.
     pub logs: Vec<F>,
 }
@@ -57,22 +64,22 @@ fn open_named<'a, S: System>(
     }
 }
 
-/// Opens the files of a cave.
+/// Opens the files of a cave, if they are named.
 fn open_cave<'a, S: System>(
     system: &mut S,
-    files: Files<'a>,
-) -> Result<CaveReaders<S::File, InputReader<'a, S::File>>, Failure<'a>>
-    ensures database { IfOk result (λ readers.
-        S.File.remaining readers.database ≡ S.bytes_of system.old files.entry.cave.now) }
+    cave: Option<&'a str>,
+    bind: Option<&'a str>,
+) -> Result<CaveReaders<InputReader<'a, S::File>, InputReader<'a, S::File>>, Failure<'a>>
+    ensures database { IfOk result (λ readers. input_left S.File.remaining readers.database
+        ≡ bytes_named (S.bytes_of system.old) (option_map (λ s. s.now) cave.entry)) }
     ensures bindings { IfOk result (λ readers. input_left S.File.remaining readers.bindings
-        ≡ bytes_named (S.bytes_of system.old) (option_map (λ s. s.now) files.entry.bind)) }
+        ≡ bytes_named (S.bytes_of system.old) (option_map (λ s. s.now) bind.entry)) }
     ensures kept { S.bytes_of system.new ≡ S.bytes_of system.old }
-    ensures opened { Opened (cave_files files.entry.cave.now
-        (option_map (λ s. s.now) files.entry.bind)) (S.calls system.old) (S.calls system.new)
-        result }
+    ensures opened { Opened (cave_files (option_map (λ s. s.now) cave.entry)
+        (option_map (λ s. s.now) bind.entry)) (S.calls system.old) (S.calls system.new) result }
 {
-    let database = open(system, Input::Cave, files.cave)?;
-    let bindings = open_named(system, Input::Bindings, files.bind)?;
+    let database = open_named(system, Input::Cave, cave)?;
+    let bindings = open_named(system, Input::Bindings, bind)?;
     Ok(CaveReaders { database, bindings })
 }
 
@@ -127,7 +134,7 @@ pub fn open_files<'a, S: System>(
     ensures opened { Opened (files_in (names_in names.entry)) (S.calls system.old)
         (S.calls system.new) result }
 {
-    let cave = open_cave(system, names.files)?;
+    let cave = open_cave(system, names.cave, names.bind)?;
     let log = open_named(system, Input::Log, names.log)?;
     let logs = open_logs(alloc, system, names.logs)?;
     let script = open_script(system, names.script, names.typed)?;

@@ -174,7 +174,7 @@ pub fn run<S: System, W: Write>(
         (S.calls system.old) (S.calls system.new) (W.contents output.old.writer)
         (W.contents output.new.writer) result }
 {
-    match run_to(alloc, system, asked, names, names.files.output, output) {
+    match run_to(alloc, system, asked, names, names.output, output) {
         Ok(()) => DONE,
         Err(failure) => tell_failure(system, with_reason(failure, output.reason), names),
     }

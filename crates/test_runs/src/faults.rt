@@ -83,10 +83,9 @@ const FAULTS: [(PlayFault, u8, &str); 14] = [
         "cave: the edited log would be larger than 1,048,576 bytes, and no run could read it",
     ),
     (
-        PlayFault::LargeUndo,
+        PlayFault::LargeScript,
         6,
-        "cave: the script that takes the edits back would be larger than 1,048,576 bytes, and no \
-        run could read it",
+        "cave: the script would be larger than 1,048,576 bytes, and no run could read it",
     ),
     (PlayFault::Memory, 7, "cave: there isn't enough memory"),
 ];

@@ -243,7 +243,7 @@ const TEXTS: [(&[&str], &str); 25] = [
     (&["cave"], "Usage: cave <COMMAND>"),
     (
         &["cave", "sing"],
-        "error: unrecognized subcommand 'sing': wanted is check, play, edit, cover or map\n\n\
+        "error: unrecognized subcommand 'sing': wanted is check, play, edit, script, cover or map\n\n\
         Usage: cave <COMMAND>\n\n",
     ),
     (

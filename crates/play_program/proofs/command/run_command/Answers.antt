@@ -66,7 +66,7 @@ returns-in-Play g c =
 
 pub returns-in-Edit : goal.returns-in-Edit
 returns-in-Edit g c =
-    let (texts, are, runs) = c.run_edit.ensures.runs in
+    let (texts, are, runs) = c.run_edits.ensures.runs in
     let (logs, say) = AllSay-some (map g.F.Read.remaining c.args.readers.now.logs.items) in
     record {
       runs = (
@@ -76,8 +76,25 @@ returns-in-Edit g c =
         say,
         subst
             (λ (line : Line). RunsLine line texts logs (g.W.Write.contents c.args.output.now)
-            (g.W.Write.contents c.run_edit.new.output) c.alone-in-Edit.result)
-            (sym c.in-Edit.is) (c.run_edit.result, c.alone-in-Edit.ensures, runs),
+            (g.W.Write.contents c.run_edits.new.output) c.alone-in-Edit.result)
+            (sym c.in-Edit.is) (c.run_edits.result, c.alone-in-Edit.ensures, runs),
+      );
+    }
+
+pub returns-in-Script : goal.returns-in-Script
+returns-in-Script g c =
+    let (texts, are, runs) = c.run_script.ensures.runs in
+    let (logs, say) = AllSay-some (map g.F.Read.remaining c.args.readers.now.logs.items) in
+    record {
+      runs = (
+        texts,
+        logs,
+        are,
+        say,
+        subst
+            (λ (line : Line). RunsLine line texts logs (g.W.Write.contents c.args.output.now)
+            (g.W.Write.contents c.run_script.new.output) c.alone-in-Script.result)
+            (sym c.in-Script.is) (c.run_script.result, c.alone-in-Script.ensures, runs),
       );
     }
 
@@ -136,7 +153,7 @@ returns-in-Map g c =
 pub returns-in-Text : goal.returns-in-Text
 returns-in-Text g c =
     let inputs = c.args.readers.now.inputs in
-    let (database, first) = Says-some (g.F.Read.remaining inputs.cave.database) in
+    let (database, first) = Says-some (input_left g.F.Read.remaining inputs.cave.database) in
     let (bindings, second) = Says-some (input_left g.F.Read.remaining inputs.cave.bindings) in
     let (log, third) = Says-some (input_left g.F.Read.remaining inputs.log) in
     let (script, fourth) = Says-some (input_left g.F.Read.remaining inputs.script) in

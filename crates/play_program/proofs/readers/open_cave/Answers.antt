@@ -1,4 +1,4 @@
-use Rattle.std.proofs.Common.{[], ◌∷◌, ap, option_map, ◌∙◌}
+use Rattle.std.proofs.Common.{ap, option_map, ◌∙◌}
 use Rattle.std.proofs.lemmas.Result.{err_from_is_err_and}
 use Rattle.cave_play.specs.declared.fault.Input.TheVariants as input
 use Rattle.play_program.specs.Names.{named}
@@ -9,8 +9,8 @@ use Rattle.play_program.proofs.readers.open_cave.Goals as goal
 pub returns-in_err-database : goal.returns-in_err-database
 returns-in_err-database g c =
     let exit = err_from_is_err_and c.from_residual.result c.from_residual.ensures.1 in
-    let first = (input.Cave, c.args.files.cave.now) ∷ [] in
-    let second = named input.Bindings (option_map (λ s. s.now) c.args.files.bind) in
+    let first = named input.Cave (option_map (λ s. s.now) c.args.cave) in
+    let second = named input.Bindings (option_map (λ s. s.now) c.args.bind) in
     rw (exit.1, exit.2)
     (record {
       database = tt;
@@ -24,8 +24,8 @@ returns-in_err-bindings g c =
     let exit =
     err_from_is_err_and c.from_residual-in_err-bindings.result
     c.from_residual-in_err-bindings.ensures.1 in
-    let first = (input.Cave, c.args.files.cave.now) ∷ [] in
-    let second = named input.Bindings (option_map (λ s. s.now) c.args.files.bind) in
+    let first = named input.Cave (option_map (λ s. s.now) c.args.cave) in
+    let second = named input.Bindings (option_map (λ s. s.now) c.args.bind) in
     rw (exit.1, exit.2)
     (record {
       database = tt;
@@ -38,8 +38,8 @@ returns-in_err-bindings g c =
 
 pub returns : goal.returns
 returns g c =
-    let name = option_map (λ s. s.now) c.args.files.bind in
-    let first = (input.Cave, c.args.files.cave.now) ∷ [] in
+    let name = option_map (λ s. s.now) c.args.bind in
+    let first = named input.Cave (option_map (λ s. s.now) c.args.cave) in
     record {
       database = c.in_ok-database.ensures.reads;
       bindings =

@@ -10,7 +10,8 @@ pub returns-in_err-cave : goal.returns-in_err-cave
 returns-in_err-cave g c =
     let exit = err_from_is_err_and c.from_residual.result c.from_residual.ensures.1 in
     let names = c.args.names in
-    let cave = cave_files names.files.cave.now (option_map (λ s. s.now) names.files.bind) in
+    let cave =
+    cave_files (option_map (λ s. s.now) names.cave) (option_map (λ s. s.now) names.bind) in
     let log = named input.Log (option_map (λ s. s.now) names.log) in
     let logs = named_logs (map (λ s. s.now) names.logs.now) in
     let script = named input.Script (option_map (λ s. s.now) names.script) in
@@ -25,7 +26,8 @@ returns-in_err-log g c =
     let exit =
     err_from_is_err_and c.from_residual-in_err-log.result c.from_residual-in_err-log.ensures.1 in
     let names = c.args.names in
-    let cave = cave_files names.files.cave.now (option_map (λ s. s.now) names.files.bind) in
+    let cave =
+    cave_files (option_map (λ s. s.now) names.cave) (option_map (λ s. s.now) names.bind) in
     let log = named input.Log (option_map (λ s. s.now) names.log) in
     let logs = named_logs (map (λ s. s.now) names.logs.now) in
     let script = named input.Script (option_map (λ s. s.now) names.script) in
@@ -42,7 +44,8 @@ returns-in_err-logs g c =
     let exit =
     err_from_is_err_and c.from_residual-in_err-logs.result c.from_residual-in_err-logs.ensures.1 in
     let names = c.args.names in
-    let cave = cave_files names.files.cave.now (option_map (λ s. s.now) names.files.bind) in
+    let cave =
+    cave_files (option_map (λ s. s.now) names.cave) (option_map (λ s. s.now) names.bind) in
     let log = named input.Log (option_map (λ s. s.now) names.log) in
     let logs = named_logs (map (λ s. s.now) names.logs.now) in
     let script = named input.Script (option_map (λ s. s.now) names.script) in
@@ -61,7 +64,8 @@ returns-in_err-script g c =
     err_from_is_err_and c.from_residual-in_err-script.result
     c.from_residual-in_err-script.ensures.1 in
     let names = c.args.names in
-    let cave = cave_files names.files.cave.now (option_map (λ s. s.now) names.files.bind) in
+    let cave =
+    cave_files (option_map (λ s. s.now) names.cave) (option_map (λ s. s.now) names.bind) in
     let log = named input.Log (option_map (λ s. s.now) names.log) in
     let logs = named_logs (map (λ s. s.now) names.logs.now) in
     let script = named input.Script (option_map (λ s. s.now) names.script) in
@@ -78,7 +82,8 @@ returns-in_err-script g c =
 pub returns : goal.returns
 returns g c =
     let names = c.args.names in
-    let cave = cave_files names.files.cave.now (option_map (λ s. s.now) names.files.bind) in
+    let cave =
+    cave_files (option_map (λ s. s.now) names.cave) (option_map (λ s. s.now) names.bind) in
     let log = named input.Log (option_map (λ s. s.now) names.log) in
     let logs = named_logs (map (λ s. s.now) names.logs.now) in
     let script = named input.Script (option_map (λ s. s.now) names.script) in

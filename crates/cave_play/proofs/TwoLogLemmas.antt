@@ -1,0 +1,167 @@
+-- Two logs, of which one is made of the other.
+use Rattle.std.proofs.Common.{◌≡◌, ◌∙◌, ℕ, ◌≤◌, Bool, true, false, List, [], ◌∷◌, ◌++◌, length}
+use Rattle.std.proofs.Common.{None, Some, Ok, inl, inr, refl, sym, ap, subst}
+use Rattle.std.specs.Prelude.{All, Option, option_map}
+use Rattle.std.specs.List.{AllByRecursion}
+use Rattle.std.specs.Str.Lines.{lines}
+use Rattle.std.proofs.lemmas.List.Elements.{All-weaker, recursion_from_All}
+use Rattle.base_lines.specs.Limits.{MAX_LOG_LINES}
+use Rattle.replay_difference.specs.Difference.{IsLog}
+use Rattle.replay_difference.specs.ScriptTo.{GrowsByScript, IsAccepted, IsScriptTo, LeadTo}
+use Rattle.replay_difference.specs.ScriptTo.{MeetsGuard}
+use Rattle.replay_difference.specs.declared.script.ScriptForm.{ScriptForm}
+use Rattle.replay_edits.specs.Edit.{Game, IsGame}
+use Rattle.replay_edits.specs.Faults.{log_after_all}
+use Rattle.replay_edits.proofs.Inverses.{IsFree-from_none, IsGame-apply_all, log-apply_all}
+use Rattle.replay_scripts.specs.Guards.{IsScriptBy, script_by}
+use Rattle.replay_scripts.specs.Script.{Applied}
+use Rattle.replay_scripts.proofs.Grammar.{script_of-only}
+use Rattle.play_edits.specs.Items.{game_after_item, game_after_items}
+use Rattle.play_edits.specs.Laws.{IsMet}
+use Rattle.play_edits.specs.Refusal.{item_refusal}
+use Rattle.play_edits.proofs.EditLemmas.{game_after_item-accepted}
+use Rattle.play_edits.proofs.GameLemmas.{IsGame-after}
+use Rattle.play_edits.proofs.GuardLemmas.{all_met, item_refusal-met}
+use Rattle.play_edits.proofs.SayableLemmas.{unrefused_group}
+use Rattle.cave_play.specs.Judge.{log_fault}
+use Rattle.cave_play.specs.Run.{IsFoundIn, IsOutsideOf}
+use Rattle.cave_play.specs.Stages.{first_decided, log_stage}
+use Rattle.cave_play.specs.TwoLogs.{DifferencesMakeTheLog, IsDifferenceOf, new_log_fault}
+use Rattle.cave_play.specs.TwoLogs.{new_log_stage, two_logs_stages}
+use Rattle.cave_play.specs.declared.fault.Input.TheVariants as input
+use Rattle.cave_play.specs.declared.fault.PlayFault.{PlayFault}
+use Rattle.cave_play.specs.declared.fault.PlayFault.TheVariants as fault
+use Rattle.cave_play.proofs.RefusalLemmas.{IsGame-accepted}
+use Rattle.cave_play.proofs.RunLemmas.{unwritten_by_both, unwritten_by_log, unwritten_by_none}
+use Rattle.cave_play.proofs.StageLemmas.{first_decided-alone, first_decided-one}
+
+-- ---- the new log
+
+outside_new : (found : PlayFault) → IsOutsideOf (Some input.Log) found
+    → IsOutsideOf (Some input.Script) (new_log_fault found)
+outside_new fault.Memory outside = tt
+outside_new (fault.Read from) outside = refl
+outside_new (fault.Cave error clue) outside = absurd outside
+outside_new (fault.Doubt doubt) outside = absurd outside
+outside_new fault.Seed outside = absurd outside
+outside_new fault.Every outside = absurd outside
+outside_new (fault.Log refused) outside = absurd outside
+outside_new (fault.NewLog refused) outside = absurd outside
+outside_new (fault.Script refused) outside = absurd outside
+outside_new (fault.Refused refusal) outside = absurd outside
+outside_new fault.Write outside = absurd outside
+outside_new fault.LargeLog outside = absurd outside
+outside_new fault.LargeScript outside = absurd outside
+
+pub IsFoundIn-new_log : (bytes : List ℕ) (found : PlayFault)
+    → IsFoundIn (log_stage bytes ∷ []) found
+    → IsFoundIn (new_log_stage bytes ∷ []) (new_log_fault found)
+IsFoundIn-new_log bytes found (inl (inl outside)) = inl (inl (outside_new found outside))
+IsFoundIn-new_log bytes found (inl (inr is)) = inl (inr (ap (option_map new_log_fault) is))
+IsFoundIn-new_log bytes found (inr (none, memory)) = rw memory (inl (inl tt))
+
+pub first_decided-new_log : (bytes : List ℕ) → first_decided (log_stage bytes ∷ []) ≡ None
+    → first_decided (new_log_stage bytes ∷ []) ≡ None
+first_decided-new_log bytes none =
+    first_decided-one (new_log_stage bytes)
+    (ap (option_map new_log_fault) (first_decided-alone (log_stage bytes) none))
+
+-- no stage of two logs decides that the output can't be written
+unwritten_by_new : (decided : Option PlayFault) → (decided ≡ Some fault.Write → ⊥)
+    → option_map new_log_fault decided ≡ Some fault.Write → ⊥
+unwritten_by_new None never found = cc
+unwritten_by_new (Some fault.Write) never found = never refl
+unwritten_by_new (Some fault.Memory) never found = cc
+unwritten_by_new (Some (fault.Read from)) never found = cc
+unwritten_by_new (Some (fault.Cave error clue)) never found = cc
+unwritten_by_new (Some (fault.Doubt doubt)) never found = cc
+unwritten_by_new (Some fault.Seed) never found = cc
+unwritten_by_new (Some fault.Every) never found = cc
+unwritten_by_new (Some (fault.Log refused)) never found = cc
+unwritten_by_new (Some (fault.NewLog refused)) never found = cc
+unwritten_by_new (Some (fault.Script refused)) never found = cc
+unwritten_by_new (Some (fault.Refused refusal)) never found = cc
+unwritten_by_new (Some fault.LargeLog) never found = cc
+unwritten_by_new (Some fault.LargeScript) never found = cc
+
+pub unwritten_by_logs : (old new : List ℕ)
+    → first_decided (two_logs_stages old new) ≡ Some fault.Write → ⊥
+unwritten_by_logs old new =
+    unwritten_by_both _ _ (unwritten_by_log old)
+    (unwritten_by_both _ _ (unwritten_by_new (log_fault new) (unwritten_by_log new))
+    unwritten_by_none)
+
+-- ---- the script
+
+-- a log that is accepted can be opened
+pub IsLog-accepted : (bytes : List ℕ) (copies : List (List ℕ)) → copies ≡ lines bytes
+    → first_decided (log_stage bytes ∷ []) ≡ None → IsLog copies
+IsLog-accepted bytes copies same none =
+    let game = IsGame-accepted bytes 0 (first_decided-alone (log_stage bytes) none) refl in
+    subst IsLog (sym same) (record { lines = game.lines; few = game.few })
+
+unmapped : (decided : Option PlayFault) → option_map new_log_fault decided ≡ None
+    → decided ≡ None
+unmapped None none = refl
+unmapped (Some found) none = cc
+
+pub IsLog-new : (bytes : List ℕ) (copies : List (List ℕ)) → copies ≡ lines bytes
+    → first_decided (new_log_stage bytes ∷ []) ≡ None → IsLog copies
+IsLog-new bytes copies same none =
+    let free = unmapped (log_fault bytes) (first_decided-alone (new_log_stage bytes) none) in
+    IsLog-accepted bytes copies same (first_decided-one (log_stage bytes) free)
+
+pub IsDifferenceOf-grown : (form : ScriptForm) (old new : List ℕ) (copies others : List (List ℕ))
+    (before after : List ℕ) → copies ≡ lines old → others ≡ lines new → before ≡ []
+    → GrowsByScript form copies others before after → (copies ≡ others → after ≡ before)
+    → IsDifferenceOf form old new after
+IsDifferenceOf-grown form old new copies others before after same same' none (script, grown, is)
+    equal =
+    let whole : after ≡ script = grown ∙ ap (λ l. l ++ script) none in
+    let here = subst (λ text. IsScriptTo form text copies others) (sym whole) is in
+    let from = subst (λ log. IsScriptTo form after log others) same here in (
+      subst (λ log. IsScriptTo form after (lines old) log) same' from,
+      λ lines_equal. equal (same ∙ lines_equal ∙ sym same') ∙ none,
+    )
+
+-- ---- what the script makes
+
+met : (item : Applied) (log : List (List ℕ)) → All (MeetsGuard item.changes log) item.guards
+    → AllByRecursion (IsMet item.changes log) item.guards
+met item log meets =
+    recursion_from_All (IsMet item.changes log) item.guards
+    (All-weaker (MeetsGuard item.changes log) (IsMet item.changes log) (λ guard is free. is)
+    item.guards meets)
+
+accepted : (item : Applied) (game : Game) → IsGame game → IsAccepted item game.log
+    → item_refusal item game.log ≡ None
+accepted item game good is =
+    let free = IsFree-from_none item.changes game.log 0 is.free in
+    let after = IsGame-apply_all item.changes game good free in
+    let few : length (log_after_all item.changes game.log) ≤ MAX_LOG_LINES =
+    subst (λ log. length log ≤ MAX_LOG_LINES) (log-apply_all item.changes game) after.few in
+    item_refusal-met item game.log None
+    (all_met item.changes game.log item.guards (met item game.log is.met))
+    (unrefused_group item.changes game.log is.some is.free few)
+
+leads : (items : List Applied) (game : Game) (new : List (List ℕ)) → IsGame game
+    → LeadTo items game.log new → (game_after_items items game).log ≡ new
+leads [] game new good is = is
+leads (item ∷ items) game new good (is, rest) =
+    let next : (game_after_item item game).log ≡ log_after_all item.changes game.log =
+    ap (λ (g : Game). g.log) (game_after_item-accepted item game (accepted item game good is))
+    ∙ log-apply_all item.changes game in
+    leads items (game_after_item item game) new (IsGame-after item game good)
+    (subst (λ log. LeadTo items log new) (sym next) rest)
+
+same_items : (guarded : Bool) (script : List ℕ) (items other : List Applied)
+    → script_by guarded script ≡ Ok other → IsScriptBy guarded script items → other ≡ items
+same_items true script items other reads (spelled, grammar) = cc
+same_items false script items other reads spelled =
+    let only = script_of-only script items spelled in cc
+
+pub differences_make_the_log : DifferencesMakeTheLog
+differences_make_the_log form script game new items good is spelled =
+    leads items game new good
+    (subst (λ some. LeadTo some game.log new)
+    (same_items form.guarded script items is.items is.reads spelled) is.leads)

@@ -1,0 +1,103 @@
+-- Runs over two logs: the edits that make one of the other, and what they lead to.
+use Rattle.std.specs.Prelude.{◌≡◌, ◌⊎◌, ℕ, ◌<◌, ◌≤◌, false, List, [], ◌∷◌, length, Option, None}
+use Rattle.std.specs.Prelude.{option_map, Result, Err}
+use Rattle.std.specs.Io.KnownBytes.{Keeps}
+use Rattle.std.specs.Str.Lines.{lines}
+use Rattle.base_lines.specs.Limits.{MAX_INPUT_BYTES}
+use Rattle.play_command.specs.declared.editing.Editing.{Editing}
+use Rattle.replay_difference.specs.ScriptTo.{IsScriptTo}
+use Rattle.replay_difference.specs.declared.script.ScriptForm.{ScriptForm}
+use Rattle.replay_edits.specs.Edit.{Game, IsGame, log_of}
+use Rattle.replay_scripts.specs.Guards.{IsScriptBy}
+use Rattle.replay_scripts.specs.Script.{Applied}
+use Rattle.play_edits.specs.Items.{game_after_items}
+use Rattle.cave_play.specs.Input.{InputTexts}
+use Rattle.cave_play.specs.Judge.{log_fault}
+use Rattle.cave_play.specs.Run.{IsFoundIn, Runs, RunsWith}
+use Rattle.cave_play.specs.Stages.{Stage, edit_stages, first_decided, log_stage, reading_stage}
+use Rattle.cave_play.specs.Ended.{IsEdited}
+use Rattle.cave_play.specs.declared.fault.Input.TheVariants as input
+use Rattle.cave_play.specs.declared.fault.PlayFault.{PlayFault}
+use Rattle.cave_play.specs.declared.fault.PlayFault.TheVariants as fault
+use Rattle.cave_play.specs.declared.two_logs.Compared.{Compared}
+use Rattle.cave_play.specs.declared.two_logs.ReadLog.{ReadLog}
+
+-- the fault of the log that edits are to make, which is read as a script is
+abbrev pub new_log_fault : PlayFault → PlayFault
+new_log_fault (fault.Log refused) = fault.NewLog refused
+new_log_fault (fault.Read from) = fault.Read input.Script
+new_log_fault found = found
+
+abbrev pub new_log_stage : List ℕ → Stage
+new_log_stage log = reading_stage input.Script (option_map new_log_fault (log_fault log))
+
+-- the old log is read and judged, and then the new one
+abbrev pub two_logs_stages : List ℕ → List ℕ → List Stage
+two_logs_stages old new = log_stage old ∷ new_log_stage new ∷ []
+
+-- these are the bytes of a log, and its lines
+abbrev pub IsReadLog : List ℕ → ReadLog → Type 0
+IsReadLog bytes read = (read.text.items ≡ bytes) × (log_of read.lines.items ≡ lines bytes)
+
+-- the script makes the new log of the old one, and has nothing if they have the same lines
+abbrev pub IsDifferenceOf : ScriptForm → List ℕ → List ℕ → List ℕ → Type 0
+IsDifferenceOf form old new script =
+    IsScriptTo form script (lines old) (lines new) × (lines old ≡ lines new → script ≡ [])
+
+-- the script has as many bytes as a script may have
+abbrev pub IsReadDifferenceOf : ScriptForm → List ℕ → List ℕ → List ℕ → Type 0
+IsReadDifferenceOf form old new script =
+    IsDifferenceOf form old new script × (length script ≤ MAX_INPUT_BYTES)
+
+-- or it has more
+abbrev pub IsLargeDifferenceOf : ScriptForm → List ℕ → List ℕ → List ℕ → Type 0
+IsLargeDifferenceOf form old new script =
+    IsDifferenceOf form old new script × (MAX_INPUT_BYTES < length script)
+
+-- the logs are compared, and nothing is written, since no run could read the script
+abbrev pub IsTooLarge : ScriptForm → InputTexts → Option (List ℕ) → Option (List ℕ)
+    → Result (Unit {0}) PlayFault → Type 0
+IsTooLarge form texts old new ended =
+    (first_decided (two_logs_stages texts.log texts.script) ≡ None)
+    × ((script : List ℕ) × IsLargeDifferenceOf form texts.log texts.script script)
+    × (ended ≡ Err fault.LargeScript) × Keeps old new
+
+-- what a run leaves that writes the script of two logs
+abbrev pub RunsScript : ScriptForm → InputTexts → Option (List ℕ) → Option (List ℕ)
+    → Result (Unit {0}) PlayFault → Type 0
+RunsScript form texts old new ended =
+    Runs (two_logs_stages texts.log texts.script)
+    (IsReadDifferenceOf form texts.log texts.script) old new ended
+    ⊎ IsTooLarge form texts old new ended
+
+-- the script of the old log, which is kept
+abbrev pub IsCompared : ScriptForm → List ℕ → List ℕ → Compared → Type 0
+IsCompared form old new compared =
+    (compared.log.items ≡ old) × IsDifferenceOf form old new compared.script.items
+
+-- how the edits are written that a run makes one after another
+abbrev pub form_of : Editing → ScriptForm
+form_of editing = record { guarded = editing.guarded; grouped = false }
+
+-- one of two logs is refused, and nothing is written
+abbrev pub IsUncompared : InputTexts → Option (List ℕ) → Option (List ℕ) → Result ℕ PlayFault
+    → Type 0
+IsUncompared texts old new ended = (found : PlayFault) × (ended ≡ Err found)
+    × IsFoundIn (two_logs_stages texts.log texts.script) found × Keeps old new
+
+-- what a run leaves that edits a log so that it becomes another: what the run of a script leaves
+-- that makes the new log of the old one; or one of the logs is refused
+abbrev pub RunsEditTo : InputTexts → Editing → Option (List ℕ) → Option (List ℕ)
+    → Result ℕ PlayFault → Type 0
+RunsEditTo texts editing old new ended =
+    IsUncompared texts old new ended
+    ⊎ ((script : List ℕ) × IsDifferenceOf (form_of editing) texts.log texts.script script
+    × RunsWith (edit_stages texts.database texts.bindings texts.log script editing)
+    (IsEdited texts.database texts.bindings texts.log script editing) old new ended)
+
+-- a script that makes one log of another leaves that log of a game that has the first
+abbrev pub DifferencesMakeTheLog : Type 0
+DifferencesMakeTheLog =
+    (form : ScriptForm) (script : List ℕ) (game : Game) (new : List (List ℕ))
+    (items : List Applied) → IsGame game → IsScriptTo form script game.log new
+    → IsScriptBy form.guarded script items → (game_after_items items game).log ≡ new
