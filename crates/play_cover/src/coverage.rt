@@ -8,7 +8,7 @@ ghost use Rattle.std.specs.Prelude.{not};
 ghost use Rattle.play_cover.specs.Coverage.{present_count};
 ghost use Rattle.play_cover.specs.Marks.{is_marked, mark};
 
-use crate::marks::{Mark, Marks};
+use crate::marks::{Mark, MarkSet};
 use std::alloc::{AllocError, Global};
 
 /// Groups of things that may be covered.
@@ -72,7 +72,7 @@ pub enum Detail {
 
 /// How many things of all groups are covered, and how many there are.
 #[derive(Clone, Copy, Debug, PartialEq, Eq)]
-pub struct Totals {
+pub struct CoverTotals {
     pub covered: usize,
     pub present: usize,
 }
@@ -85,7 +85,7 @@ struct Found {
     missing: Vec<u16>,
 }
 
-fn is_covered(marks: &Marks, group: usize, number: u16) -> bool
+fn is_covered(marks: &MarkSet, group: usize, number: u16) -> bool
     ensures { result ≡ is_marked marks.now (mark group number) }
 {
     marks.has(Mark {
@@ -94,7 +94,7 @@ fn is_covered(marks: &Marks, group: usize, number: u16) -> bool
     })
 }
 
-fn count_covered(marks: &Marks, group: usize, numbers: &[u16]) -> usize
+fn count_covered(marks: &MarkSet, group: usize, numbers: &[u16]) -> usize
     ensures value { result
         ≡ length (filter (λ n. is_marked marks.now (mark group n)) numbers.now) }
     ensures within { result ≤ length numbers.now }
@@ -107,7 +107,7 @@ fn count_covered(marks: &Marks, group: usize, numbers: &[u16]) -> usize
 
 fn missing(
     alloc: Global,
-    marks: &Marks,
+    marks: &MarkSet,
     group: usize,
     numbers: &[u16],
 ) -> Result<Vec<u16>, AllocError>
@@ -125,7 +125,7 @@ fn missing(
 fn find<T: Groups>(
     alloc: Global,
     of: &T,
-    marks: &Marks,
+    marks: &MarkSet,
     group: T::Group,
 ) -> Result<Found, AllocError>
     ensures covered { IfOk result (λ found. found.covered
@@ -184,7 +184,7 @@ fn push_never<T: Groups>(
 fn push_line<T: Groups>(
     alloc: Global,
     of: &T,
-    marks: &Marks,
+    marks: &MarkSet,
     group: T::Group,
     found: &Found,
     text: &mut Vec<u8>,
@@ -226,11 +226,11 @@ fn push_missing_lines<T: Groups>(
 fn push_group<T: Groups>(
     alloc: Global,
     of: &T,
-    marks: &Marks,
+    marks: &MarkSet,
     detail: Detail,
     group: T::Group,
     text: &mut Vec<u8>,
-) -> Result<Totals, AllocError>
+) -> Result<CoverTotals, AllocError>
     ensures told { OnOk result (text.new.items ≡ text.old.items
         ++ group_text (T.catalogue of.now) (is_marked marks.now) detail group) }
     ensures covered { IfOk result (λ totals. totals.covered
@@ -249,7 +249,7 @@ fn push_group<T: Groups>(
             push_missing_lines(alloc, of, group, &found.missing, text)?;
         }
     }
-    Ok(Totals {
+    Ok(CoverTotals {
         covered: found.covered,
         present: found.present,
     })
@@ -260,10 +260,10 @@ fn push_group<T: Groups>(
 pub fn push_groups<T: Groups>(
     alloc: Global,
     of: &T,
-    marks: &Marks,
+    marks: &MarkSet,
     detail: Detail,
     text: &mut Vec<u8>,
-) -> Result<Totals, AllocError>
+) -> Result<CoverTotals, AllocError>
     ensures told { OnOk result (text.new.items ≡ text.old.items
         ++ groups_text (T.catalogue of.now) (is_marked marks.now) detail) }
     ensures covered { IfOk result (λ totals. totals.covered
@@ -271,7 +271,7 @@ pub fn push_groups<T: Groups>(
     ensures present { IfOk result (λ totals.
         totals.present ≡ present_count (T.catalogue of.now)) }
 {
-    let mut totals = Totals {
+    let mut totals = CoverTotals {
         covered: 0,
         present: 0,
     };

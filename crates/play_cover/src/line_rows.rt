@@ -4,7 +4,7 @@ ghost use Rattle.std.specs.Prelude.{◌≡◌, None, OnOk, map};
 ghost use Rattle.play_cover.specs.Marks.{Notes};
 ghost use Rattle.play_cover.specs.RowReport.{mark_of_row};
 
-use crate::marks::{Mark, Marks};
+use crate::marks::{Mark, MarkSet};
 use crate::rule_tables::row_mark;
 use cave_world::{GhostRows, RowNotes, RuleRow};
 use play_machine::LineRows;
@@ -21,7 +21,7 @@ pub struct KeptRows {
 }
 
 /// Makes marks.
-fn note_marks(alloc: Global, made: &[Mark], marks: &mut Marks) -> Result<(), AllocError>
+fn note_marks(alloc: Global, made: &[Mark], marks: &mut MarkSet) -> Result<(), AllocError>
     ensures { OnOk result (Notes made.now marks.old marks.new) }
 {
     for mark in made {
@@ -32,7 +32,7 @@ fn note_marks(alloc: Global, made: &[Mark], marks: &mut Marks) -> Result<(), All
 
 impl KeptRows {
     /// Marks the rows.
-    pub fn mark_all(&self, alloc: Global, marks: &mut Marks) -> Result<(), AllocError>
+    pub fn mark_all(&self, alloc: Global, marks: &mut MarkSet) -> Result<(), AllocError>
         ensures { OnOk result (Notes (map mark_of_row self.now.all.rows) marks.old marks.new) }
     {
         match self.failed {

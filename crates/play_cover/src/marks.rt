@@ -17,11 +17,11 @@ pub struct Mark {
 
 /// A set of marks, in which one is made or found at its place.
 #[derive(Drop)]
-pub struct Marks {
+pub struct MarkSet {
     groups: Vec<Vec<bool>>,
 }
 
-impl Model for Marks {
+impl Model for MarkSet {
     ghost use Rattle.std.specs.Prelude.{List, Bool, map};
 
     ghost Value = { List (List Bool) };
@@ -42,12 +42,12 @@ fn mark_number(group: &mut Vec<bool>, number: usize) -> Result<(), AllocError>
     Ok(())
 }
 
-impl Marks {
+impl MarkSet {
     /// The set in which nothing is marked.
-    pub fn new(alloc: Global) -> Marks
+    pub fn new(alloc: Global) -> MarkSet
         ensures { result ≡ [] }
     {
-        Marks {
+        MarkSet {
             groups: Vec::new(alloc),
         }
     }

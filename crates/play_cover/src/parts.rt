@@ -8,7 +8,7 @@ ghost use Rattle.play_cover.specs.Marks.{Notes};
 ghost use Rattle.play_cover.specs.Texts.{class_said, look_said, message_said, text};
 ghost use Rattle.play_cover.specs.Texts.{said_by_part, said_by_all};
 
-use crate::marks::Marks;
+use crate::marks::MarkSet;
 use crate::text::{PROPS_PER_OBJECT, TextKind, text_mark};
 use cave_data::Cave;
 use cave_world::Part;
@@ -16,14 +16,14 @@ use data_rows::Role;
 use std::alloc::{AllocError, Global};
 use world_objects::Object;
 
-fn note(alloc: Global, said: &mut Marks, kind: TextKind, number: u16) -> Result<(), AllocError>
+fn note(alloc: Global, said: &mut MarkSet, kind: TextKind, number: u16) -> Result<(), AllocError>
     ensures { OnOk result (Notes (text kind number ∷ []) said.old said.new) }
 {
     said.note(alloc, text_mark(kind, number))
 }
 
 /// Notes a role, and the message that is bound to it.
-fn note_role(alloc: Global, said: &mut Marks, cave: &Cave, role: Role) -> Result<(), AllocError>
+fn note_role(alloc: Global, said: &mut MarkSet, cave: &Cave, role: Role) -> Result<(), AllocError>
     ensures { OnOk result (Notes (text TextKind.Role (role_number role)
         ∷ message_said (get cave.now.roles (role_number role))) said.old said.new) }
 {
@@ -36,7 +36,7 @@ fn note_role(alloc: Global, said: &mut Marks, cave: &Cave, role: Role) -> Result
 
 fn note_look(
     alloc: Global,
-    said: &mut Marks,
+    said: &mut MarkSet,
     cave: &Cave,
     object: Object,
     prop: i8,
@@ -59,7 +59,7 @@ fn note_look(
 }
 
 /// Notes the class that a score belongs to, if it belongs to one.
-fn note_class(alloc: Global, said: &mut Marks, cave: &Cave, score: u32) -> Result<(), AllocError>
+fn note_class(alloc: Global, said: &mut MarkSet, cave: &Cave, score: u32) -> Result<(), AllocError>
     ensures { OnOk result (Notes (class_said (class_of cave.now score)) said.old said.new) }
 {
     match cave.class_of(score) {
@@ -69,7 +69,7 @@ fn note_class(alloc: Global, said: &mut Marks, cave: &Cave, score: u32) -> Resul
 }
 
 #[tactic(auto, unfolding(crate::specs::Texts::said_by_part))]
-fn note_part(alloc: Global, said: &mut Marks, cave: &Cave, part: Part) -> Result<(), AllocError>
+fn note_part(alloc: Global, said: &mut MarkSet, cave: &Cave, part: Part) -> Result<(), AllocError>
     ensures { OnOk result (Notes (said_by_part cave.now part) said.old said.new) }
 {
     match part {
@@ -87,7 +87,7 @@ fn note_part(alloc: Global, said: &mut Marks, cave: &Cave, part: Part) -> Result
 /// Notes what parts say.
 pub fn note_parts(
     alloc: Global,
-    said: &mut Marks,
+    said: &mut MarkSet,
     cave: &Cave,
     parts: &[Part],
 ) -> Result<(), AllocError>

@@ -4,9 +4,9 @@ ghost use Rattle.std.specs.Prelude.{◌≡◌, ◌++◌, OnOk};
 ghost use Rattle.play_cover.specs.Marks.{is_marked};
 ghost use Rattle.play_cover.specs.RowReport.{row_report, row_sums};
 
-use crate::coverage::{Detail, Groups, Totals, push_groups};
+use crate::coverage::{Detail, Groups, CoverTotals, push_groups};
 use crate::each_table::EACH_TABLE;
-use crate::marks::Marks;
+use crate::marks::MarkSet;
 use crate::rule_tables::{row_count, table_name, table_number, words_of_row};
 use crate::travel_report::{count_applied_ways, push_travel};
 use cave_world::Table;
@@ -73,7 +73,7 @@ impl Groups for RuleTables {
 /// many there are.
 fn push_row_sums(
     alloc: Global,
-    rows: Totals,
+    rows: CoverTotals,
     taken: usize,
     all: usize,
     logs: usize,
@@ -82,7 +82,7 @@ fn push_row_sums(
     ensures { OnOk result (text.new.items
         ≡ text.old.items ++ row_sums rows.covered rows.present taken all logs) }
 {
-    let Totals { covered, present } = rows;
+    let CoverTotals { covered, present } = rows;
     let closing = format!(in alloc;
         "-- {covered} of {present} rows and {taken} of {all} travel rows in {logs} logs\n"
     )?;
@@ -94,7 +94,7 @@ fn push_row_sums(
 #[tactic(auto, unfolding(crate::specs::RowReport::row_report))]
 pub fn push_row_report(
     alloc: Global,
-    noted: &Marks,
+    noted: &MarkSet,
     ways: &[WayLine],
     logs: usize,
     text: &mut Vec<u8>,

@@ -1,7 +1,7 @@
 //! Which rows apply in plays.
 
 use crate::line_rows::KeptRows;
-use crate::marks::Marks;
+use crate::marks::MarkSet;
 use crate::row_report::push_row_report;
 use crate::rule_tables::row_mark;
 use cave_data::Cave;
@@ -14,7 +14,7 @@ use std::alloc::{AllocError, Global};
 /// The rows that apply in plays, or are tried.
 #[derive(Drop)]
 pub struct RuleNotes {
-    marks: Marks,
+    marks: MarkSet,
 }
 
 impl Watch for RuleNotes {
@@ -66,7 +66,7 @@ impl PlayNotes for RuleNotes {
     #[tactic(auto, using(crate::proofs::Noting::none_marked))]
     fn none(alloc: Global) -> Result<RuleNotes, AllocError> {
         Ok(RuleNotes {
-            marks: Marks::new(alloc),
+            marks: MarkSet::new(alloc),
         })
     }
 

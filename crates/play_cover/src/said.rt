@@ -1,7 +1,7 @@
 //! Which texts plays say.
 
 use crate::cave_texts::CaveTexts;
-use crate::marks::Marks;
+use crate::marks::MarkSet;
 use crate::parts::note_parts;
 use crate::text_report::push_text_report;
 use cave_data::Cave;
@@ -14,7 +14,7 @@ use std::alloc::{AllocError, Global};
 /// The texts that plays say.
 #[derive(Drop)]
 pub struct SaidTexts {
-    marks: Marks,
+    marks: MarkSet,
 }
 
 impl Watch for SaidTexts {
@@ -66,7 +66,7 @@ impl PlayNotes for SaidTexts {
     #[tactic(auto, using(crate::proofs::Noting::none_marked))]
     fn none(alloc: Global) -> Result<SaidTexts, AllocError> {
         Ok(SaidTexts {
-            marks: Marks::new(alloc),
+            marks: MarkSet::new(alloc),
         })
     }
 

@@ -6,8 +6,8 @@ ghost use Rattle.play_cover.specs.TextReport.{detail_of, first_line_shown, headi
 ghost use Rattle.play_cover.specs.TextReport.{text_at, text_report, word_of_kind};
 
 use crate::cave_texts::CaveTexts;
-use crate::coverage::{Detail, Groups, Totals, push_groups};
-use crate::marks::Marks;
+use crate::coverage::{Detail, Groups, CoverTotals, push_groups};
+use crate::marks::MarkSet;
 use crate::text::{KINDS, NUMBERS, PROPS_PER_OBJECT, TextKind};
 use cave_data::Cave;
 use data_bindings::first_line;
@@ -161,7 +161,7 @@ fn detail_of(view: TextView) -> Detail
 pub fn push_text_report(
     alloc: Global,
     cave: &CaveTexts<'_>,
-    said: &Marks,
+    said: &MarkSet,
     view: TextView,
     logs: usize,
     text: &mut Vec<u8>,
@@ -169,7 +169,7 @@ pub fn push_text_report(
     ensures { OnOk result (text.new.items
         ≡ text.old.items ++ text_report cave.now view (is_marked said.now) logs) }
 {
-    let Totals { covered, present } = push_groups(alloc, cave, said, detail_of(view), text)?;
+    let CoverTotals { covered, present } = push_groups(alloc, cave, said, detail_of(view), text)?;
     let closing = format!(in alloc; "-- {covered} of {present} texts in {logs} logs\n")?;
     text.extend_from_slice(closing.as_bytes())
 }

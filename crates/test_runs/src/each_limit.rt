@@ -2,7 +2,7 @@
 
 use crate::caves::LONG_TEXT;
 use crate::runs::{COVER, EDIT, Feeds, PLAY, Run, RunEnd, edit, play};
-use crate::streams::Source;
+use crate::streams::TestReader;
 use base_lines::limits::MAX_INPUT_BYTES;
 use cave_play::{Input, LogFault, PlayFault, ScriptFault};
 use data_rows::{Cause, CaveError, FaultSite};
@@ -38,7 +38,7 @@ const ENDLESS: [(Run, usize); 5] = [(EDIT, 0), (EDIT, 1), (EDIT, 2), (EDIT, 3), 
 fn a_reader_without_end_is_asked_for_one_byte_too_many(rt: HostRuntime) {
     for &(run, number) in &ENDLESS {
         let mut feeds = Feeds::usual(run);
-        feeds.put(number, Source::endless());
+        feeds.put(number, TestReader::endless());
         let end = feeds.run(rt.alloc(), run);
         let fault = run.fault_at(number, too_large(run.input(number)));
         assert!(rt; end.failed_at(fault), "{run:?}, {number}");
@@ -68,7 +68,7 @@ fn inputs_of_the_greatest_size_are_read(rt: HostRuntime) -> Result<(), Fail> {
 fn edit_byte_by_byte(rt: &impl Abort, alloc: Global, start: &[u8]) -> Result<RunEnd, Fail> {
     let script = filled(alloc, start, MAX_INPUT_BYTES)?;
     let mut feeds = Feeds::usual(EDIT);
-    feeds.put(3, Source::in_pieces(&script, 1));
+    feeds.put(3, TestReader::in_pieces(&script, 1));
     let end = feeds.run(alloc, EDIT);
     assert_eq!(rt; feeds.asks(3), 1_048_577);
     Ok(end)

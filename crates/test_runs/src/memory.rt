@@ -1,5 +1,5 @@
-//! Runs whose allocations are refused: `tools/refuse` refuses each in turn, and all from each one
-//! on.
+//! Runs whose allocations are refused: `tools/soak/refuse` refuses each in turn, and all from each
+//! one on.
 
 use crate::runs::{Feeds, Printed, RUNS, Run};
 use crate::streams::Sink;

@@ -2,7 +2,7 @@
 
 use crate::caves::{LONG_LOG, LONG_TEXT};
 use crate::runs::{COVER, EDIT, Feeds, PLAY, RUNS, Run};
-use crate::streams::Source;
+use crate::streams::TestReader;
 use base_lines::LineFlaw;
 use cave_play::{LogFault, PlayFault, ScriptFault};
 use data_rows::{Cause, CaveError, FaultSite};
@@ -15,7 +15,7 @@ use test_data::caves::CAVE;
 /// Expects that the reader of an input that fails at one of its asks is named, that nothing is
 /// written, and that no later reader is asked.
 fn expect_named(rt: &impl Abort, alloc: Global, run: Run, number: usize, failing: u64) {
-    let mut source = Source::in_pieces(run.text(number), 1);
+    let mut source = TestReader::in_pieces(run.text(number), 1);
     source.failing = failing;
     let later = number.saturating_add(1);
     let mut feeds = Feeds::usual(run);
@@ -98,7 +98,7 @@ fn an_input_is_judged_before_the_next_is_read(rt: HostRuntime) {
     for &(run, number, bytes, fault, status, unread) in &REFUSED {
         let mut feeds = Feeds::usual(run);
         feeds.break_from(unread);
-        feeds.put(number, Source::of(bytes));
+        feeds.put(number, TestReader::of(bytes));
         let end = feeds.run(rt.alloc(), run);
         let found = run.fault_at(number, fault);
         assert!(rt; end.failed_at(found), "{run:?}: {fault:?}");
@@ -112,7 +112,7 @@ fn the_bindings_are_read_before_the_database_is_judged(rt: HostRuntime) {
     for &(run, _) in &RUNS {
         let mut feeds = Feeds::usual(run);
         feeds.break_from(1);
-        feeds.put(0, Source::of(b""));
+        feeds.put(0, TestReader::of(b""));
         let end = feeds.run(rt.alloc(), run);
         let fault = run.fault_at(1, PlayFault::Read(run.input(1)));
         assert!(rt; end.failed_at(fault), "{run:?}");

@@ -5,7 +5,7 @@ use crate::caves::{
     KEYS_TAIL, LONG_LOG, LONG_TEXT, MAP_HEAD, MAP_TAIL, REPORTS, SCORE, SCRIPT, SHORT_LOG, STEPS,
     STEPS_HEAD, TABLE, UNDO, WALK, WALK_HEAD,
 };
-use crate::streams::{Sink, Source};
+use crate::streams::{Sink, TestReader};
 use cave_play::{CaveReaders, Input, Inputs, PlayFault, run_check, run_doubts, run_edit, run_play};
 use check_doubts::DoubtFiles;
 use play_command::{CheckView, CoverView, EditView, Editing, PlayView, TextView};
@@ -195,12 +195,12 @@ impl RunEnd {
 }
 
 /// The inputs of a run, which are sources.
-pub type Sources<'a> = Inputs<Source<'a>, Source<'a>, Source<'a>, Source<'a>>;
+pub type TestReaders<'a> = Inputs<TestReader<'a>, TestReader<'a>, TestReader<'a>, TestReader<'a>>;
 
 /// The inputs of a run, the last of them a script or a log, and what is asked of it.
 #[derive(Drop)]
 pub struct Feeds<'a> {
-    pub inputs: Sources<'a>,
+    pub inputs: TestReaders<'a>,
     pub seed: u32,
     pub every: u32,
 }
@@ -277,11 +277,11 @@ impl<'a> Feeds<'a> {
         Feeds {
             inputs: Inputs {
                 cave: CaveReaders {
-                    database: Source::of(cave),
-                    bindings: Source::of(bind),
+                    database: TestReader::of(cave),
+                    bindings: TestReader::of(bind),
                 },
-                log: Source::of(log),
-                script: Source::of(last),
+                log: TestReader::of(log),
+                script: TestReader::of(last),
             },
             seed: 0,
             every: 1,
@@ -294,7 +294,7 @@ impl<'a> Feeds<'a> {
     }
 
     /// Replaces the source of the input with a number.
-    pub fn put(&mut self, number: usize, source: Source<'a>) {
+    pub fn put(&mut self, number: usize, source: TestReader<'a>) {
         match number {
             0 => self.inputs.cave.database = source,
             1 => self.inputs.cave.bindings = source,
@@ -306,7 +306,7 @@ impl<'a> Feeds<'a> {
     /// Breaks the sources of the inputs from a number on.
     pub fn break_from(&mut self, number: usize) {
         for later in number..INPUTS {
-            self.put(later, Source::broken());
+            self.put(later, TestReader::broken());
         }
     }
 

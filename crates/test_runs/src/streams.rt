@@ -7,7 +7,7 @@ use std::io::{Read, Write};
 /// Gives its bytes in pieces. It fails at the ask with the number `failing`, or gives a byte at
 /// each ask without end.
 #[derive(Clone, Copy)]
-pub struct Source<'a> {
+pub struct TestReader<'a> {
     /// What is left to give.
     pub bytes: &'a [u8],
     /// The most bytes given at once.
@@ -20,15 +20,15 @@ pub struct Source<'a> {
     pub asks: u64,
 }
 
-impl<'a> Source<'a> {
+impl<'a> TestReader<'a> {
     /// A source that gives all that it can at each ask.
-    pub fn of(bytes: &'a [u8]) -> Source<'a> {
-        Source::in_pieces(bytes, usize::MAX)
+    pub fn of(bytes: &'a [u8]) -> TestReader<'a> {
+        TestReader::in_pieces(bytes, usize::MAX)
     }
 
     /// A source that gives at most this many bytes at each ask.
-    pub fn in_pieces(bytes: &'a [u8], piece: usize) -> Source<'a> {
-        Source {
+    pub fn in_pieces(bytes: &'a [u8], piece: usize) -> TestReader<'a> {
+        TestReader {
             bytes,
             piece,
             failing: 0,
@@ -38,21 +38,21 @@ impl<'a> Source<'a> {
     }
 
     /// A source that returns an error at its first ask.
-    pub fn broken() -> Source<'a> {
-        let mut source = Source::of(&[]);
+    pub fn broken() -> TestReader<'a> {
+        let mut source = TestReader::of(&[]);
         source.failing = 1;
         source
     }
 
     /// A source that gives one byte at each ask, without end.
-    pub fn endless() -> Source<'a> {
-        let mut source = Source::of(&[]);
+    pub fn endless() -> TestReader<'a> {
+        let mut source = TestReader::of(&[]);
         source.endless = true;
         source
     }
 }
 
-impl Read for Source<'_> {
+impl Read for TestReader<'_> {
     fn read(&mut self, buf: &mut [u8]) -> io::Result<usize> {
         self.asks = self.asks.saturating_add(1);
         if self.asks == self.failing {

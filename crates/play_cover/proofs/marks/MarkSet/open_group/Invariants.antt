@@ -1,7 +1,7 @@
 use Rattle.std.proofs.Common.{◌≡◌, ◌+◌, ◌-◌, length, map}
 use Rattle.play_cover.specs.Marks.{is_marked}
 use Rattle.play_cover.specs.declared.marks.Mark.{Mark}
-use Rattle.play_cover.proofs.marks.Marks.open_group.Given as goal
+use Rattle.play_cover.proofs.marks.MarkSet.open_group.Given as goal
 
 abbrev pub invariant-loop-alloc : goal.invariant-loop-alloc
 invariant-loop-alloc l =

@@ -1,6 +1,6 @@
 use Rattle.std.proofs.lemmas.Result.{on_ok_weaker}
 use Rattle.play_cover.proofs.Padding.{noted_at}
-use Rattle.play_cover.proofs.marks.Marks.note.Goals as goal
+use Rattle.play_cover.proofs.marks.MarkSet.note.Goals as goal
 
 pub returns : goal.returns
 returns c =
