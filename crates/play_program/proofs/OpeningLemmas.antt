@@ -9,7 +9,6 @@ use Rattle.play_program.specs.Calls.Call.{Opens}
 use Rattle.play_program.specs.Names.{NamedFile, named_logs}
 use Rattle.play_program.specs.Opening.{IsStoppedAt, Stops, opening}
 use Rattle.cave_play.specs.declared.fault.PlayFault.TheVariants as fault
-use Rattle.play_logs.specs.Faults.{at_none}
 use Rattle.play_program.specs.declared.failure.Failure.{Failure}
 use Rattle.play_program.specs.declared.failure.Failure.TheVariants.{Run}
 
@@ -97,10 +96,10 @@ module _ {X : Type 0} (name_of : X → List ℕ) (files : List X) (place : ℕ) 
       (subst (λ l. Stops l a c failure) (sym logs) there)
 
   -- memory ran out after it was opened
-  pub logs_refused : failure ≡ Run (at_none fault.Memory)
+  pub logs_refused : failure ≡ Run fault.Memory None
       → c ≡ and_then b (Opens (name_of (get_or files place d)) ∷ [])
       → Stops (named_logs (map name_of files)) a c failure
   logs_refused refused called =
       let file : NamedFile = (input.Log, name_of (get_or files place d)) in
       logs_stopped (Stops-here file b c failure called
-      (subst (IsStoppedAt file) (sym refused) refl))
+      (subst (IsStoppedAt file) (sym refused) (refl, refl)))

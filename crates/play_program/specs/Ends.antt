@@ -7,8 +7,6 @@ use Rattle.cave_play.specs.Input.{InputTexts, Says}
 use Rattle.cave_play.specs.declared.fault.PlayFault.{PlayFault}
 use Rattle.cave_play.specs.declared.fault.PlayFault.TheVariants as fault
 use Rattle.play_command.specs.declared.line.Line.{Line}
-use Rattle.play_logs.specs.Faults.{at_none}
-use Rattle.play_logs.specs.declared.fault.LogsFault.{LogsFault}
 use Rattle.play_program.specs.Calls.{Call, Told, and_then}
 use Rattle.play_program.specs.Calls.Call.{Puts, Tells}
 use Rattle.play_program.specs.Failures.{failure_status, is_silent, message_of}
@@ -28,19 +26,13 @@ pub record AreTextsIn (bytes_of : List ℕ → Option (List ℕ)) (names : FileN
   pub script : Says (script_bytes bytes_of names.script names.typed) texts.script
   pub each_log : AllZip Says (map bytes_of names.logs) logs
 
--- how a run whose files were opened ended
-abbrev pub ended_run : Result (Unit {0}) LogsFault → Result (Unit {0}) Failure
-ended_run (Ok done) = Ok done
-ended_run (Err found) = Err (Run found)
-
 -- all files of the run were opened, and what their bytes ask for was done
 pub record RunsOpened (bytes_of : List ℕ → Option (List ℕ)) (asked : Line) (names : FileNames)
     (calls called : Option (List Call)) (old new : Option (List ℕ))
     (ended : Result (Unit {0}) Failure) : Type 0 where
   pub opened : called ≡ and_then calls (opening (files_in names))
-  pub runs : (texts : InputTexts) × (logs : List (List ℕ)) × (found : Result (Unit {0}) LogsFault)
-      × AreTextsIn bytes_of names texts logs × RunsLine asked texts logs old new found
-      × (ended ≡ ended_run found)
+  pub runs : (texts : InputTexts) × (logs : List (List ℕ))
+      × AreTextsIn bytes_of names texts logs × RunsLine asked texts logs old new ended
 
 -- a file of the run couldn't be opened, and nothing was written
 pub record RunsUnopened (names : FileNames) (calls called : Option (List Call))
@@ -60,17 +52,17 @@ RunsFiles bytes_of asked names calls called old new ended =
 -- the file can't be written, or memory ran out
 abbrev pub IsUnput : List ℕ → Failure → Type 0
 IsUnput file (Unwritten name reason) = file ≡ name.now
-IsUnput file (Run found) = found ≡ at_none fault.Memory
+IsUnput file (Run found log) = (found ≡ fault.Memory) × (log ≡ None)
 IsUnput file (Unopened from name reason) = ⊥
 IsUnput file (Unprinted reason) = ⊥
 
 -- a list of bytes takes each write, unless memory runs out
-abbrev pub list_fault : LogsFault → PlayFault → LogsFault
-list_fault found fault.Write = at_none fault.Memory
-list_fault found other = found
+abbrev pub list_failure : PlayFault → Option ℕ → Failure
+list_failure fault.Write log = Run fault.Memory None
+list_failure found log = Run found log
 
 abbrev pub in_list : Failure → Failure
-in_list (Run found) = Run (list_fault found found.fault)
+in_list (Run found log) = list_failure found log
 in_list failure = failure
 
 -- an output was put into the file if the run ended well, and otherwise nothing was
@@ -99,12 +91,12 @@ RunsTo (Some file) bytes_of asked names calls called old new ended =
     (new ≡ old) × RunsIntoFile bytes_of asked names file calls called ended
 
 -- the output couldn't be written for this reason, if that is what failed
-abbrev pub write_failure : LogsFault → PlayFault → Error → Failure
-write_failure found fault.Write reason = Unprinted reason
-write_failure found other reason = Run found
+abbrev pub write_failure : PlayFault → Option ℕ → Error → Failure
+write_failure fault.Write log reason = Unprinted reason
+write_failure found log reason = Run found log
 
 abbrev pub failure_by : Failure → Error → Failure
-failure_by (Run found) reason = write_failure found found.fault reason
+failure_by (Run found log) reason = write_failure found log reason
 failure_by failure reason = failure
 
 -- the failure with the reason that the writer of the output gave, if it gave one

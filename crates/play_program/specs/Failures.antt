@@ -5,8 +5,8 @@ use Rattle.std.specs.declared.io.ErrorKind.{ErrorKind}
 use Rattle.std.specs.declared.io.ErrorKind.TheVariants as kind
 use Rattle.cave_play.specs.Fault.{input_of, status_of}
 use Rattle.cave_play.specs.declared.fault.Input.{Input}
+use Rattle.cave_play.specs.declared.fault.PlayFault.{PlayFault}
 use Rattle.cave_play.specs.declared.fault.PlayFault.TheVariants as fault
-use Rattle.play_logs.specs.declared.fault.LogsFault.{LogsFault}
 use Rattle.play_program.specs.Calls.{Told}
 use Rattle.play_program.specs.Calls.Told.{faulty, unopened, unprinted, unwritten}
 use Rattle.play_program.specs.Names.{FileNames, file_at}
@@ -16,7 +16,7 @@ use Rattle.play_program.specs.declared.failure.Failure.TheVariants.{Unprinted}
 
 abbrev pub failure_status : Failure → ℕ
 failure_status (Unopened from name reason) = status_of (fault.Read from)
-failure_status (Run found) = status_of found.fault
+failure_status (Run found log) = status_of found
 failure_status (Unwritten name reason) = status_of fault.Write
 failure_status (Unprinted reason) = status_of fault.Write
 
@@ -35,14 +35,14 @@ abbrev pub file_of_input : FileNames → Option Input → Option ℕ → Option 
 file_of_input names None place = None
 file_of_input names (Some from) place = file_at names from place
 
--- the file that a fault is about
-abbrev pub file_of_fault : FileNames → LogsFault → Option (List ℕ)
-file_of_fault names found = file_of_input names (input_of found.fault) found.log
+-- the file that a fault is about, which is met at a log among several, or at none
+abbrev pub file_of_fault : FileNames → PlayFault → Option ℕ → Option (List ℕ)
+file_of_fault names found log = file_of_input names (input_of found) log
 
 -- what is reported of it: the fault with the file that it is about, or which file can't be opened
 -- or written, or that the output can't be, with the system's reason
 abbrev pub message_of : FileNames → Failure → Told
-message_of names (Run found) = faulty found.fault (file_of_fault names found)
+message_of names (Run found log) = faulty found (file_of_fault names found log)
 message_of names (Unopened from name reason) = unopened name.now reason
 message_of names (Unwritten name reason) = unwritten name.now reason
 message_of names (Unprinted reason) = unprinted reason

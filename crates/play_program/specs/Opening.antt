@@ -2,7 +2,6 @@
 use Rattle.std.specs.Prelude.{◌≡◌, ℕ, List, [], ◌∷◌, ◌++◌, map, Option, None, Some, Result, Ok, Err}
 use Rattle.cave_play.specs.Input.{input_left}
 use Rattle.cave_play.specs.declared.fault.PlayFault.TheVariants as fault
-use Rattle.play_logs.specs.Faults.{at_none}
 use Rattle.play_program.specs.Calls.{Call, and_then}
 use Rattle.play_program.specs.Calls.Call.{Opens}
 use Rattle.play_program.specs.Names.{FileNames, NamedFile}
@@ -18,7 +17,7 @@ opening files = map (λ file. Opens file.1) files
 -- the run wasn't done since this file can't be opened, or since memory ran out there
 abbrev pub IsStoppedAt : NamedFile → Failure → Type 0
 IsStoppedAt file (Unopened from name reason) = (file.0 ≡ from) × (file.1 ≡ name.now)
-IsStoppedAt file (Run found) = found ≡ at_none fault.Memory
+IsStoppedAt file (Run found log) = (found ≡ fault.Memory) × (log ≡ None)
 IsStoppedAt file (Unwritten name reason) = ⊥
 IsStoppedAt file (Unprinted reason) = ⊥
 

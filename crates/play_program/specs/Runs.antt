@@ -1,5 +1,6 @@
 -- The run that a line of the command line asks for.
-use Rattle.std.specs.Prelude.{◌≡◌, ℕ, List, [], Option, option_map, unwrap_or, Result, Ok, Err}
+use Rattle.std.specs.Prelude.{◌≡◌, ℕ, List, [], Option, None, option_map, unwrap_or}
+use Rattle.std.specs.Prelude.{Result, Ok, Err}
 use Rattle.cave_play.specs.Doubted.{RunsDoubts}
 use Rattle.cave_play.specs.Input.{InputTexts}
 use Rattle.check_doubts.specs.declared.listing.DoubtFiles.{DoubtFiles}
@@ -18,17 +19,24 @@ use Rattle.play_command.specs.declared.line.Line.TheVariants.{Check, Doubts, Pla
 use Rattle.play_command.specs.declared.line.Line.TheVariants.{Script, Text}
 use Rattle.play_command.specs.declared.line.ScriptSource.{ScriptSource}
 use Rattle.play_command.specs.declared.line.ScriptSource.TheVariants.{Log}
-use Rattle.play_logs.specs.Faults.{RunsLogs, at_none, first_stages}
+use Rattle.play_logs.specs.Faults.{RunsLogs, first_stages}
 use Rattle.play_logs.specs.declared.fault.LogsFault.{LogsFault}
+use Rattle.play_program.specs.declared.failure.Failure.{Failure}
+use Rattle.play_program.specs.declared.failure.Failure.TheVariants.{Run}
 
 -- how a run that plays at most one log ended
-abbrev pub ended_alone : {A : Type 0} → Result A PlayFault → Result (Unit {0}) LogsFault
+abbrev pub ended_alone : {A : Type 0} → Result A PlayFault → Result (Unit {0}) Failure
 ended_alone (Ok made) = Ok tt
-ended_alone (Err found) = Err (at_none found)
+ended_alone (Err found) = Err (Run found None)
+
+-- how a run over several logs ended
+abbrev pub ended_logs : Result (Unit {0}) LogsFault → Result (Unit {0}) Failure
+ended_logs (Ok done) = Ok done
+ended_logs (Err found) = Err (Run found.fault found.log)
 
 -- what a run that plays at most one log leaves
 abbrev pub RunsAlone : List Stage → (List ℕ → Type 0)
-    → Option (List ℕ) → Option (List ℕ) → Result (Unit {0}) LogsFault → Type 0
+    → Option (List ℕ) → Option (List ℕ) → Result (Unit {0}) Failure → Type 0
 RunsAlone stages IsOutput old new ended = (alone : Result (Unit {0}) PlayFault)
     × (ended ≡ ended_alone alone) × one.Runs stages IsOutput old new alone
 
@@ -46,9 +54,15 @@ RunsEdits _ texts editing old new ended =
     one.RunsWith (edit_stages texts.database texts.bindings texts.log texts.script editing)
     (IsEdited texts.database texts.bindings texts.log texts.script editing) old new ended
 
+-- what a run over several logs leaves
+abbrev pub RunsOverLogs : List Stage → List (List ℕ) → (List ℕ → Type 0)
+    → Option (List ℕ) → Option (List ℕ) → Result (Unit {0}) Failure → Type 0
+RunsOverLogs first logs IsOutput old new ended = (found : Result (Unit {0}) LogsFault)
+    × (ended ≡ ended_logs found) × RunsLogs first logs IsOutput old new found
+
 -- what the run that a line asks for leaves, over the bytes of its inputs
 abbrev pub RunsLine : Line → InputTexts → List (List ℕ)
-    → Option (List ℕ) → Option (List ℕ) → Result (Unit {0}) LogsFault → Type 0
+    → Option (List ℕ) → Option (List ℕ) → Result (Unit {0}) Failure → Type 0
 RunsLine (Check files view) texts logs old new ended =
     RunsAlone (cave_stages texts.database texts.bindings)
     (IsChecked view texts.database texts.bindings) old new ended
@@ -62,10 +76,10 @@ RunsLine (Edit files log script editing) texts logs old new ended =
     (counted : Result ℕ PlayFault) × (ended ≡ ended_alone counted)
     × RunsEdits script texts editing old new counted
 RunsLine (Cover files log seed view) texts logs old new ended =
-    RunsLogs (first_stages texts.database texts.bindings seed) logs
+    RunsOverLogs (first_stages texts.database texts.bindings seed) logs
     (IsCovered texts.database texts.bindings logs seed view) old new ended
 RunsLine (Map files log seed) texts logs old new ended =
-    RunsLogs (first_stages texts.database texts.bindings seed) logs
+    RunsOverLogs (first_stages texts.database texts.bindings seed) logs
     (IsMapped texts.database texts.bindings logs seed) old new ended
 RunsLine (Script before after output form) texts logs old new ended =
     (alone : Result (Unit {0}) PlayFault) × (ended ≡ ended_alone alone)

@@ -4,7 +4,9 @@ ghost use Rattle.std.specs.Prelude.{◌≡◌, ℕ, List, map};
 ghost use Rattle.std.specs.List.{AllZip};
 ghost use Rattle.cave_play.specs.Input.{AreTextsOf, InputTexts, Says, input_left};
 ghost use Rattle.play_program.specs.Runs.{AreListed, RunsEdits, RunsLine, ended_alone};
+ghost use Rattle.play_program.specs.Runs.{ended_logs};
 
+use crate::failure::Failure;
 use crate::readers::{FileInputs, Readers};
 use cave_play::{PlayFault, run_check, run_doubts, run_edit, run_edit_to, run_play, run_script};
 use check_doubts::DoubtFiles;
@@ -16,12 +18,22 @@ use std::alloc::Global;
 use std::io::{Read, Write};
 
 /// How a run that plays at most one log ended.
-fn alone<T: Drop>(ended: Result<T, PlayFault>) -> Result<(), LogsFault>
+fn alone<'a, T: Drop>(ended: Result<T, PlayFault>) -> Result<(), Failure<'a>>
     ensures { result ≡ ended_alone ended }
 {
     match ended {
         Ok(_) => Ok(()),
-        Err(fault) => Err(LogsFault::from(fault)),
+        Err(fault) => Err(Failure::Run(fault, None)),
+    }
+}
+
+/// How a run over several logs ended.
+fn over_logs<'a>(ended: Result<(), LogsFault>) -> Result<(), Failure<'a>>
+    ensures { result ≡ ended_logs ended }
+{
+    match ended {
+        Ok(()) => Ok(()),
+        Err(LogsFault { fault, log }) => Err(Failure::Run(fault, log)),
     }
 }
 
@@ -58,12 +70,12 @@ fn run_edits<F: Read, W: Write>(
 }
 
 /// Does the run that a command line asks for over readers of its files.
-pub fn run_command<F: Read, W: Write>(
+pub fn run_command<'a, F: Read, W: Write>(
     alloc: Global,
     asked: &Line<'_>,
     readers: &mut Readers<'_, F>,
     output: &mut W,
-) -> Result<(), LogsFault>
+) -> Result<(), Failure<'a>>
     ensures runs { (texts : InputTexts) × (logs : List (List ℕ))
         × AreTextsOf (input_left F.remaining) (input_left F.remaining) (input_left F.remaining)
         (input_left F.remaining) readers.old.inputs texts
@@ -85,11 +97,11 @@ pub fn run_command<F: Read, W: Write>(
         Line::Script { form, .. } => alone(run_script(alloc, inputs, *form, output)),
         Line::Cover { seed, view, .. } => {
             let logs = logs.as_mut_slice();
-            run_cover(alloc, &mut inputs.cave, logs, *seed, *view, output)
+            over_logs(run_cover(alloc, &mut inputs.cave, logs, *seed, *view, output))
         }
         Line::Map { seed, .. } => {
             let logs = logs.as_mut_slice();
-            run_map(alloc, &mut inputs.cave, logs, *seed, output)
+            over_logs(run_map(alloc, &mut inputs.cave, logs, *seed, output))
         }
         Line::Text(_) => Ok(()),
     }

@@ -1,8 +1,7 @@
 //! Why a run wasn't done, and what the program says of it.
 
-ghost use Rattle.std.specs.Prelude.{◌≡◌};
+ghost use Rattle.std.specs.Prelude.{◌≡◌, None};
 ghost use Rattle.std.specs.IoError.{error_kind};
-ghost use Rattle.play_logs.specs.Faults.{at_none};
 ghost use Rattle.cave_play.specs.declared.fault.PlayFault.TheVariants.{Memory};
 ghost use Rattle.play_program.specs.Calls.{told_of};
 ghost use Rattle.play_program.specs.Failures.{failure_status, is_closed_pipe, is_silent};
@@ -12,7 +11,6 @@ ghost use Rattle.play_program.specs.Names.{names_in};
 use crate::message::Message;
 use crate::names::Names;
 use cave_play::{Complaint, Input, PlayFault};
-use play_logs::fault::LogsFault;
 use std::io;
 use std::io::ErrorKind;
 
@@ -21,7 +19,8 @@ use std::io::ErrorKind;
 pub enum Failure<'a> {
     /// The system can't open the file of the input, for this reason.
     Unopened(Input, &'a str, io::Error),
-    Run(LogsFault),
+    /// A fault of the run, and the log at which it is met, from 0, if it is met at one of several.
+    Run(PlayFault, Option<usize>),
     /// The system can't write the file of the output, for this reason.
     Unwritten(&'a str, io::Error),
     /// The system can't write the output, for this reason.
@@ -38,9 +37,9 @@ pub fn is_closed_pipe(reason: &io::Error) -> bool
 impl<'a> Failure<'a> {
     /// Memory ran out.
     pub fn memory() -> Failure<'a>
-        ensures { result ≡ Failure.Run (at_none Memory) }
+        ensures { result ≡ Failure.Run Memory None }
     {
-        Failure::Run(LogsFault::from(PlayFault::Memory))
+        Failure::Run(PlayFault::Memory, None)
     }
 
     /// The status that goes with it.
@@ -48,7 +47,7 @@ impl<'a> Failure<'a> {
         ensures { result ≡ failure_status self.now }
     {
         match self {
-            Failure::Run(found) => found.fault.status(),
+            Failure::Run(fault, _) => fault.status(),
             Failure::Unopened(input, _, _) => PlayFault::Read(*input).status(),
             Failure::Unwritten(_, _) | Failure::Unprinted(_) => PlayFault::Write.status(),
         }
@@ -69,7 +68,7 @@ impl<'a> Failure<'a> {
         ensures { told_of result ≡ message_of (names_in names.entry) self.entry }
     {
         match self {
-            Failure::Run(LogsFault { fault, log }) => {
+            Failure::Run(fault, log) => {
                 let file = match fault.input() {
                     Some(input) => names.of(input, log),
                     None => None,

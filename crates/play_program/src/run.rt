@@ -4,7 +4,7 @@ ghost use Rattle.std.specs.Prelude.{◌≡◌, [], ◌∷◌, IfErr, option_map}
 ghost use Rattle.play_program.specs.Calls.{and_then};
 ghost use Rattle.play_program.specs.Calls.Call.{Puts};
 ghost use Rattle.play_program.specs.Ends.{EndsRun, IsUnput, RunsFiles, RunsIntoFile, RunsTo};
-ghost use Rattle.play_program.specs.Ends.{TellsUnless, ended_run, failure_by, in_list, with_reason};
+ghost use Rattle.play_program.specs.Ends.{TellsUnless, failure_by, in_list, with_reason};
 ghost use Rattle.play_program.specs.Failures.{failure_status, is_silent, message_of};
 ghost use Rattle.play_program.specs.Names.{names_in};
 
@@ -16,23 +16,12 @@ use crate::readers::open_files;
 use crate::system::System;
 use cave_play::PlayFault;
 use play_command::Line;
-use play_logs::fault::LogsFault;
 use std::alloc::Global;
 use std::io;
 use std::io::{ErrorKind, Write};
 
 /// The status of a run that succeeded.
 const DONE: u8 = 0;
-
-/// How a run whose files were opened ended.
-fn ended_run<'a>(ended: Result<(), LogsFault>) -> Result<(), Failure<'a>>
-    ensures { result ≡ ended_run ended }
-{
-    match ended {
-        Ok(()) => Ok(()),
-        Err(found) => Err(Failure::Run(found)),
-    }
-}
 
 /// Does a run whose output goes to a writer.
 fn run_into<'a, S: System, W: Write>(
@@ -49,7 +38,7 @@ fn run_into<'a, S: System, W: Write>(
     match open_files(alloc, system, names) {
         Ok(opened) => {
             let mut readers = opened;
-            ended_run(run_command(alloc, asked, &mut readers, output))
+            run_command(alloc, asked, &mut readers, output)
         }
         Err(failure) => Err(failure),
     }
@@ -74,12 +63,7 @@ fn in_list<'a>(failure: Failure<'a>) -> Failure<'a>
     ensures { result ≡ in_list failure.entry }
 {
     match failure {
-        Failure::Run(
-            LogsFault {
-                fault: PlayFault::Write,
-                ..
-            },
-        ) => Failure::memory(),
+        Failure::Run(PlayFault::Write, _) => Failure::memory(),
         failure => failure,
     }
 }
@@ -127,12 +111,7 @@ fn failure_by<'a>(failure: Failure<'a>, reason: io::Error) -> Failure<'a>
     ensures { result ≡ failure_by failure.entry reason }
 {
     match failure {
-        Failure::Run(
-            LogsFault {
-                fault: PlayFault::Write,
-                ..
-            },
-        ) => Failure::Unprinted(reason),
+        Failure::Run(PlayFault::Write, _) => Failure::Unprinted(reason),
         failure => failure,
     }
 }

@@ -12,7 +12,7 @@ returns-in-Ok g c =
     record {
       runs = inl (record {
         opened = c.in-Ok.ensures.opened;
-        runs = (texts, logs, c.run_command.result, known, runs, c.ended_run.ensures);
+        runs = (texts, logs, known, runs);
       });
     }
 
