@@ -30,7 +30,7 @@ pub use play_command::{
     CheckView, CommandFault, CoverView, EditView, Editing, Files, Line, PlayView, ScriptSource,
     TextView, command_line,
 };
-pub use play_edits::{KeptLine, Refusal};
+pub use play_edits::{EditDetail, ExpectedLine, KeptLine, Refusal};
 pub use play_machine::{CaveMachine, Piece};
 pub use play_state_text::{Counts, push_state};
 pub use replay_difference::script::ScriptForm;

@@ -8,7 +8,7 @@ use Rattle.std.specs.Prelude.{is_none, nat_le, slice_get}
 use Rattle.std.specs.List.{AllByRecursion}
 use Rattle.std.specs.Option.{option_or}
 use Rattle.std.proofs.lemmas.Slice.Eq.{bytes_eq-Decides}
-use Rattle.replay_edits.specs.Draft.{IsDraft, edits_in, log_before, made_in}
+use Rattle.replay_edits.specs.Draft.{IsDraft, made_in}
 use Rattle.replay_edits.specs.Edit.{Change, change_of, changes_of, Game, log_after, log_of}
 use Rattle.replay_edits.specs.LineText.{LineText}
 use Rattle.replay_edits.specs.declared.draft.Draft.{Draft}
@@ -23,7 +23,9 @@ use Rattle.replay_scripts.specs.declared.guard.Guard.{Guard}
 use Rattle.play_edits.specs.Laws.{GuardsRefuseAlone, IsMet}
 use Rattle.play_edits.specs.Items.{game_after_item, game_left}
 use Rattle.play_edits.specs.Refusal.{IsFreeCount, edit_refusal, first_unmet, group_refusal}
-use Rattle.play_edits.specs.Refusal.{item_refusal, kept_line, other_line, unmet, unmet_after}
+use Rattle.play_edits.specs.Refusal.{expected_line, item_refusal, kept_line, log_in, other_line}
+use Rattle.play_edits.specs.Refusal.{other_line_in, unmet, unmet_after}
+use Rattle.play_edits.specs.declared.refusal.ExpectedLine.{ExpectedLine}
 use Rattle.play_edits.specs.declared.refusal.Refusal.TheVariants.{OtherLine}
 use Rattle.play_edits.specs.declared.refusal.Refusal.{Refusal}
 
@@ -39,12 +41,12 @@ neither (Some refused) later tell is = cc
 pub unrefused_item : (item : Applied) (log : List (List ℕ)) → item_refusal item log ≡ None
     → (first_unmet item.changes item.guards log ≡ None) × (group_refusal item.changes log ≡ None)
 unfolding item_refusal
-unrefused_item item log is = neither _ _ (edit_refusal item) is
+unrefused_item item log is = neither _ _ (edit_refusal item log) is
 
 -- an item whose guards are met is refused if its changes are, and for the same reason
 pub item_refusal-met : (item : Applied) (log : List (List ℕ)) (found : Option GroupFault)
     → first_unmet item.changes item.guards log ≡ None → group_refusal item.changes log ≡ found
-    → item_refusal item log ≡ option_map (edit_refusal item) found
+    → item_refusal item log ≡ option_map (edit_refusal item log) found
 unfolding item_refusal
 item_refusal-met item log found met is = rw (met, is) refl
 
@@ -57,39 +59,55 @@ item_refusal-unmet item log refused is = rw is refl
 
 -- ---- which guards are met
 
-module _ (guard : Expectation) where
-  same_line : (line : List ℕ) → other_line guard (Some line) ≡ None → line ≡ guard.text
+module _ (guard : Expectation) (expected : ExpectedLine) (lines : ℕ) where
+  same_line : (line : List ℕ) → other_line guard expected lines (Some line) ≡ None
+      → line ≡ guard.text
   same_line line is = by_test (bytes_eq line guard.text) refl is
     where
       by_test : (test : Bool) → bytes_eq line guard.text ≡ test
-          → cond {A = Option Refusal} test None (Some (OtherLine guard.line (kept_line line)))
+          → cond {A = Option Refusal} test None (Some (OtherLine guard.line (kept_line line) expected))
           ≡ None → line ≡ guard.text
       by_test true e h = (bytes_eq-Decides line guard.text).0 e
       by_test false e h = cc
 
-  met_by_line : (line : Option (List ℕ)) → other_line guard line ≡ None → line ≡ Some guard.text
+  met_by_line : (line : Option (List ℕ)) → other_line guard expected lines line ≡ None
+      → line ≡ Some guard.text
   met_by_line None is = cc
   met_by_line (Some line) is = ap Some (same_line line is)
 
-  line_meets : (line : Option (List ℕ)) → line ≡ Some guard.text → other_line guard line ≡ None
+  pub line_meets : (line : Option (List ℕ)) → line ≡ Some guard.text
+      → other_line guard expected lines line ≡ None
   line_meets line is =
       let same : bytes_eq guard.text guard.text ≡ true = (bytes_eq-Decides guard.text guard.text).1
       refl in
       rw (is, same) refl
 
-  module _ (before : List Change) (log : List (List ℕ)) where
-    abbrev line_there : Option (List ℕ)
-    line_there = slice_get (log_after_all before log) guard.place
+  pub differs : (line : List ℕ) → ¬ (Some line ≡ Some guard.text)
+      → other_line guard expected lines (Some line)
+      ≡ Some (OtherLine guard.line (kept_line line) expected)
+  differs line other = by_test (bytes_eq line guard.text) refl
+    where
+      by_test : (test : Bool) → bytes_eq line guard.text ≡ test
+          → cond {A = Option Refusal} test None (Some (OtherLine guard.line (kept_line line) expected))
+          ≡ Some (OtherLine guard.line (kept_line line) expected)
+      by_test true e = absurd (other (ap Some ((bytes_eq-Decides line guard.text).0 e)))
+      by_test false e = refl
 
-    met_after : unmet_after before guard log ≡ None → fault_of_all before log 0 ≡ None
-        → line_there ≡ Some guard.text
-    met_after is free = met_by_line line_there (rw free at is)
+module _ (guard : Expectation) (before : List Change) (log : List (List ℕ)) where
+  abbrev line_there : Option (List ℕ)
+  line_there = slice_get (log_after_all before log) guard.place
 
-    meets_after : (fault : Option GroupFault) → fault_of_all before log 0 ≡ fault
-        → (fault_of_all before log 0 ≡ None → line_there ≡ Some guard.text)
-        → unmet_after before guard log ≡ None
-    meets_after None e met = rw e (line_meets line_there (met e))
-    meets_after (Some fault) e met = rw e refl
+  met_after : unmet_after before guard log ≡ None → fault_of_all before log 0 ≡ None
+      → line_there ≡ Some guard.text
+  met_after is free = met_by_line guard (expected_line guard (log_after_all before log))
+      (length (log_after_all before log)) line_there (rw free at is)
+
+  meets_after : (fault : Option GroupFault) → fault_of_all before log 0 ≡ fault
+      → (fault_of_all before log 0 ≡ None → line_there ≡ Some guard.text)
+      → unmet_after before guard log ≡ None
+  meets_after None e met = rw e (line_meets guard (expected_line guard (log_after_all before log))
+      (length (log_after_all before log)) line_there (met e))
+  meets_after (Some fault) e met = rw e refl
 
 module _ (changes : List Change) (log : List (List ℕ)) where
   IsMet-unmet : (guard : Expectation) → unmet changes guard log ≡ None → IsMet changes log guard
@@ -208,7 +226,7 @@ free_count-some changes log found is =
       tells = λ k inside. first.tells k ∙ ap (λ n. nat_le n found.at) (omega arith);
     }
 
-none_from : (fault : Option GroupFault) → is_none fault ≡ true → fault ≡ None
+pub none_from : (fault : Option GroupFault) → is_none fault ≡ true → fault ≡ None
 none_from None is = refl
 none_from (Some found) is = cc
 
@@ -245,27 +263,34 @@ module _ (edits : List Edit) (log : List (List ℕ)) (count : ℕ)
       rw here refl
 
   -- a guard before it
-  pub unmet-reached : after ≤ count → (there : Option (List ℕ))
-      → there ≡ slice_get (log_after_all (take after (changes_of (take count edits))) log)
-      guard.place
-      → unmet (changes_of edits) guard log ≡ other_line guard there
+  abbrev before_reached : List Change
+  before_reached = changes_of (take after (take count edits))
+
+  same_before : after ≤ count → before_reached ≡ take guard.after (changes_of edits)
+  same_before within =
+      ap changes_of (take-take after count edits within)
+      ∙ sym (take-map change_of after edits) ∙ before_it
+
+  pub free-reached : after ≤ count → fault_of_all before_reached log 0 ≡ None
+  free-reached within =
+      let yes : nat_le after count ≡ true = grind (arith, nat_tests, within) in
+      none_from _ (ap (λ some. is_none (fault_of_all some log 0)) (same_before within) ∙ is_free ∙ yes)
+
+  pub unmet-reached : after ≤ count → (now : List (List ℕ)) → now ≡ log_after_all before_reached log
+      → unmet (changes_of edits) guard log ≡ other_line_in guard now
   unfolding unmet
-  unmet-reached within there is =
+  unmet-reached within now is =
       let yes : nat_le after count ≡ true = grind (arith, nat_tests, within) in
       let here = is_free ∙ yes in
-      let same : take after (changes_of (take count edits)) ≡ take guard.after (changes_of edits) =
-      ap (take after) (sym (take-map change_of count edits))
-      ∙ take-take after count (changes_of edits) within ∙ before_it in
-      let line = is ∙ ap (λ some. slice_get (log_after_all some log) guard.place) same in
-      rw (here, line) refl
+      rw (here, is, same_before within) refl
 
--- the line of a draft in which this many of the accepted changes have been made
-pub line_reached : (edits : List Edit) (log : List LineText) (count after place : ℕ)
-    (draft : Draft) → IsDraft (take count edits) log after draft
-    → slice_get (log_after_all (take (made_in draft) (changes_of (edits_in draft)))
-    (log_of (log_before draft))) place
-    ≡ slice_get (log_after_all (take after (changes_of (take count edits))) (log_of log)) place
-line_reached edits log count after place draft is = rw (is.made_is, is.edits_are, is.log_is) refl
+-- the log of a draft in which this many of the accepted changes have been made
+pub log_reached : (edits : List Edit) (log : List LineText) (count after : ℕ) (draft : Draft)
+    → IsDraft (take count edits) log after draft
+    → log_in draft ≡ log_after_all (changes_of (take after (take count edits))) (log_of log)
+log_reached edits log count after draft is =
+    rw (is.made_is, is.edits_are, is.log_is)
+    (ap (λ some. log_after_all some (log_of log)) (take-map change_of after (take count edits)))
 
 pub within_edits : (edits : List Edit) (log : List (List ℕ)) (count : ℕ)
     → IsFreeCount (changes_of edits) log count → count ≤ length edits
@@ -319,8 +344,8 @@ without_guards item game met =
   where
     by_refusal : (found : Option GroupFault)
         → game_left item (option_or (first_unmet item.changes item.guards game.log)
-        (option_map (edit_refusal item) found)) game
-        ≡ game_left (guarded_by [] item) (option_map (edit_refusal (guarded_by [] item)) found) game
+        (option_map (edit_refusal item game.log) found)) game
+        ≡ game_left (guarded_by [] item) (option_map (edit_refusal (guarded_by [] item) game.log) found) game
     by_refusal None = rw met refl
     by_refusal (Some fault) = rw met refl
 

@@ -14,6 +14,12 @@ use Rattle.play_edits.specs.Items.{game_after_item}
 use Rattle.play_edits.specs.Outcome.{ItemOutcome, lines_in, played_in, standing_of}
 use Rattle.play_edits.specs.Refusal.{refusal_line, refusal_number, shown_kept_line}
 use Rattle.play_edits.specs.declared.outcome.Standing.{Standing}
+use Rattle.base_lines.specs.declared.line_flaw.LineFlaw.{LineFlaw}
+use Rattle.base_lines.specs.declared.line_flaw.LineFlaw.TheVariants.{Byte, Long}
+use Rattle.play_edits.specs.declared.refusal.EditDetail.{EditDetail}
+use Rattle.play_edits.specs.declared.refusal.EditDetail.TheVariants.{Flaw, Lines, Nothing}
+use Rattle.play_edits.specs.declared.refusal.ExpectedLine.{ExpectedLine}
+use Rattle.play_edits.specs.declared.refusal.ExpectedLine.TheVariants.{At, Impossible, Nowhere}
 use Rattle.play_edits.specs.declared.refusal.Refusal.{Refusal}
 use Rattle.play_edits.specs.declared.refusal.Refusal.TheVariants.{Edit, NoLine, OtherLine}
 
@@ -28,15 +34,43 @@ edit_fault_words cause.EmptyGroup = codes "an empty group"
 
 -- what is said beside the number of a refusal
 abbrev pub refusal_words : Refusal → List ℕ
-refusal_words (Edit at fault) = edit_fault_words fault
-refusal_words (NoLine at) = codes "no line"
-refusal_words (OtherLine at line) = codes "another line: "
+refusal_words (Edit at fault detail) = edit_fault_words fault
+refusal_words (NoLine at lines expected) = codes "no line"
+refusal_words (OtherLine at line expected) = codes "another line: "
 
--- the line that the log has in place of the one that a guard expects
-abbrev pub line_said : Refusal → List ℕ
-line_said (Edit at fault) = []
-line_said (NoLine at) = []
-line_said (OtherLine at line) = shown_kept_line line
+-- what is wrong with a line that isn't allowed in a log
+abbrev pub flaw_text : LineFlaw → List ℕ
+flaw_text (Long bytes) =
+    codes "the line has " ++ (decimal bytes ++ codes " bytes, and a line of a log has at most 255")
+flaw_text (Byte byte column) =
+    codes "the byte in column " ++ (decimal column ++ (codes " is " ++ (decimal byte
+    ++ codes ", and a line of a log has printable ASCII, 32 to 126, and tabs")))
+
+abbrev pub lines_text : ℕ → List ℕ
+lines_text lines = codes ": the log has " ++ decimal lines
+
+-- what is known beyond the fault of an edit
+abbrev pub edit_detail_text : EditDetail → List ℕ
+edit_detail_text Nothing = []
+edit_detail_text (Lines lines) = lines_text lines
+edit_detail_text (Flaw flaw) = codes ": " ++ flaw_text flaw
+
+abbrev pub place_text : ℕ → List ℕ
+place_text place = codes ", which is at " ++ decimal place
+
+-- the line that a guard expects, and where the log has it
+abbrev pub expected_text : ExpectedLine → List ℕ
+expected_text Impossible = codes "; expected a line that no log may have"
+expected_text (Nowhere line) =
+    codes "; expected " ++ (shown_kept_line line ++ codes ", which is nowhere")
+expected_text (At line at) =
+    codes "; expected " ++ (shown_kept_line line ++ place_text at)
+
+-- what is known beyond the reason of a refusal: the line that the log has, and what was wanted
+abbrev pub refusal_detail : Refusal → List ℕ
+refusal_detail (Edit at fault detail) = edit_detail_text detail
+refusal_detail (NoLine at lines expected) = lines_text lines ++ expected_text expected
+refusal_detail (OtherLine at line expected) = shown_kept_line line ++ expected_text expected
 
 -- the place at which a replay met the old play, if it did
 abbrev pub met_text : Option ℕ → List ℕ
@@ -68,7 +102,7 @@ abbrev pub refusal_text : Refusal → List ℕ
 refusal_text refusal =
     codes "line " ++ (decimal (refusal_line refusal) ++ (codes ": refused "
     ++ (decimal (refusal_number refusal)
-    ++ (codes ", " ++ (refusal_words refusal ++ (line_said refusal ++ codes "\n"))))))
+    ++ (codes ", " ++ (refusal_words refusal ++ (refusal_detail refusal ++ codes "\n"))))))
 
 -- where the replay of an item began and met the old play, and how many of the lines it played
 abbrev pub replay_text : Applied → Done → List ℕ

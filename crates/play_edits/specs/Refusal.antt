@@ -1,15 +1,24 @@
 -- Why an item of a script is refused.
-use Rattle.std.specs.Prelude.{◌≡◌, ◌≤◌, ℕ, ◌-◌, ◌^◌, ◌++◌, nat_le, List, [], ◌∷◌, length, take, replicate}
+use Rattle.std.specs.Prelude.{◌≡◌, ◌≤◌, ℕ, ◌+◌, ◌-◌, ◌^◌, ◌++◌, nat_le, nat_lt, List, [], ◌∷◌, length}
+use Rattle.std.specs.Prelude.{take, replicate}
 use Rattle.std.specs.Prelude.{bytes_eq, Option, None, Some, option_map, is_none, slice_get}
 use Rattle.std.specs.Prelude.{if◌then◌else◌}
-use Rattle.std.specs.Option.{option_or}
-use Rattle.replay_edits.specs.Edit.{Change}
+use Rattle.std.specs.Option.{option_map_or, option_or}
+use Rattle.base_lines.specs.Line.{flaw_of, is_line}
+use Rattle.base_lines.specs.declared.line_flaw.LineFlaw.{LineFlaw}
+use Rattle.replay_edits.specs.Draft.{edits_in, log_before, made_in}
+use Rattle.replay_edits.specs.Edit.{Change, changes_of, log_of, own_line}
+use Rattle.replay_edits.specs.declared.draft.Draft.{Draft}
 use Rattle.replay_edits.specs.Faults.{fault_of_all, group_fault, log_after_all}
 use Rattle.replay_edits.specs.declared.fault.EditFault.{EditFault}
 use Rattle.replay_edits.specs.declared.fault.EditFault.TheVariants as cause
 use Rattle.replay_edits.specs.declared.fault.GroupFault.{GroupFault}
 use Rattle.replay_scripts.specs.Script.{Applied, Expectation, line_of_refusal}
 use Rattle.play_edits.specs.declared.refusal.KeptLine.{KeptLine}
+use Rattle.play_edits.specs.declared.refusal.EditDetail.{EditDetail}
+use Rattle.play_edits.specs.declared.refusal.EditDetail.TheVariants.{Flaw, Lines, Nothing}
+use Rattle.play_edits.specs.declared.refusal.ExpectedLine.{ExpectedLine}
+use Rattle.play_edits.specs.declared.refusal.ExpectedLine.TheVariants.{At, Impossible, Nowhere}
 use Rattle.play_edits.specs.declared.refusal.Refusal.{Refusal}
 use Rattle.play_edits.specs.declared.refusal.Refusal.TheVariants.{Edit, NoLine, OtherLine}
 
@@ -43,15 +52,53 @@ edit_number cause.EmptyGroup = 7
 
 -- the number by which a report names a refusal
 abbrev pub refusal_number : Refusal → ℕ
-refusal_number (Edit at fault) = edit_number fault
-refusal_number (NoLine at) = 8
-refusal_number (OtherLine at line) = 8
+refusal_number (Edit at fault detail) = edit_number fault
+refusal_number (NoLine at lines expected) = 8
+refusal_number (OtherLine at line expected) = 8
 
 -- the line of the script that reports name for it
 abbrev pub refusal_line : Refusal → ℕ
-refusal_line (Edit at fault) = at
-refusal_line (NoLine at) = at
-refusal_line (OtherLine at line) = at
+refusal_line (Edit at fault detail) = at
+refusal_line (NoLine at lines expected) = at
+refusal_line (OtherLine at line expected) = at
+
+-- ---- where the log has an expected line
+
+abbrev pub distance : ℕ → ℕ → ℕ
+distance one other = (one - other) + (other - one)
+
+-- of a place that was found, if one was, and a later one, the one nearer to `place`; of two that are
+-- as near, the first
+abbrev pub nearer : ℕ → Option ℕ → ℕ → Option ℕ
+nearer place None later = Some later
+nearer place (Some found) later =
+    if nat_lt (distance later place) (distance found place) then Some later else Some found
+
+-- the place that is found after a line at a place, if this one was found before it
+abbrev pub found_with : ℕ → List ℕ → Option ℕ → ℕ → List ℕ → Option ℕ
+found_with place text found at line =
+    if bytes_eq line text then nearer place found at else found
+
+-- the place nearest to `place` at which lines have this text, if the first of them is at `at`, and
+-- this place was found before it
+abbrev pub nearest_from : ℕ → List ℕ → ℕ → Option ℕ → List (List ℕ) → Option ℕ
+nearest_from place text at found [] = found
+nearest_from place text at found (line ∷ lines) =
+    nearest_from place text (at + 1) (found_with place text found at line) lines
+
+abbrev pub nearest : ℕ → List ℕ → List (List ℕ) → Option ℕ
+nearest place text log = nearest_from place text 0 None log
+
+-- what a log may have, by the place where it has it
+abbrev pub expected_by : List ℕ → Option ℕ → ExpectedLine
+expected_by text None = Nowhere (kept_line text)
+expected_by text (Some at) = At (kept_line text) at
+
+-- the line that a guard expects, with the place nearest to the guard's where the log has it
+unfoldable pub expected_line : Expectation → List (List ℕ) → ExpectedLine
+expected_line guard log =
+    if is_line guard.text then expected_by guard.text (nearest guard.place guard.text log)
+    else Impossible
 
 -- ---- what is refused
 
@@ -60,24 +107,52 @@ refusal_line (OtherLine at line) = at
 unfoldable pub group_refusal : List Change → List (List ℕ) → Option GroupFault
 group_refusal changes log = group_fault changes log (2 ^ 64 - 1)
 
--- an item is refused for a fault of one of its changes
-abbrev pub edit_refusal : Applied → GroupFault → Refusal
-edit_refusal item fault = Edit (line_of_refusal item fault.at) fault.cause
+-- the line that the change with this number puts into a log, if it puts one
+unfoldable pub line_of_change : List Change → ℕ → List ℕ
+line_of_change changes at = option_map_or own_line (slice_get changes at) []
 
--- why a guard is refused if the log has this line at its place, or none
-abbrev pub other_line : Expectation → Option (List ℕ) → Option Refusal
-other_line guard None = Some (NoLine guard.line)
-other_line guard (Some line) =
-    if bytes_eq line guard.text then None else Some (OtherLine guard.line (kept_line line))
+-- what is known beyond the fault of a change: how many lines the log has that the changes before it
+-- leave, or what is wrong with its line
+abbrev pub detail_by : EditFault → ℕ → LineFlaw → EditDetail
+detail_by cause.NoSuchPlace lines flaw = Lines lines
+detail_by cause.BadLine lines flaw = Flaw flaw
+detail_by _ lines flaw = Nothing
+
+unfoldable pub edit_detail : List Change → List (List ℕ) → GroupFault → EditDetail
+edit_detail changes log fault =
+    detail_by fault.cause (length (log_after_all (take fault.at changes) log))
+    (flaw_of (line_of_change changes fault.at))
+
+-- an item is refused for a fault of one of its changes
+abbrev pub edit_refusal : Applied → List (List ℕ) → GroupFault → Refusal
+edit_refusal item log fault = Edit (line_of_refusal item fault.at) fault.cause
+    (edit_detail item.changes log fault)
+
+-- why a guard is refused if the log that it is about has this many lines, and this line at its
+-- place, or none
+abbrev pub other_line : Expectation → ExpectedLine → ℕ → Option (List ℕ) → Option Refusal
+other_line guard expected lines None = Some (NoLine guard.line lines expected)
+other_line guard expected lines (Some line) =
+    if bytes_eq line guard.text then None
+    else Some (OtherLine guard.line (kept_line line) expected)
+
+abbrev pub other_line_in : Expectation → List (List ℕ) → Option Refusal
+other_line_in guard log =
+    other_line guard (expected_line guard log) (length log) (slice_get log guard.place)
 
 -- a guard is about the log that the changes before it leave, if none of them is refused
 abbrev pub unmet_after : List Change → Expectation → List (List ℕ) → Option Refusal
 unmet_after before guard log =
     if is_none (fault_of_all before log 0)
-    then other_line guard (slice_get (log_after_all before log) guard.place) else None
+    then other_line_in guard (log_after_all before log) else None
 
 unfoldable pub unmet : List Change → Expectation → List (List ℕ) → Option Refusal
 unmet changes guard log = unmet_after (take guard.after changes) guard log
+
+-- the log that a draft has in the course of its edits
+abbrev pub log_in : Draft → List (List ℕ)
+log_in draft = log_after_all (take (made_in draft) (changes_of (edits_in draft)))
+    (log_of (log_before draft))
 
 -- this many of the changes are made in a log before one is refused
 pub record IsFreeCount (changes : List Change) (log : List (List ℕ)) (count : ℕ) : Type 0 where
@@ -95,4 +170,4 @@ first_unmet changes (guard ∷ guards) log =
 unfoldable pub item_refusal : Applied → List (List ℕ) → Option Refusal
 item_refusal item log =
     option_or (first_unmet item.changes item.guards log)
-    (option_map (edit_refusal item) (group_refusal item.changes log))
+    (option_map (edit_refusal item log) (group_refusal item.changes log))

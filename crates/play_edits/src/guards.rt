@@ -1,14 +1,16 @@
 //! Whether a log meets the guards of an item, and guards that it meets.
 
 ghost use Rattle.std.specs.Prelude.{◌≡◌, ◌≤◌, ℕ, List, None, length};
-ghost use Rattle.std.specs.Prelude.{IfOk, OnOk, map, option_map};
-ghost use Rattle.replay_edits.specs.Draft.{IsDraft, made_in};
+ghost use Rattle.std.specs.Prelude.{IfOk, OnOk, Some, map, option_map};
+ghost use Rattle.replay_edits.specs.Draft.{IsDraft, edits_in, log_before, made_in};
 ghost use Rattle.replay_edits.specs.Edit.{changes_of, log_of};
-ghost use Rattle.replay_edits.specs.Faults.{fault_of_all};
+ghost use Rattle.replay_edits.specs.Faults.{fault_of_all, log_after_all};
 ghost use Rattle.replay_scripts.specs.Views.{expectation_in, expectations_of};
-ghost use Rattle.play_edits.specs.Refusal.{IsFreeCount, first_unmet, other_line};
+ghost use Rattle.play_edits.specs.Refusal.{IsFreeCount, first_unmet, log_in, other_line};
+ghost use Rattle.play_edits.specs.Refusal.{other_line_in};
 
-use crate::refusal::{KeptLine, Refusal};
+use crate::details::{expected_line, is_line_of, lines_after};
+use crate::refusal::{ExpectedLine, KeptLine, Refusal};
 use cave_replay::Session;
 use play_machine::CaveMachine;
 use replay_checkpoints::Blocks;
@@ -49,7 +51,7 @@ fn first_unmet(
         let after = guard.after.min(edits.len());
         if after <= free.len() {
             move_to(alloc, free, log, &mut draft, after)?;
-            if let Some(refused) = other_line(guard, draft.line(guard.place as usize)) {
+            if let Some(refused) = unmet_now(guard, log, &free[..after], &draft) {
                 return Ok(Some(refused));
             }
         }
@@ -90,14 +92,41 @@ fn move_to<'a>(
     Ok(())
 }
 
-/// The refusal for a guard if the log has this line at its place, or none.
-fn other_line(guard: &Guard, line: Option<&[u8]>) -> Option<Refusal>
+/// The refusal for a guard if the log after these edits, which is a draft, doesn't meet it.
+fn unmet_now(
+    guard: &Guard,
+    log: &Blocks<LineText>,
+    before: &[Edit],
+    draft: &Draft<'_>,
+) -> Option<Refusal>
+    requires draft { IsDraft (edits_in draft.now) (log_before draft.now) (made_in draft.now) draft.now }
+    requires free { fault_of_all (changes_of before.now) (log_of log.now.items) 0 ≡ None }
+    requires now { log_in draft.now
+        ≡ log_after_all (changes_of before.now) (log_of log.now.items) }
+    ensures { result ≡ other_line_in (expectation_in guard.now) (log_in draft.now) }
+{
+    let line = draft.line(guard.place as usize);
+    if is_line_of(line, &guard.text) {
+        return None;
+    }
+    let lines = lines_after(before, log.len());
+    Some(refusal_by(guard, expected_line(guard, draft, lines), lines, line))
+}
+
+/// The refusal for a guard, which expects this line, if the log has this many lines, and another
+/// line at the guard's place, or none.
+fn refusal_by(
+    guard: &Guard,
+    expected: ExpectedLine,
+    lines: usize,
+    line: Option<&[u8]>,
+) -> Refusal
+    requires { ¬ (option_map (λ line. line.now) line ≡ Some guard.now.text.items) }
     ensures { let there = option_map (λ line. line.now) line.entry in
-        result ≡ other_line (expectation_in guard.now) there }
+        Some result ≡ other_line (expectation_in guard.now) expected lines there }
 {
     match line {
-        None => Some(Refusal::NoLine(guard.line)),
-        Some(line) if line == guard.text.as_slice() => None,
-        Some(line) => Some(Refusal::OtherLine(guard.line, KeptLine::of(line))),
+        None => Refusal::NoLine(guard.line, lines, expected),
+        Some(line) => Refusal::OtherLine(guard.line, KeptLine::of(line), expected),
     }
 }

@@ -10,6 +10,7 @@ ghost use Rattle.play_edits.specs.Refusal.{first_unmet};
 ghost use Rattle.play_edits.specs.Table.{table_row};
 ghost use Rattle.play_edits.specs.Undo.{back_by};
 
+use crate::details::edit_refusal;
 use crate::guards::unmet_guard;
 use crate::refusal::Refusal;
 use crate::reports::{push_account, push_report};
@@ -127,7 +128,7 @@ fn edit_group(
     if is_memory(fault.cause) {
         return Err(AllocError);
     }
-    Ok(Err(Refusal::Edit(item.line_of(fault.at), fault.cause)))
+    Ok(Err(edit_refusal(item, session.log(), fault)))
 }
 
 /// Keeps what takes an item back, if that is asked for and the item was accepted.

@@ -2,6 +2,7 @@
 //! takes it back, what is written of it, and how the lines of the edited log end.
 #![tactic(auto)]
 
+mod details;
 pub mod ended;
 mod guards;
 pub mod items;
@@ -18,5 +19,5 @@ pub use ended::ended_text;
 pub use items::{apply_item, keep_back};
 pub use log_ends::LogEnds;
 pub use outcome::Totals;
-pub use refusal::{KeptLine, Refusal};
+pub use refusal::{EditDetail, ExpectedLine, KeptLine, Refusal};
 pub use reports::{push_end, push_start};

@@ -3,8 +3,9 @@
 ghost use Rattle.std.specs.Prelude.{◌≡◌};
 ghost use Rattle.play_edits.specs.Refusal.{edit_number, kept_line, refusal_line, refusal_number};
 ghost use Rattle.play_edits.specs.Refusal.{shown_kept_line};
-ghost use Rattle.play_edits.specs.Accounts.{edit_fault_words, refusal_words, line_said};
+ghost use Rattle.play_edits.specs.Accounts.{edit_fault_words, refusal_words};
 
+use base_lines::LineFlaw;
 use replay_edits::EditFault;
 use std::{fmt, str};
 
@@ -42,16 +43,63 @@ impl KeptLine {
     }
 }
 
+/// What is known beyond the fault of an edit.
+#[derive(Clone, Copy, Debug, PartialEq, Eq)]
+pub enum EditDetail {
+    Nothing,
+    /// How many lines the log has, where the edit names another place.
+    Lines(usize),
+    /// What is wrong with the edit's line.
+    Flaw(LineFlaw),
+}
+
+impl fmt::Display for EditDetail {
+    fn fmt<W: fmt::Write>(&self, f: &mut fmt::Formatter<W>) -> fmt::Result {
+        match self {
+            EditDetail::Nothing => Ok(()),
+            EditDetail::Lines(lines) => write!(f, ": the log has {lines}"),
+            EditDetail::Flaw(flaw) => write!(f, ": {flaw}"),
+        }
+    }
+}
+
+/// The line that a guard expects.
+#[derive(Clone, Copy, Debug, PartialEq, Eq)]
+pub enum ExpectedLine {
+    /// No log may have it.
+    Impossible,
+    /// The log doesn't have it.
+    Nowhere(KeptLine),
+    /// The log has it at this place, and at none that is nearer to the guard's.
+    At(KeptLine, usize),
+}
+
+impl fmt::Display for ExpectedLine {
+    fn fmt<W: fmt::Write>(&self, f: &mut fmt::Formatter<W>) -> fmt::Result {
+        match self {
+            ExpectedLine::Impossible => write!(f, "; expected a line that no log may have"),
+            ExpectedLine::Nowhere(line) => {
+                let line = str::from_utf8(line.as_slice()).unwrap_or("");
+                write!(f, "; expected {line}, which is nowhere")
+            }
+            ExpectedLine::At(line, place) => {
+                let line = str::from_utf8(line.as_slice()).unwrap_or("");
+                write!(f, "; expected {line}, which is at {place}")
+            }
+        }
+    }
+}
+
 /// Why an item of a script is refused, as reports say it, with the line of the script that they
-/// name for it.
+/// name for it, and what is known beyond that.
 #[derive(Clone, Copy, Debug, PartialEq, Eq)]
 pub enum Refusal {
     /// An edit is refused.
-    Edit(usize, EditFault),
-    /// A guard expects a line at a place where the log has none.
-    NoLine(usize),
+    Edit(usize, EditFault, EditDetail),
+    /// A guard expects a line at a place where the log, which has this many lines, has none.
+    NoLine(usize, usize, ExpectedLine),
     /// A guard expects a line other than the one that the log has.
-    OtherLine(usize, KeptLine),
+    OtherLine(usize, KeptLine, ExpectedLine),
 }
 
 impl Refusal {
@@ -60,7 +108,8 @@ impl Refusal {
         ensures { result ≡ refusal_line self }
     {
         match self {
-            Refusal::Edit(line, _) | Refusal::NoLine(line) | Refusal::OtherLine(line, _) => line,
+            Refusal::Edit(line, _, _) => line,
+            Refusal::NoLine(line, _, _) | Refusal::OtherLine(line, _, _) => line,
         }
     }
 
@@ -69,8 +118,8 @@ impl Refusal {
         ensures { result ≡ refusal_number self }
     {
         match self {
-            Refusal::Edit(_, fault) => edit_number(fault),
-            Refusal::NoLine(_) | Refusal::OtherLine(_, _) => 8,
+            Refusal::Edit(_, fault, _) => edit_number(fault),
+            Refusal::NoLine(_, _, _) | Refusal::OtherLine(_, _, _) => 8,
         }
     }
 
@@ -79,19 +128,9 @@ impl Refusal {
         ensures { result.now ≡ refusal_words self }
     {
         match self {
-            Refusal::Edit(_, fault) => edit_words(fault),
-            Refusal::NoLine(_) => "no line",
-            Refusal::OtherLine(_, _) => "another line: ",
-        }
-    }
-
-    /// The line of the log that follows the words.
-    pub(crate) fn line_said(&self) -> &[u8]
-        ensures { result.now ≡ line_said self.now }
-    {
-        match self {
-            Refusal::OtherLine(_, line) => line.as_slice(),
-            Refusal::Edit(_, _) | Refusal::NoLine(_) => &[],
+            Refusal::Edit(_, fault, _) => edit_words(fault),
+            Refusal::NoLine(_, _, _) => "no line",
+            Refusal::OtherLine(_, _, _) => "another line: ",
         }
     }
 }
@@ -99,8 +138,15 @@ impl Refusal {
 impl fmt::Display for Refusal {
     fn fmt<W: fmt::Write>(&self, f: &mut fmt::Formatter<W>) -> fmt::Result {
         let (number, words) = (self.number(), self.words());
-        let line = str::from_utf8(self.line_said()).unwrap_or("");
-        write!(f, "refused {number}, {words}{line}")
+        write!(f, "refused {number}, {words}")?;
+        match self {
+            Refusal::Edit(_, _, detail) => write!(f, "{detail}"),
+            Refusal::NoLine(_, lines, expected) => write!(f, ": the log has {lines}{expected}"),
+            Refusal::OtherLine(_, line, expected) => {
+                let line = str::from_utf8(line.as_slice()).unwrap_or("");
+                write!(f, "{line}{expected}")
+            }
+        }
     }
 }
 

@@ -4,13 +4,17 @@ ghost use Rattle.std.specs.Prelude.{◌≡◌, ◌++◌, IfOk, OnOk, string_byte
 ghost use Rattle.replay_scripts.specs.Views.{applied_item};
 ghost use Rattle.replay_scripts.specs.ScriptText.{groups_in};
 ghost use Rattle.play_edits.specs.Accounts.{account_by, ending_text, ending_words, met_text};
-ghost use Rattle.play_edits.specs.Accounts.{refusal_text, replay_text, standing_text, totals_line};
+ghost use Rattle.play_edits.specs.Accounts.{edit_detail_text, expected_text, flaw_text, lines_text};
+ghost use Rattle.play_edits.specs.Accounts.{place_text};
+ghost use Rattle.play_edits.specs.Accounts.{refusal_detail, refusal_text, replay_text};
+ghost use Rattle.play_edits.specs.Accounts.{standing_text, totals_line};
 ghost use Rattle.play_edits.specs.Edits.{LogReadsBack, text_at_end, text_at_start};
 ghost use Rattle.play_edits.specs.Items.{item_report_by};
 ghost use Rattle.play_edits.specs.Outcome.{refusal_in, standing_of};
 
 use crate::outcome::{Standing, Totals, standing_of};
-use crate::refusal::Refusal;
+use crate::refusal::{EditDetail, ExpectedLine, Refusal};
+use base_lines::LineFlaw;
 use cave_replay::{Done, Session};
 use cave_world::Ending;
 use play_command::EditView;
@@ -181,6 +185,97 @@ fn push_replay(
     text.extend_from_slice(told.as_bytes())
 }
 
+/// Writes what is wrong with a line that isn't allowed in a log.
+fn push_flaw(alloc: Global, text: &mut Vec<u8>, flaw: LineFlaw) -> Result<(), AllocError>
+    ensures { OnOk result (text.new.items ≡ text.old.items ++ flaw_text flaw) }
+{
+    let told = match flaw {
+        LineFlaw::Long(bytes) => format!(in alloc;
+            "the line has {bytes} bytes, and a line of a log has at most 255"
+        )?,
+        LineFlaw::Byte(byte, column) => format!(in alloc;
+            "the byte in column {column} is {byte}, and a line of a log has printable ASCII, 32 to 126, and tabs"
+        )?,
+    };
+    text.extend_from_slice(told.as_bytes())
+}
+
+/// Writes how many lines a log has.
+fn push_lines(alloc: Global, text: &mut Vec<u8>, lines: usize) -> Result<(), AllocError>
+    ensures { OnOk result (text.new.items ≡ text.old.items ++ lines_text lines) }
+{
+    let told = format!(in alloc; ": the log has {lines}")?;
+    text.extend_from_slice(told.as_bytes())
+}
+
+/// Writes what is known beyond the fault of an edit.
+fn push_edit_detail(
+    alloc: Global,
+    text: &mut Vec<u8>,
+    detail: EditDetail,
+) -> Result<(), AllocError>
+    ensures { OnOk result (text.new.items ≡ text.old.items ++ edit_detail_text detail) }
+{
+    match detail {
+        EditDetail::Nothing => Ok(()),
+        EditDetail::Lines(lines) => push_lines(alloc, text, lines),
+        EditDetail::Flaw(flaw) => {
+            text.extend_from_slice(b": ")?;
+            push_flaw(alloc, text, flaw)
+        }
+    }
+}
+
+/// Writes where a line is.
+fn push_place(alloc: Global, text: &mut Vec<u8>, place: usize) -> Result<(), AllocError>
+    ensures { OnOk result (text.new.items ≡ text.old.items ++ place_text place) }
+{
+    let told = format!(in alloc; ", which is at {place}")?;
+    text.extend_from_slice(told.as_bytes())
+}
+
+/// Writes which line a guard expects, and where the log has it.
+fn push_expected(
+    alloc: Global,
+    text: &mut Vec<u8>,
+    expected: &ExpectedLine,
+) -> Result<(), AllocError>
+    ensures { OnOk result (text.new.items ≡ text.old.items ++ expected_text expected.now) }
+{
+    match expected {
+        ExpectedLine::Impossible => {
+            text.extend_from_slice(b"; expected a line that no log may have")
+        }
+        ExpectedLine::Nowhere(line) => {
+            text.extend_from_slice(b"; expected ")?;
+            text.extend_from_slice(line.as_slice())?;
+            text.extend_from_slice(b", which is nowhere")
+        }
+        ExpectedLine::At(line, place) => {
+            text.extend_from_slice(b"; expected ")?;
+            text.extend_from_slice(line.as_slice())?;
+            push_place(alloc, text, *place)
+        }
+    }
+}
+
+/// Writes what is known beyond the reason of a refusal.
+fn push_detail(alloc: Global, text: &mut Vec<u8>, refusal: &Refusal) -> Result<(), AllocError>
+    ensures { OnOk result (text.new.items ≡ text.old.items ++ refusal_detail refusal.now) }
+{
+    match refusal {
+        Refusal::Edit(_, _, detail) => push_edit_detail(alloc, text, *detail),
+        Refusal::NoLine(_, lines, expected) => {
+            push_lines(alloc, text, *lines)?;
+            push_expected(alloc, text, expected)
+        }
+        Refusal::OtherLine(_, line, expected) => {
+            text.extend_from_slice(line.as_slice())?;
+            push_expected(alloc, text, expected)
+        }
+    }
+}
+
 /// Writes why an item was refused.
 fn push_refusal(alloc: Global, text: &mut Vec<u8>, refusal: &Refusal) -> Result<(), AllocError>
     ensures { OnOk result (text.new.items ≡ text.old.items ++ refusal_text refusal.now) }
@@ -188,7 +283,7 @@ fn push_refusal(alloc: Global, text: &mut Vec<u8>, refusal: &Refusal) -> Result<
     let (line, number, words) = (refusal.line(), refusal.number(), refusal.words());
     let told = format!(in alloc; "line {line}: refused {number}, {words}")?;
     text.extend_from_slice(told.as_bytes())?;
-    text.extend_from_slice(refusal.line_said())?;
+    push_detail(alloc, text, refusal)?;
     text.push(b'\n')?;
     Ok(())
 }

@@ -3,8 +3,8 @@ use Rattle.std.proofs.lemmas.List.{length-take-le}
 use Rattle.replay_edits.specs.Edit.{changes_of, log_of}
 use Rattle.replay_scripts.specs.Views.{expectation_in}
 use Rattle.play_edits.proofs.GuardLemmas.{draft_own, first_unmet-here, first_unmet-more}
-use Rattle.play_edits.proofs.GuardLemmas.{free_changes, line_reached, unmet-past, unmet-reached}
-use Rattle.play_edits.proofs.GuardLemmas.{within_edits}
+use Rattle.play_edits.proofs.GuardLemmas.{free-reached, free_changes, log_reached, unmet-past}
+use Rattle.play_edits.proofs.GuardLemmas.{unmet-reached, within_edits}
 use Rattle.replay_edits.proofs.Lines.{length-log_of}
 use Rattle.play_edits.proofs.guards.first_unmet.Goals as goal
 use Rattle.play_edits.proofs.guards.first_unmet.Goals.{else-after-free}
@@ -35,12 +35,12 @@ returns-in-Some c =
     let guard = expectation_in c.guard-item.result in
     let free = length-take-le c.free_count.result edits
     (within_edits edits log c.free_count.result counted) in
-    let there = line_reached edits c.args.log.now.items c.free_count.result c.min-after.result
-    guard.place c.move_to.new.draft c.in_ok-move_to.ensures in
+    let now = log_reached edits c.args.log.now.items c.free_count.result c.min-after.result
+    c.move_to.new.draft c.in_ok-move_to.ensures in
+    let reached = omega (arith, c.if-after-free.true, free) in
     let is = unmet-reached edits log c.free_count.result counted guard c.min-after.result
-    c.min-after.ensures (omega (arith, c.if-after-free.true, free)) _
-    (c.line.ensures ∙ there) in
-    let found = is ∙ sym c.other_line.ensures ∙ c.in-Some.is in
+    c.min-after.ensures reached _ now in
+    let found = is ∙ sym c.unmet_now.ensures ∙ c.in-Some.is in
     sym (sym c.loop-guard.invariant.met
     ∙ first_unmet-here (changes_of edits) log c.args.guards.now c.loop-guard.guard-index
     c.guard-item.result c.in-Some.refused c.loop-guard-test.true c.guard-item.is found)
@@ -59,13 +59,13 @@ loop-guard-preserved c =
     c.loop-guard.guard-index c.guard-item.result c.loop-guard-test.true c.guard-item.is in
     elim c.if-after-free.branch [
       | then-after-free+in_ok-move_to+in_default w ↦
-          let there = line_reached edits c.args.log.now.items c.free_count.result c.min-after.result
-          guard.place w.move_to.new.draft w.in_ok-move_to.ensures in
+          let now = log_reached edits c.args.log.now.items c.free_count.result c.min-after.result
+          w.move_to.new.draft w.in_ok-move_to.ensures in
+          let reached = omega (arith, w.if-after-free.true, free) in
           let is = unmet-reached edits log c.free_count.result counted guard c.min-after.result
-          c.min-after.ensures (omega (arith, w.if-after-free.true, free)) _
-          (w.line.ensures ∙ there) in
+          c.min-after.ensures reached _ now in
           record {
-            met = more (is ∙ sym w.other_line.ensures ∙ w.in_default.is) ∙ before.met;
+            met = more (is ∙ sym w.unmet_now.ensures ∙ w.in_default.is) ∙ before.met;
             draft = rw w.draft-is (draft_own (take c.free_count.result edits) c.args.log.now.items
                 c.min-after.result w.move_to.new.draft w.in_ok-move_to.ensures);
           }
@@ -76,3 +76,20 @@ loop-guard-preserved c =
             draft = rw w.draft-is before.draft;
           }
     ]
+
+pub unmet_now-requires-clause-free : goal.unmet_now-requires-clause-free
+unmet_now-requires-clause-free c =
+    let edits = c.args.edits.now in
+    let log = log_of c.args.log.now.items in
+    let counted =
+    c.free_count.ensures log (length-log_of c.args.log.now.items ∙ sym c.len.ensures.len) in
+    let guard = expectation_in c.guard-item.result in
+    let free = length-take-le c.free_count.result edits
+    (within_edits edits log c.free_count.result counted) in
+    free-reached edits log c.free_count.result counted guard c.min-after.result
+    c.min-after.ensures (omega (arith, c.if-after-free.true, free))
+
+pub unmet_now-requires-clause-now : goal.unmet_now-requires-clause-now
+unmet_now-requires-clause-now c =
+    log_reached c.args.edits.now c.args.log.now.items c.free_count.result c.min-after.result
+    c.move_to.new.draft c.in_ok-move_to.ensures

@@ -1,4 +1,4 @@
-use Rattle.std.proofs.Common.{◌≡◌, ℕ, None, Some, length, sym, subst, ap, ◌∙◌}
+use Rattle.std.proofs.Common.{◌≡◌, None, Some, length, sym, subst, ap, ◌∙◌}
 use Rattle.replay_checkpoints.specs.Spacing.{IsSpaced}
 use Rattle.replay_edits.specs.Edit.{changes_of, apply_all, inverses_of, Game}
 use Rattle.replay_edits.specs.declared.fault.EditFault.TheVariants as cause
@@ -6,8 +6,6 @@ use Rattle.replay_scripts.specs.Views.{applied_item}
 use Rattle.cave_replay.specs.Report.{IsReport}
 use Rattle.play_machine.specs.Machine.{cave_rules}
 use Rattle.play_edits.specs.Refusal.{group_refusal}
-use Rattle.play_edits.specs.declared.refusal.Refusal.TheVariants.{Edit}
-use Rattle.play_edits.specs.declared.refusal.Refusal.{Refusal}
 use Rattle.play_edits.proofs.GuardLemmas.{item_refusal-met}
 use Rattle.play_edits.proofs.EditLemmas.{group_refusal-fresh, accepted_without, refused_by}
 use Rattle.play_edits.proofs.EditLemmas.{game_after_item-accepted, game_after_item-refused}
@@ -62,11 +60,9 @@ returns c =
     ≡ Some c.in-Err.fault =
     sym fresh ∙ refused_by _ c.in-Err.fault _ c.in-Err.is other c.edit_group.ensures.faults in
     let stays = c.in-Err.ensures.refused in
-    let line = c.line_of.ensures in
-    let refusal : ℕ → Refusal = λ number. Edit number c.in-Err.fault.cause in
     let refused =
     item_refusal-met (applied_item c.args.item.now) game.log (Some c.in-Err.fault) c.requires some
-    ∙ ap (λ number. Some (refusal number)) (sym line) in
+    ∙ ap Some (sym c.edit_refusal.ensures) in
     record {
       applies = record {
         came = refused;

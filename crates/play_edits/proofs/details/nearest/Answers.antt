@@ -1,0 +1,23 @@
+use Rattle.std.proofs.Common.{◌+◌, ◌<◌, drop, length, sym, ap, ◌∙◌, arith}
+use Rattle.std.specs.Option.{option_map_or}
+use Rattle.play_edits.specs.Refusal.{found_with, log_in, nearest_from}
+use Rattle.play_edits.proofs.DetailLemmas.{nearest-end, nearest-more}
+use Rattle.play_edits.proofs.details.nearest.Goals as goal
+
+pub loop-at-preserved : goal.loop-at-preserved
+loop-at-preserved c =
+    let log = log_in c.args.draft.now in
+    let place = c.args.place in
+    let text = c.args.text.now in
+    let at = c.loop-at.at in
+    let inside : at < length log = omega (arith, c.loop-at-test.true, c.requires.lines) in
+    ap (λ found. nearest_from place text (at + 1) found (drop (at + 1) log))
+    (c.found_with.ensures ∙ ap (λ line. option_map_or (found_with place text c.loop-at.found at) line
+    c.loop-at.found) c.line.ensures)
+    ∙ sym (nearest-more place text log at c.loop-at.found inside) ∙ c.loop-at.invariant
+
+pub returns : goal.returns
+returns c =
+    let log = log_in c.args.draft.now in
+    sym (nearest-end c.args.place c.args.text.now log c.loop-at.at c.loop-at.found
+    (omega (arith, c.loop-at-test.false, c.requires.lines))) ∙ c.loop-at.invariant
