@@ -30,9 +30,9 @@ ended_alone (Ok made) = Ok tt
 ended_alone (Err found) = Err (Run found None)
 
 -- how a run over several logs ended
-abbrev pub ended_logs : Result (Unit {0}) LogsFault → Result (Unit {0}) Failure
-ended_logs (Ok done) = Ok done
-ended_logs (Err found) = Err (Run found.fault found.log)
+abbrev pub ended_over_logs : Result (Unit {0}) LogsFault → Result (Unit {0}) Failure
+ended_over_logs (Ok done) = Ok done
+ended_over_logs (Err found) = Err (Run found.fault found.log)
 
 -- what a run that plays at most one log leaves
 abbrev pub RunsAlone : List Stage → (List ℕ → Type 0)
@@ -58,7 +58,7 @@ RunsEdits _ texts editing old new ended =
 abbrev pub RunsOverLogs : List Stage → List (List ℕ) → (List ℕ → Type 0)
     → Option (List ℕ) → Option (List ℕ) → Result (Unit {0}) Failure → Type 0
 RunsOverLogs first logs IsOutput old new ended = (found : Result (Unit {0}) LogsFault)
-    × (ended ≡ ended_logs found) × RunsLogs first logs IsOutput old new found
+    × (ended ≡ ended_over_logs found) × RunsLogs first logs IsOutput old new found
 
 -- what the run that a line asks for leaves, over the bytes of its inputs
 abbrev pub RunsLine : Line → InputTexts → List (List ℕ)

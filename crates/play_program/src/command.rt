@@ -4,7 +4,7 @@ ghost use Rattle.std.specs.Prelude.{◌≡◌, ℕ, List, map};
 ghost use Rattle.std.specs.List.{AllZip};
 ghost use Rattle.cave_play.specs.Input.{AreTextsOf, InputTexts, Says, input_left};
 ghost use Rattle.play_program.specs.Runs.{AreListed, RunsEdits, RunsLine, ended_alone};
-ghost use Rattle.play_program.specs.Runs.{ended_logs};
+ghost use Rattle.play_program.specs.Runs.{ended_over_logs};
 
 use crate::failure::Failure;
 use crate::readers::{FileInputs, Readers};
@@ -29,7 +29,7 @@ fn alone<'a, T: Drop>(ended: Result<T, PlayFault>) -> Result<(), Failure<'a>>
 
 /// How a run over several logs ended.
 fn over_logs<'a>(ended: Result<(), LogsFault>) -> Result<(), Failure<'a>>
-    ensures { result ≡ ended_logs ended }
+    ensures { result ≡ ended_over_logs ended }
 {
     match ended {
         Ok(()) => Ok(()),

@@ -3,6 +3,7 @@
 
 #[cfg(test)]
 mod ample_memory;
+pub mod calls;
 #[cfg(test)]
 mod caves;
 #[cfg(test)]
@@ -14,7 +15,11 @@ mod faults;
 #[cfg(test)]
 mod games;
 #[cfg(test)]
+mod in_memory;
+#[cfg(test)]
 mod memory;
+#[cfg(test)]
+mod programs;
 #[cfg(test)]
 mod readers;
 #[cfg(test)]

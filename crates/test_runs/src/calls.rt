@@ -1,0 +1,87 @@
+//! The files of a system in memory, and the calls that it keeps.
+
+ghost use Rattle.std.specs.Prelude.{◌≡◌, IfOk, option_map, string_bytes};
+ghost use Rattle.play_program.specs.Calls.{told_of};
+ghost use Rattle.test_runs.specs.Memory.{file_named, told_by};
+
+use cave_play::{Complaint, PlayFault};
+use play_program::Message;
+use std::alloc::{AllocError, Global};
+use std::io;
+
+/// What a message said, with names of its own.
+#[derive(Drop)]
+pub enum KeptMessage {
+    Fault(PlayFault, Option<String>),
+    Unopened(String, io::Error),
+    Unwritten(String, io::Error),
+    Unprinted(io::Error),
+    Usage(String, String),
+    Unread(io::Error),
+}
+
+/// A call of a system.
+#[derive(Drop)]
+pub enum KeptCall {
+    Opens(String),
+    Puts(String, Vec<u8>),
+    Tells(KeptMessage),
+}
+
+/// A file of a system in memory.
+#[derive(Clone, Copy)]
+pub enum MemoryFile {
+    Cave,
+    Log,
+    Script,
+}
+
+impl MemoryFile {
+    /// The file of a name, if there is one.
+    pub fn named(name: &str) -> Option<MemoryFile>
+        ensures { result ≡ file_named name.now }
+    {
+        match name {
+            "cave" => Some(MemoryFile::Cave),
+            "log" => Some(MemoryFile::Log),
+            "script" => Some(MemoryFile::Script),
+            _ => None,
+        }
+    }
+}
+
+/// A copy of a name, if there is one.
+fn copy_name(alloc: Global, name: Option<&str>) -> Result<Option<String>, AllocError>
+    ensures { IfOk result (λ copied. option_map string_bytes copied
+        ≡ option_map (λ name. name.now) name.entry) }
+{
+    match name {
+        Some(name) => Ok(Some(String::from_str(alloc, name)?)),
+        None => Ok(None),
+    }
+}
+
+impl KeptMessage {
+    /// What a message says.
+    pub fn told_by(alloc: Global, message: &Message<'_>) -> Result<KeptMessage, AllocError>
+        ensures { IfOk result (λ kept. told_by kept ≡ told_of message.now) }
+    {
+        match message {
+            Message::Fault(Complaint { fault, file }) => {
+                Ok(KeptMessage::Fault(*fault, copy_name(alloc, *file)?))
+            }
+            Message::Unopened(file, reason) => {
+                Ok(KeptMessage::Unopened(String::from_str(alloc, *file)?, *reason))
+            }
+            Message::Unwritten(file, reason) => {
+                Ok(KeptMessage::Unwritten(String::from_str(alloc, *file)?, *reason))
+            }
+            Message::Unprinted(reason) => Ok(KeptMessage::Unprinted(*reason)),
+            Message::Usage(before, after) => {
+                let before = String::from_str(alloc, *before)?;
+                Ok(KeptMessage::Usage(before, String::from_str(alloc, *after)?))
+            }
+            Message::Unread(reason) => Ok(KeptMessage::Unread(*reason)),
+        }
+    }
+}

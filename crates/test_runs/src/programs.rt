@@ -1,0 +1,171 @@
+//! The program over a system in memory, of which its clauses say what was opened, put, told and
+//! written.
+
+ghost use Rattle.std.specs.Prelude.{Some, map, string_bytes};
+ghost use Rattle.play_program.specs.Program.{EndsWords};
+ghost use Rattle.test_runs.specs.Memory.{bytes_at, calls_by, file_named};
+
+use crate::calls::{KeptCall, KeptMessage};
+use crate::caves::{EDITED_LOG, LONG_LOG, LONG_TEXT, SCRIPT};
+use crate::in_memory::{MemorySystem, MemoryTarget};
+use play_program::{Output, run_program};
+use std::alloc::{AllocError, Global};
+use std::io::ErrorKind;
+use std::process::Abort;
+use std::test::Fail;
+use test_data::caves::CAVE;
+
+/// Edits the log in its place.
+const IN_PLACE: [&str; 8] = [
+    "edit", "cave", "log", "script", "--print", "log", "--output", "log",
+];
+
+/// Does what words ask for, and returns the status. The files and the calls are those of the
+/// system, and the output is in the writer.
+fn run_in_memory<R: Abort>(
+    alloc: Global,
+    system: &mut MemorySystem<'_, R>,
+    words: Vec<String>,
+    output: &mut Output<Vec<u8>>,
+) -> u8
+    ensures ends { EndsWords (map string_bytes words.entry.items)
+        (λ name. bytes_at system.old.cave.items system.old.log.bytes.items system.old.script.items
+        (file_named name)) (Some (calls_by system.old.kept.items))
+        (Some (calls_by system.new.kept.items)) (Some output.old.writer.items)
+        (Some output.new.writer.items) result }
+{
+    run_program(alloc, system, Ok(words), output)
+}
+
+/// What the program did for some words: its status, what it wrote, the log and the calls.
+#[derive(Drop)]
+struct ProgramEnd {
+    status: u8,
+    written: Vec<u8>,
+    log: Vec<u8>,
+    kept: Vec<KeptCall>,
+}
+
+/// Does what words ask for over the usual files. A draft of the log takes this many bytes.
+fn end_of<R: Abort>(
+    rt: &R,
+    alloc: Global,
+    words: &[&str],
+    room: usize,
+) -> Result<ProgramEnd, AllocError> {
+    let mut system = MemorySystem {
+        rt,
+        alloc,
+        cave: Vec::from_slice(alloc, CAVE)?,
+        log: MemoryTarget {
+            bytes: Vec::from_slice(alloc, LONG_LOG)?,
+            alloc,
+            room,
+        },
+        script: Vec::from_slice(alloc, SCRIPT)?,
+        kept: Vec::new(alloc),
+    };
+    let mut given = Vec::new(alloc);
+    for word in words {
+        given.push(String::from_str(alloc, *word)?)?;
+    }
+    let mut output = Output::of(Vec::new(alloc));
+    let status = run_in_memory(alloc, &mut system, given, &mut output);
+    let MemorySystem { log, kept, .. } = system;
+    let MemoryTarget { bytes, .. } = log;
+    let Output { writer, .. } = output;
+    Ok(ProgramEnd {
+        status,
+        written: writer,
+        log: bytes,
+        kept,
+    })
+}
+
+/// Whether a call opens the file of a name.
+fn opens(call: Option<&KeptCall>, name: &str) -> bool {
+    match call {
+        Some(KeptCall::Opens(file)) => file.as_str() == name,
+        _ => false,
+    }
+}
+
+/// Whether a call puts these bytes into the log.
+fn puts_log(call: Option<&KeptCall>, bytes: &[u8]) -> bool {
+    match call {
+        Some(KeptCall::Puts(file, given)) => file.as_str() == "log" && given.as_slice() == bytes,
+        _ => false,
+    }
+}
+
+/// Whether a call tells that the log can't be written, since there is no room.
+fn tells_full(call: Option<&KeptCall>) -> bool {
+    match call {
+        Some(KeptCall::Tells(KeptMessage::Unwritten(file, reason))) => {
+            file.as_str() == "log" && reason.kind() == ErrorKind::StorageFull
+        }
+        _ => false,
+    }
+}
+
+/// Whether a call tells that the file of a name can't be opened, since there is none.
+fn tells_missing(call: Option<&KeptCall>, name: &str) -> bool {
+    match call {
+        Some(KeptCall::Tells(KeptMessage::Unopened(file, reason))) => {
+            file.as_str() == name && reason.kind() == ErrorKind::NotFound
+        }
+        _ => false,
+    }
+}
+
+#[test]
+fn a_log_in_memory_is_edited_in_its_place(rt: HostRuntime) -> Result<(), Fail> {
+    let end = end_of(&rt, rt.alloc(), &IN_PLACE, usize::MAX)?;
+    assert_eq!(rt; end.status, 0);
+    assert_eq!(rt; end.log.as_slice(), EDITED_LOG.as_bytes());
+    assert!(rt; end.written.is_empty());
+    assert!(rt; opens(end.kept.get(0), "cave"));
+    assert!(rt; opens(end.kept.get(1), "log"));
+    assert!(rt; opens(end.kept.get(2), "script"));
+    assert!(rt; puts_log(end.kept.get(3), EDITED_LOG.as_bytes()));
+    assert_eq!(rt; end.kept.len(), 4);
+    Ok(())
+}
+
+#[test]
+fn a_log_in_memory_stays_if_its_draft_fails_half_way(rt: HostRuntime) -> Result<(), Fail> {
+    for room in 0..EDITED_LOG.len() {
+        let end = end_of(&rt, rt.alloc(), &IN_PLACE, room)?;
+        assert_eq!(rt; end.status, 6);
+        assert_eq!(rt; end.log.as_slice(), LONG_LOG);
+        assert!(rt; end.written.is_empty());
+        assert!(rt; puts_log(end.kept.get(3), EDITED_LOG.as_bytes()));
+        assert!(rt; tells_full(end.kept.get(4)));
+        assert_eq!(rt; end.kept.len(), 5);
+    }
+    Ok(())
+}
+
+#[test]
+fn a_log_in_memory_is_played_to_the_writer(rt: HostRuntime) -> Result<(), Fail> {
+    let end = end_of(&rt, rt.alloc(), &["play", "cave", "log"], usize::MAX)?;
+    assert_eq!(rt; end.status, 0);
+    assert_eq!(rt; end.written.as_slice(), LONG_TEXT.as_bytes());
+    assert!(rt; opens(end.kept.get(0), "cave"));
+    assert!(rt; opens(end.kept.get(1), "log"));
+    assert_eq!(rt; end.kept.len(), 2);
+    Ok(())
+}
+
+#[test]
+fn a_file_that_memory_lacks_is_told_and_nothing_is_put(rt: HostRuntime) -> Result<(), Fail> {
+    let words = ["play", "cave", "walk", "--output", "log"];
+    let end = end_of(&rt, rt.alloc(), &words, usize::MAX)?;
+    assert_eq!(rt; end.status, 5);
+    assert_eq!(rt; end.log.as_slice(), LONG_LOG);
+    assert!(rt; opens(end.kept.get(0), "cave"));
+    assert!(rt; opens(end.kept.get(1), "walk"));
+    assert!(rt; tells_missing(end.kept.get(2), "walk"));
+    assert_eq!(rt; end.kept.len(), 3);
+    Ok(())
+}
