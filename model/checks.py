@@ -1,7 +1,7 @@
 """What `check` prints of an accepted cave (docs/FORMATS.md, Names to Doubts)."""
 
 from database import NAMES, ROLES, SECONDS, SECTIONS, numbered_rows
-from lines import fields_of, folded, lines_of
+from lines import FIELD, fields_of, folded, lines_of
 
 # The order in which rules number the names, and how they are listed: by five letters.
 ORDER = """
@@ -13,6 +13,16 @@ SILENT = [">$<"]
 ALWAYS = (0, 100)  # the conditions under which a way is always taken
 ENTERED = ["start", "building", "ne", "alcove", "plover"]  # places that rules bring a player to
 BROUGHT = ["CHEST", "PEARL"]  # treasures that rules put somewhere
+TOOLS = ["KEYS", "LAMP", "BIRD"]  # objects that players need and no rule brings
+DWARVES = [f"dwarf{it}" for it in range(1, 6)]
+# What rules ask of objects: texts for props that they set, and places of the bindings.
+PROPS = {"LAMP": [1], "GRATE": [1], "BIRD": [1], "DOOR": [1], "FISSURE": [1], "BOTTLE": [1, 2],
+         "PLANT": [2, 4], "PLANT2": [1, 2], "AXE": [1], "DRAGON": [2], "CHASM": [1], "TROLL": [1],
+         "BEAR": [1, 2, 3], "BATTERIES": [1], "VASE": [2], "CHAIN": [2]}
+ROOMS = {"ROD": ["ne", "sw"], "MAGAZINE": ["witt"], "DWARF": [*DWARVES, "dwarfalt"],
+         "MESSAGE": ["message"], "CHEST": ["chest"], "PEARL": ["culdesac"]}
+NEEDERS = """LAMP GRATE ROD BIRD DOOR FISSURE MAGAZINE DWARF BOTTLE PLANT PLANT2 AXE DRAGON CHASM
+    TROLL BEAR MESSAGE BATTERIES CHEST VASE PEARL CHAIN""".split()
 
 def first_line(text):
     return "" if text is None or text == SILENT else text[0]
@@ -84,7 +94,10 @@ def is_hidden(cave, number, word):
     word, means = folded(word, cave.letters), divmod(number, 1000)
     rows = [it[:2] for it in cave.words if it[2] == word]
     of_class = [it for it in rows if it[0] == means[0]]
-    return rows[0] != means and not (means[0] in (1, 3) and of_class[0] == means)
+    pairs = [(1, object_of(cave, SECONDS[it]), object_of(cave, it)) for it in SECONDS]
+    objects = [it[1] for it in rows if it[0] == 1]
+    return (rows[0] != means and not (means[0] in (1, 3) and of_class[0] == means)
+            and not (objects and (means[0], objects[0], means[1]) in pairs))
 
 def message_doubts(cave, says):
     """What is said about messages that have no text; 0 is no message."""
@@ -103,6 +116,9 @@ def row_doubts(cave, section, row, before):
         end = target % 1000
         if 0 < end <= 300 and not has_text(cave, end):
             yield f"the way leads to place {end}, which has no text"
+        if 303 < end <= 500:
+            yield f"the way leads to {end}, for which there is no rule"
+        yield from message_doubts(cave, [("the way says", max(end - 500, 0))])
         index = sum(other[0] == place for other in before)
         if not list(tried(cave.travel[place]))[index]:
             yield "no player takes this way: an earlier one is always taken"
@@ -113,21 +129,58 @@ def row_doubts(cave, section, row, before):
         is_first = all(other[0] != row[0] for other in before)
         if 50 <= row[0] <= 79 and is_first and not is_held(cave, row[0]):
             yield f"no place holds treasure {row[0]}"
+        if row[0] > 0 and row[0] % 100 and is_first:
+            yield from object_doubts(cave, row[0])
     elif section == 7:
         if 50 <= row[0] <= 79 and (row[0], None) not in cave.object_texts:
             yield f"treasure {row[0]} has no inventory text"
+        start = cave.homes[row[0]][0]
+        if 50 <= row[0] <= 79 and start and not has_text(cave, start):
+            yield f"treasure {row[0]} begins at place {start}, which has no text"
     elif section == 8:
         yield from message_doubts(cave, [(f"action {row[0]} says", row[1])])
+        if all(it[:2] != (2, row[0]) for it in cave.words):
+            yield f"no word means action {row[0]}"
     elif section == 10:
         bounds = [other[0] for other in before]
         if any(it >= row[0] for it in bounds):
             yield "an earlier class takes its scores"
         elif any(it >= cave.greatest_score() for it in bounds):
             yield "no score reaches this class"
+        elif not before and all(it[0] < cave.greatest_score() for it in cave.classes):
+            yield f"no class has the greatest score, {cave.greatest_score()}"
     elif section == 11:
         hint, _, _, question, text = row
-        yield from message_doubts(cave, [(f"hint {hint} asks by", question),
-                                         (f"hint {hint} gives", text)])
+        for does, message in [("asks by", question), ("gives", text)]:
+            yield from message_doubts(cave, [(f"hint {hint} {does}", message)])
+            if hint >= 4 and not message:
+                yield f"hint {hint} {does} no message"
+
+def object_doubts(cave, it):
+    """What an object lacks of what rules ask."""
+    first, second = cave.homes.get(it, (0, 0))
+    tools = TOOLS if any(map(cave.place, DWARVES)) else [*TOOLS, "AXE"]
+    if it in [object_of(cave, name) for name in tools] and first <= 0 and second <= 0:
+        yield f"no place holds object {it}, which players need"
+    for name in NEEDERS:
+        if object_of(cave, name) == it:
+            for prop in PROPS.get(name, ()):
+                if (it, prop) not in cave.object_texts:
+                    yield f"object {it} has no text for prop {prop}, which rules set"
+            for role in ROOMS.get(name, ()):
+                if cave.place(role) is None:
+                    yield f"rules about object {it} need place.{role}, which is unbound"
+
+def line_doubts(cave, section, line, row):
+    """What is doubtful about how a line is written."""
+    if section in (1, 2, 5, 6, 10):
+        rest = line[FIELD.search(line).end():]
+        if rest.startswith("  "):
+            yield "no tab is before this text, and it begins with blanks"
+        elif rest[1:].startswith(">$<") and len(rest) > 4:
+            yield "this is printed, since more than >$< is there"
+    elif section == 9 and row[0] >= 4 and row[1] and row[0] not in cave.hints:
+        yield f"hint {row[0]} has places here, but no row in section 11"
 
 def is_held(cave, treasure):
     """Whether a place holds a treasure as a game begins, or rules bring it."""
@@ -149,6 +202,10 @@ def doubts(cave, database_name, database, bindings_name, bindings):
         listed += [f"{database_name}:{at}: {it}"
                    for it in row_doubts(cave, section, row, before[section])]
         before[section].append(row)
+    lines = lines_of(database)
+    for at, section, row in numbered_rows(database):
+        listed += [f"{database_name}:{at}: {it}"
+                   for it in line_doubts(cave, section, lines[at - 1], row)]
     for at, line in enumerate(lines_of(bindings), 1):
         if fields_of(line) and not line.startswith("#"):
             key, number = fields_of(line)

@@ -1,12 +1,19 @@
--- What is doubtful about a cave: about each row of its database and each binding, in their order.
-use Rattle.std.specs.Prelude.{ℕ, List, [], ◌∷◌, ◌++◌, Option, Some, None}
-use Rattle.std.specs.List.{flat_map}
+-- What is doubtful about a cave: about what each row of its database says, about how each of its
+-- lines is written, and about each binding, in their order.
+use Rattle.std.specs.Prelude.{ℕ, suc, if◌then◌else◌, List, [], ◌∷◌, ◌++◌, Option, Some, None}
+use Rattle.std.specs.List.{flat_map, list_any}
 use Rattle.std.specs.Str.Lines.{lines}
 use Rattle.cave_data.specs.CaveView.{CaveView}
+use Rattle.data_rows.specs.Grammar.{position_after_line}
+use Rattle.data_rows.specs.declared.position.Position.{Position}
 use Rattle.data_rows.specs.declared.position.Position.TheVariants.{Outside}
 use Rattle.check_doubts.specs.BoundRows.{bound_flaw, bound_rows}
 use Rattle.check_doubts.specs.Flaws.{first_flaw, second_flaw}
-use Rattle.data_bindings.specs.Marks.{marked_rows}
+use Rattle.check_doubts.specs.Needs.{need_flaw, needs}
+use Rattle.check_doubts.specs.Written.{written_flaw_at}
+use Rattle.data_bindings.specs.Marks.{is_name, marked_rows}
+use Rattle.data_bindings.specs.declared.mark.RowMark.{RowMark}
+use Rattle.data_bindings.specs.declared.mark.RowMark.TheVariants as mark
 use Rattle.check_doubts.specs.declared.bound.BoundRow.{BoundRow}
 use Rattle.check_doubts.specs.declared.flaw.Doubt.{Doubt}
 use Rattle.check_doubts.specs.declared.flaw.CaveFlaw.{CaveFlaw}
@@ -18,17 +25,43 @@ abbrev pub doubt_of : Source → ℕ → Option CaveFlaw → List Doubt
 doubt_of source line None = []
 doubt_of source line (Some flaw) = record { source = source; line = line; flaw = flaw } ∷ []
 
+-- the doubt of a line, if there is one, before those of the lines after it
+abbrev pub with_doubt : ℕ → Option CaveFlaw → List Doubt → List Doubt
+with_doubt line None doubts = doubts
+with_doubt line (Some flaw) doubts =
+    record { source = Database; line = line; flaw = flaw } ∷ doubts
+
 module _ (cave : CaveView) where
+  -- what an object lacks of what rules ask
+  abbrev pub doubts_of_needs : ℕ → ℕ → List Doubt
+  doubts_of_needs line object =
+      flat_map (λ need. doubt_of Database line (need_flaw cave object need)) needs
+
+  -- this is doubted at the first line of the object's inventory text
+  abbrev pub doubts_of_object : List MarkedRow → ℕ → RowMark → List Doubt
+  doubts_of_object before line (mark.Name object) =
+      if list_any (is_name object) before then [] else doubts_of_needs line object
+  doubts_of_object before line _ = []
+
   -- what is doubtful about a row, after the rows before it
   abbrev pub doubts_of_row : List MarkedRow → MarkedRow → List Doubt
   doubts_of_row before row =
       doubt_of Database row.line (first_flaw cave before row.mark)
-      ++ doubt_of Database row.line (second_flaw cave before row.mark)
+      ++ (doubt_of Database row.line (second_flaw cave before row.mark)
+      ++ doubts_of_object before row.line row.mark)
 
   abbrev pub doubts_from : List MarkedRow → List MarkedRow → List Doubt
   doubts_from before [] = []
   doubts_from before (row ∷ rows) =
       doubts_of_row before row ++ doubts_from (before ++ row ∷ []) rows
+
+  -- what is doubtful about how lines are written, the first of which has this number and is at this
+  -- position
+  abbrev pub doubts_of_lines : ℕ → Position → List (List ℕ) → List Doubt
+  doubts_of_lines number position [] = []
+  doubts_of_lines number position (line ∷ lines) =
+      with_doubt number (written_flaw_at cave position line)
+      (doubts_of_lines (suc number) (position_after_line position line) lines)
 
   abbrev pub doubts_of_binding : BoundRow → List Doubt
   doubts_of_binding row = doubt_of Bindings row.line (bound_flaw cave row)
@@ -37,4 +70,5 @@ module _ (cave : CaveView) where
   unfoldable pub doubts : List ℕ → List ℕ → List Doubt
   doubts database bindings =
       doubts_from [] (marked_rows 1 Outside (lines database))
-      ++ flat_map doubts_of_binding (bound_rows 1 (lines bindings))
+      ++ (doubts_of_lines 1 Outside (lines database)
+      ++ flat_map doubts_of_binding (bound_rows 1 (lines bindings)))

@@ -2,9 +2,12 @@ pub mod BoundRows
 pub mod Classes
 pub mod Doubts
 pub mod Flaws
+pub mod Hints
 pub mod Listing
 pub mod Messages
+pub mod Needs
 pub mod Places
 pub mod Treasures
 pub mod Ways
 pub mod Words
+pub mod Written

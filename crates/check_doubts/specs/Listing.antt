@@ -24,19 +24,40 @@ textless number = decimal number ++ codes ", which has no text"
 abbrev pub words : CaveFlaw → List ℕ
 words (flaw.NoWayTo place) = codes "no way leads to place " ++ decimal place
 words (flaw.LeadsToTextless place) = codes "the way leads to place " ++ textless place
+words (flaw.WaySaysTextless message) = codes "the way says message " ++ textless message
+words (flaw.HasNoRule number) =
+    codes "the way leads to " ++ (decimal number ++ codes ", for which there is no rule")
 words flaw.NeverTaken = codes "no player takes this way: an earlier one is always taken"
 words flaw.Hidden = codes "an earlier row of this word hides it"
 words (flaw.Nowhere object) = codes "no place holds treasure " ++ decimal object
 words (flaw.Nameless object) =
     codes "treasure " ++ (decimal object ++ codes " has no inventory text")
+words (flaw.BeginsTextless object place) =
+    codes "treasure " ++ (decimal object ++ (codes " begins at place " ++ textless place))
+words (flaw.Unplaced object) =
+    codes "no place holds object " ++ (decimal object ++ codes ", which players need")
+words (flaw.PropTextless object prop) =
+    codes "object " ++ (decimal object
+    ++ (codes " has no text for prop " ++ (decimal prop ++ codes ", which rules set")))
+words (flaw.PlaceUnbound role object) =
+    codes "rules about object " ++ (decimal object
+    ++ (codes " need place." ++ (place_role_name role ++ codes ", which is unbound")))
 words (flaw.SaysTextless action message) =
     codes "action " ++ (decimal action ++ (codes " says message " ++ textless message))
+words (flaw.Wordless action) = codes "no word means action " ++ decimal action
 words flaw.TakenClass = codes "an earlier class takes its scores"
 words flaw.UnscoredClass = codes "no score reaches this class"
+words (flaw.Classless score) = codes "no class has the greatest score, " ++ decimal score
 words (flaw.AsksTextless hint message) =
     codes "hint " ++ (decimal hint ++ (codes " asks by message " ++ textless message))
 words (flaw.GivesTextless hint message) =
     codes "hint " ++ (decimal hint ++ (codes " gives message " ++ textless message))
+words (flaw.AsksNothing hint) = codes "hint " ++ (decimal hint ++ codes " asks by no message")
+words (flaw.GivesNothing hint) = codes "hint " ++ (decimal hint ++ codes " gives no message")
+words (flaw.Rowless hint) =
+    codes "hint " ++ (decimal hint ++ codes " has places here, but no row in section 11")
+words flaw.TextOfBlanks = codes "no tab is before this text, and it begins with blanks"
+words flaw.NotSilent = codes "this is printed, since more than >$< is there"
 words (flaw.RoleTextless role message) =
     codes "msg." ++ (role_name role ++ (codes " is message " ++ textless message))
 words (flaw.RoleSilent role message) =

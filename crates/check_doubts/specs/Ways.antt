@@ -1,7 +1,7 @@
--- Ways that no player can take, since an earlier one is always taken, and ways to places without a
--- text.
+-- Ways that no player can take, since an earlier one is always taken, and ways that lead to
+-- nothing.
 use Rattle.std.specs.Prelude.{ℕ, Bool, true, false, ◌==◌, ◌&&◌, ◌||◌, not, nat_lt, List, [], ◌∷◌}
-use Rattle.std.specs.Prelude.{◌++◌, take, Option, Some, None, if◌then◌else◌}
+use Rattle.std.specs.Prelude.{◌%◌, ◌++◌, take, Option, Some, None, if◌then◌else◌}
 use Rattle.std.specs.List.{list_any, slice_get}
 use Rattle.cave_data.specs.CaveView.{CaveView, ways_from}
 use Rattle.data_rows.specs.Rows.{Going}
@@ -11,7 +11,9 @@ use Rattle.data_rows.specs.declared.targets.Destination.{Destination}
 use Rattle.data_rows.specs.declared.targets.Destination.TheVariants as destination
 use Rattle.cave_world.specs.Travel.{lists_motion, row_condition, row_destination}
 use Rattle.data_bindings.specs.WayLines.{way_index}
-use Rattle.check_doubts.specs.Messages.{place_has_text}
+use Rattle.check_doubts.specs.Messages.{lacks_text, place_has_text}
+use Rattle.check_doubts.specs.declared.flaw.CaveFlaw.{CaveFlaw}
+use Rattle.check_doubts.specs.declared.flaw.CaveFlaw.TheVariants as flaw
 use Rattle.data_bindings.specs.declared.mark.MarkedRow.{MarkedRow}
 
 -- ---- which ways journeys reach
@@ -69,17 +71,22 @@ is_never_taken_at index ways = is_never_taken_after (take index ways) (slice_get
 
 -- ---- the way of a row
 
--- the place that a way leads to, or 0
-abbrev pub place_led_to : Destination → ℕ
-place_led_to (destination.Place number) = number
-place_led_to _ = 0
-
-abbrev pub end_of_way : Option Going → ℕ
-end_of_way None = 0
-end_of_way (Some way) = place_led_to (row_destination way)
-
 abbrev pub is_textless_end : CaveView → ℕ → Bool
 is_textless_end cave place = nat_lt 0 place && not (place_has_text cave place)
+
+-- a way leads to a place without a text, says a message without one, or has a special number for
+-- which there is no rule
+abbrev pub end_flaw : CaveView → ℕ → Destination → Option CaveFlaw
+end_flaw cave target (destination.Place place) =
+    if is_textless_end cave place then Some (flaw.LeadsToTextless place) else None
+end_flaw cave target (destination.Message message) =
+    if lacks_text cave message then Some (flaw.WaySaysTextless message) else None
+end_flaw cave target destination.NoWay = Some (flaw.HasNoRule (target % 1000))
+end_flaw cave target _ = None
+
+abbrev pub way_flaw : CaveView → Option Going → Option CaveFlaw
+way_flaw cave None = None
+way_flaw cave (Some way) = end_flaw cave way.target (row_destination way)
 
 module _ (cave : CaveView) (place : ℕ) (before : List MarkedRow) where
   abbrev pub way_of_row : Option Going

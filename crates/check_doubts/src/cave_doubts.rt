@@ -2,16 +2,23 @@
 
 ghost use Rattle.std.specs.Prelude.{◌≡◌, ◌++◌, IfOk, OnOk, []};
 ghost use Rattle.std.specs.List.{flat_map};
+ghost use Rattle.std.specs.Str.Lines.{lines};
 ghost use Rattle.turn_scene.specs.Scene.{cave_of};
 ghost use Rattle.check_doubts.specs.Doubts.{doubt_of, doubts, doubts_from, doubts_of_binding};
-ghost use Rattle.check_doubts.specs.Doubts.{doubts_of_row};
+ghost use Rattle.check_doubts.specs.Doubts.{doubts_of_lines, doubts_of_object, doubts_of_row};
+ghost use Rattle.check_doubts.specs.Needs.{need_flaw};
 
 use crate::bound::{BoundRow, bound_flaw, bound_rows};
 use crate::flaw::{CaveFlaw, Doubt, Source};
+use crate::needs::{Need, each_need, need_flaw};
 use crate::row_flaws::{first_flaw, second_flaw};
+use crate::written::{position_after_line, written_flaw_at};
+use base_lines::split_line;
 use cave_data::Cave;
 use cave_words::Lexicon;
-use data_bindings::{MarkedRow, marked_rows};
+use data_bindings::mark::any_name;
+use data_bindings::{MarkedRow, RowMark, marked_rows};
+use data_rows::Position;
 use std::alloc::{AllocError, Global};
 use turn_scene::Rules;
 
@@ -30,6 +37,44 @@ fn push_doubt(
             Ok(())
         }
         None => Ok(()),
+    }
+}
+
+/// Adds what an object lacks of what rules ask.
+fn push_needs_doubts(
+    rules: &Rules<'_>,
+    line: usize,
+    object: u16,
+    needs: &[Need],
+    doubts: &mut Vec<Doubt>,
+) -> Result<(), AllocError>
+    ensures { let cave = cave_of rules.now in
+        OnOk result (doubts.new.items ≡ doubts.old.items
+        ++ flat_map (λ need. doubt_of Source.Database line (need_flaw cave object need))
+        needs.now) }
+{
+    for need in needs {
+        let found = need_flaw(rules.cave, rules.lexicon, object, *need);
+        push_doubt(Source::Database, line, found, doubts)?;
+    }
+    Ok(())
+}
+
+/// Adds what an object lacks, at the first line of its inventory text.
+fn push_object_doubts(
+    rules: &Rules<'_>,
+    before: &[MarkedRow],
+    row: &MarkedRow,
+    doubts: &mut Vec<Doubt>,
+) -> Result<(), AllocError>
+    ensures { OnOk result (doubts.new.items ≡ doubts.old.items
+        ++ doubts_of_object (cave_of rules.now) before.now row.now.line row.now.mark) }
+{
+    match row.mark {
+        RowMark::Name(object) if !any_name(before, object) => {
+            push_needs_doubts(rules, row.line, object, each_need(), doubts)
+        }
+        _ => Ok(()),
     }
 }
 
@@ -54,7 +99,8 @@ fn push_row_doubts(
         row.line,
         second_flaw(rules, before, row.mark),
         doubts,
-    )
+    )?;
+    push_object_doubts(rules, before, row, doubts)
 }
 
 /// Adds what is doubtful about the first rows of a database.
@@ -69,6 +115,33 @@ fn push_rows_doubts(
 {
     for index in 0..rows.len() {
         push_row_doubts(rules, &rows[..index], &rows[index], doubts)?;
+    }
+    Ok(())
+}
+
+/// Adds what is doubtful about how the lines of a database are written.
+fn push_lines_doubts(
+    cave: &Cave,
+    database: &[u8],
+    doubts: &mut Vec<Doubt>,
+) -> Result<(), AllocError>
+    ensures { OnOk result (doubts.new.items ≡ doubts.old.items
+        ++ doubts_of_lines cave.now 1 Position.Outside (lines database.now)) }
+{
+    let mut position = Position::Outside;
+    let mut rest = database;
+    let mut number = 0usize;
+    while let Some((line, after)) = split_line(rest) {
+        number += 1;
+        if let Some(flaw) = written_flaw_at(cave, position, line) {
+            doubts.push(Doubt {
+                source: Source::Database,
+                line: number,
+                flaw,
+            })?;
+        }
+        position = position_after_line(position, line);
+        rest = after;
     }
     Ok(())
 }
@@ -104,6 +177,7 @@ pub fn doubts(
     let rules = Rules::of(cave, &lexicon);
     let rows = marked_rows(alloc, database)?;
     push_rows_doubts(&rules, &rows, &mut found)?;
+    push_lines_doubts(cave, database, &mut found)?;
     let bound = bound_rows(alloc, bindings)?;
     push_bindings_doubts(cave, &bound, &mut found)?;
     Ok(found)

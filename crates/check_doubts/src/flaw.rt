@@ -13,6 +13,10 @@ pub enum CaveFlaw {
     NoWayTo(u16),
     /// The way leads to a place that has no text.
     LeadsToTextless(u16),
+    /// The way says a message that has no text.
+    WaySaysTextless(u16),
+    /// The way has a special number for which there is no rule.
+    HasNoRule(u16),
     /// A player never gets to the way.
     NeverTaken,
     /// The word means something else, by an earlier row.
@@ -21,16 +25,38 @@ pub enum CaveFlaw {
     Nowhere(u16),
     /// The treasure has no inventory text.
     Nameless(u16),
+    /// The treasure begins at a place that has no text.
+    BeginsTextless(u16, u16),
+    /// No place holds an object that players need.
+    Unplaced(u16),
+    /// The object has no text for a prop that rules set.
+    PropTextless(u16, u16),
+    /// The role of a place that rules about the object need is unbound.
+    PlaceUnbound(u16, u16),
     /// The action says a message that has no text.
     SaysTextless(u16, u16),
+    /// No word means the action.
+    Wordless(u16),
     /// An earlier class has all its scores.
     TakenClass,
     /// All its scores are above the greatest of the cave.
     UnscoredClass,
+    /// No class has the greatest score.
+    Classless(u32),
     /// The hint asks by a message that has no text.
     AsksTextless(u16, u16),
     /// The hint gives a message that has no text.
     GivesTextless(u16, u16),
+    /// The hint has no message to ask by.
+    AsksNothing(u16),
+    /// The hint has no message to give.
+    GivesNothing(u16),
+    /// The hint has places, but no row of its own.
+    Rowless(u16),
+    /// The text begins with blanks, and no tab is before it.
+    TextOfBlanks,
+    /// The text goes on after `>$<`.
+    NotSilent,
     /// The role of a message is bound to one that has no text.
     RoleTextless(u16, u16),
     /// The role of a message is bound to one whose text prints nothing.
@@ -61,6 +87,12 @@ impl fmt::Display for CaveFlaw {
             CaveFlaw::LeadsToTextless(place) => {
                 write!(f, "the way leads to place {place}, which has no text")
             }
+            CaveFlaw::WaySaysTextless(message) => {
+                write!(f, "the way says message {message}, which has no text")
+            }
+            CaveFlaw::HasNoRule(number) => {
+                write!(f, "the way leads to {number}, for which there is no rule")
+            }
             CaveFlaw::NeverTaken => {
                 write!(
                     f,
@@ -70,14 +102,38 @@ impl fmt::Display for CaveFlaw {
             CaveFlaw::Hidden => write!(f, "an earlier row of this word hides it"),
             CaveFlaw::Nowhere(object) => write!(f, "no place holds treasure {object}"),
             CaveFlaw::Nameless(object) => write!(f, "treasure {object} has no inventory text"),
+            CaveFlaw::BeginsTextless(object, place) => {
+                write!(
+                    f,
+                    "treasure {object} begins at place {place}, which has no text"
+                )
+            }
+            CaveFlaw::Unplaced(object) => {
+                write!(f, "no place holds object {object}, which players need")
+            }
+            CaveFlaw::PropTextless(object, prop) => {
+                write!(
+                    f,
+                    "object {object} has no text for prop {prop}, which rules set"
+                )
+            }
+            CaveFlaw::PlaceUnbound(role, object) => {
+                let name = name_at(&PLACE_NAMES, role);
+                write!(
+                    f,
+                    "rules about object {object} need place.{name}, which is unbound"
+                )
+            }
             CaveFlaw::SaysTextless(action, message) => {
                 write!(
                     f,
                     "action {action} says message {message}, which has no text"
                 )
             }
+            CaveFlaw::Wordless(action) => write!(f, "no word means action {action}"),
             CaveFlaw::TakenClass => write!(f, "an earlier class takes its scores"),
             CaveFlaw::UnscoredClass => write!(f, "no score reaches this class"),
+            CaveFlaw::Classless(score) => { write!(f, "no class has the greatest score, {score}") }
             CaveFlaw::AsksTextless(hint, message) => {
                 write!(
                     f,
@@ -87,6 +143,15 @@ impl fmt::Display for CaveFlaw {
             CaveFlaw::GivesTextless(hint, message) => {
                 write!(f, "hint {hint} gives message {message}, which has no text")
             }
+            CaveFlaw::AsksNothing(hint) => write!(f, "hint {hint} asks by no message"),
+            CaveFlaw::GivesNothing(hint) => write!(f, "hint {hint} gives no message"),
+            CaveFlaw::Rowless(hint) => {
+                write!(f, "hint {hint} has places here, but no row in section 11")
+            }
+            CaveFlaw::TextOfBlanks => {
+                write!(f, "no tab is before this text, and it begins with blanks")
+            }
+            CaveFlaw::NotSilent => write!(f, "this is printed, since more than >$< is there"),
             CaveFlaw::RoleTextless(role, message) => {
                 let name = name_at(&ROLE_NAMES, role);
                 write!(f, "msg.{name} is message {message}, which has no text")

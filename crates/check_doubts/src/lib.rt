@@ -5,13 +5,16 @@ pub mod bound;
 pub mod cave_doubts;
 mod classes;
 pub mod flaw;
+mod hints;
 pub mod listing;
 mod messages;
+pub mod needs;
 mod places;
 mod row_flaws;
 mod treasures;
 mod ways;
 mod words;
+mod written;
 
 pub use cave_doubts::doubts;
 pub use flaw::{Doubt, Source};

@@ -4,15 +4,16 @@ ghost use Rattle.std.specs.Prelude.{◌≡◌};
 ghost use Rattle.turn_scene.specs.Scene.{cave_of};
 ghost use Rattle.check_doubts.specs.Flaws.{first_flaw, flaw_if, second_flaw};
 
-use crate::classes::is_taken;
+use crate::classes::{class_flaw, is_taken};
 use crate::flaw::CaveFlaw;
+use crate::hints::{gift_flaw, is_wordless, question_flaw};
 use crate::messages::lacks_text;
+use crate::needs::is_missing;
 use crate::places::{is_unreached_long, is_unreached_short};
-use crate::treasures::{is_nameless, is_nowhere};
-use crate::ways::{end_of_way, is_never_taken, is_textless_end, way_of_row};
+use crate::treasures::{is_nameless, is_nowhere, textless_start};
+use crate::ways::{is_never_taken, way_flaw, way_of_row};
 use crate::words::is_hidden;
 use data_bindings::{MarkedRow, RowMark};
-use turn_ends::max_score;
 use turn_scene::Rules;
 
 fn flaw_if(holds: bool, found: CaveFlaw) -> Option<CaveFlaw>
@@ -39,10 +40,7 @@ pub(crate) fn first_flaw(rules: &Rules<'_>, before: &[MarkedRow], mark: RowMark)
                 CaveFlaw::NoWayTo(place),
             )
         }
-        RowMark::Way(place) => {
-            let end = end_of_way(way_of_row(cave, place, before));
-            flaw_if(is_textless_end(cave, end), CaveFlaw::LeadsToTextless(end))
-        }
+        RowMark::Way(place) => way_flaw(cave, way_of_row(cave, place, before)),
         RowMark::Word => flaw_if(is_hidden(cave, lexicon, before), CaveFlaw::Hidden),
         RowMark::Name(object) => {
             flaw_if(
@@ -61,12 +59,7 @@ pub(crate) fn first_flaw(rules: &Rules<'_>, before: &[MarkedRow], mark: RowMark)
             )
         }
         RowMark::Class(bound) => flaw_if(is_taken(u32::from(bound), before), CaveFlaw::TakenClass),
-        RowMark::Hint(hint, question, _) => {
-            flaw_if(
-                lacks_text(cave, question),
-                CaveFlaw::AsksTextless(hint, question),
-            )
-        }
+        RowMark::Hint(hint, question, _) => question_flaw(cave, hint, question),
     }
 }
 
@@ -78,24 +71,26 @@ pub(crate) fn second_flaw(
 ) -> Option<CaveFlaw>
     ensures { result ≡ second_flaw (cave_of rules.now) before.now mark }
 {
+    let (cave, lexicon) = (rules.cave, rules.lexicon);
     match mark {
         RowMark::Way(place) => {
+            flaw_if(is_never_taken(cave, place, before), CaveFlaw::NeverTaken)
+        }
+        RowMark::Name(object) => {
             flaw_if(
-                is_never_taken(rules.cave, place, before),
-                CaveFlaw::NeverTaken,
+                is_missing(cave, lexicon, object, before),
+                CaveFlaw::Unplaced(object),
             )
         }
-        RowMark::Class(bound) => {
-            let is_unscored = !is_taken(u32::from(bound), before)
-                && is_taken(max_score(rules), before);
-            flaw_if(is_unscored, CaveFlaw::UnscoredClass)
+        RowMark::Placement(object) => {
+            let start = textless_start(cave, object);
+            flaw_if(start != 0, CaveFlaw::BeginsTextless(object, start))
         }
-        RowMark::Hint(hint, _, text) => {
-            flaw_if(
-                lacks_text(rules.cave, text),
-                CaveFlaw::GivesTextless(hint, text),
-            )
+        RowMark::Default(action, _) => {
+            flaw_if(is_wordless(cave, action), CaveFlaw::Wordless(action))
         }
+        RowMark::Class(bound) => class_flaw(rules, u32::from(bound), before),
+        RowMark::Hint(hint, _, text) => gift_flaw(cave, hint, text),
         _ => None,
     }
 }

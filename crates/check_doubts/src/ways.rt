@@ -1,15 +1,16 @@
-//! Ways that no player can take, and ways to places without a text.
+//! Ways that no player can take, and ways that lead to nothing.
 
 ghost use Rattle.std.specs.Prelude.{◌≡◌, [], None, map, option_map};
 ghost use Rattle.std.specs.List.{list_any};
 ghost use Rattle.data_rows.specs.RowViews.{going};
 ghost use Rattle.cave_world.specs.Travel.{lists_motion};
-ghost use Rattle.check_doubts.specs.Ways.{begins_journey, comes_to, end_of_way, ends_journey};
+ghost use Rattle.check_doubts.specs.Ways.{begins_journey, comes_to, end_flaw, ends_journey};
 ghost use Rattle.check_doubts.specs.Ways.{ends_there, failed_after, failed_from, is_certain};
 ghost use Rattle.check_doubts.specs.Ways.{is_never_taken, is_never_taken_at, is_other};
-ghost use Rattle.check_doubts.specs.Ways.{is_textless_end, may_be_taken, way_of_row};
+ghost use Rattle.check_doubts.specs.Ways.{is_textless_end, may_be_taken, way_flaw, way_of_row};
 
-use crate::messages::place_has_text;
+use crate::flaw::CaveFlaw;
+use crate::messages::{lacks_text, place_has_text};
 use cave_data::Cave;
 use cave_world::travel_rows::lists_motion;
 use data_bindings::{MarkedRow, way_index};
@@ -129,22 +130,35 @@ pub(crate) fn is_never_taken(cave: &Cave, place: u16, before: &[MarkedRow]) -> b
     is_never_taken_at(cave.travel(place), way_index(place, before))
 }
 
-/// The place that a way leads to, or 0.
-pub(crate) fn end_of_way(found: Option<&Row>) -> u16
-    ensures { result ≡ end_of_way (option_map (λ row. going row.now) found.entry) }
-{
-    match found {
-        Some(row) => match row.destination() {
-            Destination::Place(place) => place,
-            _ => 0,
-        },
-        None => 0,
-    }
-}
-
 /// Whether the number is that of a place, and this has no text.
 pub(crate) fn is_textless_end(cave: &Cave, place: u16) -> bool
     ensures { result ≡ is_textless_end cave.now place }
 {
     0 < place && !place_has_text(cave, place)
+}
+
+/// What is doubtful about where a target leads.
+fn end_flaw(cave: &Cave, target: u32, destination: Destination) -> Option<CaveFlaw>
+    ensures { result ≡ end_flaw cave.now target destination }
+{
+    match destination {
+        Destination::Place(place) if is_textless_end(cave, place) => {
+            Some(CaveFlaw::LeadsToTextless(place))
+        }
+        Destination::Message(message) if lacks_text(cave, message) => {
+            Some(CaveFlaw::WaySaysTextless(message))
+        }
+        Destination::NoWay => Some(CaveFlaw::HasNoRule((target % 1000) as u16)),
+        _ => None,
+    }
+}
+
+/// What is doubtful about where a way leads.
+pub(crate) fn way_flaw(cave: &Cave, found: Option<&Row>) -> Option<CaveFlaw>
+    ensures { result ≡ way_flaw cave.now (option_map (λ row. going row.now) found.entry) }
+{
+    match found {
+        Some(row) => end_flaw(cave, row.target, row.destination()),
+        None => None,
+    }
 }

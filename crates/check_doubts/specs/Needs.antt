@@ -1,0 +1,74 @@
+-- What rules ask of the objects that they name: a place where it is at first, texts for its props,
+-- and places of the bindings.
+use Rattle.std.specs.Prelude.{ℕ, Bool, ◌&&◌, ◌||◌, not, is_some, if◌then◌else◌, List, [], ◌∷◌}
+use Rattle.std.specs.Prelude.{Option, Some, None}
+use Rattle.std.specs.FinMap as map
+use Rattle.std.specs.List.{list_any}
+use Rattle.cave_data.specs.CaveView.{CaveView, look_of}
+use Rattle.cave_words.specs.Named.{object_named}
+use Rattle.cave_words.specs.declared.named.Named.{Named}
+use Rattle.cave_words.specs.declared.named.Named.TheVariants as name
+use Rattle.data_rows.specs.PlaceRole.{place_number}
+use Rattle.data_rows.specs.declared.place_role.PlaceRole.{PlaceRole}
+use Rattle.data_rows.specs.declared.place_role.PlaceRole.TheVariants as role
+use Rattle.check_tables.specs.Unused.{is_number}
+use Rattle.check_doubts.specs.Treasures.{is_placed}
+use Rattle.check_doubts.specs.declared.flaw.CaveFlaw.{CaveFlaw}
+use Rattle.check_doubts.specs.declared.flaw.CaveFlaw.TheVariants as flaw
+use Rattle.check_doubts.specs.declared.needs.Need.{Need}
+use Rattle.check_doubts.specs.declared.needs.Need.TheVariants.{Prop, Role}
+use Rattle.data_bindings.specs.Marks.{is_name}
+use Rattle.data_bindings.specs.declared.mark.MarkedRow.{MarkedRow}
+
+-- the props that rules set, as what is seen of the object, and the places to which they bring it or
+-- at which they look for it: the store of a closed cave has the rods of both marks
+unfoldable pub needs : List Need
+needs =
+    Prop name.Lamp 1 ∷ Prop name.Grate 1
+    ∷ Role name.Rod role.Ne ∷ Role name.Rod role.Sw
+    ∷ Prop name.Bird 1 ∷ Prop name.Door 1 ∷ Prop name.Fissure 1
+    ∷ Role name.Magazine role.Witt
+    ∷ Role name.Dwarf role.Dwarf1 ∷ Role name.Dwarf role.Dwarf2 ∷ Role name.Dwarf role.Dwarf3
+    ∷ Role name.Dwarf role.Dwarf4 ∷ Role name.Dwarf role.Dwarf5 ∷ Role name.Dwarf role.Dwarfalt
+    ∷ Prop name.Bottle 1 ∷ Prop name.Bottle 2
+    ∷ Prop name.Plant 2 ∷ Prop name.Plant 4
+    ∷ Prop name.SecondPlant 1 ∷ Prop name.SecondPlant 2
+    ∷ Prop name.Axe 1 ∷ Prop name.Dragon 2 ∷ Prop name.Chasm 1 ∷ Prop name.Troll 1
+    ∷ Prop name.Bear 1 ∷ Prop name.Bear 2 ∷ Prop name.Bear 3
+    ∷ Role name.Message role.Message
+    ∷ Prop name.Batteries 1
+    ∷ Role name.Chest role.Chest
+    ∷ Prop name.Vase 2
+    ∷ Role name.Pearl role.Culdesac
+    ∷ Prop name.Chain 2 ∷ []
+
+module _ (cave : CaveView) where
+  abbrev pub is_bound : PlaceRole → Bool
+  is_bound role = is_some (map.get cave.places (place_number role))
+
+  abbrev pub is_of : ℕ → Named → Bool
+  is_of object named = is_number object (object_named cave named)
+
+  abbrev pub need_flaw : ℕ → Need → Option CaveFlaw
+  need_flaw object (Prop named prop) =
+      if is_of object named && not (is_some (look_of cave object prop))
+      then Some (flaw.PropTextless object prop) else None
+  need_flaw object (Role named role) = if is_of object named && not (is_bound role)
+      then Some (flaw.PlaceUnbound (place_number role) object) else None
+
+  -- a dwarf that has a place may throw an axe
+  abbrev pub has_dwarf : Bool
+  has_dwarf =
+      is_bound role.Dwarf1 || is_bound role.Dwarf2 || is_bound role.Dwarf3 || is_bound role.Dwarf4
+      || is_bound role.Dwarf5
+
+  -- players need it, and no rule brings it
+  abbrev pub is_tool : ℕ → Bool
+  is_tool object =
+      is_of object name.Keys || is_of object name.Lamp || is_of object name.Bird
+      || (is_of object name.Axe && not has_dwarf)
+
+  -- a row is the first line of the inventory text of such an object that is nowhere
+  abbrev pub is_missing : ℕ → List MarkedRow → Bool
+  is_missing object before =
+      is_tool object && not (list_any (is_name object) before) && not (is_placed cave object)

@@ -1,0 +1,129 @@
+//! What rules ask of the objects that they name.
+
+ghost use Rattle.std.specs.Prelude.{◌≡◌};
+ghost use Rattle.cave_words.specs.Lexicon.{IsLexiconOf};
+ghost use Rattle.check_doubts.specs.Needs.{has_dwarf, is_bound, is_missing, is_of, is_tool};
+ghost use Rattle.check_doubts.specs.Needs.{need_flaw, needs};
+
+use crate::flaw::CaveFlaw;
+use crate::treasures::is_placed;
+use cave_data::Cave;
+use cave_words::{Lexicon, Named};
+use check_tables::is_number;
+use data_bindings::MarkedRow;
+use data_bindings::mark::any_name;
+use data_rows::PlaceRole;
+
+/// What rules ask of an object.
+#[derive(Clone, Copy, Debug)]
+pub enum Need {
+    /// A text for a prop.
+    Prop(Named, u16),
+    /// A place of the bindings.
+    Role(Named, PlaceRole),
+}
+
+/// What rules ask of objects, by their numbers.
+const NEEDS: [Need; 33] = [
+    Need::Prop(Named::Lamp, 1),
+    Need::Prop(Named::Grate, 1),
+    Need::Role(Named::Rod, PlaceRole::Ne),
+    Need::Role(Named::Rod, PlaceRole::Sw),
+    Need::Prop(Named::Bird, 1),
+    Need::Prop(Named::Door, 1),
+    Need::Prop(Named::Fissure, 1),
+    Need::Role(Named::Magazine, PlaceRole::Witt),
+    Need::Role(Named::Dwarf, PlaceRole::Dwarf1),
+    Need::Role(Named::Dwarf, PlaceRole::Dwarf2),
+    Need::Role(Named::Dwarf, PlaceRole::Dwarf3),
+    Need::Role(Named::Dwarf, PlaceRole::Dwarf4),
+    Need::Role(Named::Dwarf, PlaceRole::Dwarf5),
+    Need::Role(Named::Dwarf, PlaceRole::Dwarfalt),
+    Need::Prop(Named::Bottle, 1),
+    Need::Prop(Named::Bottle, 2),
+    Need::Prop(Named::Plant, 2),
+    Need::Prop(Named::Plant, 4),
+    Need::Prop(Named::SecondPlant, 1),
+    Need::Prop(Named::SecondPlant, 2),
+    Need::Prop(Named::Axe, 1),
+    Need::Prop(Named::Dragon, 2),
+    Need::Prop(Named::Chasm, 1),
+    Need::Prop(Named::Troll, 1),
+    Need::Prop(Named::Bear, 1),
+    Need::Prop(Named::Bear, 2),
+    Need::Prop(Named::Bear, 3),
+    Need::Role(Named::Message, PlaceRole::Message),
+    Need::Prop(Named::Batteries, 1),
+    Need::Role(Named::Chest, PlaceRole::Chest),
+    Need::Prop(Named::Vase, 2),
+    Need::Role(Named::Pearl, PlaceRole::Culdesac),
+    Need::Prop(Named::Chain, 2),
+];
+
+/// What rules ask of objects.
+#[tactic(auto, unfolding(crate::specs::Needs::needs))]
+pub(crate) fn each_need() -> &'static [Need]
+    ensures { result.now ≡ needs }
+{
+    &NEEDS
+}
+
+fn is_bound(cave: &Cave, role: PlaceRole) -> bool
+    ensures { result ≡ is_bound cave.now role }
+{
+    cave.place(role).is_some()
+}
+
+fn is_of(cave: &Cave, lexicon: &Lexicon, object: u16, named: Named) -> bool
+    requires { IsLexiconOf cave.now lexicon.now }
+    ensures { result ≡ is_of cave.now object named }
+{
+    is_number(object, lexicon.named(cave, named))
+}
+
+/// What an object lacks of what rules ask.
+pub(crate) fn need_flaw(cave: &Cave, lexicon: &Lexicon, object: u16, need: Need) -> Option<CaveFlaw>
+    requires { IsLexiconOf cave.now lexicon.now }
+    ensures { result ≡ need_flaw cave.now object need }
+{
+    match need {
+        Need::Prop(named, prop)
+            if is_of(cave, lexicon, object, named) && !cave.look(object, prop).is_some() => {
+            Some(CaveFlaw::PropTextless(object, prop))
+        }
+        Need::Role(named, role) if is_of(cave, lexicon, object, named) && !is_bound(cave, role) => {
+            Some(CaveFlaw::PlaceUnbound(role.number(), object))
+        }
+        _ => None,
+    }
+}
+
+/// Whether a dwarf has a place.
+fn has_dwarf(cave: &Cave) -> bool
+    ensures { result ≡ has_dwarf cave.now }
+{
+    is_bound(cave, PlaceRole::Dwarf1)
+        || is_bound(cave, PlaceRole::Dwarf2)
+        || is_bound(cave, PlaceRole::Dwarf3)
+        || is_bound(cave, PlaceRole::Dwarf4)
+        || is_bound(cave, PlaceRole::Dwarf5)
+}
+
+/// Whether players need an object that no rule brings.
+fn is_tool(cave: &Cave, lexicon: &Lexicon, object: u16) -> bool
+    requires { IsLexiconOf cave.now lexicon.now }
+    ensures { result ≡ is_tool cave.now object }
+{
+    is_of(cave, lexicon, object, Named::Keys)
+        || is_of(cave, lexicon, object, Named::Lamp)
+        || is_of(cave, lexicon, object, Named::Bird)
+        || (is_of(cave, lexicon, object, Named::Axe) && !has_dwarf(cave))
+}
+
+/// Whether a row begins the inventory text of such an object that is nowhere.
+pub(crate) fn is_missing(cave: &Cave, lexicon: &Lexicon, object: u16, before: &[MarkedRow]) -> bool
+    requires { IsLexiconOf cave.now lexicon.now }
+    ensures { result ≡ is_missing cave.now object before.now }
+{
+    is_tool(cave, lexicon, object) && !any_name(before, object) && !is_placed(cave, object)
+}
