@@ -27,6 +27,7 @@ free_before (change ∷ changes) log fault is =
         → fault_of_all (take fault.at (change ∷ changes)) log 0 ≡ None
     by_meter true is = let zeroth : fault.at ≡ 0 = cc in rw zeroth refl
     by_meter false is = cc
+
     by_fault : (found : Option GroupFault) → fault_of_all (change ∷ changes) log 0 ≡ found
         → or_group_meter_full found (log_after_all (change ∷ changes) log) (2 ^ 64 - 1) ≡ Some fault
         → fault_of_all (take fault.at (change ∷ changes)) log 0 ≡ None
@@ -53,4 +54,4 @@ module _ (place : ℕ) (text : List ℕ) (log : List (List ℕ)) (at : ℕ) wher
   pub nearest-end : (found : Option ℕ) → length log ≤ at
       → nearest_from place text at found (drop at log) ≡ found
   nearest-end found past =
-      ap (λ some. nearest_from place text at found some) (drop_all log at past)
+      ap (λ some. nearest_from place text at found some) (drop_all at log past)

@@ -65,7 +65,8 @@ module _ (guard : Expectation) (expected : ExpectedLine) (lines : ℕ) where
   same_line line is = by_test (bytes_eq line guard.text) refl is
     where
       by_test : (test : Bool) → bytes_eq line guard.text ≡ test
-          → cond {A = Option Refusal} test None (Some (OtherLine guard.line (kept_line line) expected))
+          → cond {A = Option Refusal} test None
+          (Some (OtherLine guard.line (kept_line line) expected))
           ≡ None → line ≡ guard.text
       by_test true e h = (bytes_eq-Decides line guard.text).0 e
       by_test false e h = cc
@@ -88,7 +89,8 @@ module _ (guard : Expectation) (expected : ExpectedLine) (lines : ℕ) where
   differs line other = by_test (bytes_eq line guard.text) refl
     where
       by_test : (test : Bool) → bytes_eq line guard.text ≡ test
-          → cond {A = Option Refusal} test None (Some (OtherLine guard.line (kept_line line) expected))
+          → cond {A = Option Refusal} test None
+          (Some (OtherLine guard.line (kept_line line) expected))
           ≡ Some (OtherLine guard.line (kept_line line) expected)
       by_test true e = absurd (other (ap Some ((bytes_eq-Decides line guard.text).0 e)))
       by_test false e = refl
@@ -274,7 +276,8 @@ module _ (edits : List Edit) (log : List (List ℕ)) (count : ℕ)
   pub free-reached : after ≤ count → fault_of_all before_reached log 0 ≡ None
   free-reached within =
       let yes : nat_le after count ≡ true = grind (arith, nat_tests, within) in
-      none_from _ (ap (λ some. is_none (fault_of_all some log 0)) (same_before within) ∙ is_free ∙ yes)
+      none_from _
+      (ap (λ some. is_none (fault_of_all some log 0)) (same_before within) ∙ is_free ∙ yes)
 
   pub unmet-reached : after ≤ count → (now : List (List ℕ)) → now ≡ log_after_all before_reached log
       → unmet (changes_of edits) guard log ≡ other_line_in guard now
@@ -345,7 +348,8 @@ without_guards item game met =
     by_refusal : (found : Option GroupFault)
         → game_left item (option_or (first_unmet item.changes item.guards game.log)
         (option_map (edit_refusal item game.log) found)) game
-        ≡ game_left (guarded_by [] item) (option_map (edit_refusal (guarded_by [] item) game.log) found) game
+        ≡ game_left (guarded_by [] item)
+        (option_map (edit_refusal (guarded_by [] item) game.log) found) game
     by_refusal None = rw met refl
     by_refusal (Some fault) = rw met refl
 

@@ -16,6 +16,7 @@ use Rattle.play_edits.specs.Refusal.{refusal_line, refusal_number, shown_kept_li
 use Rattle.play_edits.specs.declared.outcome.Standing.{Standing}
 use Rattle.base_lines.specs.declared.line_flaw.LineFlaw.{LineFlaw}
 use Rattle.base_lines.specs.declared.line_flaw.LineFlaw.TheVariants.{Byte, Long}
+use Rattle.play_edits.specs.declared.refusal.KeptLine.{KeptLine}
 use Rattle.play_edits.specs.declared.refusal.EditDetail.{EditDetail}
 use Rattle.play_edits.specs.declared.refusal.EditDetail.TheVariants.{Flaw, Lines, Nothing}
 use Rattle.play_edits.specs.declared.refusal.ExpectedLine.{ExpectedLine}
@@ -58,13 +59,14 @@ edit_detail_text (Flaw flaw) = codes ": " ++ flaw_text flaw
 abbrev pub place_text : ℕ → List ℕ
 place_text place = codes ", which is at " ++ decimal place
 
+abbrev pub expected_words : KeptLine → List ℕ
+expected_words line = codes "; expected " ++ shown_kept_line line
+
 -- the line that a guard expects, and where the log has it
 abbrev pub expected_text : ExpectedLine → List ℕ
 expected_text Impossible = codes "; expected a line that no log may have"
-expected_text (Nowhere line) =
-    codes "; expected " ++ (shown_kept_line line ++ codes ", which is nowhere")
-expected_text (At line at) =
-    codes "; expected " ++ (shown_kept_line line ++ place_text at)
+expected_text (Nowhere line) = expected_words line ++ codes ", which is nowhere"
+expected_text (At line at) = expected_words line ++ place_text at
 
 -- what is known beyond the reason of a refusal: the line that the log has, and what was wanted
 abbrev pub refusal_detail : Refusal → List ℕ

@@ -1,6 +1,6 @@
 -- Why an item of a script is refused.
-use Rattle.std.specs.Prelude.{◌≡◌, ◌≤◌, ℕ, ◌+◌, ◌-◌, ◌^◌, ◌++◌, nat_le, nat_lt, List, [], ◌∷◌, length}
-use Rattle.std.specs.Prelude.{take, replicate}
+use Rattle.std.specs.Prelude.{◌≡◌, ◌≤◌, ℕ, ◌+◌, ◌-◌, ◌^◌, ◌++◌, nat_le, nat_lt, List, [], ◌∷◌}
+use Rattle.std.specs.Prelude.{length, take, replicate}
 use Rattle.std.specs.Prelude.{bytes_eq, Option, None, Some, option_map, is_none, slice_get}
 use Rattle.std.specs.Prelude.{if◌then◌else◌}
 use Rattle.std.specs.Option.{option_map_or, option_or}
@@ -67,8 +67,8 @@ refusal_line (OtherLine at line expected) = at
 abbrev pub distance : ℕ → ℕ → ℕ
 distance one other = (one - other) + (other - one)
 
--- of a place that was found, if one was, and a later one, the one nearer to `place`; of two that are
--- as near, the first
+-- of a place that was found, if one was, and a later one, the one nearer to `place`; of two that
+-- are as near, the first
 abbrev pub nearer : ℕ → Option ℕ → ℕ → Option ℕ
 nearer place None later = Some later
 nearer place (Some found) later =
@@ -108,8 +108,8 @@ unfoldable pub group_refusal : List Change → List (List ℕ) → Option GroupF
 group_refusal changes log = group_fault changes log (2 ^ 64 - 1)
 
 -- the line that the change with this number puts into a log, if it puts one
-unfoldable pub line_of_change : List Change → ℕ → List ℕ
-line_of_change changes at = option_map_or own_line (slice_get changes at) []
+unfoldable pub line_of_edit : List Change → ℕ → List ℕ
+line_of_edit changes at = option_map_or own_line (slice_get changes at) []
 
 -- what is known beyond the fault of a change: how many lines the log has that the changes before it
 -- leave, or what is wrong with its line
@@ -121,7 +121,7 @@ detail_by _ lines flaw = Nothing
 unfoldable pub edit_detail : List Change → List (List ℕ) → GroupFault → EditDetail
 edit_detail changes log fault =
     detail_by fault.cause (length (log_after_all (take fault.at changes) log))
-    (flaw_of (line_of_change changes fault.at))
+    (flaw_of (line_of_edit changes fault.at))
 
 -- an item is refused for a fault of one of its changes
 abbrev pub edit_refusal : Applied → List (List ℕ) → GroupFault → Refusal

@@ -10,7 +10,7 @@ ghost use Rattle.replay_edits.specs.Faults.{fault_of_all, log_after_all};
 ghost use Rattle.replay_scripts.specs.Views.{applied_item, expectation_in};
 ghost use Rattle.play_edits.specs.Refusal.{distance, edit_detail, edit_refusal, expected_by};
 ghost use Rattle.play_edits.specs.Refusal.{expected_line, found_with, group_refusal};
-ghost use Rattle.play_edits.specs.Refusal.{line_of_change, log_in, nearer, nearest};
+ghost use Rattle.play_edits.specs.Refusal.{line_of_edit, log_in, nearer, nearest};
 
 use crate::refusal::{EditDetail, ExpectedLine, KeptLine, Refusal};
 use base_lines::limits::is_long_line;
@@ -39,7 +39,8 @@ fn nearer(place: usize, found: Option<usize>, later: usize) -> Option<usize>
 
 /// The place nearest to `place` at which a draft, which has this many lines, has this line.
 fn nearest(place: usize, text: &[u8], draft: &Draft<'_>, lines: usize) -> Option<usize>
-    requires draft { IsDraft (edits_in draft.now) (log_before draft.now) (made_in draft.now) draft.now }
+    requires draft { IsDraft (edits_in draft.now) (log_before draft.now) (made_in draft.now)
+        draft.now }
     requires lines { lines ≡ length (log_in draft.now) }
     ensures { result ≡ nearest place text.now (log_in draft.now) }
 {
@@ -90,8 +91,10 @@ fn expected_by(text: &[u8], place: Option<usize>) -> ExpectedLine
 
 /// The line that a guard expects, with the place nearest to the guard's where the draft, which has
 /// this many lines, has it.
+#[tactic(auto, unfolding(crate::specs::Refusal::expected_line, base_lines::specs::Line::is_line))]
 pub(crate) fn expected_line(guard: &Guard, draft: &Draft<'_>, lines: usize) -> ExpectedLine
-    requires draft { IsDraft (edits_in draft.now) (log_before draft.now) (made_in draft.now) draft.now }
+    requires draft { IsDraft (edits_in draft.now) (log_before draft.now) (made_in draft.now)
+        draft.now }
     requires lines { lines ≡ length (log_in draft.now) }
     ensures { result ≡ expected_line (expectation_in guard.now) (log_in draft.now) }
 {
@@ -142,9 +145,9 @@ fn flaw_of(line: &[u8]) -> LineFlaw
 }
 
 /// The line that the edit with this number puts into a log, if it puts one.
-#[tactic(auto, unfolding(crate::specs::Refusal::line_of_change))]
+#[tactic(auto, unfolding(crate::specs::Refusal::line_of_edit))]
 fn line_of_edit(edits: &[Edit], at: usize) -> &[u8]
-    ensures { result.now ≡ line_of_change (changes_of edits.now) at }
+    ensures { result.now ≡ line_of_edit (changes_of edits.now) at }
 {
     match edits.get(at) {
         Some(Edit::Insert(_, line)) | Some(Edit::Replace(_, line)) => line.as_slice(),

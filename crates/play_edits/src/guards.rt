@@ -51,7 +51,7 @@ fn first_unmet(
         let after = guard.after.min(edits.len());
         if after <= free.len() {
             move_to(alloc, free, log, &mut draft, after)?;
-            if let Some(refused) = unmet_now(guard, log, &free[..after], &draft) {
+            if let Some(refused) = other_line_now(guard, log, &free[..after], &draft) {
                 return Ok(Some(refused));
             }
         }
@@ -93,13 +93,14 @@ fn move_to<'a>(
 }
 
 /// The refusal for a guard if the log after these edits, which is a draft, doesn't meet it.
-fn unmet_now(
+fn other_line_now(
     guard: &Guard,
     log: &Blocks<LineText>,
     before: &[Edit],
     draft: &Draft<'_>,
 ) -> Option<Refusal>
-    requires draft { IsDraft (edits_in draft.now) (log_before draft.now) (made_in draft.now) draft.now }
+    requires draft { IsDraft (edits_in draft.now) (log_before draft.now) (made_in draft.now)
+        draft.now }
     requires free { fault_of_all (changes_of before.now) (log_of log.now.items) 0 ≡ None }
     requires now { log_in draft.now
         ≡ log_after_all (changes_of before.now) (log_of log.now.items) }
@@ -110,17 +111,12 @@ fn unmet_now(
         return None;
     }
     let lines = lines_after(before, log.len());
-    Some(refusal_by(guard, expected_line(guard, draft, lines), lines, line))
+    Some(other_line(guard, expected_line(guard, draft, lines), lines, line))
 }
 
 /// The refusal for a guard, which expects this line, if the log has this many lines, and another
 /// line at the guard's place, or none.
-fn refusal_by(
-    guard: &Guard,
-    expected: ExpectedLine,
-    lines: usize,
-    line: Option<&[u8]>,
-) -> Refusal
+fn other_line(guard: &Guard, expected: ExpectedLine, lines: usize, line: Option<&[u8]>) -> Refusal
     requires { ¬ (option_map (λ line. line.now) line ≡ Some guard.now.text.items) }
     ensures { let there = option_map (λ line. line.now) line.entry in
         Some result ≡ other_line (expectation_in guard.now) expected lines there }

@@ -53,16 +53,6 @@ pub enum EditDetail {
     Flaw(LineFlaw),
 }
 
-impl fmt::Display for EditDetail {
-    fn fmt<W: fmt::Write>(&self, f: &mut fmt::Formatter<W>) -> fmt::Result {
-        match self {
-            EditDetail::Nothing => Ok(()),
-            EditDetail::Lines(lines) => write!(f, ": the log has {lines}"),
-            EditDetail::Flaw(flaw) => write!(f, ": {flaw}"),
-        }
-    }
-}
-
 /// The line that a guard expects.
 #[derive(Clone, Copy, Debug, PartialEq, Eq)]
 pub enum ExpectedLine {
@@ -72,22 +62,6 @@ pub enum ExpectedLine {
     Nowhere(KeptLine),
     /// The log has it at this place, and at none that is nearer to the guard's.
     At(KeptLine, usize),
-}
-
-impl fmt::Display for ExpectedLine {
-    fn fmt<W: fmt::Write>(&self, f: &mut fmt::Formatter<W>) -> fmt::Result {
-        match self {
-            ExpectedLine::Impossible => write!(f, "; expected a line that no log may have"),
-            ExpectedLine::Nowhere(line) => {
-                let line = str::from_utf8(line.as_slice()).unwrap_or("");
-                write!(f, "; expected {line}, which is nowhere")
-            }
-            ExpectedLine::At(line, place) => {
-                let line = str::from_utf8(line.as_slice()).unwrap_or("");
-                write!(f, "; expected {line}, which is at {place}")
-            }
-        }
-    }
 }
 
 /// Why an item of a script is refused, as reports say it, with the line of the script that they
@@ -131,6 +105,32 @@ impl Refusal {
             Refusal::Edit(_, fault, _) => edit_words(fault),
             Refusal::NoLine(_, _, _) => "no line",
             Refusal::OtherLine(_, _, _) => "another line: ",
+        }
+    }
+}
+
+impl fmt::Display for EditDetail {
+    fn fmt<W: fmt::Write>(&self, f: &mut fmt::Formatter<W>) -> fmt::Result {
+        match self {
+            EditDetail::Nothing => Ok(()),
+            EditDetail::Lines(lines) => write!(f, ": the log has {lines}"),
+            EditDetail::Flaw(flaw) => write!(f, ": {flaw}"),
+        }
+    }
+}
+
+impl fmt::Display for ExpectedLine {
+    fn fmt<W: fmt::Write>(&self, f: &mut fmt::Formatter<W>) -> fmt::Result {
+        match self {
+            ExpectedLine::Impossible => write!(f, "; expected a line that no log may have"),
+            ExpectedLine::Nowhere(line) => {
+                let line = str::from_utf8(line.as_slice()).unwrap_or("");
+                write!(f, "; expected {line}, which is nowhere")
+            }
+            ExpectedLine::At(line, place) => {
+                let line = str::from_utf8(line.as_slice()).unwrap_or("");
+                write!(f, "; expected {line}, which is at {place}")
+            }
         }
     }
 }

@@ -5,7 +5,7 @@ ghost use Rattle.replay_scripts.specs.Views.{applied_item};
 ghost use Rattle.replay_scripts.specs.ScriptText.{groups_in};
 ghost use Rattle.play_edits.specs.Accounts.{account_by, ending_text, ending_words, met_text};
 ghost use Rattle.play_edits.specs.Accounts.{edit_detail_text, expected_text, flaw_text, lines_text};
-ghost use Rattle.play_edits.specs.Accounts.{place_text};
+ghost use Rattle.play_edits.specs.Accounts.{expected_words, place_text};
 ghost use Rattle.play_edits.specs.Accounts.{refusal_detail, refusal_text, replay_text};
 ghost use Rattle.play_edits.specs.Accounts.{standing_text, totals_line};
 ghost use Rattle.play_edits.specs.Edits.{LogReadsBack, text_at_end, text_at_start};
@@ -13,7 +13,7 @@ ghost use Rattle.play_edits.specs.Items.{item_report_by};
 ghost use Rattle.play_edits.specs.Outcome.{refusal_in, standing_of};
 
 use crate::outcome::{Standing, Totals, standing_of};
-use crate::refusal::{EditDetail, ExpectedLine, Refusal};
+use crate::refusal::{EditDetail, ExpectedLine, KeptLine, Refusal};
 use base_lines::LineFlaw;
 use cave_replay::{Done, Session};
 use cave_world::Ending;
@@ -194,7 +194,8 @@ fn push_flaw(alloc: Global, text: &mut Vec<u8>, flaw: LineFlaw) -> Result<(), Al
             "the line has {bytes} bytes, and a line of a log has at most 255"
         )?,
         LineFlaw::Byte(byte, column) => format!(in alloc;
-            "the byte in column {column} is {byte}, and a line of a log has printable ASCII, 32 to 126, and tabs"
+            "the byte in column {column} is {byte}, and a line of a log has printable ASCII, \
+             32 to 126, and tabs"
         )?,
     };
     text.extend_from_slice(told.as_bytes())
@@ -209,11 +210,7 @@ fn push_lines(alloc: Global, text: &mut Vec<u8>, lines: usize) -> Result<(), All
 }
 
 /// Writes what is known beyond the fault of an edit.
-fn push_edit_detail(
-    alloc: Global,
-    text: &mut Vec<u8>,
-    detail: EditDetail,
-) -> Result<(), AllocError>
+fn push_edit_detail(alloc: Global, text: &mut Vec<u8>, detail: EditDetail) -> Result<(), AllocError>
     ensures { OnOk result (text.new.items ≡ text.old.items ++ edit_detail_text detail) }
 {
     match detail {
@@ -234,6 +231,14 @@ fn push_place(alloc: Global, text: &mut Vec<u8>, place: usize) -> Result<(), All
     text.extend_from_slice(told.as_bytes())
 }
 
+/// Writes which line a guard expects.
+fn push_expected_words(text: &mut Vec<u8>, line: &KeptLine) -> Result<(), AllocError>
+    ensures { OnOk result (text.new.items ≡ text.old.items ++ expected_words line.now) }
+{
+    text.extend_from_slice(b"; expected ")?;
+    text.extend_from_slice(line.as_slice())
+}
+
 /// Writes which line a guard expects, and where the log has it.
 fn push_expected(
     alloc: Global,
@@ -247,13 +252,11 @@ fn push_expected(
             text.extend_from_slice(b"; expected a line that no log may have")
         }
         ExpectedLine::Nowhere(line) => {
-            text.extend_from_slice(b"; expected ")?;
-            text.extend_from_slice(line.as_slice())?;
+            push_expected_words(text, line)?;
             text.extend_from_slice(b", which is nowhere")
         }
         ExpectedLine::At(line, place) => {
-            text.extend_from_slice(b"; expected ")?;
-            text.extend_from_slice(line.as_slice())?;
+            push_expected_words(text, line)?;
             push_place(alloc, text, *place)
         }
     }

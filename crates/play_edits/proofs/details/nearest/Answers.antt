@@ -12,8 +12,9 @@ loop-at-preserved c =
     let at = c.loop-at.at in
     let inside : at < length log = omega (arith, c.loop-at-test.true, c.requires.lines) in
     ap (λ found. nearest_from place text (at + 1) found (drop (at + 1) log))
-    (c.found_with.ensures ∙ ap (λ line. option_map_or (found_with place text c.loop-at.found at) line
-    c.loop-at.found) c.line.ensures)
+    (c.found_with-found.ensures
+    ∙ ap (λ line. option_map_or (found_with place text c.loop-at.found at) line c.loop-at.found)
+    c.line.ensures)
     ∙ sym (nearest-more place text log at c.loop-at.found inside) ∙ c.loop-at.invariant
 
 pub returns : goal.returns

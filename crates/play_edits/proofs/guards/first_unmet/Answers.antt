@@ -1,4 +1,4 @@
-use Rattle.std.proofs.Common.{take, sym, ◌∙◌, arith}
+use Rattle.std.proofs.Common.{◌≤◌, take, sym, ◌∙◌, arith}
 use Rattle.std.proofs.lemmas.List.{length-take-le}
 use Rattle.replay_edits.specs.Edit.{changes_of, log_of}
 use Rattle.replay_scripts.specs.Views.{expectation_in}
@@ -37,10 +37,11 @@ returns-in-Some c =
     (within_edits edits log c.free_count.result counted) in
     let now = log_reached edits c.args.log.now.items c.free_count.result c.min-after.result
     c.move_to.new.draft c.in_ok-move_to.ensures in
-    let reached = omega (arith, c.if-after-free.true, free) in
+    let reached : c.min-after.result ≤ c.free_count.result =
+    omega (arith, c.if-after-free.true, free) in
     let is = unmet-reached edits log c.free_count.result counted guard c.min-after.result
     c.min-after.ensures reached _ now in
-    let found = is ∙ sym c.unmet_now.ensures ∙ c.in-Some.is in
+    let found = is ∙ sym c.other_line_now.ensures ∙ c.in-Some.is in
     sym (sym c.loop-guard.invariant.met
     ∙ first_unmet-here (changes_of edits) log c.args.guards.now c.loop-guard.guard-index
     c.guard-item.result c.in-Some.refused c.loop-guard-test.true c.guard-item.is found)
@@ -61,11 +62,12 @@ loop-guard-preserved c =
       | then-after-free+in_ok-move_to+in_default w ↦
           let now = log_reached edits c.args.log.now.items c.free_count.result c.min-after.result
           w.move_to.new.draft w.in_ok-move_to.ensures in
-          let reached = omega (arith, w.if-after-free.true, free) in
+          let reached : c.min-after.result ≤ c.free_count.result =
+          omega (arith, w.if-after-free.true, free) in
           let is = unmet-reached edits log c.free_count.result counted guard c.min-after.result
           c.min-after.ensures reached _ now in
           record {
-            met = more (is ∙ sym w.unmet_now.ensures ∙ w.in_default.is) ∙ before.met;
+            met = more (is ∙ sym w.other_line_now.ensures ∙ w.in_default.is) ∙ before.met;
             draft = rw w.draft-is (draft_own (take c.free_count.result edits) c.args.log.now.items
                 c.min-after.result w.move_to.new.draft w.in_ok-move_to.ensures);
           }
@@ -77,8 +79,8 @@ loop-guard-preserved c =
           }
     ]
 
-pub unmet_now-requires-clause-free : goal.unmet_now-requires-clause-free
-unmet_now-requires-clause-free c =
+pub other_line_now-requires-clause-free : goal.other_line_now-requires-clause-free
+other_line_now-requires-clause-free c =
     let edits = c.args.edits.now in
     let log = log_of c.args.log.now.items in
     let counted =
@@ -89,7 +91,7 @@ unmet_now-requires-clause-free c =
     free-reached edits log c.free_count.result counted guard c.min-after.result
     c.min-after.ensures (omega (arith, c.if-after-free.true, free))
 
-pub unmet_now-requires-clause-now : goal.unmet_now-requires-clause-now
-unmet_now-requires-clause-now c =
+pub other_line_now-requires-clause-now : goal.other_line_now-requires-clause-now
+other_line_now-requires-clause-now c =
     log_reached c.args.edits.now c.args.log.now.items c.free_count.result c.min-after.result
     c.move_to.new.draft c.in_ok-move_to.ensures
