@@ -26,8 +26,8 @@ PRINTS = {"check": ["maximum", "bindings", "names", "unused", "doubts"],
                    "state"],
           "cover": ["counts", "texts", "rules"]}
 OPTIONS = {"--bind": "FILE", "--seed": "N", "--every": "K", "--print": "WHAT", "--strict": None,
-           "--guarded": None, "--edit": "EDIT"}
-LETTERS = {"-b": "--bind", "-s": "--seed", "-p": "--print", "-e": "--edit"}
+           "--guarded": None, "--edit": "EDIT", "--quiet": None}
+LETTERS = {"-b": "--bind", "-s": "--seed", "-p": "--print", "-e": "--edit", "-q": "--quiet"}
 KNOWN = {"check": ["--bind", "--print", "--strict"], "play": ["--bind", "--seed", "--print"],
          "edit": OPTIONS, "cover": ["--bind", "--seed", "--print"]}
 
@@ -124,7 +124,7 @@ def judged_options(command, files, options):
     if command == "edit" and len(files) == 2 and "--edit" not in options:
         raise wrong("SCRIPT, '--edit <EDIT>' or '--to <FILE>' is wanted")
     return {"edit": options.get("--edit"), "bind": options.get("--bind"), "print": prints, "strict": "--strict" in options,
-            "guarded": "--guarded" in options,
+            "guarded": "--guarded" in options, "quiet": "--quiet" in options,
             "seed": seed}
 
 def number_in(option, text, least, most):
@@ -226,18 +226,22 @@ def small(text, name):
         raise Stop(6, f"cave: {name} {more}\n")
     return text
 
-def run_edit(cave, file, log, script, log_ends, options):
-    """Edits a log by a script, and gives what is printed: its lines, or a text with its own ends."""
+def run_edit(cave, file, log, script, log_ends, options, told):
+    """Edits a log by a script, and gives what is printed: its lines, or a text with its own ends.
+    What is said on standard error is added to `told`."""
     seed, reports, backs, rows = options["seed"], [], [], []
     replays = options["print"] in ("reports", "table")
+    is_told = not (replays or options["print"] == "transcript" or options["quiet"])
     before, played, wanted = edits.play(cave, seed, log, True) if replays else None, 0, 0
     for group in script:
         try:
             new_seed, new_log = edits.apply_group(group, seed, log)
         except edits.Refused as refused:
             said, words = f"refused {refused.fault}", f", {refused.words}"
+            line = f"cave: {file}:{refused.line}: {said}{words}\n"
             if options["strict"]:
-                raise Stop(4, f"cave: {file}:{refused.line}: {said}{words}\n") from None
+                raise Stop(4, line) from None
+            told += [line] * is_told
             reports.append(f"line {refused.line}: {said}{words if replays else ''}")
             rows.append([refused.line, edits.words_of(group), "", said, *["-"] * 8])
             continue
@@ -283,8 +287,9 @@ def run_cover(cave, names, files, options):
         said |= edits.play(cave, options["seed"], log).game.said
     return cover.report(cave, said, len(names), options["print"])
 
-def run_words(words):
-    """What a run prints, as lines or as a text; a fault of it ends it by `Stop`."""
+def run_words(words, told):
+    """What a run prints, as lines or as a text; a fault of it ends it by `Stop`. What else is said
+    on standard error is added to `told`, as lines."""
     command, names, options = words_of(words)
     bind, in_order = options["bind"], names[:1] + [options["bind"]] + names[1:]
     files = [None if it is None else opened(it) for it in in_order]
@@ -306,7 +311,7 @@ def run_words(words):
             "--edit", "".join(it + "\n" for it in options["edit"]))
         script = judged_as(4, name, edits.script_of, text, options["guarded"])
         log_ends = ends.Ends(log_text, text)
-        return run_edit(cave, name, log, script, log_ends, options)
+        return run_edit(cave, name, log, script, log_ends, options, told)
     if options["print"] == "steps":
         return edits.steps(cave, options["seed"], log)
     if options["print"] == "walk":
@@ -317,9 +322,10 @@ def run_words(words):
 
 def run(words):
     """The status, the output and what is said on standard error, as bytes."""
+    told = []
     try:
-        printed = run_words(words)
+        printed = run_words(words, told)
         text = printed if isinstance(printed, str) else "".join(it + "\n" for it in printed)
-        return 0, text.encode("latin-1"), b""
+        return 0, text.encode("latin-1"), "".join(told).encode("latin-1")
     except Stop as stop:
         return stop.status, b"", stop.message.encode()

@@ -6,6 +6,7 @@ pub mod InputLemmas
 mod JudgeLemmas
 mod OneOutputLemmas
 mod RefusalLemmas
+mod RefusedLemmas
 mod RunLemmas
 mod ScriptLemmas
 pub mod StageLemmas

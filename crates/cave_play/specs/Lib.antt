@@ -9,6 +9,7 @@ pub mod Run
 pub mod Output
 pub mod Views
 pub mod Ended
+pub mod Refused
 pub mod Size
 pub mod Bytes
 pub mod GuardLaws

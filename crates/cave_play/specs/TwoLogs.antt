@@ -15,10 +15,11 @@ use Rattle.cave_play.specs.Input.{InputTexts}
 use Rattle.cave_play.specs.Judge.{log_fault}
 use Rattle.cave_play.specs.Run.{IsFoundIn, Runs, RunsWith}
 use Rattle.cave_play.specs.Stages.{Stage, edit_stages, first_decided, log_stage, reading_stage}
-use Rattle.cave_play.specs.Ended.{IsEdited}
+use Rattle.cave_play.specs.Refused.{IsEditRun}
 use Rattle.cave_play.specs.declared.fault.Input.TheVariants as input
 use Rattle.cave_play.specs.declared.fault.PlayFault.{PlayFault}
 use Rattle.cave_play.specs.declared.fault.PlayFault.TheVariants as fault
+use Rattle.cave_play.specs.declared.edits.EditRun.{EditRun}
 use Rattle.cave_play.specs.declared.two_logs.Compared.{Compared}
 use Rattle.cave_play.specs.declared.two_logs.ReadLog.{ReadLog}
 
@@ -80,20 +81,20 @@ abbrev pub form_of : Editing → ScriptForm
 form_of editing = record { guarded = editing.guarded; grouped = false }
 
 -- one of two logs is refused, and nothing is written
-abbrev pub IsUncompared : InputTexts → Option (List ℕ) → Option (List ℕ) → Result ℕ PlayFault
-    → Type 0
+abbrev pub IsUncompared : InputTexts → Option (List ℕ) → Option (List ℕ)
+    → Result EditRun PlayFault → Type 0
 IsUncompared texts old new ended = (found : PlayFault) × (ended ≡ Err found)
     × IsFoundIn (two_logs_stages texts.log texts.script) found × Keeps old new
 
 -- what a run leaves that edits a log so that it becomes another: what the run of a script leaves
 -- that makes the new log of the old one; or one of the logs is refused
 abbrev pub RunsEditTo : InputTexts → Editing → Option (List ℕ) → Option (List ℕ)
-    → Result ℕ PlayFault → Type 0
+    → Result EditRun PlayFault → Type 0
 RunsEditTo texts editing old new ended =
     IsUncompared texts old new ended
     ⊎ ((script : List ℕ) × IsDifferenceOf (form_of editing) texts.log texts.script script
     × RunsWith (edit_stages texts.database texts.bindings texts.log script editing)
-    (IsEdited texts.database texts.bindings texts.log script editing) old new ended)
+    (IsEditRun texts.database texts.bindings texts.log script editing) old new ended)
 
 -- a script that makes one log of another leaves that log of a game that has the first
 abbrev pub DifferencesMakeTheLog : Type 0

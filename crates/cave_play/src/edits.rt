@@ -9,10 +9,11 @@ ghost use Rattle.replay_scripts.specs.Views.{applied_item, items_of};
 ghost use Rattle.replay_scripts.specs.ScriptText.{groups_in};
 ghost use Rattle.play_edits.specs.Edits.{Applies, IsApplied, kept_for, text_of_item};
 ghost use Rattle.play_machine.specs.HeldGame.{HoldsGame};
-ghost use Rattle.cave_play.specs.Ended.{IsEndedEditOf, ends_after_items, ends_left};
+ghost use Rattle.cave_play.specs.Ended.{ends_after_items, ends_left};
 ghost use Rattle.cave_play.specs.Input.{Says};
 ghost use Rattle.play_edits.specs.Items.{game_after_items};
 ghost use Rattle.play_edits.specs.Outcome.{refusal_in};
+ghost use Rattle.cave_play.specs.Refused.{IsMadeOf, refusal_list, refusals};
 ghost use Rattle.cave_play.specs.Run.{Judges};
 ghost use Rattle.cave_play.specs.Stages.{script_stage, strict_stage};
 ghost use Rattle.cave_play.specs.Strict.{first_strict_fault, strict_fault, strict_fault_by};
@@ -29,13 +30,22 @@ use replay_scripts::{BackEdit, Item, Script};
 use std::alloc::{AllocError, Global};
 use std::io::Read;
 
-/// What edits of a log made: the text of the view, how many lines were played for them, and how the
-/// lines of the log end.
+/// What edits of a log made: the text of the view, how many lines were played for them, how the
+/// lines of the log end, and why items were refused.
 #[derive(Drop)]
 pub(crate) struct Edited {
     pub(crate) text: Vec<u8>,
     pub(crate) played: u64,
     pub(crate) ends: LogEnds,
+    pub(crate) refused: Vec<Refusal>,
+}
+
+/// What a run of edits returns beside its output: how many lines were played for the items, and why
+/// those of them were refused that were, in their order.
+#[derive(Debug, Drop)]
+pub struct EditRun {
+    pub played: u64,
+    pub refused: Vec<Refusal>,
 }
 
 /// What is kept of the items of a script, in addition to what is written of them.
@@ -45,6 +55,8 @@ struct Kept {
     backs: Vec<Vec<BackEdit>>,
     /// How the lines of the log end.
     ends: LogEnds,
+    /// Why items were refused.
+    refused: Vec<Refusal>,
 }
 
 /// What a script makes when it is applied to a session of the machine, over a log of these bytes.
@@ -61,29 +73,39 @@ pub(crate) fn edit_session<S: Read>(
     ensures judged { (edits : List ℕ) × Says (S.remaining script.old) edits
         × Judges (script_stage editing.guarded edits
         ∷ strict_stage editing.strict session.old.game editing.guarded edits ∷ [])
-        (λ edited. IsEndedEditOf editing.view session.old.machine.rules.cave.now session.old.every
-        session.old.game editing.guarded edits (log_ends log.now edits) edited.played
-        edited.text.items (shown_ends edited.ends)) result }
+        (IsMadeOf editing.view session.old.machine.rules.cave.now session.old.every
+        session.old.game editing.guarded edits (log_ends log.now edits)) result }
 {
     let read = read_script(alloc, script, editing.guarded)?;
     let mut text = Vec::new(alloc);
     let backs = Vec::new(alloc);
     let ends = LogEnds::of(alloc, log, &read.text)?;
-    let mut kept = Kept { backs, ends };
+    let refused = Vec::new(alloc);
+    let mut kept = Kept {
+        backs,
+        ends,
+        refused,
+    };
     push_start(editing.view, &mut text)?;
     let totals = apply(alloc, session, &read.script, editing, &mut text, &mut kept)?;
-    let Kept { mut backs, ends } = kept;
+    let Kept {
+        mut backs,
+        ends,
+        refused,
+    } = kept;
     backs.reverse();
     push_end(alloc, session, editing.view, totals, &backs, &mut text)?;
     Ok(Edited {
         text,
         played: totals.played,
         ends,
+        refused,
     })
 }
 
 /// Applies the items of a script to the held game, writes of each what the view asks for, and keeps
-/// what takes each back, if that is asked for, and how the lines of the log end.
+/// what takes each back, if that is asked for, how the lines of the log end, and why items are
+/// refused.
 fn apply(
     alloc: Global,
     session: &mut Session<CaveMachine<'_>>,
@@ -102,6 +124,8 @@ fn apply(
         (backs_of editing.guarded (items_of script.now.items) session.old.game)) }
     ensures ends { OnOk result (ends_after_items (items_of script.now.items) session.old.game
         (shown_ends kept.old.ends) ≡ shown_ends kept.new.ends) }
+    ensures noted { OnOk result (kept.new.refused.items
+        ≡ kept.old.refused.items ++ refusals (items_of script.now.items) session.old.game) }
     ensures accepted { OnOk result (first_strict_fault editing.strict (items_of script.now.items)
         session.old.game ≡ None) }
     ensures refused { IfErr result (λ found. (found ≡ PlayFault.Memory)
@@ -116,6 +140,7 @@ fn apply(
         let outcome = apply_judged(alloc, session, item, editing, text)?;
         totals = totals.with(&outcome);
         leave_ends(&mut kept.ends, item, &outcome)?;
+        note_refusal(&mut kept.refused, &outcome)?;
         keep_back(alloc, session, editing, outcome, &mut kept.backs)?;
     }
     Ok(totals)
@@ -133,6 +158,23 @@ fn leave_ends(
     match outcome {
         Ok(_) => ends.follow_item(item),
         Err(_) => Ok(()),
+    }
+}
+
+/// Keeps why an item was refused, if it was.
+fn note_refusal(
+    refused: &mut Vec<Refusal>,
+    outcome: &Result<Done, Refusal>,
+) -> Result<(), AllocError>
+    ensures { OnOk result (refused.new.items
+        ≡ refused.old.items ++ refusal_list (refusal_in outcome.now)) }
+{
+    match outcome {
+        Ok(_) => Ok(()),
+        Err(refusal) => {
+            refused.push(*refusal)?;
+            Ok(())
+        }
     }
 }
 

@@ -5,23 +5,22 @@ ghost use Rattle.cave_play.specs.Ended.{ended_view};
 ghost use Rattle.cave_play.specs.Size.{size_fault};
 ghost use Rattle.play_edits.specs.LogEnds.{shown_ends};
 
-use crate::edits::Edited;
 use crate::fault::PlayFault;
 use base_lines::limits::is_large_input;
 use play_command::EditView;
-use play_edits::ended_text;
+use play_edits::{LogEnds, ended_text};
 use std::alloc::{AllocError, Global};
 
-/// What is printed of what edits made, by the view.
+/// What is printed of a text that edits made, by the view, if the lines of the log end so.
 pub(crate) fn ended_view(
     alloc: Global,
     view: EditView,
-    edited: Edited,
+    ends: &LogEnds,
+    text: Vec<u8>,
 ) -> Result<Vec<u8>, AllocError>
-    ensures { IfOk result (λ text. text.items
-        ≡ ended_view view (shown_ends edited.ends) edited.text.items) }
+    ensures { IfOk result (λ made. made.items
+        ≡ ended_view view (shown_ends ends.now) text.items) }
 {
-    let Edited { text, ends, .. } = edited;
     match view {
         EditView::Log => ended_text(alloc, ends.usual, ends.unended, &ends.each, &text),
         EditView::Undo => ended_text(alloc, ends.usual, false, &[], &text),

@@ -24,6 +24,7 @@ pub use check_doubts::DoubtFiles;
 pub use check_tables::Clue;
 pub use data_rows::{Cause, CaveError, FaultSite, Role};
 pub use doubted::run_doubts;
+pub use edits::EditRun;
 pub use fault::{Complaint, Input, LogFault, PlayFault, ScriptFault, Unopened};
 pub use inputs::{CaveReaders, InputReader, Inputs};
 pub use play_command::{

@@ -10,10 +10,10 @@ ghost use Rattle.cave_play.specs.Output.{IsChecked, IsPlayed, play_view_text};
 ghost use Rattle.cave_play.specs.Run.{Judges, Runs, RunsWith};
 ghost use Rattle.cave_play.specs.Stages.{cave_stages, log_stage, script_stage, strict_stage};
 ghost use Rattle.cave_play.specs.Stages.{play_stages, edit_stages};
-ghost use Rattle.cave_play.specs.Ended.{IsEdited, IsEndedEditOf};
-ghost use Rattle.play_edits.specs.LogEnds.{log_ends, shown_ends};
+ghost use Rattle.cave_play.specs.Refused.{IsEditRun, IsMadeOf};
+ghost use Rattle.play_edits.specs.LogEnds.{log_ends};
 
-use crate::edits::{Edited, edit_session};
+use crate::edits::{EditRun, Edited, edit_session};
 use crate::ended::{check_size, ended_view};
 use crate::fault::{Input, PlayFault};
 use crate::inputs::Inputs;
@@ -81,17 +81,17 @@ pub fn run_play<C: Read, B: Read, L: Read, S: Read, W: Write>(
 /// the table of the edited log's lines, the same as JSON, the table of its score, or the state that
 /// it leads to. Each line of the edited log has the end that it has in the log. Returns how many
 /// lines were played for the items: the sum of what was played for each, which is within the bound
-/// of its replay.
+/// of its replay; and why items were refused, if some were.
 pub fn run_edit<C: Read, B: Read, L: Read, S: Read, W: Write>(
     alloc: Global,
     inputs: &mut Inputs<C, B, L, S>,
     editing: Editing,
     output: &mut W,
-) -> Result<u64, PlayFault>
+) -> Result<EditRun, PlayFault>
     ensures runs { (texts : InputTexts)
         × AreTextsOf C.remaining B.remaining L.remaining S.remaining inputs.old texts
         × RunsWith (edit_stages texts.database texts.bindings texts.log texts.script editing)
-        (IsEdited texts.database texts.bindings texts.log texts.script editing)
+        (IsEditRun texts.database texts.bindings texts.log texts.script editing)
         (W.contents output.old) (W.contents output.new) result }
 {
     check_seed(editing.seed)?;
@@ -100,11 +100,16 @@ pub fn run_edit<C: Read, B: Read, L: Read, S: Read, W: Write>(
     let made = edit_in_cave(alloc, &cave, &mut inputs.log, &mut inputs.script, editing);
     drop(cave);
     let edited = made?;
-    let played = edited.played;
-    let text = ended_view(alloc, editing.view, edited)?;
+    let Edited {
+        text,
+        played,
+        ends,
+        refused,
+    } = edited;
+    let text = ended_view(alloc, editing.view, &ends, text)?;
     check_size(editing.view, &text)?;
     write_output(output, &text)?;
-    Ok(played)
+    Ok(EditRun { played, refused })
 }
 
 /// What a view asks for of a play in a cave.
@@ -140,9 +145,8 @@ fn edit_in_cave<L: Read, S: Read>(
         × Judges (log_stage moves ∷ script_stage editing.guarded edits
         ∷ strict_stage editing.strict (game_of editing.seed (lines moves)) editing.guarded edits
         ∷ [])
-        (λ edited. IsEndedEditOf editing.view cave.now editing.every
-        (game_of editing.seed (lines moves)) editing.guarded edits (log_ends moves edits)
-        edited.played edited.text.items (shown_ends edited.ends)) result }
+        (IsMadeOf editing.view cave.now editing.every (game_of editing.seed (lines moves))
+        editing.guarded edits (log_ends moves edits)) result }
 {
     let lexicon = Lexicon::build(alloc, cave)?;
     let machine = CaveMachine::new(cave, &lexicon);

@@ -10,6 +10,7 @@ ghost use Rattle.cave_play.specs.Stages.{judging_stage, log_stage};
 ghost use Rattle.cave_play.specs.TwoLogs.{IsCompared, IsReadLog, RunsEditTo, RunsScript};
 ghost use Rattle.cave_play.specs.TwoLogs.{new_log_fault, new_log_stage, two_logs_stages};
 
+use crate::edits::EditRun;
 use crate::fault::{Input, PlayFault};
 use crate::inputs::{CaveReaders, Inputs};
 use crate::judge::opening_fault;
@@ -129,7 +130,7 @@ pub fn run_edit_to<C: Read, B: Read, L: Read, S: Read, W: Write>(
     inputs: &mut Inputs<C, B, L, S>,
     editing: Editing,
     output: &mut W,
-) -> Result<u64, PlayFault>
+) -> Result<EditRun, PlayFault>
     ensures runs { (texts : InputTexts)
         × AreTextsOf C.remaining B.remaining L.remaining S.remaining inputs.old texts
         × RunsEditTo texts editing (W.contents output.old) (W.contents output.new) result }

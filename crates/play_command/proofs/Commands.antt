@@ -64,7 +64,7 @@ pub found_run : (met : MetCommand) (answer : Result Line CommandFault) → Reads
 found_run met (Ok (run.Check files view)) is = is
 found_run met (Ok (run.Doubts files strict)) is = is
 found_run met (Ok (run.Play files log seed view)) is = is
-found_run met (Ok (run.Edit files log script editing)) is = is
+found_run met (Ok (run.Edit files log script editing aside)) is = is
 found_run met (Ok (run.Cover files logs seed view)) is = is
 found_run met (Ok (run.Map files logs seed)) is = is
 found_run met (Ok (run.Script old new output form)) is = is
@@ -80,7 +80,7 @@ pub found_asked : (kinds : Kinds) (met : MetCommand) (answer : Result Line Comma
 found_asked kinds met (Ok (run.Check files view)) none is = none
 found_asked kinds met (Ok (run.Doubts files strict)) none is = none
 found_asked kinds met (Ok (run.Play files log seed view)) none is = none
-found_asked kinds met (Ok (run.Edit files log script editing)) none is = none
+found_asked kinds met (Ok (run.Edit files log script editing aside)) none is = none
 found_asked kinds met (Ok (run.Cover files logs seed view)) none is = none
 found_asked kinds met (Ok (run.Map files logs seed)) none is = none
 found_asked kinds met (Ok (run.Script old new output form)) none is = none

@@ -43,7 +43,7 @@ old_argument = record (new_rule (codes "old")) { required = true; value_names = 
 abbrev pub new_argument : Rule
 new_argument = record (new_rule (codes "new")) { required = true; value_names = 1 }
 
--- the options, some of which also have a letter: b, s, p and o
+-- the options, some of which also have a letter: b, s, p, q and o
 abbrev pub bind_argument : Rule
 bind_argument = record (new_rule (codes "bind"))
     { short = Some 98; long = Some (codes "bind"); value_names = 1 }
@@ -70,6 +70,10 @@ guarded_argument =
 abbrev pub group_argument : Rule
 group_argument =
     record (new_rule (codes "group")) { long = Some (codes "group"); action = Some SetTrue }
+
+abbrev pub quiet_argument : Rule
+quiet_argument = record (new_rule (codes "quiet"))
+    { short = Some 113; long = Some (codes "quiet"); action = Some SetTrue }
 
 abbrev pub output_argument : Rule
 output_argument = record (new_rule (codes "output"))
@@ -110,9 +114,9 @@ abbrev pub with_script : App → App
 with_script app = with_rule (with_rule (with_rule app script_argument) lines_argument) to_argument
 
 abbrev pub with_edit_options : App → App
-with_edit_options app =
-    with_rule (with_rule (with_rule (with_rule app every_argument) print_argument) strict_argument)
-    guarded_argument
+with_edit_options app = with_rule
+    (with_rule (with_rule (with_rule (with_rule app every_argument) print_argument) strict_argument)
+    guarded_argument) quiet_argument
 
 abbrev pub play_app : App
 play_app = with_output (with_rule (with_options (with_game (new_app (codes "play"))))

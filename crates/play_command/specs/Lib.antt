@@ -1,4 +1,5 @@
 pub mod App
+pub mod Aside
 pub mod BelowZero
 pub mod Found
 pub mod Line

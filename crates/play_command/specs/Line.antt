@@ -21,6 +21,7 @@ use Rattle.play_command.specs.declared.line.Line.{Line}
 use Rattle.play_command.specs.declared.line.Line.TheVariants.{Check, Doubts, Play, Edit, Cover, Map}
 use Rattle.play_command.specs.declared.line.Line.TheVariants.{Script, Text}
 use Rattle.play_command.specs.App.{cave_app}
+use Rattle.play_command.specs.Aside.{aside_in}
 use Rattle.play_command.specs.Found.{is_set}
 use Rattle.play_command.specs.Source.{IsBadScript, IsScriptSource}
 use Rattle.play_command.specs.Views.{edit_view_named, check_view_named, cover_view_named}
@@ -145,9 +146,9 @@ IsRunOf name rows (Doubts files strict) =
 IsRunOf name rows (Play files log seed view) =
     (name ≡ codes "play") × IsFiles rows files × (first_of (codes "log") rows ≡ Some log.now)
     × IsSeed rows seed × IsPlayView rows view
-IsRunOf name rows (Edit files log script editing) =
+IsRunOf name rows (Edit files log script editing aside) =
     (name ≡ codes "edit") × IsFiles rows files × (first_of (codes "log") rows ≡ Some log.now)
-    × IsScriptSource rows script × IsEditing rows editing
+    × IsScriptSource rows script × IsEditing rows editing × (aside ≡ aside_in rows editing.view)
 IsRunOf name rows (Cover files logs seed view) =
     (name ≡ codes "cover") × IsFiles rows files
     × (all_of (codes "log") rows ≡ Some (map (λ log. log.now) logs.items)) × IsSeed rows seed

@@ -15,8 +15,8 @@ use crate::arguments::{
     bind_argument, cave_argument, check_print_argument, check_strict_argument,
     cover_print_argument, edit_print_argument, every_argument, group_argument, guarded_argument,
     lines_argument, log_argument, logs_argument, new_argument, old_argument, output_argument,
-    play_print_argument, script_argument, seed_argument, some_logs_argument, strict_argument,
-    to_argument, with_guards_argument,
+    play_print_argument, quiet_argument, script_argument, seed_argument, some_logs_argument,
+    strict_argument, to_argument, with_guards_argument,
 };
 use clap::Command;
 use std::alloc::{AllocError, Global};
@@ -163,7 +163,8 @@ fn with_difference<'a>(alloc: Global, command: Command<'a>) -> Result<Command<'a
 }
 
 /// Adds the options that only an edit has: the distance of checkpoints, what is printed, whether a
-/// refused edit ends the run, and whether the script may have guards.
+/// refused edit ends the run, whether the script may have guards, and whether nothing is said of
+/// refused edits.
 fn with_edit_options<'a>(alloc: Global, command: Command<'a>) -> Result<Command<'a>, AllocError>
     requires { (out-Command command).has_globals ≡ false }
     ensures { IfOk result (IsLocal (with_edit_options (app_of command.entry))) }
@@ -172,7 +173,8 @@ fn with_edit_options<'a>(alloc: Global, command: Command<'a>) -> Result<Command<
         .arg(every_argument(alloc))?
         .arg(edit_print_argument(alloc))?
         .arg(strict_argument(alloc))?
-        .arg(guarded_argument(alloc))
+        .arg(guarded_argument(alloc))?
+        .arg(quiet_argument(alloc))
 }
 
 fn play_command<'a>(alloc: Global) -> Result<Command<'a>, AllocError>

@@ -7,7 +7,8 @@ ghost use Rattle.play_command.specs.App.{lines_argument, log_argument, logs_argu
 ghost use Rattle.play_command.specs.App.{output_argument};
 ghost use Rattle.play_command.specs.App.{print_argument, script_argument, seed_argument};
 ghost use Rattle.play_command.specs.App.{group_argument, guarded_argument, new_argument};
-ghost use Rattle.play_command.specs.App.{old_argument, some_logs_argument, strict_argument};
+ghost use Rattle.play_command.specs.App.{old_argument, quiet_argument, some_logs_argument};
+ghost use Rattle.play_command.specs.App.{strict_argument};
 ghost use Rattle.play_command.specs.App.{to_argument};
 
 use clap::{Arg, ArgAction};
@@ -263,6 +264,17 @@ pub(crate) fn with_guards_argument<'a>(alloc: Global) -> Arg<'a>
         .long("guarded")
         .action(ArgAction::SetTrue)
         .help("Puts a line `expect N TEXT` before each edit at whose place there is a line")
+}
+
+pub(crate) fn quiet_argument<'a>(alloc: Global) -> Arg<'a>
+    ensures rule { rule_of result ≡ quiet_argument }
+    ensures local { result.global ≡ false }
+{
+    Arg::new(alloc, "quiet")
+        .short('q')
+        .long("quiet")
+        .action(ArgAction::SetTrue)
+        .help("Says nothing of edits that are refused, unless what is printed says it")
 }
 
 pub(crate) fn group_argument<'a>(alloc: Global) -> Arg<'a>

@@ -3,6 +3,7 @@
 
 pub mod app;
 mod arguments;
+pub mod aside;
 mod below_zero;
 mod by_name;
 pub mod editing;
@@ -16,6 +17,7 @@ mod stray;
 pub mod views;
 mod wanted;
 
+pub use aside::Aside;
 pub use editing::{EditView, Editing};
 pub use fault::CommandFault;
 pub use line::{Files, Line, ScriptSource};

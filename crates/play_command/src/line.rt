@@ -1,3 +1,4 @@
+use crate::aside::Aside;
 use crate::editing::Editing;
 use crate::views::{CheckView, CoverView, PlayView};
 use clap::Error;
@@ -48,6 +49,7 @@ pub enum Line<'a> {
         log: &'a str,
         script: ScriptSource<'a>,
         editing: Editing,
+        aside: Aside,
     },
     Cover {
         files: Files<'a>,

@@ -15,6 +15,7 @@ ghost use Rattle.play_command.specs.Line.{IsRequest, IsSeed, IsUnmade, IsView};
 ghost use Rattle.play_command.specs.Line.{IsBadPlayView, IsPlayView, are_doubts_asked};
 
 use crate::app::cave_app;
+use crate::aside::aside_in;
 use crate::below_zero::seed_below_zero;
 use crate::editing::{EditView, Editing};
 use crate::fault::CommandFault;
@@ -209,6 +210,7 @@ fn edit_of<'a>(
         log,
         script,
         editing,
+        aside: aside_in(found, editing.view),
     })
 }
 

@@ -1,12 +1,14 @@
 -- What a run over files leaves, and what the program reports of it.
 use Rattle.std.specs.Prelude.{◌≡◌, ◌⊎◌, ℕ, List, [], ◌∷◌, map, Option, None, Some, Result, Ok, Err}
-use Rattle.std.specs.Prelude.{Bool, true, false, IfErr}
+use Rattle.std.specs.Prelude.{Bool, true, false, MatchResult}
 use Rattle.std.specs.List.{AllZip}
 use Rattle.std.specs.declared.io.Error.{Error}
 use Rattle.cave_play.specs.Input.{InputTexts, Says}
+use Rattle.cave_play.specs.declared.edits.EditRun.{EditRun}
 use Rattle.cave_play.specs.declared.fault.PlayFault.{PlayFault}
 use Rattle.cave_play.specs.declared.fault.PlayFault.TheVariants as fault
 use Rattle.play_command.specs.declared.line.Line.{Line}
+use Rattle.play_program.specs.Beside.{aside_of, told_beside}
 use Rattle.play_program.specs.Calls.{Call, Told, and_then}
 use Rattle.play_program.specs.Calls.Call.{Puts, Tells}
 use Rattle.play_program.specs.Failures.{failure_status, is_silent, message_of}
@@ -29,14 +31,14 @@ pub record AreTextsIn (bytes_of : List ℕ → Option (List ℕ)) (names : FileN
 -- all files of the run were opened, and what their bytes ask for was done
 pub record RunsOpened (bytes_of : List ℕ → Option (List ℕ)) (asked : Line) (names : FileNames)
     (calls called : Option (List Call)) (old new : Option (List ℕ))
-    (ended : Result (Unit {0}) Failure) : Type 0 where
+    (ended : Result (Option EditRun) Failure) : Type 0 where
   pub opened : called ≡ and_then calls (opening (files_in names))
   pub runs : (texts : InputTexts) × (logs : List (List ℕ))
       × AreTextsIn bytes_of names texts logs × RunsLine asked texts logs old new ended
 
 -- a file of the run couldn't be opened, and nothing was written
 pub record RunsUnopened (names : FileNames) (calls called : Option (List Call))
-    (old new : Option (List ℕ)) (ended : Result (Unit {0}) Failure) : Type 0 where
+    (old new : Option (List ℕ)) (ended : Result (Option EditRun) Failure) : Type 0 where
   pub kept : new ≡ old
   pub stops : (failure : Failure) × (ended ≡ Err failure)
       × Stops (files_in names) calls called failure
@@ -44,7 +46,7 @@ pub record RunsUnopened (names : FileNames) (calls called : Option (List Call))
 -- what a run over files whose output goes to a writer leaves
 abbrev pub RunsFiles : (List ℕ → Option (List ℕ)) → Line → FileNames
     → Option (List Call) → Option (List Call) → Option (List ℕ) → Option (List ℕ)
-    → Result (Unit {0}) Failure → Type 0
+    → Result (Option EditRun) Failure → Type 0
 RunsFiles bytes_of asked names calls called old new ended =
     RunsOpened bytes_of asked names calls called old new ended
     ⊎ RunsUnopened names calls called old new ended
@@ -67,24 +69,25 @@ in_list failure = failure
 
 -- an output was put into the file if the run ended well, and otherwise nothing was
 abbrev pub PutsEnd : List ℕ → List ℕ → Option (List Call) → Option (List Call)
-    → Result (Unit {0}) Failure → Result (Unit {0}) Failure → Type 0
-PutsEnd file output calls called (Ok done) ended =
-    (called ≡ and_then calls (Puts file output ∷ [])) × IfErr ended (IsUnput file)
+    → Result (Option EditRun) Failure → Result (Option EditRun) Failure → Type 0
+PutsEnd file output calls called (Ok made) ended =
+    (called ≡ and_then calls (Puts file output ∷ []))
+    × MatchResult ended (λ said. said ≡ made) (IsUnput file)
 PutsEnd file output calls called (Err failure) ended =
     (called ≡ calls) × (ended ≡ Err (in_list failure))
 
 -- what a run over files leaves if its output is kept until it is whole and then goes into a file
 abbrev pub RunsIntoFile : (List ℕ → Option (List ℕ)) → Line → FileNames → List ℕ
-    → Option (List Call) → Option (List Call) → Result (Unit {0}) Failure → Type 0
+    → Option (List Call) → Option (List Call) → Result (Option EditRun) Failure → Type 0
 RunsIntoFile bytes_of asked names file calls called ended =
-    (output : List ℕ) × (opened : Option (List Call)) × (run : Result (Unit {0}) Failure)
+    (output : List ℕ) × (opened : Option (List Call)) × (run : Result (Option EditRun) Failure)
     × RunsFiles bytes_of asked names calls opened (Some []) (Some output) run
     × PutsEnd file output opened called run ended
 
 -- what a run whose output goes where its line says leaves
 abbrev pub RunsTo : Option (List ℕ) → (List ℕ → Option (List ℕ)) → Line → FileNames
     → Option (List Call) → Option (List Call) → Option (List ℕ) → Option (List ℕ)
-    → Result (Unit {0}) Failure → Type 0
+    → Result (Option EditRun) Failure → Type 0
 RunsTo None bytes_of asked names calls called old new ended =
     RunsFiles bytes_of asked names calls called old new ended
 RunsTo (Some file) bytes_of asked names calls called old new ended =
@@ -109,23 +112,25 @@ abbrev pub TellsUnless : Bool → Told → Option (List Call) → Option (List C
 TellsUnless true what calls called = called ≡ calls
 TellsUnless false what calls called = called ≡ and_then calls (Tells what ∷ [])
 
--- a failure is reported once, and its status is the program's; otherwise nothing is reported
-abbrev pub TellsEnd : FileNames → Option (List Call) → Option (List Call)
-    → Result (Unit {0}) Failure → ℕ → Type 0
-TellsEnd names calls called (Ok done) status = (called ≡ calls) × (status ≡ 0)
-TellsEnd names calls called (Err failure) status =
+-- a failure is reported once, and its status is the program's; otherwise only what is asked for is
+-- reported
+abbrev pub TellsEnd : Line → FileNames → Option (List Call) → Option (List Call)
+    → Result (Option EditRun) Failure → ℕ → Type 0
+TellsEnd asked names calls called (Ok made) status =
+    (called ≡ and_then calls (told_beside (aside_of asked) names made)) × (status ≡ 0)
+TellsEnd asked names calls called (Err failure) status =
     TellsUnless (is_silent failure) (message_of names failure) calls called
     × (status ≡ failure_status failure)
 
 -- how a run ended, with the reason of a writer that failed
-abbrev pub ended_with : Result (Unit {0}) Failure → Option Error → Result (Unit {0}) Failure
-ended_with (Ok done) reason = Ok done
+abbrev pub ended_with : Result (Option EditRun) Failure → Option Error → Result (Option EditRun) Failure
+ended_with (Ok made) reason = Ok made
 ended_with (Err failure) reason = Err (with_reason failure reason)
 
 -- what the run of a line leaves, with what the program reports of it
 abbrev pub EndsRun : (List ℕ → Option (List ℕ)) → Line → FileNames
     → Option (List Call) → Option (List Call) → Option (List ℕ) → Option (List ℕ) → ℕ → Type 0
 EndsRun bytes_of asked names calls called old new status =
-    (ran : Option (List Call)) × (ended : Result (Unit {0}) Failure) × (reason : Option Error)
+    (ran : Option (List Call)) × (ended : Result (Option EditRun) Failure) × (reason : Option Error)
     × RunsTo names.output bytes_of asked names calls ran old new ended
-    × TellsEnd names ran called (ended_with ended reason) status
+    × TellsEnd asked names ran called (ended_with ended reason) status

@@ -74,7 +74,7 @@ abbrev pub names_of : Line → Option FileNames
 names_of (Check files view) = Some (cave_names files)
 names_of (Doubts files strict) = Some (cave_names files)
 names_of (Play files log seed view) = Some (record (cave_names files) { log = Some log.now })
-names_of (Edit files log script editing) = Some (record (cave_names files) {
+names_of (Edit files log script editing aside) = Some (record (cave_names files) {
   log = Some log.now;
   script = script_file script;
   typed = script_typed script;

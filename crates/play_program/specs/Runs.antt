@@ -1,5 +1,5 @@
 -- The run that a line of the command line asks for.
-use Rattle.std.specs.Prelude.{◌≡◌, ℕ, List, [], Option, None, option_map, unwrap_or}
+use Rattle.std.specs.Prelude.{◌≡◌, ℕ, List, [], Option, None, Some, option_map, unwrap_or}
 use Rattle.std.specs.Prelude.{Result, Ok, Err}
 use Rattle.cave_play.specs.Doubted.{RunsDoubts}
 use Rattle.cave_play.specs.Input.{InputTexts}
@@ -7,8 +7,9 @@ use Rattle.check_doubts.specs.declared.listing.DoubtFiles.{DoubtFiles}
 use Rattle.cave_play.specs.Output.{IsChecked, IsPlayed}
 use Rattle.cave_play.specs.Run as one
 use Rattle.cave_play.specs.Stages.{Stage, cave_stages, play_stages, edit_stages}
-use Rattle.cave_play.specs.Ended.{IsEdited}
+use Rattle.cave_play.specs.Refused.{IsEditRun}
 use Rattle.cave_play.specs.TwoLogs.{RunsEditTo, RunsScript}
+use Rattle.cave_play.specs.declared.edits.EditRun.{EditRun}
 use Rattle.cave_play.specs.declared.fault.PlayFault.{PlayFault}
 use Rattle.play_map.specs.Plays.{IsMapped}
 use Rattle.play_cover.specs.Plays.{IsCovered}
@@ -25,18 +26,23 @@ use Rattle.play_program.specs.declared.failure.Failure.{Failure}
 use Rattle.play_program.specs.declared.failure.Failure.TheVariants.{Run}
 
 -- how a run that plays at most one log ended
-abbrev pub ended_alone : {A : Type 0} → Result A PlayFault → Result (Unit {0}) Failure
-ended_alone (Ok made) = Ok tt
+abbrev pub ended_alone : Result (Unit {0}) PlayFault → Result (Option EditRun) Failure
+ended_alone (Ok done) = Ok None
 ended_alone (Err found) = Err (Run found None)
 
+-- how a run of edits ended
+abbrev pub ended_edits : Result EditRun PlayFault → Result (Option EditRun) Failure
+ended_edits (Ok run) = Ok (Some run)
+ended_edits (Err found) = Err (Run found None)
+
 -- how a run over several logs ended
-abbrev pub ended_over_logs : Result (Unit {0}) LogsFault → Result (Unit {0}) Failure
-ended_over_logs (Ok done) = Ok done
+abbrev pub ended_over_logs : Result (Unit {0}) LogsFault → Result (Option EditRun) Failure
+ended_over_logs (Ok done) = Ok None
 ended_over_logs (Err found) = Err (Run found.fault found.log)
 
 -- what a run that plays at most one log leaves
 abbrev pub RunsAlone : List Stage → (List ℕ → Type 0)
-    → Option (List ℕ) → Option (List ℕ) → Result (Unit {0}) Failure → Type 0
+    → Option (List ℕ) → Option (List ℕ) → Result (Option EditRun) Failure → Type 0
 RunsAlone stages IsOutput old new ended = (alone : Result (Unit {0}) PlayFault)
     × (ended ≡ ended_alone alone) × one.Runs stages IsOutput old new alone
 
@@ -48,21 +54,21 @@ pub record AreListed (files : Files) (listed : DoubtFiles) : Type 0 where
 -- what the run of edits leaves that come from this source: those of a script, or those that make
 -- a log
 abbrev pub RunsEdits : ScriptSource → InputTexts → Editing → Option (List ℕ) → Option (List ℕ)
-    → Result ℕ PlayFault → Type 0
+    → Result EditRun PlayFault → Type 0
 RunsEdits (Log file) texts editing old new ended = RunsEditTo texts editing old new ended
 RunsEdits _ texts editing old new ended =
     one.RunsWith (edit_stages texts.database texts.bindings texts.log texts.script editing)
-    (IsEdited texts.database texts.bindings texts.log texts.script editing) old new ended
+    (IsEditRun texts.database texts.bindings texts.log texts.script editing) old new ended
 
 -- what a run over several logs leaves
 abbrev pub RunsOverLogs : List Stage → List (List ℕ) → (List ℕ → Type 0)
-    → Option (List ℕ) → Option (List ℕ) → Result (Unit {0}) Failure → Type 0
+    → Option (List ℕ) → Option (List ℕ) → Result (Option EditRun) Failure → Type 0
 RunsOverLogs first logs IsOutput old new ended = (found : Result (Unit {0}) LogsFault)
     × (ended ≡ ended_over_logs found) × RunsLogs first logs IsOutput old new found
 
 -- what the run that a line asks for leaves, over the bytes of its inputs
 abbrev pub RunsLine : Line → InputTexts → List (List ℕ)
-    → Option (List ℕ) → Option (List ℕ) → Result (Unit {0}) Failure → Type 0
+    → Option (List ℕ) → Option (List ℕ) → Result (Option EditRun) Failure → Type 0
 RunsLine (Check files view) texts logs old new ended =
     RunsAlone (cave_stages texts.database texts.bindings)
     (IsChecked view texts.database texts.bindings) old new ended
@@ -72,9 +78,9 @@ RunsLine (Doubts files strict) texts logs old new ended =
 RunsLine (Play files log seed view) texts logs old new ended =
     RunsAlone (play_stages texts.database texts.bindings texts.log seed)
     (IsPlayed texts.database texts.bindings texts.log seed view) old new ended
-RunsLine (Edit files log script editing) texts logs old new ended =
-    (counted : Result ℕ PlayFault) × (ended ≡ ended_alone counted)
-    × RunsEdits script texts editing old new counted
+RunsLine (Edit files log script editing aside) texts logs old new ended =
+    (edited : Result EditRun PlayFault) × (ended ≡ ended_edits edited)
+    × RunsEdits script texts editing old new edited
 RunsLine (Cover files log seed view) texts logs old new ended =
     RunsOverLogs (first_stages texts.database texts.bindings seed) logs
     (IsCovered texts.database texts.bindings logs seed view) old new ended
@@ -84,4 +90,4 @@ RunsLine (Map files log seed) texts logs old new ended =
 RunsLine (Script before after output form) texts logs old new ended =
     (alone : Result (Unit {0}) PlayFault) × (ended ≡ ended_alone alone)
     × RunsScript form texts old new alone
-RunsLine (Text error) texts logs old new ended = (ended ≡ Ok tt) × (new ≡ old)
+RunsLine (Text error) texts logs old new ended = (ended ≡ Ok None) × (new ≡ old)

@@ -4,11 +4,13 @@ ghost use Rattle.std.specs.Prelude.{◌≡◌, ℕ, List, map};
 ghost use Rattle.std.specs.List.{AllZip};
 ghost use Rattle.cave_play.specs.Input.{AreTextsOf, InputTexts, Says, input_left};
 ghost use Rattle.play_program.specs.Runs.{AreListed, RunsEdits, RunsLine, ended_alone};
-ghost use Rattle.play_program.specs.Runs.{ended_over_logs};
+ghost use Rattle.play_program.specs.Runs.{ended_edits, ended_over_logs};
 
 use crate::failure::Failure;
 use crate::readers::{FileInputs, Readers};
-use cave_play::{PlayFault, run_check, run_doubts, run_edit, run_edit_to, run_play, run_script};
+use cave_play::{
+    EditRun, PlayFault, run_check, run_doubts, run_edit, run_edit_to, run_play, run_script,
+};
 use check_doubts::DoubtFiles;
 use play_command::{Editing, Files, Line, ScriptSource};
 use play_cover::run::run_cover;
@@ -18,21 +20,31 @@ use std::alloc::Global;
 use std::io::{Read, Write};
 
 /// How a run that plays at most one log ended.
-fn alone<'a, T: Drop>(ended: Result<T, PlayFault>) -> Result<(), Failure<'a>>
+fn alone<'a>(ended: Result<(), PlayFault>) -> Result<Option<EditRun>, Failure<'a>>
     ensures { result ≡ ended_alone ended }
 {
     match ended {
-        Ok(_) => Ok(()),
+        Ok(()) => Ok(None),
+        Err(fault) => Err(Failure::Run(fault, None)),
+    }
+}
+
+/// How a run of edits ended.
+fn ended_edits<'a>(ended: Result<EditRun, PlayFault>) -> Result<Option<EditRun>, Failure<'a>>
+    ensures { result ≡ ended_edits ended }
+{
+    match ended {
+        Ok(run) => Ok(Some(run)),
         Err(fault) => Err(Failure::Run(fault, None)),
     }
 }
 
 /// How a run over several logs ended.
-fn over_logs<'a>(ended: Result<(), LogsFault>) -> Result<(), Failure<'a>>
+fn over_logs<'a>(ended: Result<(), LogsFault>) -> Result<Option<EditRun>, Failure<'a>>
     ensures { result ≡ ended_over_logs ended }
 {
     match ended {
-        Ok(()) => Ok(()),
+        Ok(()) => Ok(None),
         Err(LogsFault { fault, log }) => Err(Failure::Run(fault, log)),
     }
 }
@@ -54,7 +66,7 @@ fn run_edits<F: Read, W: Write>(
     inputs: &mut FileInputs<'_, F>,
     editing: Editing,
     output: &mut W,
-) -> Result<u64, PlayFault>
+) -> Result<EditRun, PlayFault>
     ensures runs { (texts : InputTexts)
         × AreTextsOf (input_left F.remaining) (input_left F.remaining) (input_left F.remaining)
         (input_left F.remaining) inputs.old texts
@@ -75,7 +87,7 @@ pub fn run_command<'a, F: Read, W: Write>(
     asked: &Line<'_>,
     readers: &mut Readers<'_, F>,
     output: &mut W,
-) -> Result<(), Failure<'a>>
+) -> Result<Option<EditRun>, Failure<'a>>
     ensures runs { (texts : InputTexts) × (logs : List (List ℕ))
         × AreTextsOf (input_left F.remaining) (input_left F.remaining) (input_left F.remaining)
         (input_left F.remaining) readers.old.inputs texts
@@ -93,7 +105,7 @@ pub fn run_command<'a, F: Read, W: Write>(
             script,
             editing,
             ..
-        } => alone(run_edits(alloc, script, inputs, *editing, output)),
+        } => ended_edits(run_edits(alloc, script, inputs, *editing, output)),
         Line::Script { form, .. } => alone(run_script(alloc, inputs, *form, output)),
         Line::Cover { seed, view, .. } => {
             let logs = logs.as_mut_slice();
@@ -103,6 +115,6 @@ pub fn run_command<'a, F: Read, W: Write>(
             let logs = logs.as_mut_slice();
             over_logs(run_map(alloc, &mut inputs.cave, logs, *seed, output))
         }
-        Line::Text(_) => Ok(()),
+        Line::Text(_) => Ok(None),
     }
 }

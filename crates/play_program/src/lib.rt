@@ -2,6 +2,7 @@
 //! a fault.
 #![tactic(auto)]
 
+mod beside;
 pub mod command;
 pub mod failure;
 pub mod message;

@@ -8,13 +8,14 @@ ghost use Rattle.play_program.specs.Ends.{TellsUnless, failure_by, in_list, with
 ghost use Rattle.play_program.specs.Failures.{failure_status, is_silent, message_of};
 ghost use Rattle.play_program.specs.Names.{names_in};
 
+use crate::beside::tell_beside;
 use crate::command::run_command;
 use crate::failure::Failure;
 use crate::names::Names;
 use crate::output::Output;
 use crate::readers::open_files;
 use crate::system::System;
-use cave_play::PlayFault;
+use cave_play::{EditRun, PlayFault};
 use play_command::Line;
 use std::alloc::Global;
 use std::io;
@@ -30,7 +31,7 @@ fn run_into<'a, S: System, W: Write>(
     asked: &Line<'_>,
     names: Names<'a>,
     output: &mut W,
-) -> Result<(), Failure<'a>>
+) -> Result<Option<EditRun>, Failure<'a>>
     ensures runs { RunsFiles (S.bytes_of system.old) asked.now (names_in names.entry)
         (S.calls system.old) (S.calls system.new) (W.contents output.old) (W.contents output.new)
         result }
@@ -76,13 +77,16 @@ fn run_into_file<'a, S: System>(
     asked: &Line<'_>,
     names: Names<'a>,
     file: &'a str,
-) -> Result<(), Failure<'a>>
+) -> Result<Option<EditRun>, Failure<'a>>
     ensures runs { RunsIntoFile (S.bytes_of system.old) asked.now (names_in names.entry) file.now
         (S.calls system.old) (S.calls system.new) result }
 {
     let mut output = Vec::new(alloc);
     match run_into(alloc, system, asked, names, &mut output) {
-        Ok(()) => put(system, file, &output),
+        Ok(made) => {
+            put(system, file, &output)?;
+            Ok(made)
+        }
         Err(failure) => Err(in_list(failure)),
     }
 }
@@ -95,7 +99,7 @@ fn run_to<'a, S: System, W: Write>(
     names: Names<'a>,
     file: Option<&'a str>,
     output: &mut W,
-) -> Result<(), Failure<'a>>
+) -> Result<Option<EditRun>, Failure<'a>>
     ensures runs { RunsTo (option_map (λ s. s.now) file.entry) (S.bytes_of system.old) asked.now
         (names_in names.entry) (S.calls system.old) (S.calls system.new) (W.contents output.old)
         (W.contents output.new) result }
@@ -141,7 +145,8 @@ fn tell_failure<S: System>(system: &mut S, failure: Failure<'_>, names: Names<'_
     status
 }
 
-/// Does a run, reports why if it wasn't done, and returns the status.
+/// Does a run, reports why if it wasn't done, or what is asked for if it was, and returns the
+/// status.
 pub fn run<S: System, W: Write>(
     alloc: Global,
     system: &mut S,
@@ -154,7 +159,10 @@ pub fn run<S: System, W: Write>(
         (W.contents output.new.writer) result }
 {
     match run_to(alloc, system, asked, names, names.output, output) {
-        Ok(()) => DONE,
+        Ok(made) => {
+            tell_beside(system, asked, names, &made);
+            DONE
+        }
         Err(failure) => tell_failure(system, with_reason(failure, output.reason), names),
     }
 }

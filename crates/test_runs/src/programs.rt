@@ -8,6 +8,7 @@ ghost use Rattle.test_runs.specs.Memory.{bytes_at, calls_by, file_named};
 use crate::calls::{KeptCall, KeptMessage};
 use crate::caves::{EDITED_LOG, LONG_LOG, LONG_TEXT, SCRIPT};
 use crate::in_memory::{MemorySystem, MemoryTarget};
+use cave_play::PlayFault;
 use play_program::{Output, run_program};
 use std::alloc::{AllocError, Global};
 use std::io::ErrorKind;
@@ -118,6 +119,16 @@ fn tells_missing(call: Option<&KeptCall>, name: &str) -> bool {
     }
 }
 
+/// Whether a call tells that an edit in this line of a file is refused.
+fn tells_refused(call: Option<&KeptCall>, name: &str, line: usize) -> bool {
+    match call {
+        Some(KeptCall::Tells(KeptMessage::Fault(PlayFault::Refused(refusal), Some(file)))) => {
+            file.as_str() == name && refusal.line() == line
+        }
+        _ => false,
+    }
+}
+
 #[test]
 fn a_log_in_memory_is_edited_in_its_place(rt: HostRuntime) -> Result<(), Fail> {
     let end = end_of(&rt, rt.alloc(), &IN_PLACE, usize::MAX)?;
@@ -128,7 +139,8 @@ fn a_log_in_memory_is_edited_in_its_place(rt: HostRuntime) -> Result<(), Fail> {
     assert!(rt; opens(end.kept.get(1), "log"));
     assert!(rt; opens(end.kept.get(2), "script"));
     assert!(rt; puts_log(end.kept.get(3), EDITED_LOG.as_bytes()));
-    assert_eq!(rt; end.kept.len(), 4);
+    assert!(rt; tells_refused(end.kept.get(4), "script", 2));
+    assert_eq!(rt; end.kept.len(), 5);
     Ok(())
 }
 

@@ -67,7 +67,8 @@ const ANSWERS: [(&[&str], &str); 40] = [
         &["cave", "edit", "a", "b", "c"],
         "Edit { files: Files { cave: \"a\", bind: None, output: None }, \
         log: \"b\", script: File(\"c\"), \
-        editing: Editing { seed: 0, every: 50, view: Transcript, strict: false, guarded: false } }",
+        editing: Editing { seed: 0, every: 50, view: Transcript, strict: false, guarded: false }, \
+        aside: Nothing }",
     ),
     (
         &[
@@ -81,7 +82,8 @@ const ANSWERS: [(&[&str], &str); 40] = [
         ],
         "Edit { files: Files { cave: \"a\", bind: None, output: None }, \
         log: \"b\", script: File(\"c\"), \
-        editing: Editing { seed: 3, every: 10000, view: Transcript, strict: false, guarded: false } }",
+        editing: Editing { seed: 3, every: 10000, view: Transcript, strict: false, guarded: false }, \
+        aside: Nothing }",
     ),
     (
         &[
@@ -97,31 +99,43 @@ const ANSWERS: [(&[&str], &str); 40] = [
         ],
         "Edit { files: Files { cave: \"a\", bind: None, output: Some(\"d\") }, \
         log: \"b\", script: File(\"c\"), \
-        editing: Editing { seed: 0, every: 50, view: Log, strict: true, guarded: false } }",
+        editing: Editing { seed: 0, every: 50, view: Log, strict: true, guarded: false }, \
+        aside: Refusals }",
     ),
     (
         &["cave", "edit", "a", "b", "c", "--print=reports"],
         "Edit { files: Files { cave: \"a\", bind: None, output: None }, \
         log: \"b\", script: File(\"c\"), \
-        editing: Editing { seed: 0, every: 50, view: Reports, strict: false, guarded: false } }",
+        editing: Editing { seed: 0, every: 50, view: Reports, strict: false, guarded: false }, \
+        aside: Nothing }",
     ),
     (
         &["cave", "edit", "a", "b", "c", "--print=steps"],
         "Edit { files: Files { cave: \"a\", bind: None, output: None }, \
         log: \"b\", script: File(\"c\"), \
-        editing: Editing { seed: 0, every: 50, view: Steps, strict: false, guarded: false } }",
+        editing: Editing { seed: 0, every: 50, view: Steps, strict: false, guarded: false }, \
+        aside: Refusals }",
     ),
     (
         &["cave", "edit", "a", "b", "c", "--print=walk"],
         "Edit { files: Files { cave: \"a\", bind: None, output: None }, \
         log: \"b\", script: File(\"c\"), \
-        editing: Editing { seed: 0, every: 50, view: Walk, strict: false, guarded: false } }",
+        editing: Editing { seed: 0, every: 50, view: Walk, strict: false, guarded: false }, \
+        aside: Refusals }",
     ),
     (
         &["cave", "edit", "--guarded", "a", "b", "c"],
         "Edit { files: Files { cave: \"a\", bind: None, output: None }, \
         log: \"b\", script: File(\"c\"), \
-        editing: Editing { seed: 0, every: 50, view: Transcript, strict: false, guarded: true } }",
+        editing: Editing { seed: 0, every: 50, view: Transcript, strict: false, guarded: true }, \
+        aside: Nothing }",
+    ),
+    (
+        &["cave", "edit", "a", "b", "c", "-q", "--print=log"],
+        "Edit { files: Files { cave: \"a\", bind: None, output: None }, \
+        log: \"b\", script: File(\"c\"), \
+        editing: Editing { seed: 0, every: 50, view: Log, strict: false, guarded: false }, \
+        aside: Nothing }",
     ),
     (&["cave", "help", "edit"], "text DisplayHelp"),
     (&["cave", "-V"], "text DisplayVersion"),
@@ -161,7 +175,8 @@ const ANSWERS: [(&[&str], &str); 40] = [
         ],
         "Edit { files: Files { cave: \"a\", bind: Some(\"e\"), output: Some(\"d\") }, \
         log: \"b\", script: Typed(\"delete 1\\nseed 2\\n\"), \
-        editing: Editing { seed: 3, every: 50, view: Log, strict: false, guarded: false } }",
+        editing: Editing { seed: 3, every: 50, view: Log, strict: false, guarded: false }, \
+        aside: Refusals }",
     ),
     (&["cave", "check", "a", "--seed", "7"], "2 UnknownArgument"),
     (

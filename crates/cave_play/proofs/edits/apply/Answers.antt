@@ -13,6 +13,8 @@ use Rattle.play_edits.proofs.EditLemmas.{game_after_items-more, item_refusal-out
 use Rattle.play_edits.specs.LogEnds.{shown_ends}
 use Rattle.cave_play.specs.Ended.{ends_after_items}
 use Rattle.cave_play.proofs.EndedLemmas.{ends_after_items-end, ends_after_items-more}
+use Rattle.cave_play.specs.Refused.{refusals}
+use Rattle.cave_play.proofs.RefusedLemmas.{refusals-end, refusals-more}
 use Rattle.cave_play.proofs.StrictLemmas.{first_strict_fault-more, first_strict_fault-here}
 use Rattle.cave_play.proofs.StrictLemmas.{first_strict_fault-end}
 use Rattle.play_edits.proofs.BackLemmas.{back_of-outcome, kept-more, kept-whole}
@@ -28,6 +30,7 @@ loop-item-init c =
           c.args.text.now.items;
       kept = refl;
       ends = refl;
+      refused = refl;
       strict = refl;
       game = refl;
       cave = refl;
@@ -63,6 +66,11 @@ loop-item-preserved c =
           (item_refusal-outcome old.machine.rules.cave.now old.every
           (applied_item c.item-item.result) old.game old.checkpoints _ applies.came)
           c.in_ok-leave_ends.ensures before.ends;
+      refused = refusals-more items place c.item-item.result old.game _ _ _ _ _
+          c.loop-item-test.true c.item-item.is applies.holds.game_is
+          (item_refusal-outcome old.machine.rules.cave.now old.every
+          (applied_item c.item-item.result) old.game old.checkpoints _ applies.came)
+          c.in_ok-note_refusal.ensures before.refused;
       strict = first_strict_fault-more c.args.editing.strict items place c.item-item.result
           _ _ c.loop-item-test.true c.item-item.is _ applies.holds.game_is
           c.in_ok-outcome.ensures.accepted before.strict;
@@ -105,6 +113,16 @@ returns-clause-ends c =
     (omega (arith, c.loop-item-test.false)) last.invariant.ends) in
     subst (λ (items : List Item). ends_after_items (map applied_item items)
     c.args.session.now.game (shown_ends c.args.kept.now.ends) ≡ shown_ends last.kept.ends)
+    c.deref-item-items.ensures.value whole
+
+pub returns-clause-noted : goal.returns-clause-noted
+returns-clause-noted c =
+    let last = c.loop-item in
+    let whole =
+    refusals-end c.deref-item-items.result.now last.item-index _ _ _
+    (omega (arith, c.loop-item-test.false)) last.invariant.refused in
+    subst (λ (items : List Item). last.kept.refused.items
+    ≡ c.args.kept.now.refused.items ++ refusals (map applied_item items) c.args.session.now.game)
     c.deref-item-items.ensures.value whole
 
 pub returns-clause-accepted : goal.returns-clause-accepted

@@ -8,6 +8,7 @@ use Rattle.play_edits.specs.Items.{game_after_items}
 use Rattle.play_edits.specs.Undo.{backs_of}
 use Rattle.play_edits.specs.LogEnds.{shown_ends}
 use Rattle.cave_play.specs.Ended.{ends_after_items}
+use Rattle.cave_play.specs.Refused.{refusals}
 use Rattle.cave_play.specs.Strict.{first_strict_fault}
 use Rattle.play_edits.proofs.EditLemmas.{Completes}
 use Rattle.cave_play.proofs.edits.apply.Given as goal
@@ -28,6 +29,8 @@ invariant-loop-item l =
           ++ kept_for l.editing.view (backs_of l.editing.guarded all first.game);
       ends : ends_after_items left l.session.game (shown_ends l.kept.ends)
           ≡ ends_after_items all first.game (shown_ends l.initial.kept.ends);
+      refused : l.kept.refused.items ++ refusals left l.session.game
+          ≡ l.initial.kept.refused.items ++ refusals all first.game;
       strict : first_strict_fault l.editing.strict left l.session.game
           ≡ first_strict_fault l.editing.strict all first.game;
       game : game_after_items left l.session.game ≡ game_after_items all first.game;

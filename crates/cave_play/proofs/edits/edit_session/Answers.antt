@@ -16,6 +16,7 @@ use Rattle.cave_play.proofs.StrictLemmas.{IsFoundIn-strict, first_decided-strict
 use Rattle.play_edits.proofs.BackLemmas.{groups_turned}
 use Rattle.cave_play.proofs.ViewLemmas.{told-whole}
 use Rattle.cave_play.specs.Ended.{ends_after_items}
+use Rattle.cave_play.specs.Refused.{refusals, refusals_by, refusals_of}
 use Rattle.cave_play.specs.Views.{IsEditOf}
 use Rattle.play_edits.specs.LogEnds.{log_ends, shown_ends}
 use Rattle.cave_play.proofs.edits.edit_session.Goals as goal
@@ -165,4 +166,8 @@ returns g c =
     ∙ ap (log_ends c.args.log.now) (c.deref.ensures.value ∙ made.1.3) in
     let after =
     sym c.in_ok-totals.ensures.ends ∙ ap (ends_after_items items old.game) opened in
-    record { judged = (edits, said, (none, (edited, after))) }
+    let noted : c.apply.new.kept.refused.items ≡ refusals_by guarded edits old.game =
+    c.in_ok-totals.ensures.noted
+    ∙ ap (λ some. some ++ refusals items old.game) c.new-refused.ensures.items
+    ∙ ap (refusals_of old.game) (sym made.1.2) in
+    record { judged = (edits, said, (none, ((edited, after), noted))) }

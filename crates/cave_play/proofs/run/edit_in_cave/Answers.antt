@@ -10,8 +10,8 @@ use Rattle.std.proofs.lemmas.Result.{err_from_is_err_and}
 use Rattle.cave_data.specs.CaveView.{CaveView}
 use Rattle.play_command.specs.declared.editing.Editing.{Editing}
 use Rattle.replay_edits.specs.Edit.{Game, IsGame, game_of}
-use Rattle.cave_play.specs.Ended.{IsEndedEditOf}
-use Rattle.play_edits.specs.LogEnds.{log_ends, shown_ends}
+use Rattle.cave_play.specs.Refused.{IsMadeOf}
+use Rattle.play_edits.specs.LogEnds.{log_ends}
 use Rattle.cave_play.specs.declared.edits.Edited.{Edited}
 use Rattle.cave_play.specs.Run.{IsFoundIn, Judges}
 use Rattle.cave_play.specs.Stages.{Stage, first_decided, judging_stage}
@@ -30,8 +30,7 @@ strict_of editing moves edits =
 -- what edits made is right for a cave, a distance of checkpoints, a game and the bytes of its log
 abbrev right_in : Editing → List ℕ → CaveView → ℕ → Game → List ℕ → Edited → Type 0
 right_in editing edits cave every game log edited =
-    IsEndedEditOf editing.view cave every game editing.guarded edits (log_ends log edits)
-    edited.played edited.text.items (shown_ends edited.ends)
+    IsMadeOf editing.view cave every game editing.guarded edits (log_ends log edits) edited
 
 -- a log that is judged by its lines
 log_judged : {X : Type 0} (P : List (List ℕ) → X → Type 0) (moves text : List ℕ) (x : X)

@@ -16,6 +16,8 @@ use Rattle.cave_play.proofs.SizeLemmas.{output_fault-printed}
 use Rattle.cave_play.proofs.OneOutputLemmas.{script_by-spelled}
 use Rattle.replay_scripts.specs.Guards.{script_by}
 use Rattle.cave_play.specs.Ended.{IsEdited, IsEndedEditOf, ended_view}
+use Rattle.cave_play.specs.Refused.{IsEditRun}
+use Rattle.cave_play.specs.declared.edits.EditRun.{EditRun}
 use Rattle.play_edits.specs.LogEnds.{EndsOfLog, log_ends}
 use Rattle.cave_play.proofs.InputLemmas.{Says-some}
 use Rattle.cave_play.proofs.RunLemmas.{EndsBy-unwritten, EndsBy-written, unwritten_by_edit}
@@ -200,7 +202,7 @@ returns-in_err-check_size g c =
     let editing = c.args.editing in
     let is : IsEdited database bindings moves edits editing c.in_ok-edited.edited.played
     c.in_ok-text.text.items =
-    printed_of database bindings moves edits editing _ _ _ _ _ read.1 edited.1
+    printed_of database bindings moves edits editing _ _ _ _ _ read.1 edited.1.0
     c.in_ok-text.ensures in
     let large =
     sym (size_of database bindings moves edits editing _ _ is)
@@ -230,12 +232,15 @@ returns-in_err-write_output g c =
     let (database, bindings, one, two, read) = c.in_ok-cave.ensures.judged in
     let (moves, edits, three, four, edited) = c.in_ok-edited.ensures.judged in
     let editing = c.args.editing in
-    let right = IsEdited database bindings moves edits editing in
-    let played = c.in_ok-edited.edited.played in
-    let is : right played c.in_ok-text.text.items =
-    printed_of database bindings moves edits editing _ _ _ _ _ read.1 edited.1
+    let right = IsEditRun database bindings moves edits editing in
+    let run : EditRun = record {
+      played = c.in_ok-edited.edited.played;
+      refused = c.in_ok-edited.edited.refused;
+    } in
+    let is : IsEdited database bindings moves edits editing run.played c.in_ok-text.text.items =
+    printed_of database bindings moves edits editing _ _ _ _ _ read.1 edited.1.0
     c.in_ok-text.ensures in
-    let output = subst (right played) (sym c.deref-2.ensures.value) is in
+    let output = subst (right run) (sym c.deref-2.ensures.value) (is, edited.1.1) in
     let small =
     sym (size_of database bindings moves edits editing _ _ is)
     ∙ sym (ap (λ t. size_fault editing.view (length t)) c.deref.ensures.value)
@@ -249,7 +254,7 @@ returns-in_err-write_output g c =
         record { database = database; bindings = bindings; log = moves; script = edits },
         record { database = one; bindings = two; log = three; script = four },
         EndsBy-written (edit_stages database bindings moves edits editing)
-            (λ text. (count : ℕ) × right count text) _ _ _ _ none (played, output)
+            (λ text. (made : EditRun) × right made text) _ _ _ _ none (run, output)
             c.in_err-write_output.ensures.written,
       );
     })
@@ -259,12 +264,15 @@ returns g c =
     let (database, bindings, one, two, read) = c.in_ok-cave.ensures.judged in
     let (moves, edits, three, four, edited) = c.in_ok-edited.ensures.judged in
     let editing = c.args.editing in
-    let right = IsEdited database bindings moves edits editing in
-    let played = c.in_ok-edited.edited.played in
-    let is : right played c.in_ok-text.text.items =
-    printed_of database bindings moves edits editing _ _ _ _ _ read.1 edited.1
+    let right = IsEditRun database bindings moves edits editing in
+    let run : EditRun = record {
+      played = c.in_ok-edited.edited.played;
+      refused = c.in_ok-edited.edited.refused;
+    } in
+    let is : IsEdited database bindings moves edits editing run.played c.in_ok-text.text.items =
+    printed_of database bindings moves edits editing _ _ _ _ _ read.1 edited.1.0
     c.in_ok-text.ensures in
-    let output = subst (right played) (sym c.deref-2.ensures.value) is in
+    let output = subst (right run) (sym c.deref-2.ensures.value) (is, edited.1.1) in
     let small =
     sym (size_of database bindings moves edits editing _ _ is)
     ∙ sym (ap (λ t. size_fault editing.view (length t)) c.deref.ensures.value)

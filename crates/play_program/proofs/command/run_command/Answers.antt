@@ -1,4 +1,4 @@
-use Rattle.std.proofs.Common.{Ok, map, refl, subst, sym}
+use Rattle.std.proofs.Common.{None, Ok, map, refl, subst, sym}
 use Rattle.std.specs.List.{AllZip}
 use Rattle.cave_play.specs.Input.{InputTexts, Says, input_left}
 use Rattle.cave_play.proofs.InputLemmas.{Says-some}
@@ -76,8 +76,8 @@ returns-in-Edit g c =
         say,
         subst
             (λ (line : Line). RunsLine line texts logs (g.W.Write.contents c.args.output.now)
-            (g.W.Write.contents c.run_edits.new.output) c.alone-in-Edit.result)
-            (sym c.in-Edit.is) (c.run_edits.result, c.alone-in-Edit.ensures, runs),
+            (g.W.Write.contents c.run_edits.new.output) c.ended_edits.result)
+            (sym c.in-Edit.is) (c.run_edits.result, c.ended_edits.ensures, runs),
       );
     }
 
@@ -172,7 +172,7 @@ returns-in-Text g c =
         say,
         subst
             (λ (line : Line). RunsLine line texts logs (g.W.Write.contents c.args.output.now)
-            (g.W.Write.contents c.args.output.now) (Ok tt))
+            (g.W.Write.contents c.args.output.now) (Ok None))
             (sym c.in-Text.is) (refl, refl),
       );
     }

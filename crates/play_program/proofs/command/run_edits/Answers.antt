@@ -30,8 +30,8 @@ returns-in-File g c =
         texts,
         are,
         elim c.in-File.is [
-          inl (file, is) ↦ subst left (sym is) runs
-        | inr (text, is) ↦ subst left (sym is) runs
+          | inl (file, is) ↦ subst left (sym is) runs
+          | inr (text, is) ↦ subst left (sym is) runs
         ],
       );
     }

@@ -8,10 +8,10 @@ pub returns-in-Ok : goal.returns-in-Ok
 returns-in-Ok g c = record {
   ends = (
     g.S.System.calls c.run_to.new.system,
-    Ok tt,
+    Ok c.in-Ok.made,
     None,
     c.in-Ok.ensures.runs,
-    (refl, refl),
+    (c.tell_beside.ensures, refl),
   );
 }
 
@@ -25,7 +25,7 @@ returns-in-Err g c =
         c.run_to.new.output.reason,
         c.in-Err.ensures.runs,
         subst
-            (λ (failure : Failure). TellsEnd (names_in c.args.names) ran
+            (λ (failure : Failure). TellsEnd c.args.asked.now (names_in c.args.names) ran
             (g.S.System.calls c.tell_failure.new.system) (Err failure) c.tell_failure.result)
             c.with_reason.ensures (c.tell_failure.ensures.told, c.tell_failure.ensures.status),
       );

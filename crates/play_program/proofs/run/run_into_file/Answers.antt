@@ -15,11 +15,11 @@ returns-in-Ok g c =
       runs = (
         output,
         opened,
-        Ok tt,
+        Ok c.in-Ok.made,
         subst
             (λ (first : List ℕ). RunsFiles (g.S.System.bytes_of system) c.args.asked.now
             (names_in c.args.names) (g.S.System.calls system) opened (Some first) (Some output)
-            (Ok tt))
+            (Ok c.in-Ok.made))
             c.new-output.ensures.items c.in-Ok.ensures.runs,
         (
           subst (λ (bytes : List ℕ). called ≡ and_then opened (Puts c.args.file.now bytes ∷ []))

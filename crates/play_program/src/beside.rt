@@ -1,0 +1,50 @@
+//! What the program says beside the output of a run that ended well.
+
+ghost use Rattle.std.specs.Prelude.{◌≡◌};
+ghost use Rattle.play_program.specs.Beside.{aside_of, refusals_told, told_beside};
+ghost use Rattle.play_program.specs.Calls.{and_then};
+ghost use Rattle.play_program.specs.Names.{names_in};
+
+use crate::failure::Failure;
+use crate::names::Names;
+use crate::system::System;
+use cave_play::{EditRun, PlayFault};
+use play_command::{Aside, Line};
+use play_edits::Refusal;
+
+/// What a line asks to have said beside its output.
+fn aside_of(asked: &Line<'_>) -> Aside
+    ensures { result ≡ aside_of asked.now }
+{
+    match asked {
+        Line::Edit { aside, .. } => *aside,
+        _ => Aside::Nothing,
+    }
+}
+
+/// Reports each item that was refused, as it is reported if the run is strict.
+fn tell_refusals<S: System>(system: &mut S, refused: &[Refusal], names: Names<'_>)
+    ensures { S.calls system.new
+        ≡ and_then (S.calls system.old) (refusals_told (names_in names.entry) refused.now) }
+{
+    for refusal in refused {
+        let failure = Failure::Run(PlayFault::Refused(*refusal), None);
+        system.tell(failure.message(names));
+    }
+}
+
+/// Says what a line asks to have said beside its output.
+pub fn tell_beside<S: System>(
+    system: &mut S,
+    asked: &Line<'_>,
+    names: Names<'_>,
+    made: &Option<EditRun>,
+)
+    ensures { S.calls system.new ≡ and_then (S.calls system.old)
+        (told_beside (aside_of asked.now) (names_in names.entry) made.now) }
+{
+    match (aside_of(asked), made) {
+        (Aside::Refusals, Some(run)) => tell_refusals(system, &run.refused, names),
+        _ => {}
+    }
+}
