@@ -1,1 +1,3 @@
+pub mod ApartEdits
+pub mod ApartLogs
 pub mod Holding

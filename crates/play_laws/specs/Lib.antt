@@ -1,1 +1,2 @@
+pub mod ApartEdits
 pub mod Held

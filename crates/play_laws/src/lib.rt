@@ -1,10 +1,12 @@
-//! Laws about the states that a session of a game holds.
+//! Laws about the states that a session of a game holds, and about edits of any log.
 #![tactic(auto)]
 
 ghost use Rattle.std.specs.Prelude.{◌<◌};
 ghost use Rattle.play_laws.specs.Held.{EachIsOfAGame};
 ghost use Rattle.turn_laws.specs.ObjectLaws.{IsInOnePlace};
 ghost use Rattle.turn_laws.specs.Reachable.{IsLawful, IsReachable};
+
+pub mod edit_laws;
 
 use cave_replay::Session;
 use play_machine::CaveMachine;
