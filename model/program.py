@@ -7,7 +7,7 @@ What is left out: `map`, `script`, `--to`, `--output`, `--help`, and what `edit 
 import os
 from functools import lru_cache
 from itertools import takewhile
-from re import fullmatch
+from re import findall, fullmatch
 
 import checks
 import cover
@@ -16,7 +16,7 @@ import ends
 import scores
 import walk
 from database import KEYS, PLACES, ROLES, Cave, bindings_of, sections_of, with_mark
-from lines import GREATEST_SEED, MOST_BYTES, Fault, log_of, near_name
+from lines import GREATEST_SEED, MOST_BYTES, Fault, flaw_of, lines_of, log_of, near_name
 
 FILES = {"check": ["<CAVE>"], "play": ["<CAVE>", "<LOG>"], "edit": ["<CAVE>", "<LOG>", "[SCRIPT]"],
          "cover": ["<CAVE>", "<LOG>..."]}
@@ -27,6 +27,7 @@ PRINTS = {"check": ["maximum", "bindings", "names", "unused", "doubts"],
           "cover": ["counts", "texts", "rules"]}
 OPTIONS = {"--bind": "FILE", "--seed": "N", "--every": "K", "--print": "WHAT", "--strict": None,
            "--guarded": None, "--edit": "EDIT", "--quiet": None}
+MOST_HEAD = 257 # the bytes of a line of a log, and of its end
 LETTERS = {"-b": "--bind", "-s": "--seed", "-p": "--print", "-e": "--edit", "-q": "--quiet"}
 KNOWN = {"check": ["--bind", "--print", "--strict"], "play": ["--bind", "--seed", "--print"],
          "edit": OPTIONS, "cover": ["--bind", "--seed", "--print"]}
@@ -167,6 +168,41 @@ def cave_of(name, database, bind, bindings):
     sections = judged_as(1, name, with_mark, sections_of, database)
     return Cave(sections, judged_as(1, bind, with_mark, bindings_of, bindings))
 
+# ---- The head of a log
+
+def head_notice(name, text, database, options):
+    """What is said of a log whose head says how it is played, and otherwise than the words do."""
+    line = [*lines_of(text[:MOST_HEAD]), ""][0]
+    if not line.startswith("# cave:") or flaw_of(line):
+        return ""
+    said = line.removeprefix("# cave:")
+    first, second = fullmatch("[ \t]*([^ \t]*)[ \t]*([^ \t]*).*", said).groups()
+    cave = second if first in ("play", "edit") else first
+    words = findall("(?<=[ \t])[^ \t]+", said)
+    bind, seed = said_in_head(words, "--bind"), said_in_head(words, "--seed")
+    if cave and not cave.startswith("-") and base(cave) != base(database):
+        other = cave
+    elif bind and (options["bind"] is None or base(bind) != base(options["bind"])):
+        other = f"--bind {bind}"
+    elif seed and fullmatch("[0-9]{1,10}", seed) and int(seed) != options["seed"]:
+        other = f"--seed {seed}"
+    else:
+        return ""
+    return f"cave: {name}:1: the log's head says {other}\n"
+
+def said_in_head(words, option):
+    """The value of an option among words, where it has one first."""
+    for word, after in zip(words, [*words[1:], ""]):
+        name, _, value = word.partition("=")
+        if word in (option, option[1:3]):
+            name, value = option, after
+        if name == option and value:
+            return value
+    return None
+
+def base(path):
+    return path.rpartition("/")[2]
+
 # ---- Commands
 
 def bindings_lines(cave):
@@ -293,6 +329,8 @@ def run_words(words, told):
     command, names, options = words_of(words)
     bind, in_order = options["bind"], names[:1] + [options["bind"]] + names[1:]
     files = [None if it is None else opened(it) for it in in_order]
+    log_text = text_of(files[2]) if command in ("play", "edit") else ""
+    told.append(head_notice((names + [""])[1], log_text, names[0], options))
     database, bindings = text_of(files[0]), text_of(files[1]) if files[1] else ""
     for name, text, says in [(names[0], database, "a database has"),
                              (bind, bindings, "bindings have")]:
@@ -304,7 +342,6 @@ def run_words(words, told):
         return check_lines(cave, options, names[0], database, bindings)
     if command == "cover":
         return run_cover(cave, names[1:], files[2:], options)
-    log_text = text_of(files[2])
     log = judged_as(3, names[1], log_of, log_text)
     if command == "edit":
         name, text = (names[2], text_of(files[3])) if options["edit"] is None else (
@@ -328,4 +365,4 @@ def run(words):
         text = printed if isinstance(printed, str) else "".join(it + "\n" for it in printed)
         return 0, text.encode("latin-1"), "".join(told).encode("latin-1")
     except Stop as stop:
-        return stop.status, b"", stop.message.encode()
+        return stop.status, b"", "".join([*told, stop.message]).encode()

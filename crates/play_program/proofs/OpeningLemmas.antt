@@ -34,6 +34,14 @@ opened-more xs ys a b c first second =
     second ∙ ap (λ k. and_then k (opening ys)) first ∙ and_then-more a (opening xs) (opening ys)
     ∙ ap (and_then a) (sym (opening-append xs ys))
 
+-- files were opened, and then something was said
+pub told-after : (files : List NamedFile) (a b c : Option (List Call)) (said meant : List Call)
+    → b ≡ and_then a (opening files) → c ≡ and_then b said → said ≡ meant
+    → c ≡ and_then a (opening files ++ meant)
+told-after files a b c said meant opened told same =
+    told ∙ ap (λ k. and_then k said) opened ∙ and_then-more a (opening files) said
+    ∙ ap (λ more. and_then a (opening files ++ more)) same
+
 -- the only file can't be opened
 pub Stops-here : (file : NamedFile) (a b : Option (List Call)) (failure : Failure)
     → b ≡ and_then a (Opens file.1 ∷ []) → IsStoppedAt file failure

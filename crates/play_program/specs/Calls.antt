@@ -7,7 +7,8 @@ use Rattle.play_program.specs.declared.message.Message.TheVariants as message
 
 -- what a message reports: a fault and the file that it is about; a file that can't be opened or
 -- written, and an output that can't be written, with the system's reason; what the parser says
--- about the words, in two parts, or why they can't be read
+-- about the words, in two parts, or why they can't be read; what the head of a log says otherwise
+-- than the words: the log, the option and its text
 pub data Told : Type 0 where
   faulty : PlayFault → Option (List ℕ) → Told
   unopened : List ℕ → Error → Told
@@ -15,6 +16,7 @@ pub data Told : Type 0 where
   unprinted : Error → Told
   misused : List ℕ → List ℕ → Told
   unread : Error → Told
+  headed : List ℕ → List ℕ → List ℕ → Told
 
 -- what a message reports, regardless of where its names are borrowed from
 abbrev pub told_of : Message → Told
@@ -25,6 +27,7 @@ told_of (message.Unwritten file reason) = unwritten file.now reason
 told_of (message.Unprinted reason) = unprinted reason
 told_of (message.Usage before after) = misused before.now after.now
 told_of (message.Unread reason) = unread reason
+told_of (message.Head log said) = headed log.now said.option.now said.text.now
 
 -- one call of the system: a file is opened, bytes are put into a file, or something is reported
 pub data Call : Type 0 where

@@ -1,6 +1,6 @@
 -- What a run over files leaves, and what the program reports of it.
-use Rattle.std.specs.Prelude.{◌≡◌, ◌⊎◌, ℕ, List, [], ◌∷◌, map, Option, None, Some, Result, Ok, Err}
-use Rattle.std.specs.Prelude.{Bool, true, false, MatchResult}
+use Rattle.std.specs.Prelude.{◌≡◌, ◌⊎◌, ℕ, List, [], ◌∷◌, ◌++◌, map, Option, None, Some}
+use Rattle.std.specs.Prelude.{Bool, true, false, Result, Ok, Err, MatchResult}
 use Rattle.std.specs.List.{AllZip}
 use Rattle.std.specs.declared.io.Error.{Error}
 use Rattle.cave_play.specs.Input.{InputTexts, Says}
@@ -13,6 +13,7 @@ use Rattle.play_program.specs.Calls.{Call, Told, and_then}
 use Rattle.play_program.specs.Calls.Call.{Puts, Tells}
 use Rattle.play_program.specs.Failures.{failure_status, is_silent, message_of}
 use Rattle.play_program.specs.Names.{FileNames, files_in}
+use Rattle.play_program.specs.Notice.{calls_for_log}
 use Rattle.play_program.specs.Opening.{Stops, bytes_named, opening, script_bytes}
 use Rattle.play_program.specs.Runs.{RunsLine}
 use Rattle.play_program.specs.declared.failure.Failure.{Failure}
@@ -28,11 +29,14 @@ pub record AreTextsIn (bytes_of : List ℕ → Option (List ℕ)) (names : FileN
   pub script : Says (script_bytes bytes_of names.script names.typed) texts.script
   pub each_log : AllZip Says (map bytes_of names.logs) logs
 
--- all files of the run were opened, and what their bytes ask for was done
+-- all files of the run were opened, what the head of the log says otherwise was reported, unless
+-- its reader failed, and what their bytes ask for was done
 pub record RunsOpened (bytes_of : List ℕ → Option (List ℕ)) (asked : Line) (names : FileNames)
     (calls called : Option (List Call)) (old new : Option (List ℕ))
     (ended : Result (Option EditRun) Failure) : Type 0 where
-  pub opened : called ≡ and_then calls (opening (files_in names))
+  pub opened : (log : List ℕ) × (failed : Bool) × Says (bytes_named bytes_of names.log) log
+      × (called ≡ and_then calls
+      (opening (files_in names) ++ calls_for_log failed asked names.log log))
   pub runs : (texts : InputTexts) × (logs : List (List ℕ))
       × AreTextsIn bytes_of names texts logs × RunsLine asked texts logs old new ended
 
@@ -123,7 +127,8 @@ TellsEnd asked names calls called (Err failure) status =
     × (status ≡ failure_status failure)
 
 -- how a run ended, with the reason of a writer that failed
-abbrev pub ended_with : Result (Option EditRun) Failure → Option Error → Result (Option EditRun) Failure
+abbrev pub ended_with : Result (Option EditRun) Failure → Option Error
+    → Result (Option EditRun) Failure
 ended_with (Ok made) reason = Ok made
 ended_with (Err failure) reason = Err (with_reason failure reason)
 

@@ -1,5 +1,8 @@
 pub mod Beside
 pub mod Calls
+pub mod Head
+pub mod Notice
+pub mod Peek
 pub mod Names
 pub mod Failures
 pub mod Opening

@@ -2,6 +2,7 @@
 use Rattle.std.specs.Prelude.{◌≡◌, ℕ, List, [], ◌∷◌, ◌++◌, map, Option, None, Some, Result, Ok, Err}
 use Rattle.cave_play.specs.Input.{input_left}
 use Rattle.cave_play.specs.declared.fault.PlayFault.TheVariants as fault
+use Rattle.cave_play.specs.declared.inputs.InputReader.{InputReader}
 use Rattle.play_program.specs.Calls.{Call, and_then}
 use Rattle.play_program.specs.Calls.Call.{Opens}
 use Rattle.play_program.specs.Names.{FileNames, NamedFile}
@@ -52,7 +53,8 @@ script_bytes bytes_of file typed = bytes_named bytes_of file
 
 -- the readers have what the files of these names hold
 pub record AreReadersOf {F : Type 0} (left : F → Option (List ℕ))
-    (bytes_of : List ℕ → Option (List ℕ)) (names : FileNames) (readers : Readers F) : Type 0 where
+    (bytes_of : List ℕ → Option (List ℕ)) (names : FileNames)
+    (readers : Readers F (InputReader F)) : Type 0 where
   pub database : input_left left readers.inputs.cave.database
       ≡ bytes_named bytes_of names.cave
   pub bindings : input_left left readers.inputs.cave.bindings

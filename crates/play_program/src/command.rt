@@ -60,15 +60,15 @@ fn doubt_files<'a>(files: &Files<'a>) -> DoubtFiles<'a>
 }
 
 /// Edits a log by a script, or so that it becomes another.
-fn run_edits<F: Read, W: Write>(
+fn run_edits<F: Read, L: Read, W: Write>(
     alloc: Global,
     source: &ScriptSource<'_>,
-    inputs: &mut FileInputs<'_, F>,
+    inputs: &mut FileInputs<'_, F, L>,
     editing: Editing,
     output: &mut W,
 ) -> Result<EditRun, PlayFault>
     ensures runs { (texts : InputTexts)
-        × AreTextsOf (input_left F.remaining) (input_left F.remaining) (input_left F.remaining)
+        × AreTextsOf (input_left F.remaining) (input_left F.remaining) L.remaining
         (input_left F.remaining) inputs.old texts
         × RunsEdits source.now texts editing (W.contents output.old) (W.contents output.new)
         result }
@@ -82,14 +82,14 @@ fn run_edits<F: Read, W: Write>(
 }
 
 /// Does the run that a command line asks for over readers of its files.
-pub fn run_command<'a, F: Read, W: Write>(
+pub fn run_command<'a, F: Read, L: Read, W: Write>(
     alloc: Global,
     asked: &Line<'_>,
-    readers: &mut Readers<'_, F>,
+    readers: &mut Readers<'_, F, L>,
     output: &mut W,
 ) -> Result<Option<EditRun>, Failure<'a>>
     ensures runs { (texts : InputTexts) × (logs : List (List ℕ))
-        × AreTextsOf (input_left F.remaining) (input_left F.remaining) (input_left F.remaining)
+        × AreTextsOf (input_left F.remaining) (input_left F.remaining) L.remaining
         (input_left F.remaining) readers.old.inputs texts
         × AllZip Says (map F.remaining readers.old.logs.items) logs
         × RunsLine asked.now texts logs (W.contents output.old) (W.contents output.new) result }

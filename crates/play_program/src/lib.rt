@@ -5,9 +5,12 @@
 mod beside;
 pub mod command;
 pub mod failure;
+pub mod head;
 pub mod message;
 pub mod names;
+mod notice;
 pub mod output;
+mod peek;
 pub mod program;
 pub mod readers;
 pub mod run;

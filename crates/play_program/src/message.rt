@@ -1,5 +1,6 @@
 //! What the program says apart from its output.
 
+use crate::head::HeadSaid;
 use cave_play::{Complaint, PlayFault, Unopened};
 use std::{fmt, io};
 
@@ -18,6 +19,8 @@ pub enum Message<'a> {
     Usage(&'a str, &'a str),
     /// The words can't be read, for this reason.
     Unread(io::Error),
+    /// The head of this log says this otherwise than the words.
+    Head(&'a str, HeadSaid<'a>),
 }
 
 impl fmt::Display for Message<'_> {
@@ -40,6 +43,7 @@ impl fmt::Display for Message<'_> {
             Message::Unread(reason) => {
                 writeln!(f, "cave: the command line can't be read: {reason}")
             }
+            Message::Head(log, said) => writeln!(f, "cave: {log}:1: the log's head says {said}"),
         }
     }
 }

@@ -12,18 +12,18 @@ use cave_play::{CaveReaders, Input, InputReader, Inputs};
 use std::alloc::Global;
 use std::io::{ErrorKind, Read};
 
-/// The readers of a run's inputs, each of which may be absent.
-pub type FileInputs<'a, F> = Inputs<
+/// The readers of a run's inputs, each of which may be absent. The log has its own kind of reader.
+pub type FileInputs<'a, F, L> = Inputs<
     InputReader<'a, F>,
     InputReader<'a, F>,
-    InputReader<'a, F>,
+    L,
     InputReader<'a, F>,
 >;
 
 /// The readers of a run's files.
 #[derive(Drop)]
-pub struct Readers<'a, F> {
-    pub inputs: FileInputs<'a, F>,
+pub struct Readers<'a, F, L> {
+    pub inputs: FileInputs<'a, F, L>,
     /// The readers of several logs.
     pub logs: Vec<F>,
 }
@@ -128,7 +128,7 @@ pub fn open_files<'a, S: System>(
     alloc: Global,
     system: &mut S,
     names: Names<'a>,
-) -> Result<Readers<'a, S::File>, Failure<'a>>
+) -> Result<Readers<'a, S::File, InputReader<'a, S::File>>, Failure<'a>>
     ensures reads { IfOk result (AreReadersOf S.File.remaining (S.bytes_of system.old)
         (names_in names.entry)) }
     ensures opened { Opened (files_in (names_in names.entry)) (S.calls system.old)

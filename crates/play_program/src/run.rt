@@ -12,17 +12,22 @@ use crate::beside::tell_beside;
 use crate::command::run_command;
 use crate::failure::Failure;
 use crate::names::Names;
+use crate::notice::tell_head;
 use crate::output::Output;
-use crate::readers::open_files;
+use crate::peek::peek;
+use crate::readers::{Readers, open_files};
 use crate::system::System;
-use cave_play::{EditRun, PlayFault};
+use cave_play::{EditRun, Inputs, PlayFault};
 use play_command::Line;
 use std::alloc::Global;
 use std::io;
-use std::io::{ErrorKind, Write};
+use std::io::{ErrorKind, Read, Write};
 
 /// The status of a run that succeeded.
 const DONE: u8 = 0;
+
+/// How many bytes of a log are looked at before the run: the most that a line and its end have.
+const HEAD_BYTES: usize = 257;
 
 /// Does a run whose output goes to a writer.
 fn run_into<'a, S: System, W: Write>(
@@ -36,13 +41,17 @@ fn run_into<'a, S: System, W: Write>(
         (S.calls system.old) (S.calls system.new) (W.contents output.old) (W.contents output.new)
         result }
 {
-    match open_files(alloc, system, names) {
-        Ok(opened) => {
-            let mut readers = opened;
-            run_command(alloc, asked, &mut readers, output)
-        }
-        Err(failure) => Err(failure),
-    }
+    let Readers { inputs, logs } = open_files(alloc, system, names)?;
+    let Inputs { cave, log, script } = inputs;
+    let mut log = log;
+    let mut buffer = [0; HEAD_BYTES];
+    let peeked = peek(&mut log, &mut buffer);
+    let head = &buffer[..peeked.count];
+    tell_head(system, asked, names.log, peeked.failed, head);
+    let log = head.chain(log);
+    let inputs = Inputs { cave, log, script };
+    let mut readers = Readers { inputs, logs };
+    run_command(alloc, asked, &mut readers, output)
 }
 
 /// Puts a whole output into a file.

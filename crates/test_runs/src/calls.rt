@@ -18,6 +18,7 @@ pub enum KeptMessage {
     Unprinted(io::Error),
     Usage(String, String),
     Unread(io::Error),
+    Head(String, &'static str, Vec<u8>),
 }
 
 /// A call of a system.
@@ -82,6 +83,10 @@ impl KeptMessage {
                 Ok(KeptMessage::Usage(before, String::from_str(alloc, *after)?))
             }
             Message::Unread(reason) => Ok(KeptMessage::Unread(*reason)),
+            Message::Head(log, said) => {
+                let log = String::from_str(alloc, *log)?;
+                Ok(KeptMessage::Head(log, said.option, Vec::from_slice(alloc, said.text)?))
+            }
         }
     }
 }

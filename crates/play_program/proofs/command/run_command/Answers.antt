@@ -102,7 +102,7 @@ pub returns-in-Cover : goal.returns-in-Cover
 returns-in-Cover g c =
     let (database, bindings, moves, first, second, say, runs) = c.run_cover.ensures.runs in
     let inputs = c.args.readers.now.inputs in
-    let (log, third) = Says-some (input_left g.F.Read.remaining inputs.log) in
+    let (log, third) = Says-some (g.L.Read.remaining inputs.log) in
     let (script, fourth) = Says-some (input_left g.F.Read.remaining inputs.script) in
     let texts : InputTexts = record {
       database = database;
@@ -128,7 +128,7 @@ pub returns-in-Map : goal.returns-in-Map
 returns-in-Map g c =
     let (database, bindings, moves, first, second, say, runs) = c.run_map.ensures.runs in
     let inputs = c.args.readers.now.inputs in
-    let (log, third) = Says-some (input_left g.F.Read.remaining inputs.log) in
+    let (log, third) = Says-some (g.L.Read.remaining inputs.log) in
     let (script, fourth) = Says-some (input_left g.F.Read.remaining inputs.script) in
     let texts : InputTexts = record {
       database = database;
@@ -155,7 +155,7 @@ returns-in-Text g c =
     let inputs = c.args.readers.now.inputs in
     let (database, first) = Says-some (input_left g.F.Read.remaining inputs.cave.database) in
     let (bindings, second) = Says-some (input_left g.F.Read.remaining inputs.cave.bindings) in
-    let (log, third) = Says-some (input_left g.F.Read.remaining inputs.log) in
+    let (log, third) = Says-some (g.L.Read.remaining inputs.log) in
     let (script, fourth) = Says-some (input_left g.F.Read.remaining inputs.script) in
     let (logs, say) = AllSay-some (map g.F.Read.remaining c.args.readers.now.logs.items) in
     let texts : InputTexts = record {
