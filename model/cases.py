@@ -29,7 +29,7 @@ def cave_of(texts):
 def calls_of(rng, call, options, is_edited):
     """A call of a game that prints something other than its transcript, at random."""
     if is_edited:
-        what = rng.choice(["play", "log", "undo", "steps", "score", "reports", "table"])
+        what = rng.choice(["play", "log", "undo", "guarded", "steps", "score", "reports", "table"])
         every = "1" if what in ("reports", "table") else rng.choice(["1", "2", "7", "50", "10000"])
         call = [*call, "--every", every]
         return call, [*call, "--print", what, *["--strict"] * (rng.random() < 0.1)]

@@ -22,8 +22,8 @@ FILES = {"check": ["<CAVE>"], "play": ["<CAVE>", "<LOG>"], "edit": ["<CAVE>", "<
          "cover": ["<CAVE>", "<LOG>..."]}
 PRINTS = {"check": ["maximum", "bindings", "names", "unused", "doubts"],
           "play": ["transcript", "steps", "walk", "score", "state"],
-          "edit": ["transcript", "play", "log", "undo", "reports", "table", "steps", "walk", "score",
-                   "state"],
+          "edit": ["transcript", "play", "log", "undo", "guarded", "reports", "table", "steps",
+                   "walk", "score", "state"],
           "cover": ["counts", "texts", "rules"]}
 OPTIONS = {"--bind": "FILE", "--seed": "N", "--every": "K", "--print": "WHAT", "--strict": None,
            "--guarded": None, "--edit": "EDIT", "--quiet": None}
@@ -265,7 +265,7 @@ def small(text, name):
 def run_edit(cave, file, log, script, log_ends, options, told):
     """Edits a log by a script, and gives what is printed: its lines, or a text with its own ends.
     What is said on standard error is added to `told`."""
-    seed, reports, backs, rows = options["seed"], [], [], []
+    seed, reports, backs, with_guards, rows = options["seed"], [], [], [], []
     replays = options["print"] in ("reports", "table")
     is_told = not (replays or options["print"] == "transcript" or options["quiet"])
     before, played, wanted = edits.play(cave, seed, log, True) if replays else None, 0, 0
@@ -295,6 +295,7 @@ def run_edit(cave, file, log, script, log_ends, options, told):
             before, played, wanted = after, played + count, wanted + len(new_log)
         reports.append(report)
         backs.append(edits.undo_of(group, seed, log, options["guarded"]))
+        with_guards += edits.guarded_of(group, log)
         log_ends.follow(group)
         seed, log = new_seed, new_log
     if options["print"] == "table":
@@ -304,6 +305,8 @@ def run_edit(cave, file, log, script, log_ends, options, told):
     if options["print"] == "undo":
         lines = [line for lines in reversed(backs) for line in lines]
         return small(log_ends.script_text(lines), "the script")
+    if options["print"] == "guarded":
+        return small(log_ends.script_text(with_guards), "the script")
     if options["print"] == "log":
         return small(log_ends.log_text(log), "the edited log")
     if options["print"] == "steps":

@@ -12,9 +12,11 @@ use Rattle.base_lines.specs.declared.line.LineFault.TheVariants.{BadByte, TooLon
 use Rattle.cave_data.specs.CaveView.{CaveView}
 use Rattle.cave_replay.specs.Opening.{first_bad_line}
 use Rattle.play_command.specs.declared.editing.EditView.TheVariants as asked
+use Rattle.play_edits.specs.Guarded.{guarded_groups}
 use Rattle.play_edits.specs.Items.{game_after_items}
 use Rattle.play_edits.specs.Undo.{backs_of}
 use Rattle.play_edits.proofs.GameLemmas.{IsGame-after_all}
+use Rattle.play_edits.proofs.GuardedLemmas.{spellable-guarded_all}
 use Rattle.play_edits.proofs.SayableLemmas.{spellable-all}
 use Rattle.replay_edits.specs.Edit.{Game, IsGame, game_of}
 use Rattle.play_edits.specs.LineEnds.{ended_text, ends_in, first_end, is_same_end, is_unended}
@@ -29,10 +31,11 @@ use Rattle.replay_scripts.specs.Guards.{IsScriptBy, read_guarded_from, unguarded
 use Rattle.replay_scripts.specs.Guards.{unguarded_items}
 use Rattle.replay_scripts.specs.Script.{Applied, IsScript, read_from}
 use Rattle.replay_scripts.proofs.Grammar.{script_of-only}
-use Rattle.cave_play.specs.Bytes.{EditedLogsAreAccepted, UndoGivesTheBytes, UndoScriptsTakeBack}
+use Rattle.cave_play.specs.Bytes.{EditedLogsAreAccepted, GuardedScriptsDoTheSame}
+use Rattle.cave_play.specs.Bytes.{UndoGivesTheBytes, UndoScriptsTakeBack}
 use Rattle.cave_play.specs.Ended.{IsEndedEdit, ended_view, ends_after_items}
 use Rattle.cave_play.specs.Judge.{lines_fault, or_too_many}
-use Rattle.cave_play.specs.Views.{IsUndo}
+use Rattle.cave_play.specs.Views.{IsGuarded, IsUndo}
 use Rattle.cave_play.specs.declared.fault.LogFault.TheVariants as fault_of_log
 use Rattle.cave_play.specs.declared.fault.PlayFault.TheVariants as fault
 use Rattle.cave_play.proofs.EndedLemmas.{ends_after_items-alike}
@@ -146,6 +149,35 @@ undo_scripts_take_back cave every log script undo seed played guarded free fits 
           (script_by-spelled guarded undo is.backs spelled);
       accepted = is.accepted;
       back = is.back;
+    }
+
+-- ---- the script with guards
+
+guarded_stands : (items : List Applied) (game : Game) (text : List ℕ) → IsGame game
+    → IsGuarded items game text → All IsTextLine (lines text)
+guarded_stands items game text good is =
+    let groups = guarded_groups items game in
+    subst (λ t. All IsTextLine (lines t)) (sym is.written)
+    (undo_lines_stand true groups (spellable-guarded_all items game good))
+
+pub guarded_scripts_do_the_same : GuardedScriptsDoTheSame
+guarded_scripts_do_the_same cave every log script printed seed played guarded free fits edit =
+    let game = game_of seed (lines log) in
+    let good = IsGame-accepted log seed free fits in
+    let ends = ends_after_items edit.edit.items game (log_ends log script) in
+    let is = edit.edit.written in
+    let same : lines printed ≡ lines edit.text =
+    ap lines edit.printed
+    ∙ lines-ended ends.usual false [] (lines edit.text)
+    (guarded_stands edit.edit.items game edit.text good is) in
+    let spelled = by_lines true edit.text printed is.again (sym same) is.spelled in
+    record {
+      again = is.again;
+      spelled = spelled;
+      fault = λ small. script_fault-none true printed is.again small
+          (script_by-spelled true printed is.again spelled);
+      accepted = is.accepted;
+      same = is.same;
     }
 
 -- ---- the bytes

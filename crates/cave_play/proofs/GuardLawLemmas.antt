@@ -65,6 +65,7 @@ other_view asked.Transcript cave game first second items outcomes text free is =
 other_view asked.Play cave game first second items outcomes text free is = is
 other_view asked.Log cave game first second items outcomes text free is = is
 other_view asked.Undo cave game first second items outcomes text free is = absurd free
+other_view asked.Guarded cave game first second items outcomes text free is = is
 other_view asked.Reports cave game first second items outcomes text free is = is
 other_view asked.Table cave game first second items outcomes text free is = is
 other_view asked.Steps cave game first second items outcomes text free is = is

@@ -2,6 +2,7 @@ mod BytesLemmas
 mod DoubtLemmas
 mod EndedLemmas
 mod GuardLawLemmas
+mod GuardedLemmas
 pub mod InputLemmas
 mod JudgeLemmas
 mod OneOutputLemmas

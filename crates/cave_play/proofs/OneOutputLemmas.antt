@@ -6,7 +6,7 @@ use Rattle.cave_data.proofs.ReadLemmas.{same_cave}
 use Rattle.play_command.specs.declared.editing.EditView.{EditView}
 use Rattle.play_command.specs.declared.editing.EditView.TheVariants.{Transcript, Play, Log, Reports}
 use Rattle.play_command.specs.declared.editing.EditView.TheVariants.{Steps, Score, FinalState}
-use Rattle.play_command.specs.declared.editing.EditView.TheVariants.{Table, Undo, Walk}
+use Rattle.play_command.specs.declared.editing.EditView.TheVariants.{Table, Undo, Guarded, Walk}
 use Rattle.replay_edits.specs.Edit.{Game, game_of}
 use Rattle.replay_scripts.proofs.Grammar.{script_of-only}
 use Rattle.replay_scripts.specs.Guards.{IsScriptBy, script_by}
@@ -59,6 +59,8 @@ one_view Transcript cave game guarded items near far one other free is same = is
 one_view Play cave game guarded items near far one other free is same = is ∙ sym same
 one_view Log cave game guarded items near far one other free is same = is.written ∙ sym same.written
 one_view Undo cave game guarded items near far one other free is same = is.written ∙ sym same.written
+one_view Guarded cave game guarded items near far one other free is same =
+    is.written ∙ sym same.written
 one_view Reports cave game guarded items near far one other free is same = absurd free
 one_view Table cave game guarded items near far one other free is same = absurd free
 one_view Steps cave game guarded items near far one other free is same = is ∙ sym same

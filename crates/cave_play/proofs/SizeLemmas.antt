@@ -28,6 +28,8 @@ unwritten_by_bytes asked.Log bytes =
     by_test (nat_lt MAX_INPUT_BYTES bytes) fault.LargeLog (λ found. cc)
 unwritten_by_bytes asked.Undo bytes =
     by_test (nat_lt MAX_INPUT_BYTES bytes) fault.LargeScript (λ found. cc)
+unwritten_by_bytes asked.Guarded bytes =
+    by_test (nat_lt MAX_INPUT_BYTES bytes) fault.LargeScript (λ found. cc)
 unwritten_by_bytes asked.Transcript bytes = λ found. cc
 unwritten_by_bytes asked.Play bytes = λ found. cc
 unwritten_by_bytes asked.Reports bytes = λ found. cc
@@ -58,6 +60,9 @@ size_printed asked.Log cave game guarded items outcomes ends text output written
 size_printed asked.Undo cave game guarded items outcomes ends text output written is =
     ap (λ t. size_fault asked.Undo (length t))
     (is ∙ ap (ended_view asked.Undo (ends_after_items items game ends)) written.written)
+size_printed asked.Guarded cave game guarded items outcomes ends text output written is =
+    ap (λ t. size_fault asked.Guarded (length t))
+    (is ∙ ap (ended_view asked.Guarded (ends_after_items items game ends)) written.written)
 size_printed asked.Transcript cave game guarded items outcomes ends text output written is = refl
 size_printed asked.Play cave game guarded items outcomes ends text output written is = refl
 size_printed asked.Reports cave game guarded items outcomes ends text output written is = refl

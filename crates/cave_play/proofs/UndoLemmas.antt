@@ -24,12 +24,12 @@ use Rattle.play_edits.proofs.MetLemmas.{guards_met}
 use Rattle.play_edits.proofs.SayableLemmas.{back_accepted, back_again, spellable-all}
 
 -- the items of groups are accepted in the one game and give the other
-abbrev Undoes : ℕ → List (List Back) → Game → Game → Type 0
+abbrev pub Undoes : ℕ → List (List Back) → Game → Game → Type 0
 Undoes number groups from to =
     (first_strict_fault true (spelled_items number groups) from ≡ None)
     × (game_after_items (spelled_items number groups) from ≡ to)
 
-undoes-append : (first second : List (List Back)) (number : ℕ) (from middle to : Game)
+pub undoes-append : (first second : List (List Back)) (number : ℕ) (from middle to : Game)
     → Undoes number first from middle → ((m : ℕ) → Undoes m second middle to)
     → Undoes number (first ++ second) from to
 undoes-append [] second number from middle to (none, same) more =
@@ -64,7 +64,7 @@ changes_back false (change ∷ changes) log =
 changes_back true (change ∷ changes) log =
     ap (λ some. change ∷ some) (changes_back true changes (log_after change log))
 
-undoes-one : (guarded : Bool) (number : ℕ) (changes : List Change) (from to : Game)
+pub undoes-one : (guarded : Bool) (number : ℕ) (changes : List Change) (from to : Game)
     → group_refusal changes from.log ≡ None → apply_all changes from ≡ to
     → Undoes number (backs_by guarded changes from.log ∷ []) from to
 unfolding strict_fault game_after_item

@@ -7,7 +7,7 @@ use Rattle.cave_data.specs.CaveView.{CaveView}
 use Rattle.play_command.specs.declared.editing.EditView.{EditView}
 use Rattle.play_command.specs.declared.editing.EditView.TheVariants.{Transcript, Play, Log, Reports}
 use Rattle.play_command.specs.declared.editing.EditView.TheVariants.{Steps, Score, FinalState}
-use Rattle.play_command.specs.declared.editing.EditView.TheVariants.{Table, Undo, Walk}
+use Rattle.play_command.specs.declared.editing.EditView.TheVariants.{Table, Undo, Guarded, Walk}
 use Rattle.cave_replay.specs.LogText.{log_text}
 use Rattle.replay_edits.specs.Edit.{Game, IsGame}
 use Rattle.replay_scripts.specs.Script.{Applied}
@@ -15,6 +15,8 @@ use Rattle.replay_scripts.specs.ScriptText.{Back, script_text}
 use Rattle.play_edits.specs.Edits.{LogReadsBack, kept_for, text_at_end, text_at_start, text_of_item}
 use Rattle.play_edits.specs.Undo.{backs_of}
 use Rattle.play_edits.proofs.EditLemmas.{item_refusal-outcome}
+use Rattle.play_edits.proofs.GuardedLemmas.{told-guarded}
+use Rattle.cave_play.proofs.GuardedLemmas.{guarded-whole}
 use Rattle.cave_play.proofs.UndoLemmas.{undo-whole}
 use Rattle.play_machine.specs.FinalState.{final_state_text}
 use Rattle.play_edits.specs.Items.{game_after_item, game_after_items, item_report, item_report_by}
@@ -105,6 +107,10 @@ told-whole Reports cave every items game guarded opened outcomes played counted 
     ∙ ap (totals_line (sum_by played_in outcomes)) counts)
 told-whole Table cave every items game guarded opened outcomes played counted backs text whole came
     told plays counts ends back kept good = ends ∙ append-nil text ∙ told
+told-whole Guarded cave every items game guarded opened outcomes played counted backs text whole came
+    told plays counts ends back kept good =
+    guarded-whole items game whole good
+    (ends ∙ append-nil text ∙ told ∙ told-guarded cave every items game opened outcomes came)
 told-whole Undo cave every items game guarded opened outcomes played counted backs text whole came
     told plays counts ends back kept good =
     let nothing = told-nothing (text_of_item Undo cave) (λ _ _ _. refl) items game outcomes in

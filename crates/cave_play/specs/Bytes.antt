@@ -46,6 +46,24 @@ UndoScriptsTakeBack =
     → (edit : IsEndedEdit asked.Undo cave every log seed guarded script played undo)
     → GivesBack guarded edit.edit.items (lines log) seed undo
 
+-- The printed script with guards is accepted unless it is too large, and spells items: the log
+-- accepts each, with each of its guards, and together they give what the edits gave.
+pub record GivesSame (items : List Applied) (log : List (List ℕ)) (seed : ℕ) (text : List ℕ)
+    : Type 0 where
+  pub again : List Applied
+  pub spelled : IsScriptBy true text again
+  pub fault : length text ≤ MAX_INPUT_BYTES → script_fault true text ≡ None
+  pub accepted : first_strict_fault true again (game_of seed log) ≡ None
+  pub same : game_after_items again (game_of seed log)
+      ≡ game_after_items items (game_of seed log)
+
+abbrev pub GuardedScriptsDoTheSame : Type 0
+GuardedScriptsDoTheSame =
+    (cave : CaveView) (every : ℕ) (log script printed : List ℕ) (seed played : ℕ) (guarded : Bool)
+    → log_fault log ≡ None → large_seed seed ≡ None
+    → (edit : IsEndedEdit asked.Guarded cave every log seed guarded script played printed)
+    → GivesSame edit.edit.items (lines log) seed printed
+
 -- all lines of a text end alike, and the last line may have no end
 abbrev pub EndsAlike : List ℕ → Type 0
 EndsAlike text = (end : LineEnd) × (unended : Bool)

@@ -29,12 +29,13 @@ ends_after_items (item ∷ items) game ends =
     (ends_left item (item_refusal item game.log) ends)
 
 -- What is printed of the text that a view made. A line of a log has its own end. A line of the
--- script that takes edits back has the usual one.
+-- script has the usual one.
 abbrev pub ended_view : EditView → EndsOfLog → List ℕ → List ℕ
 ended_view asked.Transcript ends text = text
 ended_view asked.Play ends text = text
 ended_view asked.Log ends text = ended_text ends.usual ends.unended ends.each (lines text)
 ended_view asked.Undo ends text = ended_text ends.usual false [] (lines text)
+ended_view asked.Guarded ends text = ended_text ends.usual false [] (lines text)
 ended_view asked.Reports ends text = text
 ended_view asked.Table ends text = text
 ended_view asked.Steps ends text = text

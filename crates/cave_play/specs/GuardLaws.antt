@@ -18,12 +18,13 @@ use Rattle.cave_play.specs.Judge.{large_seed, log_fault}
 abbrev pub HasNoGuard : List ℕ → Type 0
 HasNoGuard script = All (λ line. expected_in line ≡ None) (lines script)
 
--- the view has no guards of its own
+-- the view has no guards, or has them whether or not the run is guarded
 abbrev pub PrintsNoGuards : EditView → Type 0
 PrintsNoGuards asked.Transcript = ⊤
 PrintsNoGuards asked.Play = ⊤
 PrintsNoGuards asked.Log = ⊤
 PrintsNoGuards asked.Undo = ⊥
+PrintsNoGuards asked.Guarded = ⊤
 PrintsNoGuards asked.Reports = ⊤
 PrintsNoGuards asked.Table = ⊤
 PrintsNoGuards asked.Steps = ⊤

@@ -39,6 +39,7 @@ KnowsNoCheckpoints asked.Transcript = ⊤
 KnowsNoCheckpoints asked.Play = ⊤
 KnowsNoCheckpoints asked.Log = ⊤
 KnowsNoCheckpoints asked.Undo = ⊤
+KnowsNoCheckpoints asked.Guarded = ⊤
 KnowsNoCheckpoints asked.Reports = ⊥
 KnowsNoCheckpoints asked.Table = ⊥
 KnowsNoCheckpoints asked.Steps = ⊤
@@ -47,8 +48,9 @@ KnowsNoCheckpoints asked.Score = ⊤
 KnowsNoCheckpoints asked.FinalState = ⊤
 
 -- an edit, which has a log, a script and a seed, has at most one output of the transcript, with
--- reports or without, of the edited log, of what takes it back, of its lines, its score and the
--- final state, at any distances of checkpoints, whether or not the runs are strict
+-- reports or without, of the edited log, of what takes it back, of the script with guards, of its
+-- lines, its score and the final state, at any distances of checkpoints, whether or not the runs
+-- are strict
 abbrev pub OneEditedOutput : Type 0
 OneEditedOutput =
     (database bindings log script : List ℕ) (seed near far : ℕ) (view : EditView)

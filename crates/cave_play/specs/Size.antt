@@ -6,6 +6,7 @@ use Rattle.base_lines.specs.Limits.{MAX_INPUT_BYTES}
 use Rattle.cave_replay.specs.LogText.{log_text}
 use Rattle.play_command.specs.declared.editing.EditView.{EditView}
 use Rattle.play_command.specs.declared.editing.EditView.TheVariants as asked
+use Rattle.play_edits.specs.Guarded.{guarded_text}
 use Rattle.play_edits.specs.Items.{game_after_items}
 use Rattle.play_edits.specs.Undo.{undo_text}
 use Rattle.replay_edits.specs.Edit.{Game, game_of}
@@ -22,6 +23,8 @@ size_fault asked.Log bytes =
     if nat_lt MAX_INPUT_BYTES bytes then Some fault.LargeLog else None
 size_fault asked.Undo bytes =
     if nat_lt MAX_INPUT_BYTES bytes then Some fault.LargeScript else None
+size_fault asked.Guarded bytes =
+    if nat_lt MAX_INPUT_BYTES bytes then Some fault.LargeScript else None
 size_fault asked.Transcript bytes = None
 size_fault asked.Play bytes = None
 size_fault asked.Reports bytes = None
@@ -31,10 +34,11 @@ size_fault asked.Walk bytes = None
 size_fault asked.Score bytes = None
 size_fault asked.FinalState bytes = None
 
--- the log, or the script that takes items back, that is printed of a game
+-- the log, or the script that takes items back or has them with guards, that is printed of a game
 abbrev pub text_to_read : EditView → Bool → List Applied → Game → List ℕ
 text_to_read asked.Log guarded items game = log_text (game_after_items items game).log
 text_to_read asked.Undo guarded items game = undo_text guarded items game
+text_to_read asked.Guarded guarded items game = guarded_text items game
 text_to_read _ guarded items game = []
 
 abbrev pub bytes_to_read : EditView → Bool → List Applied → Game → EndsOfLog → ℕ

@@ -11,6 +11,7 @@ use Rattle.replay_edits.specs.Edit.{Game}
 use Rattle.replay_scripts.specs.Script.{Applied}
 use Rattle.replay_scripts.specs.Guards.{IsScriptBy}
 use Rattle.play_edits.specs.Accounts.{accounts}
+use Rattle.play_edits.specs.Guarded.{guarded_text}
 use Rattle.play_machine.specs.FinalState.{final_state_text}
 use Rattle.play_edits.specs.Items.{game_after_items, reports}
 use Rattle.play_machine.specs.Score.{score_text}
@@ -42,6 +43,18 @@ pub record IsUndo (guarded : Bool) (items : List Applied) (game : Game) (text : 
     pub accepted : first_strict_fault true backs (game_after_items items game) ≡ None
     pub back : game_after_items backs (game_after_items items game) ≡ game
 
+-- ---- the script with guards
+
+-- The text is the script of the items that the game accepts, each edit with a guard of the line at
+-- its place: the items that it spells are all accepted in the game, with all their guards, and give
+-- what the items give.
+pub record IsGuarded (items : List Applied) (game : Game) (text : List ℕ) : Type 0 where
+  pub written : text ≡ guarded_text items game
+  pub again : List Applied
+  pub spelled : IsScriptBy true text again
+  pub accepted : first_strict_fault true again game ≡ None
+  pub same : game_after_items again game ≡ game_after_items items game
+
 -- ---- what is written
 
 -- the text is what the view asks for of the items that edit the game in the cave, by their outcomes
@@ -54,6 +67,7 @@ IsViewOf asked.Play cave game guarded items outcomes text =
 IsViewOf asked.Log cave game guarded items outcomes text =
     IsLogOf (game_after_items items game) text
 IsViewOf asked.Undo cave game guarded items outcomes text = IsUndo guarded items game text
+IsViewOf asked.Guarded cave game guarded items outcomes text = IsGuarded items game text
 IsViewOf asked.Reports cave game guarded items outcomes text =
     text ≡ accounts cave items game outcomes
 IsViewOf asked.Table cave game guarded items outcomes text =

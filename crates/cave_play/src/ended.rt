@@ -23,7 +23,7 @@ pub(crate) fn ended_view(
 {
     match view {
         EditView::Log => ended_text(alloc, ends.usual, ends.unended, &ends.each, &text),
-        EditView::Undo => ended_text(alloc, ends.usual, false, &[], &text),
+        EditView::Undo | EditView::Guarded => { ended_text(alloc, ends.usual, false, &[], &text) }
         EditView::Transcript | EditView::Play | EditView::Reports | EditView::Table => Ok(text),
         EditView::Steps | EditView::Walk | EditView::Score | EditView::FinalState => Ok(text),
     }
@@ -36,7 +36,9 @@ pub(crate) fn check_size(view: EditView, output: &[u8]) -> Result<(), PlayFault>
 {
     match view {
         EditView::Log if is_large_input(output.len()) => Err(PlayFault::LargeLog),
-        EditView::Undo if is_large_input(output.len()) => Err(PlayFault::LargeScript),
+        EditView::Undo | EditView::Guarded if is_large_input(output.len()) => {
+            Err(PlayFault::LargeScript)
+        }
         _ => Ok(()),
     }
 }

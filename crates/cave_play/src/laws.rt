@@ -2,7 +2,8 @@
 //! determine the output, that what edits print is read again, and that `--guarded` changes nothing
 //! if there are no guards, or all are met. Each is the contract of a function that does nothing.
 
-ghost use Rattle.cave_play.specs.Bytes.{EditedLogsAreAccepted, UndoGivesTheBytes};
+ghost use Rattle.cave_play.specs.Bytes.{EditedLogsAreAccepted, GuardedScriptsDoTheSame};
+ghost use Rattle.cave_play.specs.Bytes.{UndoGivesTheBytes};
 ghost use Rattle.cave_play.specs.Bytes.{UndoScriptsTakeBack};
 ghost use Rattle.cave_play.specs.GuardLaws.{MetGuardsNoOtherLog, NoGuardsNoOtherOutput};
 ghost use Rattle.cave_play.specs.GuardLaws.{NoGuardsNoOtherScript};
@@ -53,7 +54,13 @@ pub fn undo_scripts_take_back()
     ensures { UndoScriptsTakeBack }
 {}
 
-/// Such a script gives the bytes of the log back, line ends too, if all lines of the log end alike.
+/// The printed script with guards spells items that are accepted in the game, and give what the
+/// edits gave.
+pub fn guarded_scripts_do_the_same()
+    ensures { GuardedScriptsDoTheSame }
+{}
+
+/// The script that takes edits back gives the bytes of the log back, line ends too, if all lines of the log end alike.
 pub fn undo_gives_the_bytes()
     ensures { UndoGivesTheBytes }
 {}

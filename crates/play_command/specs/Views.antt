@@ -24,12 +24,13 @@ edit_view_named name =
     else (if bytes_eq name (codes "play") then Some asked.Play
     else (if bytes_eq name (codes "log") then Some asked.Log
     else (if bytes_eq name (codes "undo") then Some asked.Undo
+    else (if bytes_eq name (codes "guarded") then Some asked.Guarded
     else (if bytes_eq name (codes "reports") then Some asked.Reports
     else (if bytes_eq name (codes "table") then Some asked.Table
     else (if bytes_eq name (codes "steps") then Some asked.Steps
     else (if bytes_eq name (codes "walk") then Some asked.Walk
     else (if bytes_eq name (codes "score") then Some asked.Score
-    else (if bytes_eq name (codes "state") then Some asked.FinalState else None)))))))))
+    else (if bytes_eq name (codes "state") then Some asked.FinalState else None))))))))))
 
 abbrev pub check_view_named : List ℕ → Option CheckView
 check_view_named name =

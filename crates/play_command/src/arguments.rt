@@ -167,10 +167,10 @@ pub(crate) fn edit_print_argument<'a>(alloc: Global) -> Arg<'a>
         .help(
             "What is printed: `transcript`, the reports and what the game says, `play`, what it \
              says alone, `log`, the edited log without its seed, `undo`, the script that takes the \
-             edits back, `reports`, what each edit replayed and what came of it, `table`, the \
-             same as a table, `steps`, what each line of the edited log did, `walk`, the same as \
-             JSON, `score`, where the score comes from, or `state`, the final state \
-             [default: transcript]",
+             edits back, `guarded`, the accepted edits with guards, `reports`, what each edit \
+             replayed and what came of it, `table`, the same as a table, `steps`, what each line \
+             of the edited log did, `walk`, the same as JSON, `score`, where the score comes \
+             from, or `state`, the final state [default: transcript]",
         )
 }
 

@@ -14,6 +14,8 @@ pub enum EditView {
     Log,
     /// A script that takes back all edits that were accepted.
     Undo,
+    /// The edits that were accepted, as a script in which each expects the line at its place.
+    Guarded,
     /// What each edit replayed.
     Reports,
     /// The same as a table, with what each edit is and what it changed.
@@ -29,11 +31,12 @@ pub enum EditView {
 }
 
 /// The names of what an edit may print.
-pub(crate) const EDIT_VIEWS: [&str; 10] = [
+pub(crate) const EDIT_VIEWS: [&str; 11] = [
     "transcript",
     "play",
     "log",
     "undo",
+    "guarded",
     "reports",
     "table",
     "steps",
@@ -43,11 +46,12 @@ pub(crate) const EDIT_VIEWS: [&str; 10] = [
 ];
 
 /// What an edit may print, in the order of the names.
-const EACH_EDIT_VIEW: [EditView; 10] = [
+const EACH_EDIT_VIEW: [EditView; 11] = [
     EditView::Transcript,
     EditView::Play,
     EditView::Log,
     EditView::Undo,
+    EditView::Guarded,
     EditView::Reports,
     EditView::Table,
     EditView::Steps,

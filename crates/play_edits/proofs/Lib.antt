@@ -2,6 +2,7 @@ pub mod BackLemmas
 pub mod EditLemmas
 pub mod GameLemmas
 pub mod GuardLemmas
+pub mod GuardedLemmas
 mod DetailLemmas
 mod KeptLemmas
 pub mod MetLemmas

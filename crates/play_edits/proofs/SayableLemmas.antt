@@ -45,7 +45,7 @@ can_expect (deletes place) log good = line_can log place (slice_get log place) g
 can_expect (replaces place line) log good = line_can log place (slice_get log place) good refl
 can_expect (reseeds seed) log good = tt
 
-all_spellable : (guarded : Bool) (changes : List Change) (game : Game) → IsGame game
+pub all_spellable : (guarded : Bool) (changes : List Change) (game : Game) → IsGame game
     → IsFree changes game.log → All (IsSpellable guarded) (backs_by guarded changes game.log)
 all_spellable false [] game good free = All-nil (IsSpellable false)
 all_spellable true [] game good free = All-nil (IsSpellable true)
@@ -96,22 +96,22 @@ module _ (item : Applied) (game : Game) (good : IsGame game)
   unfolding group_refusal
   can = group_free item.changes game.log (2 ^ 64 - 1) accepted
 
-  free : IsFree item.changes game.log
-  free = IsFree-from_none item.changes game.log 0 can.0
+  pub changes_free : IsFree item.changes game.log
+  changes_free = IsFree-from_none item.changes game.log 0 can.0
 
   free_back : IsFree inverses after.log
   free_back = subst (λ log. IsFree inverses log) (sym (log-apply_all item.changes game))
-      (IsFree-inverses_of item.changes game good free)
+      (IsFree-inverses_of item.changes game good changes_free)
 
   good_after : IsGame after
-  good_after = IsGame-apply_all item.changes game good free
+  good_after = IsGame-apply_all item.changes game good changes_free
 
   pub inverses_spellable : (guarded : Bool)
       → All (IsSpellable guarded) (backs_by guarded inverses after.log)
   inverses_spellable guarded = all_spellable guarded inverses after good_after free_back
 
   pub back_again : apply_all inverses after ≡ game
-  back_again = apply_all-inverses_of item.changes game free
+  back_again = apply_all-inverses_of item.changes game changes_free
 
   some_changes : 0 < length item.changes
   unfolding group_refusal

@@ -15,6 +15,7 @@ use Rattle.replay_scripts.specs.ScriptText.{Back, script_text}
 use Rattle.cave_world.specs.declared.state.State.{State}
 use Rattle.play_edits.specs.Accounts.{account, text_of_items, totals_line}
 use Rattle.play_machine.specs.FinalState.{final_state_text}
+use Rattle.play_edits.specs.Guarded.{guarded_item}
 use Rattle.play_machine.specs.HeldGame.{HoldsGame}
 use Rattle.play_edits.specs.Items.{game_after_item, item_report_by}
 use Rattle.play_edits.specs.Outcome.{ItemOutcome, IsItemOutcome, AreLeft, AreOutcomes}
@@ -41,6 +42,7 @@ text_at_start asked.Transcript = []
 text_at_start asked.Play = []
 text_at_start asked.Log = []
 text_at_start asked.Undo = []
+text_at_start asked.Guarded = []
 text_at_start asked.Reports = []
 text_at_start asked.Table = item_head_row
 text_at_start asked.Steps = []
@@ -54,6 +56,7 @@ text_of_item asked.Transcript cave item game outcome = item_report_by item (refu
 text_of_item asked.Play cave item game outcome = []
 text_of_item asked.Log cave item game outcome = []
 text_of_item asked.Undo cave item game outcome = []
+text_of_item asked.Guarded cave item game outcome = guarded_item item game.log outcome
 text_of_item asked.Reports cave item game outcome = account cave item game outcome
 text_of_item asked.Table cave item game outcome = table_row cave item game outcome
 text_of_item asked.Steps cave item game outcome = []
@@ -67,6 +70,7 @@ kept_for asked.Transcript backs = []
 kept_for asked.Play backs = []
 kept_for asked.Log backs = []
 kept_for asked.Undo backs = backs
+kept_for asked.Guarded backs = []
 kept_for asked.Reports backs = []
 kept_for asked.Table backs = []
 kept_for asked.Steps backs = []
@@ -93,6 +97,7 @@ text_at_end asked.Transcript cave game played lines backs = play_text cave game
 text_at_end asked.Play cave game played lines backs = play_text cave game
 text_at_end asked.Log cave game played lines backs = log_text game.log
 text_at_end asked.Undo cave game played lines backs = script_text backs
+text_at_end asked.Guarded cave game played lines backs = []
 text_at_end asked.Reports cave game played lines backs = totals_line played lines
 text_at_end asked.Table cave game played lines backs = []
 text_at_end asked.Steps cave game played lines backs = steps_text cave game
@@ -106,6 +111,7 @@ LogReadsBack asked.Transcript log = ⊤
 LogReadsBack asked.Play log = ⊤
 LogReadsBack asked.Log log = lines (log_text log) ≡ log
 LogReadsBack asked.Undo log = ⊤
+LogReadsBack asked.Guarded log = ⊤
 LogReadsBack asked.Reports log = ⊤
 LogReadsBack asked.Table log = ⊤
 LogReadsBack asked.Steps log = ⊤

@@ -6,5 +6,6 @@ pub mod Outcome
 pub mod Refusal
 pub mod Table
 pub mod Undo
+pub mod Guarded
 pub mod LineEnds
 pub mod LogEnds

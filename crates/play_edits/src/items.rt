@@ -6,11 +6,13 @@ ghost use Rattle.replay_edits.specs.Faults.{fault_of_all};
 ghost use Rattle.replay_scripts.specs.Views.{applied_item, expectations_of};
 ghost use Rattle.replay_scripts.specs.ScriptText.{groups_in};
 ghost use Rattle.play_edits.specs.Edits.{Applies, kept_for, text_of_item};
+ghost use Rattle.play_edits.specs.Guarded.{guarded_item};
 ghost use Rattle.play_edits.specs.Refusal.{first_unmet};
 ghost use Rattle.play_edits.specs.Table.{table_row};
 ghost use Rattle.play_edits.specs.Undo.{back_by};
 
 use crate::details::edit_refusal;
+use crate::guarded::{guarded_text, push_if_done};
 use crate::guards::unmet_guard;
 use crate::refusal::Refusal;
 use crate::reports::{push_account, push_report};
@@ -61,6 +63,10 @@ pub fn apply_item(
             let outcome = apply_with_table_row(alloc, session, item, text)?;
             Ok(outcome)
         }
+        EditView::Guarded => {
+            let outcome = apply_with_guards(alloc, session, item, text)?;
+            Ok(outcome)
+        }
         EditView::Play | EditView::Log | EditView::Undo => {
             let outcome = edit(alloc, session, item)?;
             Ok(outcome)
@@ -90,6 +96,26 @@ fn apply_with_table_row(
     let before = *held;
     let outcome = edit(alloc, session, item)?;
     push_row(alloc, text, session, item, &outcome, &before)?;
+    Ok(outcome)
+}
+
+/// Applies an item to the held game, and appends it with guards of the log before it, unless it is
+/// refused.
+fn apply_with_guards(
+    alloc: Global,
+    session: &mut Session<CaveMachine<'_>>,
+    item: &Item,
+    text: &mut Vec<u8>,
+) -> Result<Result<Done, Refusal>, AllocError>
+    ensures applies { IfOk result (Applies (applied_item item.now) session.old session.new) }
+    ensures back_free { IfOk result (λ outcome. IfOk outcome (λ done.
+        fault_of_all (changes_of done.inverse.items) session.new.game.log 0 ≡ None)) }
+    ensures told { IfOk result (λ outcome. text.new.items ≡ text.old.items
+        ++ guarded_item (applied_item item.now) session.old.game.log outcome) }
+{
+    let guarded = guarded_text(alloc, &item.edits, session.log())?;
+    let outcome = edit(alloc, session, item)?;
+    push_if_done(text, &outcome, &guarded)?;
     Ok(outcome)
 }
 
@@ -153,8 +179,8 @@ pub fn keep_back(
             }
             Err(_) => Ok(()),
         },
-        EditView::Transcript | EditView::Play | EditView::Log | EditView::Reports => Ok(()),
-        EditView::Table | EditView::Steps | EditView::Walk => Ok(()),
+        EditView::Transcript | EditView::Play | EditView::Log | EditView::Guarded => Ok(()),
+        EditView::Reports | EditView::Table | EditView::Steps | EditView::Walk => Ok(()),
         EditView::Score | EditView::FinalState => Ok(()),
     }
 }

@@ -4,6 +4,7 @@
 
 mod details;
 pub mod ended;
+mod guarded;
 mod guards;
 pub mod items;
 pub mod laws;

@@ -30,7 +30,7 @@ pub fn push_start(view: EditView, text: &mut Vec<u8>) -> Result<(), AllocError>
     match view {
         EditView::Table => push_item_head_row(text),
         EditView::Transcript | EditView::Play | EditView::Log | EditView::Undo => Ok(()),
-        EditView::Reports | EditView::Steps | EditView::Walk => Ok(()),
+        EditView::Guarded | EditView::Reports | EditView::Steps | EditView::Walk => Ok(()),
         EditView::Score | EditView::FinalState => Ok(()),
     }
 }
@@ -54,7 +54,7 @@ pub fn push_end(
         EditView::Log => session.push_log(text),
         EditView::Undo => push_script(alloc, text, backs),
         EditView::Reports => push_totals(alloc, text, totals),
-        EditView::Table => Ok(()),
+        EditView::Guarded | EditView::Table => Ok(()),
         EditView::Steps => push_steps(alloc, session, text),
         EditView::Walk => push_walk(alloc, session, text),
         EditView::Score => push_score(alloc, session, text),

@@ -81,6 +81,10 @@ played 5 lines; from the start it would have been 11\n";
 /// The script that takes the edits back.
 pub const UNDO: &str = "begin\ninsert 3 take lamp\nreplace 1 in\nend\ndelete 2\n";
 
+/// The script with guards, without the edit that is refused.
+pub const GUARDED: &str = "expect 2 take lamp\ninsert 2 # note\n\
+begin\nexpect 1 in\nreplace 1 IN\nexpect 3 take lamp\ndelete 3\nend\n";
+
 /// What each edit did, as a table.
 pub const TABLE: &str = "line\tedit\ttext\tresult\tfrom\tmet\tplayed\tscore\tturns\tplace\tended\t\
     differs\n\

@@ -2,6 +2,7 @@
 
 use crate::caves::{
     COVERED_HEAD, COVERED_TAIL, EDITED_LOG, EDITED_PLAY, EDITED_STEPS, EDITED_TEXT, EDITED_WALK,
+    GUARDED,
     KEYS_TAIL, LONG_LOG, LONG_TEXT, MAP_HEAD, MAP_TAIL, REPORTS, SCORE, SCRIPT, SHORT_LOG, STEPS,
     STEPS_HEAD, TABLE, UNDO, WALK, WALK_HEAD,
 };
@@ -44,7 +45,7 @@ pub const EDIT: Run = Run::Edit(EditView::Transcript);
 pub const COVER: Run = Run::Cover(CoverView::Said(TextView::Counts));
 
 /// Each run that the program can be asked for, and what it prints for the usual inputs.
-pub const RUNS: [(Run, Printed); 24] = [
+pub const RUNS: [(Run, Printed); 25] = [
     (
         Run::Check(CheckView::Maximum),
         Printed::Whole("cave ok, maximum 132\n"),
@@ -77,6 +78,7 @@ pub const RUNS: [(Run, Printed); 24] = [
     (Run::Edit(EditView::Play), Printed::Whole(EDITED_PLAY)),
     (Run::Edit(EditView::Log), Printed::Whole(EDITED_LOG)),
     (Run::Edit(EditView::Undo), Printed::Whole(UNDO)),
+    (Run::Edit(EditView::Guarded), Printed::Whole(GUARDED)),
     (Run::Edit(EditView::Reports), Printed::Whole(REPORTS)),
     (Run::Edit(EditView::Table), Printed::Whole(TABLE)),
     (

@@ -318,7 +318,7 @@ const TEXTS: [(&[&str], &str); 25] = [
     (
         &["cave", "edit", "a", "b", "c", "--print", "text"],
         "error: invalid value 'text' for '--print <WHAT>': wanted is transcript, play, log, \
-        undo, reports, table, steps, walk, score or state\n\nFor more",
+        undo, guarded, reports, table, steps, walk, score or state\n\nFor more",
     ),
     (
         &["cave", "edit", "a", "b", "c", "-p", "stpes"],

@@ -5,7 +5,7 @@ use Rattle.replay_edits.specs.declared.fault.EditFault.TheVariants as cause
 use Rattle.replay_scripts.specs.Views.{applied_item}
 use Rattle.cave_replay.specs.Report.{IsReport}
 use Rattle.play_machine.specs.Machine.{cave_rules}
-use Rattle.play_edits.specs.Refusal.{group_refusal}
+use Rattle.play_edits.specs.Refusal.{edit_refusal, group_refusal}
 use Rattle.play_edits.proofs.GuardLemmas.{item_refusal-met}
 use Rattle.play_edits.proofs.EditLemmas.{group_refusal-fresh, accepted_without, refused_by}
 use Rattle.play_edits.proofs.EditLemmas.{game_after_item-accepted, game_after_item-refused}
@@ -48,6 +48,20 @@ returns-in-Ok c =
       back_free = c.in-Ok.ensures.back_accepted;
     }
 
+pub edit_refusal-requires : goal.edit_refusal-requires
+edit_refusal-requires c =
+    let game = c.args.session.now.game in
+    let changes = changes_of c.args.item.now.edits.items in
+    let fresh =
+    group_refusal-fresh _ changes game.log c.new-meter.result
+    (ap changes_of c.deref.ensures.value) c.new-meter.ensures in
+    let other : c.in-Err.fault.cause ≡ cause.Memory
+    → ⊥ = λ is. let yes = c.is_memory.ensures.1 is in cc in
+    let some : group_refusal changes game.log ≡ Some c.in-Err.fault =
+    sym fresh ∙ refused_by _ c.in-Err.fault _ c.in-Err.is other c.edit_group.ensures.faults in
+    let held = c.log.ensures ∙ ap (λ s. s.game.log) c.in-Err.ensures.refused in
+    subst (λ log. group_refusal changes log ≡ Some c.in-Err.fault) (sym held) some
+
 pub returns : goal.returns
 returns c =
     let game = c.args.session.now.game in
@@ -60,9 +74,12 @@ returns c =
     ≡ Some c.in-Err.fault =
     sym fresh ∙ refused_by _ c.in-Err.fault _ c.in-Err.is other c.edit_group.ensures.faults in
     let stays = c.in-Err.ensures.refused in
+    let held = c.log.ensures ∙ ap (λ s. s.game.log) stays in
     let refused =
     item_refusal-met (applied_item c.args.item.now) game.log (Some c.in-Err.fault) c.requires some
-    ∙ ap Some (sym c.edit_refusal.ensures) in
+    ∙ ap Some
+    (sym (c.edit_refusal.ensures
+    ∙ ap (λ log. edit_refusal (applied_item c.args.item.now) log c.in-Err.fault) held)) in
     record {
       applies = record {
         came = refused;

@@ -1,0 +1,32 @@
+-- The accepted items of a script, each edit with a guard of the line at its place.
+use Rattle.std.specs.Prelude.{ℕ, List, [], ◌∷◌, ◌++◌, Ok, Err}
+use Rattle.replay_edits.specs.Edit.{Game}
+use Rattle.replay_scripts.specs.Script.{Applied}
+use Rattle.replay_scripts.specs.ScriptText.{Back, group_text, script_text}
+use Rattle.play_edits.specs.Items.{game_after_item}
+use Rattle.play_edits.specs.Outcome.{ItemOutcome}
+use Rattle.play_edits.specs.Refusal.{item_refusal}
+use Rattle.play_edits.specs.Undo.{back_if, with_guards}
+
+-- the text of an item, unless the item was refused
+abbrev pub text_if_done : ItemOutcome → List ℕ → List ℕ
+text_if_done (Ok done) text = text
+text_if_done (Err refusal) text = []
+
+-- the text of an item that was applied to this log, with guards of the log at each of its changes
+abbrev pub guarded_item : Applied → List (List ℕ) → ItemOutcome → List ℕ
+guarded_item item log outcome = text_if_done outcome (group_text (with_guards item.changes log))
+
+-- the changes of an item with their guards, unless it was refused
+unfoldable pub guarded_of : Applied → Game → List (List Back)
+guarded_of item game = back_if (item_refusal item game.log) (with_guards item.changes game.log)
+
+-- those of items, one after another
+abbrev pub guarded_groups : List Applied → Game → List (List Back)
+guarded_groups [] game = []
+guarded_groups (item ∷ items) game =
+    guarded_of item game ++ guarded_groups items (game_after_item item game)
+
+-- the script of the items that are accepted in the game, with guards
+abbrev pub guarded_text : List Applied → Game → List ℕ
+guarded_text items game = script_text (guarded_groups items game)
