@@ -1,6 +1,6 @@
 //! The transcript of a play.
 
-ghost use Rattle.std.specs.Prelude.{◌≡◌, ◌≤◌, ◌++◌, OnOk};
+ghost use Rattle.std.specs.Prelude.{◌≡◌, ◌+◌, ◌≤◌, ◌++◌, length, vec_capacity, vec_len, OnOk};
 ghost use Rattle.base_lines.specs.LogLine.{log_line};
 ghost use Rattle.turn_ends.specs.Score.{max_score_of, score_of};
 ghost use Rattle.play_machine.specs.Machine.{rendering_of};
@@ -17,6 +17,15 @@ use turn_text::render;
 
 /// How many bytes a line of a log and what is said at it take in many transcripts.
 const USUAL_LINE: usize = 64;
+
+/// How many bytes the transcript of a long game takes.
+const USUAL_PLAY: usize = 65_536;
+
+/// How many bytes an echo has besides those of the line.
+const ECHO_MARKS: usize = 4;
+
+/// How many bytes at most are pushed faster one by one than as a copy of their slice.
+const FEW_BYTES: usize = 8;
 
 /// Appends the transcript of the play that a session of the machine holds.
 pub fn push_play(
@@ -54,16 +63,32 @@ fn is_shown(line: &[u8]) -> bool
     !is_skipped(line)
 }
 
+/// Appends bytes for which there is room.
+fn push_bytes(text: &mut Vec<u8>, bytes: &[u8]) -> Result<(), AllocError>
+    requires room { vec_len text.old + length bytes.now ≤ vec_capacity text.old }
+    ensures items { OnOk result (text.new.items ≡ text.old.items ++ bytes.now) }
+    ensures len { OnOk result (vec_len text.new ≡ vec_len text.old + length bytes.now) }
+    ensures capacity { vec_capacity text.old ≤ vec_capacity text.new }
+{
+    if FEW_BYTES < bytes.len() {
+        return text.extend_from_slice(bytes);
+    }
+    for byte in bytes {
+        text.push_reserved(*byte);
+    }
+    Ok(())
+}
+
 /// Appends a line of the log as it is shown.
 fn push_echo(text: &mut Vec<u8>, line: &[u8]) -> Result<(), AllocError>
     ensures { OnOk result (text.new.items ≡ text.old.items ++ echo line.now) }
 {
-    // A byte is pushed faster than a slice of it is copied.
-    text.push(b'\n')?;
-    text.push(b'>')?;
-    text.push(b' ')?;
-    text.extend_from_slice(line)?;
-    text.push(b'\n')?;
+    text.reserve(line.len() + ECHO_MARKS)?;
+    text.push_reserved(b'\n');
+    text.push_reserved(b'>');
+    text.push_reserved(b' ');
+    push_bytes(text, line)?;
+    text.push_reserved(b'\n');
     Ok(())
 }
 
@@ -145,6 +170,7 @@ impl Watch for Transcript {
     fn before(_: &State) {}
 
     fn start(&mut self, _: Global, begun: &Begun<'_>) -> Result<(), AllocError> {
+        self.text.reserve(USUAL_PLAY)?;
         render(begun.rules.cave, begun.parts, 0, &mut self.text)
     }
 
