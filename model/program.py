@@ -171,7 +171,7 @@ def cave_of(name, database, bind, bindings):
 # ---- The head of a log
 
 def head_notice(name, text, database, options):
-    """What is said of a log whose head says how it is played, and otherwise than the words do."""
+    """What is said of a log whose head says how it is played, if the words differ."""
     line = [*lines_of(text[:MOST_HEAD]), ""][0]
     if not line.startswith("# cave:") or flaw_of(line):
         return ""

@@ -9,7 +9,7 @@ use Rattle.replay_edits.specs.Edit.{Change, Game, IsGame}
 use Rattle.replay_edits.specs.Faults.{fault_of_all}
 use Rattle.replay_edits.proofs.Inverses.{group_free}
 use Rattle.replay_scripts.specs.Script.{Applied}
-use Rattle.replay_scripts.specs.ScriptText.{Back, IsSpellable, group_text, script_text}
+use Rattle.replay_scripts.specs.ScriptText.{IsSpellable, group_text, script_text}
 use Rattle.play_edits.specs.Accounts.{text_of_items}
 use Rattle.play_edits.specs.Edits.{text_of_item}
 use Rattle.play_edits.specs.Guarded.{guarded_groups, guarded_item, guarded_of, guarded_text}

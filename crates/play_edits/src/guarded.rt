@@ -16,7 +16,7 @@ use replay_edits::{Edit, LineText};
 use replay_scripts::push_script;
 use std::alloc::{AllocError, Global};
 
-fn copy_of(alloc: Global, edit: &Edit) -> Result<Edit, AllocError>
+fn copy_change(alloc: Global, edit: &Edit) -> Result<Edit, AllocError>
     ensures { IfOk result (λ copy. change_of copy ≡ change_of edit.now) }
 {
     let copy = match edit {
@@ -28,12 +28,12 @@ fn copy_of(alloc: Global, edit: &Edit) -> Result<Edit, AllocError>
     Ok(copy)
 }
 
-fn copies_of(alloc: Global, edits: &[Edit]) -> Result<Vec<Edit>, AllocError>
+fn copy_changes(alloc: Global, edits: &[Edit]) -> Result<Vec<Edit>, AllocError>
     ensures { IfOk result (λ copies. changes_of copies.items ≡ changes_of edits.now) }
 {
     let mut copies = Vec::with_capacity(alloc, edits.len())?;
     for edit in edits {
-        copies.push(copy_of(alloc, edit)?)?;
+        copies.push(copy_change(alloc, edit)?)?;
     }
     Ok(copies)
 }
@@ -53,7 +53,7 @@ pub(crate) fn guarded_text(
     if plan_edits(edits, log.len()).is_err() {
         return Ok(text);
     }
-    let backs = backs_of(alloc, copies_of(alloc, edits)?, log, true)?;
+    let backs = backs_of(alloc, copy_changes(alloc, edits)?, log, true)?;
     let mut groups = Vec::with_capacity(alloc, 1)?;
     groups.push(backs)?;
     push_script(alloc, &mut text, &groups)?;

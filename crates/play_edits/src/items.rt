@@ -64,7 +64,7 @@ pub fn apply_item(
             Ok(outcome)
         }
         EditView::Guarded => {
-            let outcome = apply_with_guards(alloc, session, item, text)?;
+            let outcome = apply_guarded_item(alloc, session, item, text)?;
             Ok(outcome)
         }
         EditView::Play | EditView::Log | EditView::Undo => {
@@ -101,7 +101,7 @@ fn apply_with_table_row(
 
 /// Applies an item to the held game, and appends it with guards of the log before it, unless it is
 /// refused.
-fn apply_with_guards(
+fn apply_guarded_item(
     alloc: Global,
     session: &mut Session<CaveMachine<'_>>,
     item: &Item,

@@ -1,3 +1,6 @@
 pub mod ApartEdits
 pub mod ApartLogs
+pub mod GuardedLines
+pub mod GuardedReading
+pub mod GuardedSpelling
 pub mod Holding

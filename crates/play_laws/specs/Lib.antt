@@ -1,2 +1,3 @@
 pub mod ApartEdits
+pub mod GuardedScripts
 pub mod Held

@@ -1,4 +1,5 @@
-//! Laws about the states that a session of a game holds, and about edits of any log.
+//! Laws about the states that a session of a game holds, and about edits of any log and scripts
+//! of edits.
 #![tactic(auto)]
 
 ghost use Rattle.std.specs.Prelude.{◌<◌};

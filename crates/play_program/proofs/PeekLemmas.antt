@@ -1,5 +1,5 @@
 -- What was looked at of a log, and what is still to be read of it.
-use Rattle.std.proofs.Common.{◌≡◌, ℕ, ◌≤◌, ◌<◌, Bool, false, List, [], ◌++◌, length, take, None, Some}
+use Rattle.std.proofs.Common.{◌≡◌, ℕ, ◌≤◌, Bool, false, List, [], ◌++◌, length, take, None, Some}
 use Rattle.std.proofs.Common.{Option, true, nat_lt, refl, sym, ap, ◌∙◌, arith, append-nil, take_all, length-take-le}
 use Rattle.std.proofs.lemmas.Bool.Decides.{nat_tests}
 use Rattle.std.proofs.Math.Seq.{take-append_seam}

@@ -7,8 +7,8 @@ use Rattle.play_program.specs.declared.message.Message.TheVariants as message
 
 -- what a message reports: a fault and the file that it is about; a file that can't be opened or
 -- written, and an output that can't be written, with the system's reason; what the parser says
--- about the words, in two parts, or why they can't be read; what the head of a log says otherwise
--- than the words: the log, the option and its text
+-- about the words, in two parts, or why they can't be read; what the head of a log says, and the
+-- words don't: the log, the option and its text
 pub data Told : Type 0 where
   faulty : PlayFault → Option (List ℕ) → Told
   unopened : List ℕ → Error → Told

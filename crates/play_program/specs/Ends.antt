@@ -29,7 +29,7 @@ pub record AreTextsIn (bytes_of : List ℕ → Option (List ℕ)) (names : FileN
   pub script : Says (script_bytes bytes_of names.script names.typed) texts.script
   pub each_log : AllZip Says (map bytes_of names.logs) logs
 
--- all files of the run were opened, what the head of the log says otherwise was reported, unless
+-- all files of the run were opened, what the head of the log says differently was reported, unless
 -- its reader failed, and what their bytes ask for was done
 pub record RunsOpened (bytes_of : List ℕ → Option (List ℕ)) (asked : Line) (names : FileNames)
     (calls called : Option (List Call)) (old new : Option (List ℕ))

@@ -1,5 +1,4 @@
--- What the head of a log says of how the log is played, and what of it a command line says
--- otherwise.
+-- What the head of a log says of how the log is played, and what of it a command line doesn't say.
 use Rattle.std.specs.Prelude.{ℕ, ◌==◌, ◌&&◌, ◌||◌, Bool, true, false, not, bytes_eq, nat_le, nat_lt}
 use Rattle.std.specs.Prelude.{List, [], ◌∷◌, length, take, drop, Option, None, Some, codes}
 use Rattle.std.specs.Prelude.{if◌then◌else◌, option_map}
@@ -124,7 +123,7 @@ other_bindings bindings said =
 abbrev pub other_seed : ℕ → List ℕ → Option Said
 other_seed seed said = said_if (is_other_seed seed said) (codes "--seed ") said
 
--- the first of these that a head says otherwise: the database, its bindings, the seed; what it
+-- the first of these that a head says differently: the database, its bindings, the seed; what it
 -- doesn't say doesn't differ
 abbrev pub other_said : PlayWords → List ℕ → Option Said
 other_said words text = option_or (option_and_then (other_cave words.cave) (head_cave text))
@@ -132,7 +131,7 @@ other_said words text = option_or (option_and_then (other_cave words.cave) (head
     (value_of (codes "--bind") (codes "-b") text))
     (option_and_then (other_seed words.seed) (value_of (codes "--seed") (codes "-s") text)))
 
--- what the head of a log says otherwise than the command line, if it does
+-- what the head of a log says differently from the command line, if it does
 unfoldable pub head_notice : PlayWords → List ℕ → Option Said
 head_notice words log = option_and_then (other_said words) (head_of log)
 

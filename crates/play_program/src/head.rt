@@ -1,14 +1,13 @@
-//! The head of a log: what it says of how the log is played, and what of it a command line says
-//! otherwise.
+//! The head of a log: what it says of how the log is played, and what of it a command line
+//! doesn't say.
 
 ghost use Rattle.std.specs.Prelude.{◌≡◌, option_map};
-ghost use Rattle.play_program.specs.Head.{PlayWords, Said, base_name, first_line, first_word};
+ghost use Rattle.play_program.specs.Head.{base_name, first_word};
 ghost use Rattle.play_program.specs.Head.{after_first_word, head_cave, head_notice, head_of};
 ghost use Rattle.play_program.specs.Head.{head_text, is_command, is_option, is_other_seed};
 ghost use Rattle.play_program.specs.Head.{is_same_file, other_bindings, other_cave, other_said};
 ghost use Rattle.play_program.specs.Head.{other_seed, play_words, said_if, said_in, unless_empty};
 ghost use Rattle.play_program.specs.Head.{unless_option, value_here, value_of};
-ghost use Rattle.std.specs.Str.Lines.{lines};
 
 use base_lines::bytes::{is_blank, number_of, skip_blanks, split_digits, split_word};
 use base_lines::limits::is_long_number;
@@ -23,7 +22,7 @@ pub struct HeadWords<'a> {
     pub seed: u32,
 }
 
-/// What the head of a log says otherwise than the command line.
+/// What the head of a log says differently from the command line.
 #[derive(Clone, Copy, Debug)]
 pub struct HeadSaid<'a> {
     /// The option, with the blank after it, or no text for the database.
@@ -219,7 +218,7 @@ fn other_seed<'a>(seed: u32, said: &'a [u8]) -> Option<HeadSaid<'a>>
     said_if(is_other_seed(seed, said), "--seed ", said)
 }
 
-/// The first of these that a head says otherwise: the database, its bindings, the seed.
+/// The first of these that a head says differently: the database, its bindings, the seed.
 fn other_said<'a>(words: &HeadWords<'_>, text: &'a [u8]) -> Option<HeadSaid<'a>>
     ensures { option_map said_in result ≡ other_said (play_words words.now) text.now }
 {
@@ -239,7 +238,7 @@ fn other_said<'a>(words: &HeadWords<'_>, text: &'a [u8]) -> Option<HeadSaid<'a>>
     }
 }
 
-/// What the head of a log says otherwise than the command line, if it does.
+/// What the head of a log says differently from the command line, if it does.
 #[tactic(auto, unfolding(crate::specs::Head::head_notice))]
 pub fn head_notice<'a>(words: &HeadWords<'_>, log: &'a [u8]) -> Option<HeadSaid<'a>>
     ensures { option_map said_in result ≡ head_notice (play_words words.now) log.now }

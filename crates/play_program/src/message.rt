@@ -19,7 +19,7 @@ pub enum Message<'a> {
     Usage(&'a str, &'a str),
     /// The words can't be read, for this reason.
     Unread(io::Error),
-    /// The head of this log says this otherwise than the words.
+    /// The head of this log says this, and the words don't.
     Head(&'a str, HeadSaid<'a>),
 }
 

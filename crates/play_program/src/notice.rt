@@ -1,9 +1,8 @@
 //! What the program says of the head of a log before a run.
 
 ghost use Rattle.std.specs.Prelude.{◌≡◌, option_map};
-ghost use Rattle.play_program.specs.Calls.{and_then};
 ghost use Rattle.play_program.specs.Head.{play_words};
-ghost use Rattle.play_program.specs.Notice.{calls_unless_failed, words_of_files, words_of_line};
+ghost use Rattle.play_program.specs.Notice.{TellsHead, words_asked, words_of_files};
 
 use crate::head::{HeadWords, head_notice};
 use crate::message::Message;
@@ -21,8 +20,8 @@ fn words_of_files<'a>(files: &Files<'a>, seed: u32) -> HeadWords<'a>
 }
 
 /// What a line says of how its log is played, if it plays or edits one.
-fn words_of_line<'a>(asked: &Line<'a>) -> Option<HeadWords<'a>>
-    ensures { option_map play_words result ≡ words_of_line asked.now }
+fn words_asked<'a>(asked: &Line<'a>) -> Option<HeadWords<'a>>
+    ensures { option_map play_words result ≡ words_asked asked.now }
 {
     match asked {
         Line::Play { files, seed, .. } => Some(words_of_files(files, *seed)),
@@ -32,8 +31,8 @@ fn words_of_line<'a>(asked: &Line<'a>) -> Option<HeadWords<'a>>
     }
 }
 
-/// Reports what the head of a log says otherwise than the line, if it does, and if the reader of the
-/// log didn't fail.
+/// Reports what the head of a log says differently from the line, if it does, and if the reader of
+/// the log didn't fail.
 pub(crate) fn tell_head<S: System>(
     system: &mut S,
     asked: &Line<'_>,
@@ -41,8 +40,8 @@ pub(crate) fn tell_head<S: System>(
     failed: bool,
     head: &[u8],
 )
-    ensures told { S.calls system.new ≡ and_then (S.calls system.old)
-        (calls_unless_failed failed asked.now (option_map (λ s. s.now) log.entry) head.now) }
+    ensures told { TellsHead failed asked.now (option_map (λ s. s.now) log.entry) head.now
+        (S.calls system.old) (S.calls system.new) }
 {
     if failed {
         return;
@@ -50,7 +49,7 @@ pub(crate) fn tell_head<S: System>(
     let Some(log) = log else {
         return;
     };
-    let Some(words) = words_of_line(asked) else {
+    let Some(words) = words_asked(asked) else {
         return;
     };
     if let Some(said) = head_notice(&words, head) {

@@ -1,7 +1,7 @@
 use Rattle.std.proofs.Common.{◌++◌, ap, ◌∙◌}
 use Rattle.replay_scripts.specs.Views.{applied_item}
 use Rattle.play_edits.proofs.GuardedLemmas.{text_if_done-made}
-use Rattle.play_edits.proofs.items.apply_with_guards.Goals as goal
+use Rattle.play_edits.proofs.items.apply_guarded_item.Goals as goal
 
 pub returns-clause-told : goal.returns-clause-told
 returns-clause-told c =
