@@ -196,19 +196,36 @@ def binding_doubts(cave, key, number):
         yield f"{key} is place {number}, which has no text"
 
 def doubts(cave, database_name, database, bindings_name, bindings):
-    """A line for each doubt."""
+    """Each doubt: the name of its file, its line, and what it says."""
     listed, before = [], {it: [] for it in SECTIONS}
     for at, section, row in numbered_rows(database):
-        listed += [f"{database_name}:{at}: {it}"
-                   for it in row_doubts(cave, section, row, before[section])]
+        listed += [(database_name, at, it) for it in row_doubts(cave, section, row, before[section])]
         before[section].append(row)
     lines = lines_of(database)
     for at, section, row in numbered_rows(database):
-        listed += [f"{database_name}:{at}: {it}"
-                   for it in line_doubts(cave, section, lines[at - 1], row)]
+        line = lines[at - 1]
+        listed += [(database_name, at, it) for it in line_doubts(cave, section, line, row)]
     for at, line in enumerate(lines_of(bindings), 1):
-        if fields_of(line) and not line.startswith("#"):
+        if says_something(line):
             key, number = fields_of(line)
-            listed += [f"{bindings_name}:{at}: {it}"
-                       for it in binding_doubts(cave, key, int(number))]
+            listed += [(bindings_name, at, it) for it in binding_doubts(cave, key, int(number))]
     return listed
+
+def says_something(line):
+    return fields_of(line) and not line.startswith("#")
+
+def doubt_line(doubt):
+    file, at, words = doubt
+    return f"{file}:{at}: {words}"
+
+def entry_of(doubt):
+    """What a list of known doubts has for a doubt."""
+    file, _, words = doubt
+    return f"{file}: {words}"
+
+def unmet_lines(name, known, found):
+    """A line for each entry of a list that none of the doubts is."""
+    entries = {*map(entry_of, found)}
+    for at, line in enumerate(lines_of(known), 1):
+        if says_something(line) and line not in entries:
+            yield f"{name}:{at}: no doubt says this"

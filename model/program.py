@@ -26,18 +26,21 @@ PRINTS = {"check": ["maximum", "bindings", "names", "unused", "doubts"],
                    "walk", "score", "state"],
           "cover": ["counts", "texts", "rules"]}
 OPTIONS = {"--bind": "FILE", "--seed": "N", "--every": "K", "--print": "WHAT", "--strict": None,
-           "--guarded": None, "--edit": "EDIT", "--quiet": None}
+           "--guarded": None, "--edit": "EDIT", "--quiet": None, "--known": "FILE"}
 MOST_HEAD = 257 # the bytes of a line of a log, and of its end
 LETTERS = {"-b": "--bind", "-s": "--seed", "-p": "--print", "-e": "--edit", "-q": "--quiet"}
-KNOWN = {"check": ["--bind", "--print", "--strict"], "play": ["--bind", "--seed", "--print"],
-         "edit": OPTIONS, "cover": ["--bind", "--seed", "--print"]}
+KNOWN = {"check": ["--bind", "--print", "--strict", "--known"],
+         "play": ["--bind", "--seed", "--print"],
+         "edit": [it for it in OPTIONS if it != "--known"],
+         "cover": ["--bind", "--seed", "--print"]}
 
 class Stop(Exception):
-    """The end of a run: its status, and what is said on standard error."""
+    """The end of a run: its status, what is said on standard error, and the lines that are printed
+    before."""
 
-    def __init__(self, status, message):
+    def __init__(self, status, message, printed=()):
         super().__init__(message)
-        self.status, self.message = status, message
+        self.status, self.message, self.printed = status, message, printed
 
 # ---- The words
 
@@ -115,8 +118,8 @@ def judged_options(command, files, options):
     """The options, and what they are if they aren't given."""
     seed = number_in("--seed", options.get("--seed", "0"), 0, GREATEST_SEED)
     number_in("--every", options.get("--every", "50"), 1, 10_000)
-    is_strict_check = command == "check" and "--strict" in options
-    prints = options.get("--print", "doubts" if is_strict_check else PRINTS[command][0])
+    asks_doubts = command == "check" and ("--strict" in options or "--known" in options)
+    prints = options.get("--print", "doubts" if asks_doubts else PRINTS[command][0])
     if prints not in PRINTS[command]:
         raise wrong(f"invalid value '{prints}' for '--print <WHAT>':"
                     f" {wanted(prints, PRINTS[command])}")
@@ -124,9 +127,10 @@ def judged_options(command, files, options):
         raise wrong("only one of SCRIPT, '--edit <EDIT>' and '--to <FILE>' can be used")
     if command == "edit" and len(files) == 2 and "--edit" not in options:
         raise wrong("SCRIPT, '--edit <EDIT>' or '--to <FILE>' is wanted")
-    return {"edit": options.get("--edit"), "bind": options.get("--bind"), "print": prints, "strict": "--strict" in options,
-            "guarded": "--guarded" in options, "quiet": "--quiet" in options,
-            "seed": seed}
+    known = options.get("--known") if prints == "doubts" else None
+    return {"edit": options.get("--edit"), "bind": options.get("--bind"), "print": prints,
+            "strict": "--strict" in options, "guarded": "--guarded" in options,
+            "quiet": "--quiet" in options, "seed": seed, "known": known}
 
 def number_in(option, text, least, most):
     """The number of an option, of 1 to 10 digits."""
@@ -223,14 +227,21 @@ def bindings_lines(cave):
     yield (f"-- {counts['msg']} of {len(ROLES)} messages and {counts['place']} of {len(PLACES)}"
            " places have a text")
 
-def check_lines(cave, options, name, database, bindings):
+def doubts_lines(cave, options, name, database, bindings, known):
+    """The doubts that a list doesn't know, after the entries of the list that no doubt is."""
+    found = checks.doubts(cave, name, database, options["bind"], bindings)
+    left = [it for it in found if checks.entry_of(it) not in lines_of(known)]
+    unmet = checks.unmet_lines(options["known"], known, found)
+    lines = [*unmet, *map(checks.doubt_line, left), f"-- {len(left)} doubts"]
+    if left and options["strict"]:
+        raise Stop(1, f"cave: {checks.doubt_line(left[0])}\n", lines)
+    return lines
+
+def check_lines(cave, options, name, database, bindings, known):
     """What is asked for of a cave."""
-    what, bind = options["print"], options["bind"]
+    what = options["print"]
     if what == "doubts":
-        found = checks.doubts(cave, name, database, bind, bindings)
-        if found and options["strict"]:
-            raise Stop(1, f"cave: {found[0]}\n")
-        return [*found, f"-- {len(found)} doubts"]
+        return doubts_lines(cave, options, name, database, bindings, known)
     views = {"bindings": bindings_lines, "names": checks.names_lines,
              "unused": checks.unused_lines}
     return views[what](cave) if what in views else [f"cave ok, maximum {cave.greatest_score()}"]
@@ -330,7 +341,8 @@ def run_words(words, told):
     """What a run prints, as lines or as a text; a fault of it ends it by `Stop`. What else is said
     on standard error is added to `told`, as lines."""
     command, names, options = words_of(words)
-    bind, in_order = options["bind"], names[:1] + [options["bind"]] + names[1:]
+    bind, known = options["bind"], options["known"]
+    in_order = [names[0], bind, *names[1:], *([known] if known is not None else [])]
     files = [None if it is None else opened(it) for it in in_order]
     log_text = text_of(files[2]) if command in ("play", "edit") else ""
     told.append(head_notice((names + [""])[1], log_text, names[0], options))
@@ -342,7 +354,11 @@ def run_words(words, told):
             raise Stop(1, f"cave: {name}: the input is too large: {says} {most}\n")
     cave = cave_of(names[0], database, bind, bindings)
     if command == "check":
-        return check_lines(cave, options, names[0], database, bindings)
+        list_text = text_of(files[2]) if known is not None else ""
+        if len(list_text) > MOST_BYTES:
+            large = "the list of known doubts is larger than 1,048,576 bytes"
+            raise Stop(1, f"cave: {known}: {large}\n")
+        return check_lines(cave, options, names[0], database, bindings, list_text)
     if command == "cover":
         return run_cover(cave, names[1:], files[2:], options)
     log = judged_as(3, names[1], log_of, log_text)
@@ -360,12 +376,16 @@ def run_words(words, told):
     return {"score": scores.table(played.game), "state": played.game.state_lines(),
             "transcript": played.transcript}[options["print"]]
 
+def bytes_of(printed):
+    """The bytes of a text or of lines."""
+    text = printed if isinstance(printed, str) else "".join(it + "\n" for it in printed)
+    return text.encode("latin-1")
+
 def run(words):
     """The status, the output and what is said on standard error, as bytes."""
     told = []
     try:
         printed = run_words(words, told)
-        text = printed if isinstance(printed, str) else "".join(it + "\n" for it in printed)
-        return 0, text.encode("latin-1"), "".join(told).encode("latin-1")
+        return 0, bytes_of(printed), "".join(told).encode("latin-1")
     except Stop as stop:
-        return stop.status, b"", "".join([*told, stop.message]).encode()
+        return stop.status, bytes_of(stop.printed), "".join([*told, stop.message]).encode()

@@ -26,14 +26,14 @@ use Rattle.replay_scripts.specs.Script.{Applied}
 use Rattle.replay_scripts.specs.Views.{IsFaultOf}
 use Rattle.replay_scripts.specs.declared.fault.ScriptRefusal.{ScriptRefusal}
 use Rattle.replay_scripts.specs.declared.fault.ScriptRefusal.TheVariants.{Malformed, Memory}
-use Rattle.cave_play.proofs.StageLemmas.{Judges-read}
+use Rattle.cave_play.proofs.StageLemmas.{Judges-read, first_decided-one}
 use Rattle.cave_play.specs.Judge.{large_seed, every_fault, too_large, input_size_fault}
 use Rattle.cave_play.specs.Judge.{cave_refusal, inputs_fault, lines_fault, log_fault, script_fault}
 use Rattle.cave_play.specs.Judge.{first_malformed, script_refusal, or_too_many, opening_fault}
 use Rattle.cave_play.specs.Run.{Judges, IsOutsideOf}
 use Rattle.cave_play.specs.Stages.{reading_stage, judging_stage, first_decided}
 use Rattle.cave_play.specs.Run.{IsFoundAt, IsFoundIn}
-use Rattle.cave_play.specs.Stages.{cave_stages, log_stage, script_stage}
+use Rattle.cave_play.specs.Stages.{cave_stages, known_stage, log_stage, script_stage}
 use Rattle.cave_play.specs.declared.fault.Input.{Input}
 use Rattle.cave_play.specs.declared.fault.Input.TheVariants as input
 use Rattle.cave_play.specs.declared.fault.LogFault.TheVariants as log
@@ -138,6 +138,19 @@ IsFoundIn-inputs database bindings found fits small refused =
         inl (found_of_inputs database bindings found refused),
       ),
     )
+
+-- ---- known doubts
+
+pub IsFoundIn-known : (bytes : List ℕ) (found : PlayFault)
+    → IsRefused input.Known bytes found → IsFoundIn (known_stage bytes ∷ []) found
+IsFoundIn-known bytes found (inl outside) = inl (inl outside)
+IsFoundIn-known bytes found (inr (large, is)) =
+    inl (inr (input_size_fault-large input.Known bytes found large is))
+
+pub first_decided-known : (bytes : List ℕ) → length bytes ≤ MAX_INPUT_BYTES
+    → first_decided (known_stage bytes ∷ []) ≡ None
+first_decided-known bytes fits =
+    first_decided-one (known_stage bytes) (input_size_fault-fits input.Known bytes fits)
 
 -- ---- a log
 

@@ -23,7 +23,7 @@ use Rattle.cave_play.specs.Laws.{IsDecided}
 use Rattle.cave_play.specs.Run.{EndsBy, Runs, IsFoundIn}
 use Rattle.cave_play.specs.Stages.{Stage, first_decided}
 use Rattle.cave_play.specs.Stages.{cave_stages, log_stage, script_stage, strict_stage, play_stages}
-use Rattle.cave_play.specs.Stages.{edit_stages, size_stage}
+use Rattle.cave_play.specs.Stages.{doubts_stages, edit_stages, known_stage, size_stage}
 use Rattle.cave_play.proofs.SizeLemmas.{unwritten_by_output}
 use Rattle.cave_play.proofs.StrictLemmas.{unwritten_by_strict}
 use Rattle.play_command.specs.declared.editing.Editing.{Editing}
@@ -71,6 +71,8 @@ unwritten_by_size input.Log bytes =
     unwritten_by_test (nat_lt MAX_INPUT_BYTES (length bytes)) (too_large input.Log) (λ found. cc)
 unwritten_by_size input.Script bytes =
     unwritten_by_test (nat_lt MAX_INPUT_BYTES (length bytes)) (too_large input.Script) (λ found. cc)
+unwritten_by_size input.Known bytes =
+    unwritten_by_test (nat_lt MAX_INPUT_BYTES (length bytes)) (too_large input.Known) (λ found. cc)
 
 unwritten_by_lines : (bad : Option (ℕ × LineFlaw)) (count : ℕ)
     → or_too_many bad count ≡ Some fault.Write → ⊥
@@ -115,6 +117,12 @@ pub unwritten_by_check : (database bindings : List ℕ)
     → first_decided (cave_stages database bindings) ≡ Some fault.Write → ⊥
 unwritten_by_check database bindings = unwritten_by_cave database bindings [] unwritten_by_none
 
+pub unwritten_by_doubts : (database bindings known : List ℕ)
+    → first_decided (doubts_stages database bindings known) ≡ Some fault.Write → ⊥
+unwritten_by_doubts database bindings known =
+    unwritten_by_cave database bindings (known_stage known ∷ [])
+    (unwritten_by_both _ _ (unwritten_by_size input.Known known) unwritten_by_none)
+
 pub unwritten_by_play : (database bindings moves : List ℕ) (seed : ℕ)
     → first_decided (play_stages database bindings moves seed) ≡ Some fault.Write → ⊥
 unwritten_by_play database bindings moves seed =
@@ -154,6 +162,7 @@ EndsBy-unwritten fault.Write stages IsOutput old new never there kept =
     absurd (unwritten stages never (first_is_found stages fault.Write there))
 EndsBy-unwritten (fault.Cave error clue) stages IsOutput old new never there kept = (there, kept)
 EndsBy-unwritten (fault.Doubt doubt) stages IsOutput old new never there kept = (there, kept)
+EndsBy-unwritten fault.LargeKnown stages IsOutput old new never there kept = (there, kept)
 EndsBy-unwritten fault.Seed stages IsOutput old new never there kept = (there, kept)
 EndsBy-unwritten fault.Every stages IsOutput old new never there kept = (there, kept)
 EndsBy-unwritten (fault.Log refused) stages IsOutput old new never there kept = (there, kept)

@@ -18,6 +18,7 @@ use Rattle.cave_play.specs.declared.fault.PlayFault.TheVariants as fault
 abbrev pub status_of : PlayFault → ℕ
 status_of (fault.Cave error clue) = 1
 status_of (fault.Doubt found) = 1
+status_of fault.LargeKnown = 1
 status_of fault.Seed = 2
 status_of fault.Every = 2
 status_of (fault.Log refused) = 3
@@ -44,6 +45,7 @@ input_from Bindings = input.Bindings
 abbrev pub input_of : PlayFault → Option Input
 input_of (fault.Cave error clue) = Some (input_at error.site)
 input_of (fault.Doubt found) = Some (input_from found.source)
+input_of fault.LargeKnown = Some input.Known
 input_of (fault.Log refused) = Some input.Log
 input_of (fault.NewLog refused) = Some input.Script
 input_of (fault.Script refused) = Some input.Script

@@ -38,6 +38,7 @@ too_large input.Bindings =
     fault.Cave (record { cause = cause.TooLarge; line = 0; site = site.Bindings }) None
 too_large input.Log = fault.Log log.TooLarge
 too_large input.Script = fault.Script script.TooLarge
+too_large input.Known = fault.LargeKnown
 
 abbrev pub input_size_fault : Input → List ℕ → Option PlayFault
 input_size_fault from bytes = if nat_lt MAX_INPUT_BYTES (length bytes) then Some (too_large from)

@@ -36,6 +36,14 @@ cave_stages database bindings =
     ∷ judging_stage (inputs_fault database bindings)
     ∷ []
 
+abbrev pub known_stage : List ℕ → Stage
+known_stage known = reading_stage input.Known (input_size_fault input.Known known)
+
+-- then the list of known doubts is read
+abbrev pub doubts_stages : List ℕ → List ℕ → List ℕ → List Stage
+doubts_stages database bindings known =
+    cave_stages database bindings ++ known_stage known ∷ []
+
 abbrev pub log_stage : List ℕ → Stage
 log_stage log = reading_stage input.Log (log_fault log)
 

@@ -22,6 +22,8 @@ pub enum Input {
     Log,
     /// What a log is edited by: a script, or the log that the edits are to make.
     Script,
+    /// The doubts that are known.
+    Known,
 }
 
 /// What is wrong with a line of a log. The first bytes of a log may be a byte order mark.
@@ -113,9 +115,12 @@ pub enum PlayFault {
     /// The database or its bindings are refused.
     #[error("{}", CaveWords {error: *.0, clue: *.1})]
     Cave(CaveError, Option<Clue>),
-    /// The cave is doubtful, and the run is strict.
+    /// This doubt isn't known, and the run is strict.
     #[error("{}", .0.flaw)]
     Doubt(Doubt),
+    /// The list of known doubts has more bytes than an input may have.
+    #[error("the list of known doubts is larger than 1,048,576 bytes")]
+    LargeKnown,
     /// The seed is too great.
     #[error("a seed is at most 2147483647")]
     Seed,
@@ -175,7 +180,7 @@ impl PlayFault {
         ensures { result ≡ status_of self }
     {
         match self {
-            PlayFault::Cave(_, _) | PlayFault::Doubt(_) => 1,
+            PlayFault::Cave(_, _) | PlayFault::Doubt(_) | PlayFault::LargeKnown => 1,
             PlayFault::Seed | PlayFault::Every => 2,
             PlayFault::Log(_) | PlayFault::NewLog(_) => 3,
             PlayFault::Script(_) | PlayFault::Refused(_) => 4,
@@ -193,6 +198,7 @@ impl PlayFault {
             PlayFault::Cave(error, _) if error.site == FaultSite::Bindings => Some(Input::Bindings),
             PlayFault::Cave(_, _) => Some(Input::Cave),
             PlayFault::Doubt(found) => Some(input_from(found.source)),
+            PlayFault::LargeKnown => Some(Input::Known),
             PlayFault::Log(_) => Some(Input::Log),
             PlayFault::NewLog(_) | PlayFault::Script(_) | PlayFault::Refused(_) => {
                 Some(Input::Script)

@@ -37,6 +37,7 @@ fn too_large(input: Input) -> PlayFault
         Input::Bindings => too_large_at(FaultSite::Bindings),
         Input::Log => PlayFault::Log(LogFault::TooLarge),
         Input::Script => PlayFault::Script(ScriptFault::TooLarge),
+        Input::Known => PlayFault::LargeKnown,
     }
 }
 

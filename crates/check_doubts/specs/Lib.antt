@@ -3,6 +3,7 @@ pub mod Classes
 pub mod Doubts
 pub mod Flaws
 pub mod Hints
+pub mod Known
 pub mod Listing
 pub mod Messages
 pub mod Needs

@@ -6,6 +6,7 @@ pub mod cave_doubts;
 mod classes;
 pub mod flaw;
 mod hints;
+pub mod known;
 pub mod listing;
 mod messages;
 pub mod needs;
@@ -18,4 +19,5 @@ mod written;
 
 pub use cave_doubts::doubts;
 pub use flaw::{Doubt, Source};
+pub use known::{left_doubts, push_unmet};
 pub use listing::{DoubtFiles, push_doubts};

@@ -7,14 +7,15 @@ ghost use Rattle.check_doubts.specs.Listing.{doubt_line, doubts_text, file_of};
 use crate::flaw::{Doubt, Source};
 use std::alloc::{AllocError, Global};
 
-/// The names of the files that doubts are about.
+/// The names of the files that doubts are about, and of the list of those that are known.
 #[derive(Clone, Copy)]
 pub struct DoubtFiles<'a> {
     pub database: &'a str,
     pub bindings: &'a str,
+    pub known: &'a str,
 }
 
-fn file_of<'a>(files: &DoubtFiles<'a>, source: Source) -> &'a str
+pub(crate) fn file_of<'a>(files: &DoubtFiles<'a>, source: Source) -> &'a str
     ensures { result.now ≡ file_of files.now source }
 {
     match source {

@@ -62,7 +62,7 @@ Reads met answer = MatchResult answer (IsRunMet met) (IsUnmade met)
 pub found_run : (met : MetCommand) (answer : Result Line CommandFault) → Reads met answer
     → IfOk answer (IsRun met)
 found_run met (Ok (run.Check files view)) is = is
-found_run met (Ok (run.Doubts files strict)) is = is
+found_run met (Ok (run.Doubts files known strict)) is = is
 found_run met (Ok (run.Play files log seed view)) is = is
 found_run met (Ok (run.Edit files log script editing aside)) is = is
 found_run met (Ok (run.Cover files logs seed view)) is = is
@@ -78,7 +78,7 @@ no_text (Some found) error is = is
 pub found_asked : (kinds : Kinds) (met : MetCommand) (answer : Result Line CommandFault)
     → kinds ≡ [] → Reads met answer → IfOk answer (IsAsked kinds)
 found_asked kinds met (Ok (run.Check files view)) none is = none
-found_asked kinds met (Ok (run.Doubts files strict)) none is = none
+found_asked kinds met (Ok (run.Doubts files known strict)) none is = none
 found_asked kinds met (Ok (run.Play files log seed view)) none is = none
 found_asked kinds met (Ok (run.Edit files log script editing aside)) none is = none
 found_asked kinds met (Ok (run.Cover files logs seed view)) none is = none

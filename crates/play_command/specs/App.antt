@@ -63,6 +63,10 @@ abbrev pub strict_argument : Rule
 strict_argument =
     record (new_rule (codes "strict")) { long = Some (codes "strict"); action = Some SetTrue }
 
+abbrev pub known_argument : Rule
+known_argument =
+    record (new_rule (codes "known")) { long = Some (codes "known"); value_names = 1 }
+
 abbrev pub guarded_argument : Rule
 guarded_argument =
     record (new_rule (codes "guarded")) { long = Some (codes "guarded"); action = Some SetTrue }
@@ -86,7 +90,8 @@ with_output app = with_rule app output_argument
 -- a command with the options of a check
 abbrev pub with_check_options : App → App
 with_check_options app =
-    with_rule (with_rule (with_rule app bind_argument) print_argument) strict_argument
+    with_rule (with_rule (with_rule (with_rule app bind_argument) print_argument) strict_argument)
+    known_argument
 
 -- the commands
 abbrev pub check_app : App
@@ -113,10 +118,13 @@ with_cover_options app = with_rule (with_options app) print_argument
 abbrev pub with_script : App → App
 with_script app = with_rule (with_rule (with_rule app script_argument) lines_argument) to_argument
 
+-- what becomes of refused edits
+abbrev pub with_refusals : App → App
+with_refusals app =
+    with_rule (with_rule (with_rule app strict_argument) guarded_argument) quiet_argument
+
 abbrev pub with_edit_options : App → App
-with_edit_options app = with_rule
-    (with_rule (with_rule (with_rule (with_rule app every_argument) print_argument) strict_argument)
-    guarded_argument) quiet_argument
+with_edit_options app = with_refusals (with_rule (with_rule app every_argument) print_argument)
 
 abbrev pub play_app : App
 play_app = with_output (with_rule (with_options (with_game (new_app (codes "play"))))

@@ -129,19 +129,20 @@ pub record IsEditing (rows : List Row) (editing : Editing) : Type 0 where
   pub strict : editing.strict ≡ is_set (codes "strict") rows
   pub guarded : editing.guarded ≡ is_set (codes "guarded") rows
 
--- what a check prints was found to be the list of doubts; a strict check prints it unless another
--- is asked for
+-- what a check prints was found to be the list of doubts; a strict check, and one with known
+-- doubts, prints it unless another is asked for
 abbrev pub are_doubts_asked : List Row → Bool
 are_doubts_asked rows =
     option_map_or (bytes_eq (codes "doubts")) (first_of (codes "print") rows)
-    (is_set (codes "strict") rows)
+    (is_set (codes "strict") rows || is_some (first_of (codes "known") rows))
 
 -- the run is what was found for the command of this name
 abbrev pub IsRunOf : List ℕ → List Row → Line → Type 0
 IsRunOf name rows (Check files view) =
     (name ≡ codes "check") × IsFiles rows files × IsCheckView rows view
-IsRunOf name rows (Doubts files strict) =
+IsRunOf name rows (Doubts files known strict) =
     (name ≡ codes "check") × IsFiles rows files × (are_doubts_asked rows ≡ true)
+    × (first_of (codes "known") rows ≡ option_map (λ s. s.now) known)
     × (strict ≡ is_set (codes "strict") rows)
 IsRunOf name rows (Play files log seed view) =
     (name ≡ codes "play") × IsFiles rows files × (first_of (codes "log") rows ≡ Some log.now)

@@ -9,14 +9,15 @@ ghost use Rattle.play_command.specs.App.{check_play_edit_and_script_command};
 ghost use Rattle.play_command.specs.App.{plain_command, play_app, script_app, with_check_options};
 ghost use Rattle.play_command.specs.App.{with_cover_options, with_difference, with_edit_options};
 ghost use Rattle.play_command.specs.App.{with_game};
-ghost use Rattle.play_command.specs.App.{with_logs, with_options, with_output, with_script};
+ghost use Rattle.play_command.specs.App.{with_logs, with_options, with_output, with_refusals};
+ghost use Rattle.play_command.specs.App.{with_script};
 
 use crate::arguments::{
     bind_argument, cave_argument, check_print_argument, check_strict_argument,
     cover_print_argument, edit_print_argument, every_argument, group_argument, guarded_argument,
-    lines_argument, log_argument, logs_argument, new_argument, old_argument, output_argument,
-    play_print_argument, quiet_argument, script_argument, seed_argument, some_logs_argument,
-    strict_argument, to_argument, with_guards_argument,
+    known_argument, lines_argument, log_argument, logs_argument, new_argument, old_argument,
+    output_argument, play_print_argument, quiet_argument, script_argument, seed_argument,
+    some_logs_argument, strict_argument, to_argument, with_guards_argument,
 };
 use clap::Command;
 use std::alloc::{AllocError, Global};
@@ -88,7 +89,8 @@ fn check_command<'a>(alloc: Global) -> Result<Command<'a>, AllocError>
     with_output(alloc, command)
 }
 
-/// Adds the options of a check: the bindings, what is printed, and whether a doubt ends the run.
+/// Adds the options of a check: the bindings, what is printed, whether the run fails if a doubt is
+/// left, and the doubts that are known.
 fn with_check_options<'a>(alloc: Global, command: Command<'a>) -> Result<Command<'a>, AllocError>
     requires { (out-Command command).has_globals ≡ false }
     ensures { IfOk result (IsLocal (with_check_options (app_of command.entry))) }
@@ -96,7 +98,8 @@ fn with_check_options<'a>(alloc: Global, command: Command<'a>) -> Result<Command
     command
         .arg(bind_argument(alloc))?
         .arg(check_print_argument(alloc))?
-        .arg(check_strict_argument(alloc))
+        .arg(check_strict_argument(alloc))?
+        .arg(known_argument(alloc))
 }
 
 /// Adds the option of a file for the output.
@@ -162,19 +165,28 @@ fn with_difference<'a>(alloc: Global, command: Command<'a>) -> Result<Command<'a
         .arg(group_argument(alloc))
 }
 
-/// Adds the options that only an edit has: the distance of checkpoints, what is printed, whether a
-/// refused edit ends the run, whether the script may have guards, and whether nothing is said of
-/// refused edits.
+/// Adds what becomes of refused edits: whether one ends the run, whether the script may have guards,
+/// and whether nothing is said of any.
+fn with_refusals<'a>(alloc: Global, command: Command<'a>) -> Result<Command<'a>, AllocError>
+    requires { (out-Command command).has_globals ≡ false }
+    ensures { IfOk result (IsLocal (with_refusals (app_of command.entry))) }
+{
+    command
+        .arg(strict_argument(alloc))?
+        .arg(guarded_argument(alloc))?
+        .arg(quiet_argument(alloc))
+}
+
+/// Adds the options that only an edit has: the distance of checkpoints, what is printed, and what
+/// becomes of refused edits.
 fn with_edit_options<'a>(alloc: Global, command: Command<'a>) -> Result<Command<'a>, AllocError>
     requires { (out-Command command).has_globals ≡ false }
     ensures { IfOk result (IsLocal (with_edit_options (app_of command.entry))) }
 {
-    command
+    let command = command
         .arg(every_argument(alloc))?
-        .arg(edit_print_argument(alloc))?
-        .arg(strict_argument(alloc))?
-        .arg(guarded_argument(alloc))?
-        .arg(quiet_argument(alloc))
+        .arg(edit_print_argument(alloc))?;
+    with_refusals(alloc, command)
 }
 
 fn play_command<'a>(alloc: Global) -> Result<Command<'a>, AllocError>

@@ -3,7 +3,8 @@
 ghost use Rattle.std.specs.Prelude.{◌≡◌, false};
 ghost use Rattle.clap.specs.Words.{rule_of};
 ghost use Rattle.play_command.specs.App.{bind_argument, cave_argument, every_argument};
-ghost use Rattle.play_command.specs.App.{lines_argument, log_argument, logs_argument};
+ghost use Rattle.play_command.specs.App.{known_argument, lines_argument, log_argument};
+ghost use Rattle.play_command.specs.App.{logs_argument};
 ghost use Rattle.play_command.specs.App.{output_argument};
 ghost use Rattle.play_command.specs.App.{print_argument, script_argument, seed_argument};
 ghost use Rattle.play_command.specs.App.{group_argument, guarded_argument, new_argument};
@@ -227,9 +228,19 @@ pub(crate) fn check_strict_argument<'a>(alloc: Global) -> Arg<'a>
     Arg::new(alloc, "strict")
         .long("strict")
         .action(ArgAction::SetTrue)
+        .help("Prints `doubts`; where one is left, ends with status 1, and writes no file")
+}
+
+pub(crate) fn known_argument<'a>(alloc: Global) -> Arg<'a>
+    ensures rule { rule_of result ≡ known_argument }
+    ensures local { result.global ≡ false }
+{
+    Arg::new(alloc, "known")
+        .long("known")
+        .value_name("FILE")
         .help(
-            "Prints `doubts`; where there is one, ends with status 1, and prints and writes only \
-             its line",
+            "Prints `doubts` except those that stand in this file: lines of that list, without the \
+         number of the line",
         )
 }
 

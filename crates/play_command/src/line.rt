@@ -35,7 +35,9 @@ pub enum Line<'a> {
     /// What is doubtful about a cave.
     Doubts {
         files: Files<'a>,
-        /// Whether a doubt ends the run.
+        /// The file of those that are known, if there is one.
+        known: Option<&'a str>,
+        /// Whether the run fails if others are left.
         strict: bool,
     },
     Play {

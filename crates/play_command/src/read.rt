@@ -153,8 +153,11 @@ fn check_of<'a>(files: Files<'a>, found: &ArgMatches<'a>) -> Result<Line<'a>, Co
         (IsUnmade (Some (codes "check", rows_in found.now))) }
 {
     if are_doubts_asked(found) {
-        let strict = is_set(found, "strict");
-        return Ok(Line::Doubts { files, strict });
+        return Ok(Line::Doubts {
+            files,
+            known: value_in(found, "known"),
+            strict: is_set(found, "strict"),
+        });
     }
     let view = check_view_in(found)?;
     Ok(Line::Check { files, view })
@@ -166,7 +169,7 @@ fn are_doubts_asked(found: &ArgMatches<'_>) -> bool
 {
     match value_in(found, "print") {
         Some(name) => name == "doubts",
-        None => is_set(found, "strict"),
+        None => is_set(found, "strict") || value_in(found, "known").is_some(),
     }
 }
 

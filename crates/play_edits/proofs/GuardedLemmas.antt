@@ -58,16 +58,21 @@ free_of : (changes : List Change) (log : List (List ℕ)) → group_refusal chan
 unfolding group_refusal
 free_of changes log accepted = (group_free changes log (2 ^ 64 - 1) accepted).0
 
--- the text of an item that was made before the item was applied
+-- the text of an item that was made before the item was applied, of its changes and this log
 pub text_if_done-made : (cave : CaveView) (every : ℕ) (item : Applied) (game : Game)
-    (checkpoints : List ℕ) (outcome : ItemOutcome) (text : List ℕ)
+    (checkpoints : List ℕ) (outcome : ItemOutcome) (text : List ℕ) (changes : List Change)
+    (log : List (List ℕ)) → changes ≡ item.changes → log ≡ game.log
     → IsItemOutcome cave every item game checkpoints outcome
-    → (fault_of_all item.changes game.log 0 ≡ None
-    → text ≡ group_text (with_guards item.changes game.log))
+    → (fault_of_all changes log 0 ≡ None → text ≡ group_text (with_guards changes log))
     → text_if_done outcome text ≡ guarded_item item game.log outcome
-text_if_done-made cave every item game checkpoints (Ok done) text is made =
-    made (free_of item.changes game.log (unrefused_item item game.log is.accepted).1)
-text_if_done-made cave every item game checkpoints (Err refusal) text is made = refl
+text_if_done-made cave every item game checkpoints (Ok done) text changes log same held is made =
+    let free = free_of item.changes game.log (unrefused_item item game.log is.accepted).1 in
+    made (ap (λ some. fault_of_all some log 0) same
+    ∙ ap (λ now. fault_of_all item.changes now 0) held ∙ free)
+    ∙ ap (λ some. group_text (with_guards some log)) same
+    ∙ ap (λ now. group_text (with_guards item.changes now)) held
+text_if_done-made cave every item game checkpoints (Err refusal) text changes log same held is made =
+    refl
 
 -- ---- what a script can say
 

@@ -1,5 +1,6 @@
 -- Lines of a script that are guards are nothing else.
-use Rattle.std.proofs.Common.{◌≡◌, ℕ, List, [], Option, Some, None, refl, sym, ◌∙◌}
+use Rattle.std.proofs.Common.{◌≡◌, ℕ, List, [], ◌∷◌, ◌++◌, Option, Some, None, codes, refl, sym}
+use Rattle.std.proofs.Common.{◌∙◌}
 use Rattle.base_lines.specs.LogLine.{is_skipped}
 use Rattle.replay_scripts.proofs.ExpectedLines.{guards_are_spelled}
 use Rattle.replay_scripts.proofs.Lines.{kind_of_script_line-only}
@@ -13,7 +14,9 @@ guard_is_nonsense : (line : List ℕ) (place : ℕ) (text : List ℕ) → IsExpe
     → kind_of_script_line line ≡ nonsense (edit_flaw_of line)
 unfolding kind_of_script_line is_skipped is_word_line edit_of number_after_word
 guard_is_nonsense line place text (rest, numbered, is_text) =
-    let parts = numbered.parts in rw parts refl
+    let parts = numbered.parts in
+    let said = codes "expect" ++ numbered.blank ∷ (numbered.digits ++ rest) in
+    rw parts (refl {a = nonsense (edit_flaw_of said)})
 
 -- the blank line, which stands for a guard
 pub blank_kind : kind_of_script_line [] ≡ nothing

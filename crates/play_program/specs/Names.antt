@@ -72,7 +72,8 @@ names_in names = record {
 -- the files that a line names, if it asks for a run
 abbrev pub names_of : Line → Option FileNames
 names_of (Check files view) = Some (cave_names files)
-names_of (Doubts files strict) = Some (cave_names files)
+names_of (Doubts files known strict) =
+    Some (record (cave_names files) { script = option_map (λ s. s.now) known })
 names_of (Play files log seed view) = Some (record (cave_names files) { log = Some log.now })
 names_of (Edit files log script editing aside) = Some (record (cave_names files) {
   log = Some log.now;
@@ -120,3 +121,4 @@ file_at names input.Bindings place = names.bindings
 file_at names input.Log (Some place) = slice_get names.logs place
 file_at names input.Log None = names.log
 file_at names input.Script place = script_name names.script names.typed
+file_at names input.Known place = names.script

@@ -46,10 +46,12 @@ abbrev pub RunsAlone : List Stage → (List ℕ → Type 0)
 RunsAlone stages IsOutput old new ended = (alone : Result (Unit {0}) PlayFault)
     × (ended ≡ ended_alone alone) × one.Runs stages IsOutput old new alone
 
--- doubts name the files of the cave
-pub record AreListed (files : Files) (listed : DoubtFiles) : Type 0 where
+-- doubts name the files of the cave, and the file of the list of known ones
+pub record AreListed (files : Files) (list : Option (List ℕ)) (listed : DoubtFiles)
+    : Type 0 where
   pub database : listed.database.now ≡ files.cave.now
   pub bindings : listed.bindings.now ≡ unwrap_or (option_map (λ s. s.now) files.bind) []
+  pub known : listed.known.now ≡ unwrap_or list []
 
 -- what the run of edits leaves that come from this source: those of a script, or those that make
 -- a log
@@ -72,9 +74,9 @@ abbrev pub RunsLine : Line → InputTexts → List (List ℕ)
 RunsLine (Check files view) texts logs old new ended =
     RunsAlone (cave_stages texts.database texts.bindings)
     (IsChecked view texts.database texts.bindings) old new ended
-RunsLine (Doubts files strict) texts logs old new ended =
+RunsLine (Doubts files known strict) texts logs old new ended =
     (alone : Result (Unit {0}) PlayFault) × (listed : DoubtFiles) × (ended ≡ ended_alone alone)
-    × AreListed files listed × RunsDoubts strict listed texts.database texts.bindings old new alone
+    × AreListed files (option_map (λ s. s.now) known) listed × RunsDoubts strict listed texts old new alone
 RunsLine (Play files log seed view) texts logs old new ended =
     RunsAlone (play_stages texts.database texts.bindings texts.log seed)
     (IsPlayed texts.database texts.bindings texts.log seed view) old new ended

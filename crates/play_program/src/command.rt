@@ -49,13 +49,14 @@ fn over_logs<'a>(ended: Result<(), LogsFault>) -> Result<Option<EditRun>, Failur
     }
 }
 
-/// The files that doubts are about.
-fn doubt_files<'a>(files: &Files<'a>) -> DoubtFiles<'a>
-    ensures { AreListed files.now result }
+/// The files that doubts are about, and that of the list of known ones.
+fn doubt_files<'a>(files: &Files<'a>, known: Option<&'a str>) -> DoubtFiles<'a>
+    ensures { AreListed files.now (option_map (λ s. s.now) known.entry) result }
 {
     DoubtFiles {
         database: files.cave,
         bindings: files.bind.unwrap_or(""),
+        known: known.unwrap_or(""),
     }
 }
 
@@ -97,8 +98,13 @@ pub fn run_command<'a, F: Read, L: Read, W: Write>(
     let Readers { inputs, logs } = readers;
     match asked {
         Line::Check { view, .. } => alone(run_check(alloc, inputs, *view, output)),
-        Line::Doubts { files, strict } => {
-            alone(run_doubts(alloc, inputs, &doubt_files(files), *strict, output))
+        Line::Doubts {
+            files,
+            known,
+            strict,
+        } => {
+            let files = doubt_files(files, *known);
+            alone(run_doubts(alloc, inputs, &files, *strict, output))
         }
         Line::Play { seed, view, .. } => alone(run_play(alloc, inputs, *seed, *view, output)),
         Line::Edit {

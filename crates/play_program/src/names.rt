@@ -17,7 +17,7 @@ pub struct Names<'a> {
     pub log: Option<&'a str>,
     /// The logs of a run over several.
     pub logs: &'a [&'a str],
-    /// The script, or the log that edits are to make.
+    /// The script, the log that edits are to make, or the list of known doubts.
     pub script: Option<&'a str>,
     /// The script, if its lines are on the command line.
     pub typed: Option<&'a [u8]>,
@@ -77,7 +77,11 @@ impl<'a> Names<'a> {
         ensures { option_map names_in result ≡ names_of asked.now }
     {
         let names = match asked {
-            Line::Check { files, .. } | Line::Doubts { files, .. } => Names::of_cave(files),
+            Line::Check { files, .. } => Names::of_cave(files),
+            Line::Doubts { files, known, .. } => Names {
+                script: *known,
+                ..Names::of_cave(files)
+            },
             Line::Play { files, log, .. } => Names {
                 log: Some(*log),
                 ..Names::of_cave(files)
@@ -126,6 +130,7 @@ impl<'a> Names<'a> {
             (Input::Log, Some(place)) => self.logs.get(place).copied(),
             (Input::Log, None) => self.log,
             (Input::Script, _) => script_name(self.script, self.typed),
+            (Input::Known, _) => self.script,
         }
     }
 }

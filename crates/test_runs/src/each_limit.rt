@@ -20,6 +20,7 @@ fn too_large(input: Input) -> PlayFault {
         Input::Bindings => FaultSite::Bindings,
         Input::Log => return PlayFault::Log(LogFault::TooLarge),
         Input::Script => return PlayFault::Script(ScriptFault::TooLarge),
+        Input::Known => return PlayFault::LargeKnown,
     };
     PlayFault::Cave(
         CaveError {
@@ -31,8 +32,15 @@ fn too_large(input: Input) -> PlayFault {
     )
 }
 
-/// Each input of an edit, and the second log of a run over several.
-const ENDLESS: [(Run, usize); 5] = [(EDIT, 0), (EDIT, 1), (EDIT, 2), (EDIT, 3), (COVER, 3)];
+/// Each input of an edit, the second log of a run over several, and the list of known doubts.
+const ENDLESS: [(Run, usize); 6] = [
+    (EDIT, 0),
+    (EDIT, 1),
+    (EDIT, 2),
+    (EDIT, 3),
+    (COVER, 3),
+    (Run::Doubts, 3),
+];
 
 #[test]
 fn a_reader_without_end_is_asked_for_one_byte_too_many(rt: HostRuntime) {

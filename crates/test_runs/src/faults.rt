@@ -15,13 +15,14 @@ fn complaint_of(alloc: Global, fault: PlayFault) -> Result<String, AllocError> {
         Some(Input::Bindings) => Some("a.bind"),
         Some(Input::Log) => Some("a.log"),
         Some(Input::Script) => Some("a.script"),
+        Some(Input::Known) => Some("a.known"),
         None => None,
     };
     format!(in alloc; "{}", Complaint { fault, file })
 }
 
 /// Faults, the status of each, and the line that is printed.
-const FAULTS: [(PlayFault, u8, &str); 14] = [
+const FAULTS: [(PlayFault, u8, &str); 15] = [
     (
         PlayFault::Cave(
             CaveError {
@@ -33,6 +34,11 @@ const FAULTS: [(PlayFault, u8, &str); 14] = [
         ),
         1,
         "cave: a.bind: the input is too large: bindings have at most 1,048,576 bytes",
+    ),
+    (
+        PlayFault::LargeKnown,
+        1,
+        "cave: a.known: the list of known doubts is larger than 1,048,576 bytes",
     ),
     (PlayFault::Seed, 2, "cave: a seed is at most 2147483647"),
     (

@@ -2,9 +2,8 @@
 
 use crate::caves::{
     COVERED_HEAD, COVERED_TAIL, EDITED_LOG, EDITED_PLAY, EDITED_STEPS, EDITED_TEXT, EDITED_WALK,
-    GUARDED,
-    KEYS_TAIL, LONG_LOG, LONG_TEXT, MAP_HEAD, MAP_TAIL, REPORTS, SCORE, SCRIPT, SHORT_LOG, STEPS,
-    STEPS_HEAD, TABLE, UNDO, WALK, WALK_HEAD,
+    GUARDED, KEYS_TAIL, LONG_LOG, LONG_TEXT, MAP_HEAD, MAP_TAIL, REPORTS, SCORE, SCRIPT, SHORT_LOG,
+    STEPS, STEPS_HEAD, TABLE, UNDO, WALK, WALK_HEAD,
 };
 use crate::streams::{Sink, TestReader};
 use cave_play::{CaveReaders, Input, Inputs, PlayFault, run_check, run_doubts, run_edit, run_play};
@@ -145,6 +144,7 @@ impl Run {
         match number {
             0 => Input::Cave,
             1 => Input::Bindings,
+            3 if matches!(self, Run::Doubts) => Input::Known,
             3 if !self.has_several_logs() => Input::Script,
             _ => Input::Log,
         }
@@ -166,6 +166,7 @@ impl Run {
             0 => CAVE,
             1 => b"# none\n",
             2 => LONG_LOG,
+            3 if matches!(self, Run::Doubts) => b"# none\n",
             _ if self.has_several_logs() => SHORT_LOG,
             _ => SCRIPT,
         }
@@ -228,6 +229,7 @@ fn doubts_into<C: Read, B: Read, L: Read, S: Read, W: Write>(
     let files = DoubtFiles {
         database: "cave",
         bindings: "bind",
+        known: "known",
     };
     run_doubts(alloc, inputs, &files, strict, sink)
 }

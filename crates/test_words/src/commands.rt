@@ -21,7 +21,7 @@ fn shown(alloc: Global, words: &[&str]) -> Result<String, AllocError> {
 }
 
 /// Words, and what the answer to them says.
-const ANSWERS: [(&[&str], &str); 40] = [
+const ANSWERS: [(&[&str], &str); 42] = [
     (
         &["cave", "check", "a"],
         "Check { files: Files { cave: \"a\", bind: None, output: None }, view: Maximum }",
@@ -32,7 +32,17 @@ const ANSWERS: [(&[&str], &str); 40] = [
     ),
     (
         &["cave", "check", "a", "--print", "doubts", "--strict"],
-        "Doubts { files: Files { cave: \"a\", bind: None, output: None }, strict: true }",
+        "Doubts { files: Files { cave: \"a\", bind: None, output: None }, known: None, \
+        strict: true }",
+    ),
+    (
+        &["cave", "check", "a", "--known", "b"],
+        "Doubts { files: Files { cave: \"a\", bind: None, output: None }, known: Some(\"b\"), \
+        strict: false }",
+    ),
+    (
+        &["cave", "check", "a", "--print", "maximum", "--known=b"],
+        "Check { files: Files { cave: \"a\", bind: None, output: None }, view: Maximum }",
     ),
     (
         &["cave", "check", "--print=names", "a"],

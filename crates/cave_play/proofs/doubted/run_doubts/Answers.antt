@@ -1,41 +1,90 @@
-use Rattle.std.proofs.Common.{inl, subst, sym}
+use Rattle.std.proofs.Common.{inl, inr, subst, ◌∙◌}
 use Rattle.std.proofs.lemmas.Result.{err_from_is_err_and}
 use Rattle.std.proofs.KnownBytes.{Keeps-refl}
-use Rattle.cave_play.specs.Doubted.{IsDoubtsList}
-use Rattle.cave_play.specs.Stages.{cave_stages}
-use Rattle.cave_play.proofs.DoubtLemmas.{RunsDoubts-unlisted}
+use Rattle.cave_play.specs.Doubted.{IsDoubtsList, IsFirstDoubt, IsTaken}
+use Rattle.cave_play.specs.Input.{InputTexts}
+use Rattle.cave_play.specs.Stages.{doubts_stages}
 use Rattle.cave_play.proofs.InputLemmas.{Says-some}
-use Rattle.cave_play.proofs.RunLemmas.{Runs-written}
+use Rattle.cave_play.proofs.RunLemmas.{EndsBy-unwritten, EndsBy-written, unwritten_by_doubts}
 use Rattle.cave_play.proofs.doubted.run_doubts.Goals as goal
 
-pub returns-in_err-text : goal.returns-in_err-text
-returns-in_err-text g c =
+pub returns-in_err-listed : goal.returns-in_err-listed
+returns-in_err-listed g c =
     let exit = err_from_is_err_and c.from_residual.result c.from_residual.ensures.1 in
-    let (database, bindings, one, two, found) = c.in_err-text.ensures.listed in
+    let (database, bindings, known, one, two, four, found) = c.in_err-listed.ensures.judged in
     let (moves, three) = Says-some (g.L.Read.remaining c.args.inputs.now.log) in
-    let (edits, four) = Says-some (g.S.Read.remaining c.args.inputs.now.script) in
     rw (exit.1, exit.2)
     (record {
       runs = (
-        record { database = database; bindings = bindings; log = moves; script = edits },
+        record { database = database; bindings = bindings; log = moves; script = known },
         record { database = one; bindings = two; log = three; script = four },
-        RunsDoubts-unlisted c.args.strict c.args.files.now database bindings _ _ _ found
-            (Keeps-refl _),
+        inl (EndsBy-unwritten _ (doubts_stages database bindings known) _ _ _
+            (unwritten_by_doubts database bindings known) found (Keeps-refl _)),
       );
     })
 
-pub returns : goal.returns
-returns g c =
-    let (database, bindings, one, two, listed) = c.in_ok-text.ensures.listed in
+pub returns-in_err-write_output : goal.returns-in_err-write_output
+returns-in_err-write_output g c =
+    let exit = err_from_is_err_and c.from_residual-2.result c.from_residual-2.ensures.1 in
+    let (database, bindings, known, one, two, four, listed) = c.in_ok-listed.ensures.judged in
+    let (cave, reads, left) = listed.1 in
     let (moves, three) = Says-some (g.L.Read.remaining c.args.inputs.now.log) in
-    let (edits, four) = Says-some (g.S.Read.remaining c.args.inputs.now.script) in
-    let right = IsDoubtsList c.args.strict c.args.files.now database bindings in
-    let output = subst right (sym c.deref.ensures.value) listed.1 in
+    let texts : InputTexts = record {
+      database = database;
+      bindings = bindings;
+      log = moves;
+      script = known;
+    } in
+    rw (exit.1, exit.2)
+    (record {
+      runs = (
+        texts,
+        record { database = one; bindings = two; log = three; script = four },
+        inl (EndsBy-written (doubts_stages database bindings known)
+            (IsDoubtsList c.args.strict c.args.files.now texts) _ _ _ _ listed.0
+            (cave, reads, c.deref.ensures.value ∙ left.text)
+            c.in_err-write_output.ensures.written),
+      );
+    })
+
+pub returns-in-Some : goal.returns-in-Some
+returns-in-Some g c =
+    let (database, bindings, known, one, two, four, listed) = c.in_ok-listed.ensures.judged in
+    let (cave, reads, left) = listed.1 in
+    let (moves, three) = Says-some (g.L.Read.remaining c.args.inputs.now.log) in
+    let first =
+    subst (λ doubts. IsFirstDoubt c.args.strict doubts c.in-Some.fault)
+    (c.deref-2.ensures.value ∙ left.left) c.in-Some.ensures in
     record {
       runs = (
-        record { database = database; bindings = bindings; log = moves; script = edits },
+        record { database = database; bindings = bindings; log = moves; script = known },
         record { database = one; bindings = two; log = three; script = four },
-        inl (Runs-written (cave_stages database bindings) right _ _ _ _ listed.0 output
-            c.write_output.ensures.written),
+        inr (
+          _,
+          (cave, reads, first, c.deref.ensures.value ∙ left.text),
+          c.in_ok-write_output.ensures.written,
+        ),
+      );
+    }
+
+pub returns-in-None : goal.returns-in-None
+returns-in-None g c =
+    let (database, bindings, known, one, two, four, listed) = c.in_ok-listed.ensures.judged in
+    let (cave, reads, left) = listed.1 in
+    let (moves, three) = Says-some (g.L.Read.remaining c.args.inputs.now.log) in
+    let taken =
+    subst (IsTaken c.args.strict) (c.deref-2.ensures.value ∙ left.left) c.in-None.ensures in
+    record {
+      runs = (
+        record { database = database; bindings = bindings; log = moves; script = known },
+        record { database = one; bindings = two; log = three; script = four },
+        (
+          listed.0,
+          (
+            _,
+            (cave, reads, taken, c.deref.ensures.value ∙ left.text),
+            c.in_ok-write_output.ensures.written,
+          ),
+        ),
       );
     }
