@@ -53,6 +53,8 @@ PAGES = {
     "## lamps\n\n| Call |\n|---|\n| `burn()`, `fill(can)` |": "",
     "## oil\n\n| Call |\n|---|\n| `fill(can)` |\n| `burn()` |": "burn() isn't declared there",
     "## oil\n\n| Call |\n|---|\n| `pour_oil()` |": "oil doesn't give pour_oil()",
+    "## oil\n| Call |\n|---|\n| `pour_oil()` |": "oil doesn't give pour_oil()",
+    f"the lamp:\n{HEADS}| `lamps` | `burn`: `valued` |": "valued isn't declared there",
     f"{HEADS}| `lamps` | {'word ' * 61} |": "a cell has",
     "[the lamp](ROOMS.md#the-lamp)": "",
     "[the oil](ROOMS.md#the-oil)": "docs/ROOMS.md has no heading the-oil",

@@ -1,5 +1,5 @@
 """What `tools/check-wrong-bodies`, `tools/check-clauses` and `tools/check-edits` have to refuse: wrong
-bodies that are refused by another clause than the page says, or by none, clauses that no function
+bodies that are refused by another clause than the list says, or by none, clauses that no function
 has, and wrong bodies that change a text that isn't there."""
 
 from __future__ import annotations
@@ -28,21 +28,20 @@ REFUSED = {
     "rt: must-fail lamps/wanes_not.edit: refused, as it must be: note: src/lamp.rt:12:1: it is not "
     "proved that what the function ensures holds when it returns (`returns`)\n",
 }
-BODIES = "| Crate | Edit | Refused by |\n|---|---|---|\n| `lamps` |"
 ROWS = {
-    f"{BODIES} `burns_not.edit` | `burn`: `value` |": "",
-    f"{BODIES} `glows_cold.edit` | `glow`: `heat` |": "",
-    f"{BODIES} `glows_cold.edit` | `glow`: `light` |": "refuses it, but `glow`: `heat`",
-    f"{BODIES} `glows_cold.edit` | `burn`: `value` |": "not `burn`: `value` refuses it",
-    f"{BODIES} `burns_not.edit` | `glow`: `heat` |": "not `glow`: `heat` refuses it, but `burn`",
-    f"{BODIES} `burns_not.edit` | `burn`: `valued` |": "there is no clause `burn`: `valued`",
-    f"{BODIES} `wanes_not.edit` | `wane` |": "",
-    f"{BODIES} `wanes_not.edit` | `glow`: `heat` |": "not `glow`: `heat` refuses it, but `wane`",
-    f"{BODIES} `burns_cold.edit` | `burn`: `value` |": "there is no such edit",
-    f"{BODIES} `glows_dark.edit` | `glow`: `light` |": "the log doesn't say that it was tried",
-    f"{BODIES} `glows_on.edit` | `glow`: `light` |": "NOT REFUSED",
-    f"{BODIES} `glows_cold.edit` | `glow` |": "not `glow` refuses it, but `glow`: `heat`",
-    f"{BODIES} `glows_cold.edit` | `gleam`: `heat` |": "there is no clause `gleam`: `heat`",
+    "lamps/burns_not: `burn`: `value`": "",
+    "lamps/glows_cold: `glow`: `heat`": "",
+    "lamps/glows_cold: `glow`: `light`": "refuses it, but `glow`: `heat`",
+    "lamps/glows_cold: `burn`: `value`": "not `burn`: `value` refuses it",
+    "lamps/burns_not: `glow`: `heat`": "not `glow`: `heat` refuses it, but `burn`",
+    "lamps/burns_not: `burn`: `valued`": "there is no clause `burn`: `valued`",
+    "lamps/wanes_not: `wane`": "",
+    "lamps/wanes_not: `glow`: `heat`": "not `glow`: `heat` refuses it, but `wane`",
+    "lamps/burns_cold: `burn`: `value`": "there is no such edit",
+    "lamps/glows_dark: `glow`: `light`": "the log doesn't say that it was tried",
+    "lamps/glows_on: `glow`: `light`": "NOT REFUSED",
+    "lamps/glows_cold: `glow`": "not `glow` refuses it, but `glow`: `heat`",
+    "lamps/glows_cold: `gleam`: `heat`": "there is no clause `gleam`: `heat`",
     "`lamps`": "there is no wrong body",
 }
 
@@ -57,16 +56,13 @@ FACTS = {
 }
 
 
-def cases(pages: dict[str, str]) -> list[Case]:
-    """The repository with each of these pages in turn."""
-    return [
-        (page, REFUSED | {"docs/PROVED.md": f"# Page\n\n{page}\n"}, said)
-        for page, said in pages.items()
-    ]
+def cases(path: str, texts: dict[str, str]) -> list[Case]:
+    """The repository with each of these texts of a file in turn."""
+    return [(text, REFUSED | {path: f"# It\n\n{text}\n"}, said) for text, said in texts.items()]
 
 
-WrongBodies = tests_of("check-wrong-bodies", cases(ROWS), ["wrong_bodies.py"])
-Clauses = tests_of("check-clauses", cases(FACTS), ["wrong_bodies.py"])
+WrongBodies = tests_of("check-wrong-bodies", cases("tools/refused-by", ROWS), ["wrong_bodies.py"])
+Clauses = tests_of("check-clauses", cases("docs/PROVED.md", FACTS), ["wrong_bodies.py"])
 LAMP = "pub fn burn()\n    ensures value { true }\n{\n    light();\n    light_all();\n}\n"
 GATE, SOAK = "crates/lamps/must-fail/burns.edit", "tools/loops/lamps/burns.edit"
 CHANGE = "file: src/lamp.rt\nold:     light();\nnew:     fade();\n"
