@@ -26,7 +26,11 @@ PRINTS = {"check": ["maximum", "bindings", "names", "unused", "doubts"],
                    "walk", "score", "state"],
           "cover": ["counts", "texts", "rules"]}
 OPTIONS = {"--bind": "FILE", "--seed": "N", "--every": "K", "--print": "WHAT", "--strict": None,
-           "--guarded": None, "--edit": "EDIT", "--quiet": None, "--known": "FILE"}
+           "--guarded": None, "--edit": "EDIT", "--quiet": None, "--known": "FILE",
+           "--report": "WHAT"}
+# What an option without a value stands for, and what may be asked for by it.
+USUAL = {"--report": "reports"}
+REPORTS = ["reports", "table"]
 MOST_HEAD = 257 # the bytes of a line of a log, and of its end
 LETTERS = {"-b": "--bind", "-s": "--seed", "-p": "--print", "-e": "--edit", "-q": "--quiet"}
 KNOWN = {"check": ["--bind", "--print", "--strict", "--known"],
@@ -81,13 +85,15 @@ def words_of(words):
             raise unexpected(name if is_long else name[:2], below_zero,
                              usage if is_long else with_options)
         else:
-            shown = f"{name} <{OPTIONS[name]}>" if OPTIONS[name] else name
+            shown = shown_option(name)
             if name in options and name != "--edit":
                 raise wrong(f"the argument '{shown}' cannot be used multiple times", with_options)
             if has_value and not OPTIONS[name]:
                 raise wrong(f"unexpected value '{value}' for '{name}' found; no more were expected",
                             usage.replace(" ", f" {name} ", 1))
             if OPTIONS[name] and not has_value:
+                if name in USUAL and (not rest or rest[0].startswith("-") and rest[0] != "-"):
+                    rest.insert(0, USUAL[name])
                 if not rest or rest[0].startswith("--"):
                     raise wrong(f"a value is required for '{shown}' but none was supplied")
                 if rest[0].startswith("-") and rest[0] != "-":
@@ -96,10 +102,16 @@ def words_of(words):
             options[name] = [*options.get(name, []), value] if name == "--edit" else value
     if missing := [it for it in FILES[command][len(files):] if it.startswith("<")]:
         listed = "".join(f"\n  {it}" for it in missing)
-        used = [command, *(f"{it} <{OPTIONS[it]}>" if OPTIONS[it] else it for it in options)]
+        used = [command, *map(shown_option, options)]
         raise wrong(f"the following required arguments were not provided:{listed}",
                     " ".join([*used, *FILES[command]]))
     return command, files, judged_options(command, files, options)
+
+def shown_option(name):
+    """An option as messages show it, with its value."""
+    if not OPTIONS[name]:
+        return name
+    return f"{name} [<{OPTIONS[name]}>]" if name in USUAL else f"{name} <{OPTIONS[name]}>"
 
 def seed_below_zero(command, words):
     """The seed of a command, if it is a hyphen and digits; after `--` each word is a file."""
@@ -127,6 +139,9 @@ def judged_options(command, files, options):
         raise wrong("only one of SCRIPT, '--edit <EDIT>' and '--to <FILE>' can be used")
     if command == "edit" and len(files) == 2 and "--edit" not in options:
         raise wrong("SCRIPT, '--edit <EDIT>' or '--to <FILE>' is wanted")
+    if "--report" in options:
+        raise wrong("'--report <WHAT>' is for '--output <FILE>': without it, '--print <WHAT>'"
+                    " prints reports")
     known = options.get("--known") if prints == "doubts" else None
     return {"edit": options.get("--edit"), "bind": options.get("--bind"), "print": prints,
             "strict": "--strict" in options, "guarded": "--guarded" in options,

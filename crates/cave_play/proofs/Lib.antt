@@ -8,6 +8,7 @@ mod JudgeLemmas
 mod OneOutputLemmas
 mod RefusalLemmas
 mod RefusedLemmas
+mod ReportLemmas
 mod RunLemmas
 mod ScriptLemmas
 pub mod StageLemmas

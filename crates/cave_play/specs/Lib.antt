@@ -10,6 +10,7 @@ pub mod Output
 pub mod Views
 pub mod Ended
 pub mod Refused
+pub mod EditRun
 pub mod Size
 pub mod Bytes
 pub mod GuardLaws

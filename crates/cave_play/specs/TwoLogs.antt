@@ -4,6 +4,7 @@ use Rattle.std.specs.Prelude.{option_map, Result, Err}
 use Rattle.std.specs.Io.KnownBytes.{Keeps}
 use Rattle.std.specs.Str.Lines.{lines}
 use Rattle.base_lines.specs.Limits.{MAX_INPUT_BYTES}
+use Rattle.play_command.specs.declared.aside.ReportView.{ReportView}
 use Rattle.play_command.specs.declared.editing.Editing.{Editing}
 use Rattle.replay_difference.specs.ScriptTo.{IsScriptTo}
 use Rattle.replay_difference.specs.declared.script.ScriptForm.{ScriptForm}
@@ -15,7 +16,7 @@ use Rattle.cave_play.specs.Input.{InputTexts}
 use Rattle.cave_play.specs.Judge.{log_fault}
 use Rattle.cave_play.specs.Run.{IsFoundIn, Runs, RunsWith}
 use Rattle.cave_play.specs.Stages.{Stage, edit_stages, first_decided, log_stage, reading_stage}
-use Rattle.cave_play.specs.Refused.{IsEditRun}
+use Rattle.cave_play.specs.EditRun.{IsEditRun}
 use Rattle.cave_play.specs.declared.fault.Input.TheVariants as input
 use Rattle.cave_play.specs.declared.fault.PlayFault.{PlayFault}
 use Rattle.cave_play.specs.declared.fault.PlayFault.TheVariants as fault
@@ -88,13 +89,13 @@ IsUncompared texts old new ended = (found : PlayFault) × (ended ≡ Err found)
 
 -- what a run leaves that edits a log so that it becomes another: what the run of a script leaves
 -- that makes the new log of the old one; or one of the logs is refused
-abbrev pub RunsEditTo : InputTexts → Editing → Option (List ℕ) → Option (List ℕ)
+abbrev pub RunsEditTo : InputTexts → Editing → Option ReportView → Option (List ℕ) → Option (List ℕ)
     → Result EditRun PlayFault → Type 0
-RunsEditTo texts editing old new ended =
+RunsEditTo texts editing report old new ended =
     IsUncompared texts old new ended
     ⊎ ((script : List ℕ) × IsDifferenceOf (form_of editing) texts.log texts.script script
     × RunsWith (edit_stages texts.database texts.bindings texts.log script editing)
-    (IsEditRun texts.database texts.bindings texts.log script editing) old new ended)
+    (IsEditRun texts.database texts.bindings texts.log script editing report) old new ended)
 
 -- a script that makes one log of another leaves that log of a game that has the first
 abbrev pub DifferencesMakeTheLog : Type 0

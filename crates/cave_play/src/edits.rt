@@ -13,7 +13,10 @@ ghost use Rattle.cave_play.specs.Ended.{ends_after_items, ends_left};
 ghost use Rattle.cave_play.specs.Input.{Says};
 ghost use Rattle.play_edits.specs.Items.{game_after_items};
 ghost use Rattle.play_edits.specs.Outcome.{refusal_in};
-ghost use Rattle.cave_play.specs.Refused.{IsMadeOf, refusal_list, refusals};
+ghost use Rattle.cave_play.specs.EditRun.{IsMadeOf};
+ghost use Rattle.cave_play.specs.Refused.{refusal_list, refusals};
+ghost use Rattle.play_command.specs.Aside.{edit_view_of};
+ghost use Rattle.play_edits.specs.SideReport.{side_text_of_item};
 ghost use Rattle.cave_play.specs.Run.{Judges};
 ghost use Rattle.cave_play.specs.Stages.{script_stage, strict_stage};
 ghost use Rattle.cave_play.specs.Strict.{first_strict_fault, strict_fault, strict_fault_by};
@@ -23,29 +26,33 @@ ghost use Rattle.play_edits.specs.LogEnds.{log_ends, shown_ends};
 use crate::fault::PlayFault;
 use crate::judge::read_script;
 use cave_replay::{Done, Session};
-use play_command::Editing;
-use play_edits::{LogEnds, Refusal, Totals, apply_item, keep_back, push_end, push_start};
+use play_command::{Editing, ReportView};
+use play_edits::{
+    LogEnds, Refusal, SideReport, Totals, apply_reported, keep_back, push_end, push_start,
+};
 use play_machine::CaveMachine;
 use replay_scripts::{BackEdit, Item, Script};
 use std::alloc::{AllocError, Global};
 use std::io::Read;
 
 /// What edits of a log made: the text of the view, how many lines were played for them, how the
-/// lines of the log end, and why items were refused.
+/// lines of the log end, why items were refused, and the report beside the view.
 #[derive(Drop)]
 pub(crate) struct Edited {
     pub(crate) text: Vec<u8>,
     pub(crate) played: u64,
     pub(crate) ends: LogEnds,
     pub(crate) refused: Vec<Refusal>,
+    pub(crate) report: Vec<u8>,
 }
 
-/// What a run of edits returns beside its output: how many lines were played for the items, and why
-/// those of them were refused that were, in their order.
+/// What a run of edits returns beside its output: how many lines were played for the items, why
+/// those of them were refused that were, in their order, and the report that was asked for.
 #[derive(Debug, Drop)]
 pub struct EditRun {
     pub played: u64,
     pub refused: Vec<Refusal>,
+    pub report: Vec<u8>,
 }
 
 /// What is kept of the items of a script, in addition to what is written of them.
@@ -57,6 +64,8 @@ struct Kept {
     ends: LogEnds,
     /// Why items were refused.
     refused: Vec<Refusal>,
+    /// The report beside the view.
+    report: SideReport,
 }
 
 /// What a script makes when it is applied to a session of the machine, over a log of these bytes.
@@ -66,6 +75,7 @@ pub(crate) fn edit_session<S: Read>(
     log: &[u8],
     script: &mut S,
     editing: Editing,
+    report: Option<ReportView>,
 ) -> Result<Edited, PlayFault>
     requires spaced { IsSpaced session.old.every session.old.checkpoints
         (length session.old.game.log) }
@@ -73,7 +83,7 @@ pub(crate) fn edit_session<S: Read>(
     ensures judged { (edits : List ℕ) × Says (S.remaining script.old) edits
         × Judges (script_stage editing.guarded edits
         ∷ strict_stage editing.strict session.old.game editing.guarded edits ∷ [])
-        (IsMadeOf editing.view session.old.machine.rules.cave.now session.old.every
+        (IsMadeOf editing.view report session.old.machine.rules.cave.now session.old.every
         session.old.game editing.guarded edits (log_ends log.now edits)) result }
 {
     let read = read_script(alloc, script, editing.guarded)?;
@@ -81,10 +91,12 @@ pub(crate) fn edit_session<S: Read>(
     let backs = Vec::new(alloc);
     let ends = LogEnds::of(alloc, log, &read.text)?;
     let refused = Vec::new(alloc);
+    let report = SideReport::start(alloc, report)?;
     let mut kept = Kept {
         backs,
         ends,
         refused,
+        report,
     };
     push_start(editing.view, &mut text)?;
     let totals = apply(alloc, session, &read.script, editing, &mut text, &mut kept)?;
@@ -92,7 +104,9 @@ pub(crate) fn edit_session<S: Read>(
         mut backs,
         ends,
         refused,
+        mut report,
     } = kept;
+    report.end(alloc, totals)?;
     backs.reverse();
     push_end(alloc, session, editing.view, totals, &backs, &mut text)?;
     Ok(Edited {
@@ -100,12 +114,13 @@ pub(crate) fn edit_session<S: Read>(
         played: totals.played,
         ends,
         refused,
+        report: report.text,
     })
 }
 
 /// Applies the items of a script to the held game, writes of each what the view asks for, and keeps
-/// what takes each back, if that is asked for, how the lines of the log end, and why items are
-/// refused.
+/// what takes each back, if that is asked for, how the lines of the log end, why items are refused,
+/// and the report beside the view.
 fn apply(
     alloc: Global,
     session: &mut Session<CaveMachine<'_>>,
@@ -126,6 +141,13 @@ fn apply(
         (shown_ends kept.old.ends) ≡ shown_ends kept.new.ends) }
     ensures noted { OnOk result (kept.new.refused.items
         ≡ kept.old.refused.items ++ refusals (items_of script.now.items) session.old.game) }
+    ensures reported { IfOk result (λ totals. (view : ReportView)
+        → kept.old.report.view ≡ Some view → IsApplied (edit_view_of view)
+        (items_of script.now.items) session.old kept.old.report.text.items
+        kept.new.report.text.items totals.played totals.lines) }
+    ensures unreported { OnOk result (kept.old.report.view ≡ None
+        → kept.new.report.text.items ≡ kept.old.report.text.items) }
+    ensures asked { OnOk result (kept.new.report.view ≡ kept.old.report.view) }
     ensures accepted { OnOk result (first_strict_fault editing.strict (items_of script.now.items)
         session.old.game ≡ None) }
     ensures refused { IfErr result (λ found. (found ≡ PlayFault.Memory)
@@ -137,7 +159,7 @@ fn apply(
         lines: 0,
     };
     for item in &script.items {
-        let outcome = apply_judged(alloc, session, item, editing, text)?;
+        let outcome = apply_judged(alloc, session, item, editing, text, &mut kept.report)?;
         totals = totals.with(&outcome);
         leave_ends(&mut kept.ends, item, &outcome)?;
         note_refusal(&mut kept.refused, &outcome)?;
@@ -186,6 +208,7 @@ fn apply_judged(
     item: &Item,
     editing: Editing,
     text: &mut Vec<u8>,
+    report: &mut SideReport,
 ) -> Result<Result<Done, Refusal>, PlayFault>
     ensures applies { IfOk result (Applies (applied_item item.now) session.old session.new) }
     ensures back_free { IfOk result (λ outcome. IfOk outcome (λ done.
@@ -193,12 +216,16 @@ fn apply_judged(
     ensures told { IfOk result (λ outcome. text.new.items ≡ text.old.items
         ++ text_of_item editing.view session.old.machine.rules.cave.now (applied_item item.now)
         session.old.game outcome) }
+    ensures reported { IfOk result (λ outcome. report.new.text.items ≡ report.old.text.items
+        ++ side_text_of_item report.old.view session.old.machine.rules.cave.now
+        (applied_item item.now) session.old.game outcome) }
+    ensures asked { report.new.view ≡ report.old.view }
     ensures accepted { OnOk result
         (strict_fault editing.strict (applied_item item.now) session.old.game ≡ None) }
     ensures refused { IfErr result (λ found. (found ≡ PlayFault.Memory)
         ⊎ (strict_fault editing.strict (applied_item item.now) session.old.game ≡ Some found)) }
 {
-    let outcome = apply_item(alloc, session, item, editing.view, text)?;
+    let outcome = apply_reported(alloc, session, item, editing.view, text, report)?;
     check_strict(editing.strict, &outcome)?;
     Ok(outcome)
 }

@@ -10,7 +10,7 @@ ghost use Rattle.cave_play.specs.Output.{IsChecked, IsPlayed, play_view_text};
 ghost use Rattle.cave_play.specs.Run.{Judges, Runs, RunsWith};
 ghost use Rattle.cave_play.specs.Stages.{cave_stages, log_stage, script_stage, strict_stage};
 ghost use Rattle.cave_play.specs.Stages.{play_stages, edit_stages};
-ghost use Rattle.cave_play.specs.Refused.{IsEditRun, IsMadeOf};
+ghost use Rattle.cave_play.specs.EditRun.{IsEditRun, IsMadeOf};
 ghost use Rattle.play_edits.specs.LogEnds.{log_ends};
 
 use crate::edits::{EditRun, Edited, edit_session};
@@ -23,7 +23,7 @@ use crate::read::read;
 use crate::views::{check_text, play_view_text};
 use cave_data::Cave;
 use cave_words::Lexicon;
-use play_command::{CheckView, Editing, PlayView};
+use play_command::{CheckView, Editing, PlayView, ReportView};
 use play_machine::CaveMachine;
 use std::alloc::Global;
 use std::io::{Read, Write};
@@ -81,23 +81,31 @@ pub fn run_play<C: Read, B: Read, L: Read, S: Read, W: Write>(
 /// the table of the edited log's lines, the same as JSON, the table of its score, or the state that
 /// it leads to. Each line of the edited log has the end that it has in the log. Returns how many
 /// lines were played for the items: the sum of what was played for each, which is within the bound
-/// of its replay; and why items were refused, if some were.
+/// of its replay; why items were refused, if some were; and the report, if one is asked for.
 pub fn run_edit<C: Read, B: Read, L: Read, S: Read, W: Write>(
     alloc: Global,
     inputs: &mut Inputs<C, B, L, S>,
     editing: Editing,
+    report: Option<ReportView>,
     output: &mut W,
 ) -> Result<EditRun, PlayFault>
     ensures runs { (texts : InputTexts)
         × AreTextsOf C.remaining B.remaining L.remaining S.remaining inputs.old texts
         × RunsWith (edit_stages texts.database texts.bindings texts.log texts.script editing)
-        (IsEditRun texts.database texts.bindings texts.log texts.script editing)
+        (IsEditRun texts.database texts.bindings texts.log texts.script editing report)
         (W.contents output.old) (W.contents output.new) result }
 {
     check_seed(editing.seed)?;
     check_every(editing.every)?;
     let cave = read_cave(alloc, &mut inputs.cave)?;
-    let made = edit_in_cave(alloc, &cave, &mut inputs.log, &mut inputs.script, editing);
+    let made = edit_in_cave(
+        alloc,
+        &cave,
+        &mut inputs.log,
+        &mut inputs.script,
+        editing,
+        report,
+    );
     drop(cave);
     let edited = made?;
     let Edited {
@@ -105,11 +113,16 @@ pub fn run_edit<C: Read, B: Read, L: Read, S: Read, W: Write>(
         played,
         ends,
         refused,
+        report,
     } = edited;
     let text = ended_view(alloc, editing.view, &ends, text)?;
     check_size(editing.view, &text)?;
     write_output(output, &text)?;
-    Ok(EditRun { played, refused })
+    Ok(EditRun {
+        played,
+        refused,
+        report,
+    })
 }
 
 /// What a view asks for of a play in a cave.
@@ -137,6 +150,7 @@ fn edit_in_cave<L: Read, S: Read>(
     log: &mut L,
     script: &mut S,
     editing: Editing,
+    report: Option<ReportView>,
 ) -> Result<Edited, PlayFault>
     requires seed_fits { large_seed editing.seed ≡ None }
     requires every_fits { every_fault editing.every ≡ None }
@@ -145,14 +159,14 @@ fn edit_in_cave<L: Read, S: Read>(
         × Judges (log_stage moves ∷ script_stage editing.guarded edits
         ∷ strict_stage editing.strict (game_of editing.seed (lines moves)) editing.guarded edits
         ∷ [])
-        (IsMadeOf editing.view cave.now editing.every (game_of editing.seed (lines moves))
+        (IsMadeOf editing.view report cave.now editing.every (game_of editing.seed (lines moves))
         editing.guarded edits (log_ends moves edits)) result }
 {
     let lexicon = Lexicon::build(alloc, cave)?;
     let machine = CaveMachine::new(cave, &lexicon);
     let bytes = read(alloc, Input::Log, log)?;
     let mut session = open_session(alloc, machine, &bytes, editing.seed, editing.every)?;
-    let made = edit_session(alloc, &mut session, &bytes, script, editing);
+    let made = edit_session(alloc, &mut session, &bytes, script, editing, report);
     drop(session);
     made
 }

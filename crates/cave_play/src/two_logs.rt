@@ -19,7 +19,7 @@ use crate::read::read;
 use crate::run::run_edit;
 use base_lines::limits::{USUAL_EVERY, is_large_input};
 use cave_replay::log::read_lines;
-use play_command::Editing;
+use play_command::{Editing, ReportView};
 use replay_difference::script::{ScriptForm, push_difference};
 use replay_edits::LineText;
 use std::alloc::Global;
@@ -129,11 +129,12 @@ pub fn run_edit_to<C: Read, B: Read, L: Read, S: Read, W: Write>(
     alloc: Global,
     inputs: &mut Inputs<C, B, L, S>,
     editing: Editing,
+    report: Option<ReportView>,
     output: &mut W,
 ) -> Result<EditRun, PlayFault>
     ensures runs { (texts : InputTexts)
         × AreTextsOf C.remaining B.remaining L.remaining S.remaining inputs.old texts
-        × RunsEditTo texts editing (W.contents output.old) (W.contents output.new) result }
+        × RunsEditTo texts editing report (W.contents output.old) (W.contents output.new) result }
 {
     let form = ScriptForm {
         guarded: editing.guarded,
@@ -148,5 +149,5 @@ pub fn run_edit_to<C: Read, B: Read, L: Read, S: Read, W: Write>(
         log: compared.log.as_slice(),
         script: compared.script.as_slice(),
     };
-    run_edit(alloc, &mut edited, editing, output)
+    run_edit(alloc, &mut edited, editing, report, output)
 }

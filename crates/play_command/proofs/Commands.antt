@@ -19,7 +19,7 @@ use Rattle.play_command.specs.declared.fault.CommandFault.TheVariants.{Usage, In
 use Rattle.play_command.specs.declared.fault.CommandFault.TheVariants.{BadEvery, BadView, Memory}
 use Rattle.play_command.specs.declared.fault.CommandFault.TheVariants.{BadPlayView, BadCheckView}
 use Rattle.play_command.specs.declared.fault.CommandFault.TheVariants.{BadCoverView, NoCommand}
-use Rattle.play_command.specs.declared.fault.CommandFault.TheVariants.{NoScript, TwoScripts}
+use Rattle.play_command.specs.declared.fault.CommandFault.TheVariants.{NoScript, TwoScripts, BadReport, ReportAlone}
 use Rattle.play_command.specs.declared.line.Line.{Line}
 use Rattle.play_command.specs.declared.line.Line.TheVariants as run
 
@@ -111,6 +111,8 @@ found_refused words kinds met (Err (BadCheckView name)) none is = (none, is)
 found_refused words kinds met (Err (BadCoverView name)) none is = (none, is)
 found_refused words kinds met (Err NoScript) none is = (none, is)
 found_refused words kinds met (Err TwoScripts) none is = (none, is)
+found_refused words kinds met (Err (BadReport name)) none is = (none, is)
+found_refused words kinds met (Err ReportAlone) none is = (none, is)
 found_refused words kinds met (Err (NoCommand text)) none is = absurd (no_stray met text is)
 found_refused words kinds met (Err Memory) none is = tt
 
@@ -157,6 +159,8 @@ error_refused words kinds met error (BadCheckView name) has is = absurd is
 error_refused words kinds met error (BadCoverView name) has is = absurd is
 error_refused words kinds met error NoScript has is = absurd is
 error_refused words kinds met error TwoScripts has is = absurd is
+error_refused words kinds met error (BadReport name) has is = absurd is
+error_refused words kinds met error ReportAlone has is = absurd is
 error_refused words kinds met error (NoCommand text) has (invalid, stray) = (
   subst (λ (kind : ErrorKind). IsAmong kind kinds) invalid
       (among kinds error has (no_memory_invalid (kind_of error) invalid)),

@@ -1,5 +1,5 @@
 -- The commands and their arguments.
-use Rattle.std.specs.Prelude.{◌≡◌, true, false, Some, codes}
+use Rattle.std.specs.Prelude.{◌≡◌, [], ◌∷◌, true, false, Some, codes}
 use Rattle.clap.specs.Words.{App, Rule, app_of, new_app, new_rule, with_rule, with_subcommand}
 use Rattle.clap.specs.declared.builder.action.ArgAction.TheVariants.{Append, SetTrue}
 use Rattle.clap.specs.declared.builder.command.Command.{Command}
@@ -79,6 +79,15 @@ abbrev pub quiet_argument : Rule
 quiet_argument = record (new_rule (codes "quiet"))
     { short = Some 113; long = Some (codes "quiet"); action = Some SetTrue }
 
+-- an option that stands for its usual value if it has none
+abbrev pub report_argument : Rule
+report_argument = record (new_rule (codes "report")) {
+  long = Some (codes "report");
+  value_names = 1;
+  range = Some (record { start_inclusive = 0; end_inclusive = 1 });
+  missing = codes "reports" ∷ [];
+}
+
 abbrev pub output_argument : Rule
 output_argument = record (new_rule (codes "output"))
     { short = Some 111; long = Some (codes "output"); value_names = 1 }
@@ -124,7 +133,9 @@ with_refusals app =
     with_rule (with_rule (with_rule app strict_argument) guarded_argument) quiet_argument
 
 abbrev pub with_edit_options : App → App
-with_edit_options app = with_refusals (with_rule (with_rule app every_argument) print_argument)
+with_edit_options app =
+    with_rule (with_refusals (with_rule (with_rule app every_argument) print_argument))
+    report_argument
 
 abbrev pub play_app : App
 play_app = with_output (with_rule (with_options (with_game (new_app (codes "play"))))

@@ -21,7 +21,7 @@ use Rattle.play_command.specs.declared.line.Line.{Line}
 use Rattle.play_command.specs.declared.line.Line.TheVariants.{Check, Doubts, Play, Edit, Cover, Map}
 use Rattle.play_command.specs.declared.line.Line.TheVariants.{Script, Text}
 use Rattle.play_command.specs.App.{cave_app}
-use Rattle.play_command.specs.Aside.{aside_in}
+use Rattle.play_command.specs.Aside.{IsAside, IsBadReport}
 use Rattle.play_command.specs.Found.{is_set}
 use Rattle.play_command.specs.Source.{IsBadScript, IsScriptSource}
 use Rattle.play_command.specs.Views.{edit_view_named, check_view_named, cover_view_named}
@@ -149,7 +149,7 @@ IsRunOf name rows (Play files log seed view) =
     × IsSeed rows seed × IsPlayView rows view
 IsRunOf name rows (Edit files log script editing aside) =
     (name ≡ codes "edit") × IsFiles rows files × (first_of (codes "log") rows ≡ Some log.now)
-    × IsScriptSource rows script × IsEditing rows editing × (aside ≡ aside_in rows editing.view)
+    × IsScriptSource rows script × IsEditing rows editing × IsAside rows editing.view aside
 IsRunOf name rows (Cover files logs seed view) =
     (name ≡ codes "cover") × IsFiles rows files
     × (all_of (codes "log") rows ≡ Some (map (λ log. log.now) logs.items)) × IsSeed rows seed
@@ -252,6 +252,10 @@ IsBadOption name rows fault_is.NoScript =
     (name ≡ codes "edit") × IsBadScript rows fault_is.NoScript
 IsBadOption name rows fault_is.TwoScripts =
     (name ≡ codes "edit") × IsBadScript rows fault_is.TwoScripts
+IsBadOption name rows (fault_is.BadReport given) =
+    (name ≡ codes "edit") × IsBadReport rows (fault_is.BadReport given)
+IsBadOption name rows fault_is.ReportAlone =
+    (name ≡ codes "edit") × IsBadReport rows fault_is.ReportAlone
 IsBadOption name rows fault = IsBadSeed rows fault ⊎ IsBadEvery rows fault
 
 -- what is wrong with what was found

@@ -16,8 +16,8 @@ use crate::arguments::{
     bind_argument, cave_argument, check_print_argument, check_strict_argument,
     cover_print_argument, edit_print_argument, every_argument, group_argument, guarded_argument,
     known_argument, lines_argument, log_argument, logs_argument, new_argument, old_argument,
-    output_argument, play_print_argument, quiet_argument, script_argument, seed_argument,
-    some_logs_argument, strict_argument, to_argument, with_guards_argument,
+    output_argument, play_print_argument, quiet_argument, report_argument, script_argument,
+    seed_argument, some_logs_argument, strict_argument, to_argument, with_guards_argument,
 };
 use clap::Command;
 use std::alloc::{AllocError, Global};
@@ -177,8 +177,8 @@ fn with_refusals<'a>(alloc: Global, command: Command<'a>) -> Result<Command<'a>,
         .arg(quiet_argument(alloc))
 }
 
-/// Adds the options that only an edit has: the distance of checkpoints, what is printed, and what
-/// becomes of refused edits.
+/// Adds the options that only an edit has: the distance of checkpoints, what is printed, what
+/// becomes of refused edits, and what is printed beside the output.
 fn with_edit_options<'a>(alloc: Global, command: Command<'a>) -> Result<Command<'a>, AllocError>
     requires { (out-Command command).has_globals ≡ false }
     ensures { IfOk result (IsLocal (with_edit_options (app_of command.entry))) }
@@ -186,7 +186,7 @@ fn with_edit_options<'a>(alloc: Global, command: Command<'a>) -> Result<Command<
     let command = command
         .arg(every_argument(alloc))?
         .arg(edit_print_argument(alloc))?;
-    with_refusals(alloc, command)
+    with_refusals(alloc, command)?.arg(report_argument(alloc))
 }
 
 fn play_command<'a>(alloc: Global) -> Result<Command<'a>, AllocError>

@@ -9,7 +9,7 @@ ghost use Rattle.play_command.specs.App.{output_argument};
 ghost use Rattle.play_command.specs.App.{print_argument, script_argument, seed_argument};
 ghost use Rattle.play_command.specs.App.{group_argument, guarded_argument, new_argument};
 ghost use Rattle.play_command.specs.App.{old_argument, quiet_argument, some_logs_argument};
-ghost use Rattle.play_command.specs.App.{strict_argument};
+ghost use Rattle.play_command.specs.App.{report_argument, strict_argument};
 ghost use Rattle.play_command.specs.App.{to_argument};
 
 use clap::{Arg, ArgAction};
@@ -286,6 +286,21 @@ pub(crate) fn quiet_argument<'a>(alloc: Global) -> Arg<'a>
         .long("quiet")
         .action(ArgAction::SetTrue)
         .help("Says nothing of edits that are refused, unless what is printed says it")
+}
+
+pub(crate) fn report_argument<'a>(alloc: Global) -> Arg<'a>
+    ensures rule { rule_of result ≡ report_argument }
+    ensures local { result.global ≡ false }
+{
+    Arg::new(alloc, "report")
+        .long("report")
+        .value_name("WHAT")
+        .num_args(0..=1)
+        .default_missing_value("reports")
+        .help(
+            "With --output, prints to standard output what came of the edits: `reports`, which it \
+             is alone, or `table`, as --print prints them",
+        )
 }
 
 pub(crate) fn group_argument<'a>(alloc: Global) -> Arg<'a>

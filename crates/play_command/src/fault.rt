@@ -2,6 +2,7 @@ ghost use Rattle.std.specs.Prelude.{◌≡◌};
 ghost use Rattle.play_command.specs.Line.{status_of_command};
 ghost use Rattle.play_command.specs.declared.fault.CommandFault.TheVariants.{Memory};
 
+use crate::aside::REPORT_VIEWS;
 use crate::editing::EDIT_VIEWS;
 use crate::views::{CHECK_VIEWS, COVER_VIEWS, PLAY_VIEWS};
 use crate::wanted::Wanted;
@@ -54,6 +55,14 @@ pub enum CommandFault<'a> {
     #[error("error: only one of SCRIPT, '--edit <EDIT>' and '--to <FILE>' can be used\n\n\
         For more information, try '--help'.\n")]
     TwoScripts,
+    #[error("error: invalid value '{}' for '--report <WHAT>': {}\n\n\
+        For more information, try '--help'.\n", .0, Wanted {given: *.0, names: &REPORT_VIEWS})]
+    BadReport(&'a str),
+    /// A report is asked for, and the output goes where it would.
+    #[error("error: '--report <WHAT>' is for '--output <FILE>': without it, '--print <WHAT>' prints \
+        reports\n\n\
+        For more information, try '--help'.\n")]
+    ReportAlone,
     #[error("cave: there isn't enough memory\n")]
     Memory,
 }

@@ -208,12 +208,13 @@ fn edit_of<'a>(
 {
     let editing = editing_in(found)?;
     let script = script_in(alloc, found)?;
+    let aside = aside_in(found, editing.view)?;
     Ok(Line::Edit {
         files,
         log,
         script,
         editing,
-        aside: aside_in(found, editing.view),
+        aside,
     })
 }
 

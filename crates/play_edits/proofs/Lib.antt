@@ -12,4 +12,5 @@ pub mod TableLemmas
 pub mod EndBytes
 pub mod EndedLines
 pub mod AlikeEnds
+mod SideLemmas
 mod TurnLemmas

@@ -34,7 +34,7 @@ fn is_memory(fault: EditFault) -> bool
 
 /// Applies an item to the held game, all of it or nothing, and appends what the view asks for. Only
 /// views that show states or the score look at these.
-pub fn apply_item(
+pub(crate) fn apply_item(
     alloc: Global,
     session: &mut Session<CaveMachine<'_>>,
     item: &Item,

@@ -13,12 +13,14 @@ pub mod log_ends;
 pub mod outcome;
 pub mod refusal;
 pub mod reports;
+pub mod side_report;
 mod table;
 mod undo;
 
 pub use ended::ended_text;
-pub use items::{apply_item, keep_back};
+pub use items::keep_back;
 pub use log_ends::LogEnds;
 pub use outcome::Totals;
 pub use refusal::{EditDetail, ExpectedLine, KeptLine, Refusal};
 pub use reports::{push_end, push_start};
+pub use side_report::{SideReport, apply_reported};

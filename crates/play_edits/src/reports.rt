@@ -63,7 +63,11 @@ pub fn push_end(
 }
 
 /// Writes how many lines were played for all items.
-fn push_totals(alloc: Global, text: &mut Vec<u8>, totals: Totals) -> Result<(), AllocError>
+pub(crate) fn push_totals(
+    alloc: Global,
+    text: &mut Vec<u8>,
+    totals: Totals,
+) -> Result<(), AllocError>
     ensures { OnOk result
         (text.new.items ≡ text.old.items ++ totals_line totals.played totals.lines) }
 {

@@ -1,3 +1,2 @@
 pub mod OpeningLemmas
 pub mod PeekLemmas
-mod BesideLemmas

@@ -1,5 +1,5 @@
 -- What the program says beside the output of a run that ended well.
-use Rattle.std.specs.Prelude.{List, [], map, Option, None, Some}
+use Rattle.std.specs.Prelude.{ℕ, List, [], map, Option, None, Some}
 use Rattle.cave_play.specs.declared.edits.EditRun.{EditRun}
 use Rattle.cave_play.specs.declared.fault.PlayFault.TheVariants as fault
 use Rattle.play_command.specs.declared.aside.Aside.{Aside}
@@ -29,3 +29,8 @@ refusals_told names refused = map (refusal_told names) refused
 abbrev pub told_beside : Aside → FileNames → Option EditRun → List Call
 told_beside Refusals names (Some run) = refusals_told names run.refused.items
 told_beside _ names made = []
+
+-- the report that a run has made, if it was asked for one
+abbrev pub report_in : Option EditRun → List ℕ
+report_in None = []
+report_in (Some run) = run.report.items

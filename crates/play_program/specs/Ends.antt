@@ -1,6 +1,7 @@
 -- What a run over files leaves, and what the program reports of it.
 use Rattle.std.specs.Prelude.{◌≡◌, ◌⊎◌, ℕ, List, [], ◌∷◌, ◌++◌, map, Option, None, Some}
-use Rattle.std.specs.Prelude.{Bool, true, false, Result, Ok, Err, MatchResult}
+use Rattle.std.specs.Prelude.{Bool, true, false, Result, Ok, Err, MatchResult, take}
+use Rattle.std.specs.Io.KnownBytes.{Appends}
 use Rattle.std.specs.List.{AllZip}
 use Rattle.std.specs.declared.io.Error.{Error}
 use Rattle.cave_play.specs.Input.{InputTexts, Says}
@@ -8,7 +9,7 @@ use Rattle.cave_play.specs.declared.edits.EditRun.{EditRun}
 use Rattle.cave_play.specs.declared.fault.PlayFault.{PlayFault}
 use Rattle.cave_play.specs.declared.fault.PlayFault.TheVariants as fault
 use Rattle.play_command.specs.declared.line.Line.{Line}
-use Rattle.play_program.specs.Beside.{aside_of, told_beside}
+use Rattle.play_program.specs.Beside.{aside_of, report_in, told_beside}
 use Rattle.play_program.specs.Calls.{Call, Told, and_then}
 use Rattle.play_program.specs.Calls.Call.{Puts, Tells}
 use Rattle.play_program.specs.Failures.{failure_status, is_silent, message_of}
@@ -116,15 +117,34 @@ abbrev pub TellsUnless : Bool → Told → Option (List Call) → Option (List C
 TellsUnless true what calls called = called ≡ calls
 TellsUnless false what calls called = called ≡ and_then calls (Tells what ∷ [])
 
--- a failure is reported once, and its status is the program's; otherwise only what is asked for is
--- reported
-abbrev pub TellsEnd : Line → FileNames → Option (List Call) → Option (List Call)
-    → Result (Option EditRun) Failure → ℕ → Type 0
-TellsEnd asked names calls called (Ok made) status =
-    (called ≡ and_then calls (told_beside (aside_of asked) names made)) × (status ≡ 0)
-TellsEnd asked names calls called (Err failure) status =
+-- a failure is reported once, and its status is the program's
+abbrev pub TellsFailure : FileNames → Option (List Call) → Option (List Call) → Failure → ℕ → Type 0
+TellsFailure names calls called failure status =
     TellsUnless (is_silent failure) (message_of names failure) calls called
     × (status ≡ failure_status failure)
+
+-- the report was printed, if there is one, and what is asked for is reported
+abbrev pub SaysBeside : Line → FileNames → Option (List Call) → Option (List Call)
+    → Option (List ℕ) → Option (List ℕ) → Option EditRun → ℕ → Type 0
+SaysBeside asked names calls called old new made status =
+    (called ≡ and_then calls (told_beside (aside_of asked) names made)) × (status ≡ 0)
+    × Appends old new (report_in made)
+
+-- the report couldn't be printed, for this reason if the writer gave one
+abbrev pub FailsBeside : FileNames → Option (List Call) → Option (List Call)
+    → Option (List ℕ) → Option (List ℕ) → Option EditRun → ℕ → Type 0
+FailsBeside names calls called old new made status = (reason : Option Error)
+    × TellsFailure names calls called (with_reason (Run fault.Write None) reason) status
+    × ((n : ℕ) × Appends old new (take n (report_in made)))
+
+-- what is left of a run that ended like this: if it ended well, what is said beside its output
+abbrev pub SaysEnd : Line → FileNames → Option (List Call) → Option (List Call)
+    → Option (List ℕ) → Option (List ℕ) → Result (Option EditRun) Failure → ℕ → Type 0
+SaysEnd asked names calls called old new (Ok made) status =
+    SaysBeside asked names calls called old new made status
+    ⊎ FailsBeside names calls called old new made status
+SaysEnd asked names calls called old new (Err failure) status =
+    (new ≡ old) × TellsFailure names calls called failure status
 
 -- how a run ended, with the reason of a writer that failed
 abbrev pub ended_with : Result (Option EditRun) Failure → Option Error
@@ -136,6 +156,7 @@ ended_with (Err failure) reason = Err (with_reason failure reason)
 abbrev pub EndsRun : (List ℕ → Option (List ℕ)) → Line → FileNames
     → Option (List Call) → Option (List Call) → Option (List ℕ) → Option (List ℕ) → ℕ → Type 0
 EndsRun bytes_of asked names calls called old new status =
-    (ran : Option (List Call)) × (ended : Result (Option EditRun) Failure) × (reason : Option Error)
-    × RunsTo names.output bytes_of asked names calls ran old new ended
-    × TellsEnd asked names ran called (ended_with ended reason) status
+    (ran : Option (List Call)) × (written : Option (List ℕ))
+    × (ended : Result (Option EditRun) Failure) × (reason : Option Error)
+    × RunsTo names.output bytes_of asked names calls ran old written ended
+    × SaysEnd asked names ran called written new (ended_with ended reason) status

@@ -7,12 +7,14 @@ use Rattle.check_doubts.specs.declared.listing.DoubtFiles.{DoubtFiles}
 use Rattle.cave_play.specs.Output.{IsChecked, IsPlayed}
 use Rattle.cave_play.specs.Run as one
 use Rattle.cave_play.specs.Stages.{Stage, cave_stages, play_stages, edit_stages}
-use Rattle.cave_play.specs.Refused.{IsEditRun}
+use Rattle.cave_play.specs.EditRun.{IsEditRun}
 use Rattle.cave_play.specs.TwoLogs.{RunsEditTo, RunsScript}
 use Rattle.cave_play.specs.declared.edits.EditRun.{EditRun}
 use Rattle.cave_play.specs.declared.fault.PlayFault.{PlayFault}
 use Rattle.play_map.specs.Plays.{IsMapped}
 use Rattle.play_cover.specs.Plays.{IsCovered}
+use Rattle.play_command.specs.Aside.{report_of}
+use Rattle.play_command.specs.declared.aside.ReportView.{ReportView}
 use Rattle.play_command.specs.declared.editing.Editing.{Editing}
 use Rattle.play_command.specs.declared.line.Files.{Files}
 use Rattle.play_command.specs.declared.line.Line.{Line}
@@ -55,12 +57,13 @@ pub record AreListed (files : Files) (list : Option (List ℕ)) (listed : DoubtF
 
 -- what the run of edits leaves that come from this source: those of a script, or those that make
 -- a log
-abbrev pub RunsEdits : ScriptSource → InputTexts → Editing → Option (List ℕ) → Option (List ℕ)
-    → Result EditRun PlayFault → Type 0
-RunsEdits (Log file) texts editing old new ended = RunsEditTo texts editing old new ended
-RunsEdits _ texts editing old new ended =
+abbrev pub RunsEdits : ScriptSource → InputTexts → Editing → Option ReportView
+    → Option (List ℕ) → Option (List ℕ) → Result EditRun PlayFault → Type 0
+RunsEdits (Log file) texts editing report old new ended =
+    RunsEditTo texts editing report old new ended
+RunsEdits _ texts editing report old new ended =
     one.RunsWith (edit_stages texts.database texts.bindings texts.log texts.script editing)
-    (IsEditRun texts.database texts.bindings texts.log texts.script editing) old new ended
+    (IsEditRun texts.database texts.bindings texts.log texts.script editing report) old new ended
 
 -- what a run over several logs leaves
 abbrev pub RunsOverLogs : List Stage → List (List ℕ) → (List ℕ → Type 0)
@@ -82,7 +85,7 @@ RunsLine (Play files log seed view) texts logs old new ended =
     (IsPlayed texts.database texts.bindings texts.log seed view) old new ended
 RunsLine (Edit files log script editing aside) texts logs old new ended =
     (edited : Result EditRun PlayFault) × (ended ≡ ended_edits edited)
-    × RunsEdits script texts editing old new edited
+    × RunsEdits script texts editing (report_of aside) old new edited
 RunsLine (Cover files log seed view) texts logs old new ended =
     RunsOverLogs (first_stages texts.database texts.bindings seed) logs
     (IsCovered texts.database texts.bindings logs seed view) old new ended

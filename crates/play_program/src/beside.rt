@@ -1,16 +1,19 @@
 //! What the program says beside the output of a run that ended well.
 
-ghost use Rattle.std.specs.Prelude.{◌≡◌};
-ghost use Rattle.play_program.specs.Beside.{aside_of, refusals_told, told_beside};
+ghost use Rattle.std.specs.Prelude.{◌≡◌, ℕ, MatchResult, take};
+ghost use Rattle.std.specs.Io.KnownBytes.{Appends};
+ghost use Rattle.play_program.specs.Beside.{aside_of, refusals_told, report_in, told_beside};
 ghost use Rattle.play_program.specs.Calls.{and_then};
 ghost use Rattle.play_program.specs.Names.{names_in};
 
 use crate::failure::Failure;
 use crate::names::Names;
 use crate::system::System;
+use cave_play::output::write_output;
 use cave_play::{EditRun, PlayFault};
 use play_command::{Aside, Line};
 use play_edits::Refusal;
+use std::io::Write;
 
 /// What a line asks to have said beside its output.
 fn aside_of(asked: &Line<'_>) -> Aside
@@ -31,6 +34,26 @@ fn tell_refusals<S: System>(system: &mut S, refused: &[Refusal], names: Names<'_
         let failure = Failure::Run(PlayFault::Refused(*refusal), None);
         system.tell(failure.message(names));
     }
+}
+
+/// The report that a run has made, if it was asked for one.
+fn report_in(made: &Option<EditRun>) -> &[u8]
+    ensures { result.now ≡ report_in made.now }
+{
+    match made {
+        Some(run) => &run.report,
+        None => &[],
+    }
+}
+
+/// Prints the report that a run has made.
+pub fn print_report<W: Write>(made: &Option<EditRun>, output: &mut W) -> Result<(), PlayFault>
+    ensures { MatchResult result
+        (λ _. Appends (W.contents output.old) (W.contents output.new) (report_in made.now))
+        (λ fault. (fault ≡ PlayFault.Write) × ((n : ℕ)
+        × Appends (W.contents output.old) (W.contents output.new) (take n (report_in made.now)))) }
+{
+    write_output(output, report_in(made))
 }
 
 /// Says what a line asks to have said beside its output.

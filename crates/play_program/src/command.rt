@@ -12,7 +12,7 @@ use cave_play::{
     EditRun, PlayFault, run_check, run_doubts, run_edit, run_edit_to, run_play, run_script,
 };
 use check_doubts::DoubtFiles;
-use play_command::{Editing, Files, Line, ScriptSource};
+use play_command::{Editing, Files, Line, ReportView, ScriptSource};
 use play_cover::run::run_cover;
 use play_logs::fault::LogsFault;
 use play_map::run::run_map;
@@ -66,18 +66,19 @@ fn run_edits<F: Read, L: Read, W: Write>(
     source: &ScriptSource<'_>,
     inputs: &mut FileInputs<'_, F, L>,
     editing: Editing,
+    report: Option<ReportView>,
     output: &mut W,
 ) -> Result<EditRun, PlayFault>
     ensures runs { (texts : InputTexts)
         × AreTextsOf (input_left F.remaining) (input_left F.remaining) L.remaining
         (input_left F.remaining) inputs.old texts
-        × RunsEdits source.now texts editing (W.contents output.old) (W.contents output.new)
+        × RunsEdits source.now texts editing report (W.contents output.old) (W.contents output.new)
         result }
 {
     match source {
-        ScriptSource::Log(_) => run_edit_to(alloc, inputs, editing, output),
+        ScriptSource::Log(_) => run_edit_to(alloc, inputs, editing, report, output),
         ScriptSource::File(_) | ScriptSource::Typed(_) => {
-            run_edit(alloc, inputs, editing, output)
+            run_edit(alloc, inputs, editing, report, output)
         }
     }
 }
@@ -110,8 +111,12 @@ pub fn run_command<'a, F: Read, L: Read, W: Write>(
         Line::Edit {
             script,
             editing,
+            aside,
             ..
-        } => ended_edits(run_edits(alloc, script, inputs, *editing, output)),
+        } => {
+            let report = aside.report();
+            ended_edits(run_edits(alloc, script, inputs, *editing, report, output))
+        }
         Line::Script { form, .. } => alone(run_script(alloc, inputs, *form, output)),
         Line::Cover { seed, view, .. } => {
             let logs = logs.as_mut_slice();

@@ -1,14 +1,14 @@
 //! A run over files: what it reads, and where its output goes.
 
-ghost use Rattle.std.specs.Prelude.{◌≡◌, [], ◌∷◌, IfErr, option_map};
+ghost use Rattle.std.specs.Prelude.{◌≡◌, [], ◌∷◌, IfErr, Ok, option_map};
 ghost use Rattle.play_program.specs.Calls.{and_then};
 ghost use Rattle.play_program.specs.Calls.Call.{Puts};
 ghost use Rattle.play_program.specs.Ends.{EndsRun, IsUnput, RunsFiles, RunsIntoFile, RunsTo};
-ghost use Rattle.play_program.specs.Ends.{TellsUnless, failure_by, in_list, with_reason};
+ghost use Rattle.play_program.specs.Ends.{SaysEnd, TellsUnless, failure_by, in_list, with_reason};
 ghost use Rattle.play_program.specs.Failures.{failure_status, is_silent, message_of};
 ghost use Rattle.play_program.specs.Names.{names_in};
 
-use crate::beside::tell_beside;
+use crate::beside::{print_report, tell_beside};
 use crate::command::run_command;
 use crate::failure::Failure;
 use crate::names::Names;
@@ -154,6 +154,30 @@ fn tell_failure<S: System>(system: &mut S, failure: Failure<'_>, names: Names<'_
     status
 }
 
+/// Says what a line asks to have said beside the output of a run that ended well, and returns the
+/// status. A report that can't be printed is a failure; a file that was written stays.
+fn say_beside<S: System, W: Write>(
+    system: &mut S,
+    asked: &Line<'_>,
+    names: Names<'_>,
+    made: &Option<EditRun>,
+    output: &mut Output<W>,
+) -> u8
+    ensures { SaysEnd asked.now (names_in names.entry) (S.calls system.old) (S.calls system.new)
+        (W.contents output.old.writer) (W.contents output.new.writer) (Ok made.now) result }
+{
+    match print_report(made, output) {
+        Ok(()) => {
+            tell_beside(system, asked, names, made);
+            DONE
+        }
+        Err(fault) => {
+            let failure = with_reason(Failure::Run(fault, None), output.reason);
+            tell_failure(system, failure, names)
+        }
+    }
+}
+
 /// Does a run, reports why if it wasn't done, or what is asked for if it was, and returns the
 /// status.
 pub fn run<S: System, W: Write>(
@@ -168,10 +192,7 @@ pub fn run<S: System, W: Write>(
         (W.contents output.new.writer) result }
 {
     match run_to(alloc, system, asked, names, names.output, output) {
-        Ok(made) => {
-            tell_beside(system, asked, names, &made);
-            DONE
-        }
+        Ok(made) => say_beside(system, asked, names, &made, output),
         Err(failure) => tell_failure(system, with_reason(failure, output.reason), names),
     }
 }

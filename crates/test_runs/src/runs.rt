@@ -250,7 +250,7 @@ fn edit_into<C: Read, B: Read, L: Read, S: Read, W: Write>(
     editing: Editing,
     sink: &mut W,
 ) -> Result<(), PlayFault> {
-    run_edit(alloc, inputs, editing, sink)?;
+    run_edit(alloc, inputs, editing, None, sink)?;
     Ok(())
 }
 

@@ -28,7 +28,9 @@ returns-in_err-texts g c =
 
 pub returns-in_err-listed : goal.returns-in_err-listed
 returns-in_err-listed g c =
-    let exit = err_from_is_err_and c.from_residual.result c.from_residual.ensures.1 in
+    let exit =
+    err_from_is_err_and c.from_residual-in_err-listed.result
+    c.from_residual-in_err-listed.ensures.1 in
     let (database, bindings, one, two, read) = c.in_ok-texts.ensures.judged in
     let (known, three, refused) = c.in_err-listed.ensures.read in
     rw (exit.1, exit.2)
@@ -47,7 +49,9 @@ returns-in_err-listed g c =
 
 pub returns-in_err-found : goal.returns-in_err-found
 returns-in_err-found g c =
-    let exit = err_from_is_err_and c.from_residual.result c.from_residual.ensures.1 in
+    let exit =
+    err_from_is_err_and c.from_residual-in_err-found.result
+    c.from_residual-in_err-found.ensures.1 in
     let (database, bindings, one, two, read) = c.in_ok-texts.ensures.judged in
     let (known, three, is) = c.in_ok-listed.ensures.read in
     rw (exit.1, exit.2)

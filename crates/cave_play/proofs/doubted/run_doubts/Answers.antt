@@ -25,7 +25,9 @@ returns-in_err-listed g c =
 
 pub returns-in_err-write_output : goal.returns-in_err-write_output
 returns-in_err-write_output g c =
-    let exit = err_from_is_err_and c.from_residual-2.result c.from_residual-2.ensures.1 in
+    let exit =
+    err_from_is_err_and c.from_residual-in_err-write_output.result
+    c.from_residual-in_err-write_output.ensures.1 in
     let (database, bindings, known, one, two, four, listed) = c.in_ok-listed.ensures.judged in
     let (cave, reads, left) = listed.1 in
     let (moves, three) = Says-some (g.L.Read.remaining c.args.inputs.now.log) in
@@ -61,14 +63,14 @@ returns-in-Some g c =
         record { database = one; bindings = two; log = three; script = four },
         inr (
           _,
-          (cave, reads, first, c.deref.ensures.value ∙ left.text),
+          (cave, reads, (first, c.deref.ensures.value ∙ left.text)),
           c.in_ok-write_output.ensures.written,
         ),
       );
     }
 
-pub returns-in-None : goal.returns-in-None
-returns-in-None g c =
+pub returns : goal.returns
+returns g c =
     let (database, bindings, known, one, two, four, listed) = c.in_ok-listed.ensures.judged in
     let (cave, reads, left) = listed.1 in
     let (moves, three) = Says-some (g.L.Read.remaining c.args.inputs.now.log) in
@@ -82,7 +84,7 @@ returns-in-None g c =
           listed.0,
           (
             _,
-            (cave, reads, taken, c.deref.ensures.value ∙ left.text),
+            (cave, reads, (taken, c.deref.ensures.value ∙ left.text)),
             c.in_ok-write_output.ensures.written,
           ),
         ),

@@ -1,4 +1,4 @@
-use Rattle.std.proofs.Common.{◌≡◌, ◌++◌, List, None, Some, ◌∙◌, ap, refl, map, subst, sym, arith}
+use Rattle.std.proofs.Common.{◌≡◌, ◌++◌, List, None, Option, Some, append-nil, ◌∙◌, ap, refl, map, subst, sym, arith}
 use Rattle.std.specs.Prelude.{◌⊎◌}
 use Rattle.std.proofs.lemmas.Result.{err_from_is_err_and}
 use Rattle.cave_play.specs.Strict.{first_strict_fault}
@@ -7,6 +7,9 @@ use Rattle.replay_scripts.specs.Views.{applied_item}
 use Rattle.replay_scripts.specs.declared.script.Item.{Item}
 use Rattle.replay_scripts.specs.ScriptText.{groups_in}
 use Rattle.play_edits.specs.Edits.{IsApplied, kept_for}
+use Rattle.play_command.specs.Aside.{edit_view_of}
+use Rattle.play_command.specs.declared.aside.ReportView.{ReportView}
+use Rattle.play_edits.specs.SideReport.{side_text_of_item}
 use Rattle.play_edits.specs.Undo.{backs_of}
 use Rattle.play_edits.proofs.EditLemmas.{Completes-none, Completes-more, IsApplied-whole}
 use Rattle.play_edits.proofs.EditLemmas.{game_after_items-more, item_refusal-outcome}
@@ -31,6 +34,12 @@ loop-item-init c =
       kept = refl;
       ends = refl;
       refused = refl;
+      asked = refl;
+      reports = λ view is.
+          Completes-none (edit_view_of view) first.machine.rules.cave.now first.every
+          (map applied_item c.deref-item-items.result.now) first.game first.checkpoints
+          c.args.kept.now.report.text.items;
+      unreported = λ none. refl;
       strict = refl;
       game = refl;
       cave = refl;
@@ -53,6 +62,15 @@ loop-item-preserved c =
     (back_of-outcome guarded old.machine.rules.cave.now old.every
     (applied_item c.item-item.result) old.game _ old.checkpoints _ applies.came
     applies.holds.game_is) in
+    let report = c.loop-item.kept.report in
+    let reported = c.in_ok-outcome.ensures.reported in
+    let grown : (view : Option ReportView) → report.view ≡ view
+    → report.text.items ++ side_text_of_item report.view old.machine.rules.cave.now
+    (applied_item c.item-item.result) old.game c.in_ok-outcome.outcome
+    ≡ report.text.items ++ side_text_of_item view old.machine.rules.cave.now
+    (applied_item c.item-item.result) old.game c.in_ok-outcome.outcome =
+    λ view is. ap (λ v. report.text.items ++ side_text_of_item v old.machine.rules.cave.now
+    (applied_item c.item-item.result) old.game c.in_ok-outcome.outcome) is in
     record {
       completes =
           Completes-more _ _ _ items place c.item-item.result
@@ -71,6 +89,15 @@ loop-item-preserved c =
           (item_refusal-outcome old.machine.rules.cave.now old.every
           (applied_item c.item-item.result) old.game old.checkpoints _ applies.came)
           c.in_ok-note_refusal.ensures before.refused;
+      asked = c.in_ok-outcome.ensures.asked ∙ before.asked;
+      reports = λ view is.
+          Completes-more (edit_view_of view) _ _ items place c.item-item.result
+          _ _ _ _ _ _ _ _ _ _ _ _ c.loop-item-test.true c.item-item.is before.cave before.every
+          applies (reported ∙ grown (Some view) (before.asked ∙ is))
+          c.with-totals.ensures.played c.with-totals.ensures.lines (before.reports view is);
+      unreported = λ none.
+          reported ∙ grown None (before.asked ∙ none) ∙ append-nil report.text.items
+          ∙ before.unreported none;
       strict = first_strict_fault-more c.args.editing.strict items place c.item-item.result
           _ _ c.loop-item-test.true c.item-item.is _ applies.holds.game_is
           c.in_ok-outcome.ensures.accepted before.strict;
@@ -123,6 +150,20 @@ returns-clause-noted c =
     (omega (arith, c.loop-item-test.false)) last.invariant.refused in
     subst (λ (items : List Item). last.kept.refused.items
     ≡ c.args.kept.now.refused.items ++ refusals (map applied_item items) c.args.session.now.game)
+    c.deref-item-items.ensures.value whole
+
+pub returns-clause-reported : goal.returns-clause-reported
+returns-clause-reported c =
+    let last = c.loop-item in
+    let first = c.args.kept.now.report.text.items in
+    λ view is.
+    let whole =
+    IsApplied-whole (edit_view_of view) c.deref-item-items.result.now last.item-index
+    c.args.session.now
+    _ _ _ _ _ _ (omega (arith, c.loop-item-test.false)) (last.invariant.reports view is) in
+    subst (λ (items : List Item). IsApplied (edit_view_of view) (map applied_item items)
+    c.args.session.now
+    first last.kept.report.text.items last.totals.played last.totals.lines)
     c.deref-item-items.ensures.value whole
 
 pub returns-clause-accepted : goal.returns-clause-accepted

@@ -14,7 +14,9 @@ use Rattle.cave_play.proofs.StageLemmas.{IsFoundIn-first, IsFoundIn-later, IsFou
 use Rattle.cave_play.proofs.StageLemmas.{first_decided-later}
 use Rattle.cave_play.proofs.StrictLemmas.{IsFoundIn-strict, first_decided-strict}
 use Rattle.play_edits.proofs.BackLemmas.{groups_turned}
+use Rattle.cave_play.proofs.ReportLemmas.{report_made}
 use Rattle.cave_play.proofs.ViewLemmas.{told-whole}
+use Rattle.play_edits.specs.SideReport.{side_end}
 use Rattle.cave_play.specs.Ended.{ends_after_items}
 use Rattle.cave_play.specs.Refused.{refusals, refusals_by, refusals_of}
 use Rattle.cave_play.specs.Views.{IsEditOf}
@@ -170,4 +172,14 @@ returns g c =
     c.in_ok-totals.ensures.noted
     ∙ ap (λ some. some ++ refusals items old.game) c.new-refused.ensures.items
     ∙ ap (refusals_of old.game) (sym made.1.2) in
-    record { judged = (edits, said, (none, ((edited, after), noted))) }
+    let reported =
+    report_made old items guarded edits totals.played totals.lines
+    c.in_ok-report.report.text.items c.apply.new.kept.report.text.items
+    c.end.new.self.text.items made.1.0 c.requires.spaced c.requires.game c.args.report
+    c.in_ok-report.ensures.text
+    (λ view is. c.in_ok-totals.ensures.reported view (c.in_ok-report.ensures.view ∙ is))
+    (λ is. c.in_ok-totals.ensures.unreported (c.in_ok-report.ensures.view ∙ is))
+    (c.in_ok-end.ensures
+    ∙ ap (λ view. c.apply.new.kept.report.text.items ++ side_end view totals.played totals.lines)
+    (c.in_ok-totals.ensures.asked ∙ c.in_ok-report.ensures.view)) in
+    record { judged = (edits, said, (none, ((edited, after), noted, reported))) }

@@ -1,4 +1,5 @@
-use Rattle.std.proofs.Common.{◌≡◌, ◌≤◌, ℕ, List, [], ◌∷◌, length, None, Ok, Err, subst, sym, ◌∙◌}
+use Rattle.std.proofs.Common.{◌≡◌, ◌≤◌, ℕ, List, [], ◌∷◌, length, None, Ok, Err, Option, subst, sym}
+use Rattle.std.proofs.Common.{◌∙◌}
 use Rattle.std.specs.Prelude.{⊤}
 use Rattle.base_lines.specs.Limits.{MAX_INPUT_BYTES}
 use Rattle.play_machine.specs.HeldGame.{HoldsGame}
@@ -10,7 +11,8 @@ use Rattle.std.proofs.lemmas.Result.{err_from_is_err_and}
 use Rattle.cave_data.specs.CaveView.{CaveView}
 use Rattle.play_command.specs.declared.editing.Editing.{Editing}
 use Rattle.replay_edits.specs.Edit.{Game, IsGame, game_of}
-use Rattle.cave_play.specs.Refused.{IsMadeOf}
+use Rattle.cave_play.specs.EditRun.{IsMadeOf}
+use Rattle.play_command.specs.declared.aside.ReportView.{ReportView}
 use Rattle.play_edits.specs.LogEnds.{log_ends}
 use Rattle.cave_play.specs.declared.edits.Edited.{Edited}
 use Rattle.cave_play.specs.Run.{IsFoundIn, Judges}
@@ -28,9 +30,9 @@ strict_of editing moves edits =
     strict_stage editing.strict (game_of editing.seed (lines moves)) editing.guarded edits
 
 -- what edits made is right for a cave, a distance of checkpoints, a game and the bytes of its log
-abbrev right_in : Editing → List ℕ → CaveView → ℕ → Game → List ℕ → Edited → Type 0
-right_in editing edits cave every game log edited =
-    IsMadeOf editing.view cave every game editing.guarded edits (log_ends log edits) edited
+abbrev right_in : Option ReportView → Editing → List ℕ → CaveView → ℕ → Game → List ℕ → Edited → Type 0
+right_in report editing edits cave every game log edited =
+    IsMadeOf editing.view report cave every game editing.guarded edits (log_ends log edits) edited
 
 -- a log that is judged by its lines
 log_judged : {X : Type 0} (P : List (List ℕ) → X → Type 0) (moves text : List ℕ) (x : X)
@@ -128,7 +130,7 @@ returns g c =
     let editing = c.args.editing in
     let cave = c.new-machine.result.rules.cave.now in
     let game = game_of editing.seed (lines moves) in
-    let right = λ (cave : CaveView). right_in editing edits cave editing.every game moves in
+    let right = λ (cave : CaveView). right_in c.args.report editing edits cave editing.every game moves in
     let held = c.in_ok-session.session in
     let made =
     log_judged (λ log. HoldsGame cave (game_of editing.seed log)) moves c.deref.result.now held
@@ -136,14 +138,14 @@ returns g c =
     let log = c.deref-2.result.now in
     let log_is = c.deref-2.ensures.value ∙ read.0 in
     let held_cave = held.machine.rules.cave.now in
-    let held_right = right_in editing edits held_cave held.every held.game log in
+    let held_right = right_in c.args.report editing edits held_cave held.every held.game log in
     let gives =
     λ (edited : Edited) (is : held_right edited).
-    subst (λ bytes. right_in editing edits cave editing.every game bytes edited) log_is
-    (subst (λ now. right_in editing edits cave editing.every now log edited) made.1.game_is
-    (subst (λ every. right_in editing edits cave every held.game log edited)
+    subst (λ bytes. right_in c.args.report editing edits cave editing.every game bytes edited) log_is
+    (subst (λ now. right_in c.args.report editing edits cave editing.every now log edited) made.1.game_is
+    (subst (λ every. right_in c.args.report editing edits cave every held.game log edited)
     c.in_ok-session.ensures.every
-    (subst (λ (k : CaveView). right_in editing edits k held.every held.game log edited)
+    (subst (λ (k : CaveView). right_in c.args.report editing edits k held.every held.game log edited)
     made.1.cave_is is))) in
     let strict = strict_of editing moves edits in
     let staged =

@@ -16,7 +16,8 @@ use Rattle.cave_play.proofs.SizeLemmas.{output_fault-printed}
 use Rattle.cave_play.proofs.OneOutputLemmas.{script_by-spelled}
 use Rattle.replay_scripts.specs.Guards.{script_by}
 use Rattle.cave_play.specs.Ended.{IsEdited, IsEndedEditOf, ended_view}
-use Rattle.cave_play.specs.Refused.{IsEditRun}
+use Rattle.cave_play.specs.EditRun.{IsEditRun}
+use Rattle.cave_play.proofs.ReportLemmas.{report_printed}
 use Rattle.cave_play.specs.declared.edits.EditRun.{EditRun}
 use Rattle.play_edits.specs.LogEnds.{EndsOfLog, log_ends}
 use Rattle.cave_play.proofs.InputLemmas.{Says-some}
@@ -232,15 +233,18 @@ returns-in_err-write_output g c =
     let (database, bindings, one, two, read) = c.in_ok-cave.ensures.judged in
     let (moves, edits, three, four, edited) = c.in_ok-edited.ensures.judged in
     let editing = c.args.editing in
-    let right = IsEditRun database bindings moves edits editing in
+    let right = IsEditRun database bindings moves edits editing c.args.report in
     let run : EditRun = record {
       played = c.in_ok-edited.edited.played;
       refused = c.in_ok-edited.edited.refused;
+      report = c.in_ok-edited.edited.report;
     } in
+    let report =
+    report_printed c.args.report database bindings moves edits editing _ _ read.1 edited.1.1.1 in
     let is : IsEdited database bindings moves edits editing run.played c.in_ok-text.text.items =
     printed_of database bindings moves edits editing _ _ _ _ _ read.1 edited.1.0
     c.in_ok-text.ensures in
-    let output = subst (right run) (sym c.deref-2.ensures.value) (is, edited.1.1) in
+    let output = subst (right run) (sym c.deref-2.ensures.value) (is, edited.1.1.0, report) in
     let small =
     sym (size_of database bindings moves edits editing _ _ is)
     ∙ sym (ap (λ t. size_fault editing.view (length t)) c.deref.ensures.value)
@@ -264,15 +268,18 @@ returns g c =
     let (database, bindings, one, two, read) = c.in_ok-cave.ensures.judged in
     let (moves, edits, three, four, edited) = c.in_ok-edited.ensures.judged in
     let editing = c.args.editing in
-    let right = IsEditRun database bindings moves edits editing in
+    let right = IsEditRun database bindings moves edits editing c.args.report in
     let run : EditRun = record {
       played = c.in_ok-edited.edited.played;
       refused = c.in_ok-edited.edited.refused;
+      report = c.in_ok-edited.edited.report;
     } in
+    let report =
+    report_printed c.args.report database bindings moves edits editing _ _ read.1 edited.1.1.1 in
     let is : IsEdited database bindings moves edits editing run.played c.in_ok-text.text.items =
     printed_of database bindings moves edits editing _ _ _ _ _ read.1 edited.1.0
     c.in_ok-text.ensures in
-    let output = subst (right run) (sym c.deref-2.ensures.value) (is, edited.1.1) in
+    let output = subst (right run) (sym c.deref-2.ensures.value) (is, edited.1.1.0, report) in
     let small =
     sym (size_of database bindings moves edits editing _ _ is)
     ∙ sym (ap (λ t. size_fault editing.view (length t)) c.deref.ensures.value)

@@ -4,7 +4,7 @@ use Rattle.std.proofs.KnownBytes.{Keeps-refl}
 use Rattle.cave_play.specs.Run.{RunsWith}
 use Rattle.cave_play.specs.Stages.{edit_stages}
 use Rattle.cave_play.specs.TwoLogs.{IsDifferenceOf, form_of}
-use Rattle.cave_play.specs.Refused.{IsEditRun}
+use Rattle.cave_play.specs.EditRun.{IsEditRun}
 use Rattle.cave_play.proofs.InputLemmas.{Says-some}
 use Rattle.cave_play.proofs.two_logs.run_edit_to.Goals as goal
 
@@ -36,7 +36,7 @@ returns g c =
     let here =
     subst (λ (log : List ℕ). RunsWith
     (edit_stages texts.database texts.bindings log texts.script editing)
-    (IsEditRun texts.database texts.bindings log texts.script editing) before after
+    (IsEditRun texts.database texts.bindings log texts.script editing c.args.report) before after
     c.run_edit.result) log_is runs in
     record {
       runs = (

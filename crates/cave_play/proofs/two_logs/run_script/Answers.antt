@@ -40,7 +40,7 @@ returns-then-is_large_input g c =
         record { database = one; bindings = two; log = three; script = four },
         inr (
           judged.0,
-          (script.items, judged.1.1, subst (λ n. MAX_INPUT_BYTES < n) bytes large),
+          (script.items, (judged.1.1, subst (λ n. MAX_INPUT_BYTES < n) bytes large)),
           refl,
           Keeps-refl _,
         ),

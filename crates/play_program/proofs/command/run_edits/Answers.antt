@@ -11,7 +11,7 @@ returns-in-Log g c =
         texts,
         are,
         subst
-            (λ (source : ScriptSource). RunsEdits source texts c.args.editing
+            (λ (source : ScriptSource). RunsEdits source texts c.args.editing c.args.report
             (g.W.Write.contents c.args.output.now)
             (g.W.Write.contents c.run_edit_to.new.output) c.run_edit_to.result)
             (sym c.in-Log.is) runs,
@@ -22,7 +22,7 @@ pub returns-in-File : goal.returns-in-File
 returns-in-File g c =
     let (texts, are, runs) = c.run_edit.ensures.runs in
     let left =
-    λ (source : ScriptSource). RunsEdits source texts c.args.editing
+    λ (source : ScriptSource). RunsEdits source texts c.args.editing c.args.report
     (g.W.Write.contents c.args.output.now) (g.W.Write.contents c.run_edit.new.output)
     c.run_edit.result in
     record {

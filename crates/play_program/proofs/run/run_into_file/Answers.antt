@@ -24,7 +24,7 @@ returns-in-Ok g c =
         (
           subst (λ (bytes : List ℕ). called ≡ and_then opened (Puts c.args.file.now bytes ∷ []))
               c.deref.ensures.value c.put.ensures.call,
-          c.put.ensures.failed,
+          refl,
         ),
       );
     }

@@ -1,0 +1,47 @@
+-- What a run of edits returns beside its output.
+use Rattle.std.specs.Prelude.{◌≡◌, ℕ, Bool, List, [], Option, None, Some}
+use Rattle.std.specs.Str.Lines.{lines}
+use Rattle.cave_data.specs.CaveView.{CaveView}
+use Rattle.cave_play.specs.Ended.{IsEdited, IsEndedEditOf}
+use Rattle.cave_play.specs.Refused.{refusals_by}
+use Rattle.cave_play.specs.Views.{IsEditOf}
+use Rattle.cave_play.specs.declared.edits.EditRun.{EditRun}
+use Rattle.cave_play.specs.declared.edits.Edited.{Edited}
+use Rattle.play_command.specs.Aside.{edit_view_of}
+use Rattle.play_command.specs.declared.aside.ReportView.{ReportView}
+use Rattle.play_command.specs.declared.editing.Editing.{Editing}
+use Rattle.play_command.specs.declared.editing.EditView.{EditView}
+use Rattle.play_edits.specs.LogEnds.{EndsOfLog, shown_ends}
+use Rattle.replay_edits.specs.Edit.{Game, game_of}
+
+-- the report on what the script makes of the game is what the view that prints it alone asks for
+abbrev pub IsReportOf : Option ReportView → CaveView → ℕ → Game → Bool → List ℕ → List ℕ → Type 0
+IsReportOf None cave every game guarded script text = text ≡ []
+IsReportOf (Some view) cave every game guarded script text =
+    (played : ℕ) × IsEditOf (edit_view_of view) cave every game guarded script played text
+
+-- what edits made is what the script makes of the game, whose lines end like this before them
+abbrev pub IsMadeOf : EditView → Option ReportView → CaveView → ℕ → Game → Bool → List ℕ → EndsOfLog
+    → Edited → Type 0
+IsMadeOf view report cave every game guarded script before made =
+    IsEndedEditOf view cave every game guarded script before made.played made.text.items
+    (shown_ends made.ends)
+    × (made.refused.items ≡ refusals_by guarded script game)
+    × IsReportOf report cave every game guarded script made.report.items
+
+-- the report is what the edit prints if it prints that alone
+abbrev pub IsReport : Option ReportView → List ℕ → List ℕ → List ℕ → List ℕ → Editing → List ℕ
+    → Type 0
+IsReport None database bindings log script editing text = text ≡ []
+IsReport (Some view) database bindings log script editing text = (played : ℕ)
+    × IsEdited database bindings log script (record editing { view = edit_view_of view }) played
+    text
+
+-- the output is that of the edit, and what is returned says which items are refused, and has the
+-- report, if one is asked for
+abbrev pub IsEditRun : List ℕ → List ℕ → List ℕ → List ℕ → Editing → Option ReportView → EditRun
+    → List ℕ → Type 0
+IsEditRun database bindings log script editing report run output =
+    IsEdited database bindings log script editing run.played output
+    × (run.refused.items ≡ refusals_by editing.guarded script (game_of editing.seed (lines log)))
+    × IsReport report database bindings log script editing run.report.items
