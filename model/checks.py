@@ -9,6 +9,7 @@ ORDER = """
     KNIFE FOOD BOTTLE WATER OIL PLANT AXE MIRROR DRAGON CHASM TROLL BEAR MESSAGE VENDING BATTERIES
     GOLD COINS CHEST EGGS TRIDENT VASE EMERALD PYRAMID PEARL RUG SPICES CHAIN""".split()
 assert sorted(ORDER) == sorted(NAMES)
+CLASSES = ["motion", "object", "action", "special"]  # what words are
 SILENT = [">$<"]
 ALWAYS = (0, 100)  # the conditions under which a way is always taken
 ENTERED = ["start", "building", "ne", "alcove", "plover"]  # places that rules bring a player to
@@ -59,6 +60,15 @@ def unused_lines(cave):
     yield "message\ttext"
     for number in sorted({*cave.messages} - {*said_by(cave)}):
         yield f"{number}\t{first_line(cave.messages[number])}"
+
+# ---- Words
+
+def words_lines(cave):
+    """Each thing that words mean, with the words."""
+    yield "class\tnumber\twords"
+    for number in sorted({number for number, _ in cave.word_rows}):
+        words = [word for other, word in cave.word_rows if other == number]
+        yield "\t".join([CLASSES[number // 1000], str(number % 1000), *words])
 
 # ---- Doubts
 

@@ -213,6 +213,7 @@ class Cave:
         self.travel = {}
         for place, target, motions in sections[3]:
             self.travel.setdefault(place, []).append((target, motions))
+        self.word_rows = sections[4]
         self.words = [(it // 1000, it % 1000, folded(word, self.letters))
                       for it, word in sections[4]]
         self.first_words = dict(reversed(sections[4]))

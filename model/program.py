@@ -20,7 +20,7 @@ from lines import GREATEST_SEED, MOST_BYTES, Fault, flaw_of, lines_of, log_of, n
 
 FILES = {"check": ["<CAVE>"], "play": ["<CAVE>", "<LOG>"], "edit": ["<CAVE>", "<LOG>", "[SCRIPT]"],
          "cover": ["<CAVE>", "<LOG>..."]}
-PRINTS = {"check": ["maximum", "bindings", "names", "unused", "doubts"],
+PRINTS = {"check": ["maximum", "bindings", "names", "unused", "words", "doubts"],
           "play": ["transcript", "steps", "walk", "score", "state"],
           "edit": ["transcript", "play", "log", "undo", "guarded", "reports", "table", "steps",
                    "walk", "score", "state"],
@@ -258,7 +258,7 @@ def check_lines(cave, options, name, database, bindings, known):
     if what == "doubts":
         return doubts_lines(cave, options, name, database, bindings, known)
     views = {"bindings": bindings_lines, "names": checks.names_lines,
-             "unused": checks.unused_lines}
+             "unused": checks.unused_lines, "words": checks.words_lines}
     return views[what](cave) if what in views else [f"cave ok, maximum {cave.greatest_score()}"]
 
 def stretch(group, log, new_log, old, new):

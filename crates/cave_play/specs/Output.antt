@@ -7,9 +7,10 @@ use Rattle.cave_data.specs.Reads.{Reads}
 use Rattle.data_bindings.specs.Listing.{bindings_text}
 use Rattle.check_tables.specs.Names.{names_table}
 use Rattle.check_tables.specs.Unused.{unused_table}
+use Rattle.check_tables.specs.Words.{words_table}
 use Rattle.play_command.specs.declared.views.CheckView.{CheckView}
 use Rattle.play_command.specs.declared.views.CheckView.TheVariants.{Maximum, Bindings, Names}
-use Rattle.play_command.specs.declared.views.CheckView.TheVariants.{Unused}
+use Rattle.play_command.specs.declared.views.CheckView.TheVariants.{Unused, Words}
 use Rattle.play_command.specs.declared.views.PlayView.{PlayView}
 use Rattle.play_command.specs.declared.views.PlayView.TheVariants as play
 use Rattle.replay_edits.specs.Edit.{Game, game_of}
@@ -32,6 +33,7 @@ check_text Maximum cave = cave_line (max_score_of cave)
 check_text Bindings cave = bindings_text cave
 check_text Names cave = names_table cave
 check_text Unused cave = unused_table cave
+check_text Words cave = words_table cave
 
 -- the output of a check of a database that is a cave
 abbrev pub IsChecked : CheckView → List ℕ → List ℕ → List ℕ → Type 0

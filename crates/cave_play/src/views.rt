@@ -14,7 +14,7 @@ use crate::fault::PlayFault;
 use crate::judge::watch_play;
 use cave_data::Cave;
 use cave_words::Lexicon;
-use check_tables::{push_names, push_unused};
+use check_tables::{push_names, push_unused, push_words};
 use data_bindings::push_bindings;
 use play_command::{CheckView, PlayView};
 use play_machine::{
@@ -36,6 +36,7 @@ pub(crate) fn check_text(alloc: Global, cave: &Cave, view: CheckView) -> Result<
         CheckView::Bindings => push_bindings(alloc, cave, &mut text)?,
         CheckView::Names => push_names(alloc, cave, &mut text)?,
         CheckView::Unused => push_unused(alloc, cave, &mut text)?,
+        CheckView::Words => push_words(alloc, cave, &mut text)?,
     }
     Ok(text)
 }

@@ -2,3 +2,4 @@ pub mod Names
 pub mod Unused
 pub mod Clues
 pub mod NearKey
+pub mod Words

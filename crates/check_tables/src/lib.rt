@@ -1,11 +1,13 @@
-//! Tables of the names and messages of a cave, and what is known of a fault beyond its cause.
+//! Tables of the names, messages and words of a cave, and what is known of a fault beyond its cause.
 #![tactic(auto)]
 
 pub mod clue;
 pub mod names;
 mod near_key;
 pub mod unused;
+pub mod words;
 
 pub use clue::{Clue, clue_of};
 pub use names::push_names;
 pub use unused::{is_number, push_unused};
+pub use words::push_words;

@@ -2,7 +2,7 @@
 use Rattle.std.specs.Prelude.{ℕ, List, [], ◌∷◌, bytes_eq, codes, if◌then◌else◌, Option, Some, None}
 use Rattle.play_command.specs.declared.views.CheckView.{CheckView}
 use Rattle.play_command.specs.declared.views.CheckView.TheVariants.{Maximum, Bindings, Names}
-use Rattle.play_command.specs.declared.views.CheckView.TheVariants.{Unused}
+use Rattle.play_command.specs.declared.views.CheckView.TheVariants.{Unused, Words}
 use Rattle.play_command.specs.declared.views.CoverView.{CoverView}
 use Rattle.play_command.specs.declared.views.CoverView.TheVariants as covered
 use Rattle.play_command.specs.declared.views.TextView.TheVariants.{Counts, Texts}
@@ -37,7 +37,8 @@ check_view_named name =
     if bytes_eq name (codes "maximum") then Some Maximum
     else (if bytes_eq name (codes "bindings") then Some Bindings
     else (if bytes_eq name (codes "names") then Some Names
-    else (if bytes_eq name (codes "unused") then Some Unused else None)))
+    else (if bytes_eq name (codes "unused") then Some Unused
+    else (if bytes_eq name (codes "words") then Some Words else None))))
 
 abbrev pub cover_view_named : List ℕ → Option CoverView
 cover_view_named name =

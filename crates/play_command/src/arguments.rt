@@ -201,8 +201,8 @@ pub(crate) fn check_print_argument<'a>(alloc: Global) -> Arg<'a>
         .help(
             "What is printed: `maximum`, the greatest score, `bindings`, each key of the bindings \
              with its number and the first line of the text there, `names`, the object of each \
-             name that rules know, `unused`, the messages that nothing says, or `doubts`, what is \
-             doubtful of the cave [default: maximum]",
+             name that rules know, `unused`, the messages that nothing says, `words`, the words by \
+             what they mean, or `doubts`, what is doubtful of the cave [default: maximum]",
         )
 }
 

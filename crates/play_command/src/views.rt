@@ -16,17 +16,22 @@ pub enum CheckView {
     Names,
     /// The messages that nothing can say.
     Unused,
+    /// The words, by what they mean.
+    Words,
 }
 
 /// The names of what a check may print, including the doubts.
-pub(crate) const CHECK_VIEWS: [&str; 5] = ["maximum", "bindings", "names", "unused", "doubts"];
+pub(crate) const CHECK_VIEWS: [&str; 6] = [
+    "maximum", "bindings", "names", "unused", "words", "doubts",
+];
 
 /// What a check may print, in the order of the names. The doubts come last, and aren't a view.
-const EACH_CHECK_VIEW: [CheckView; 4] = [
+const EACH_CHECK_VIEW: [CheckView; 5] = [
     CheckView::Maximum,
     CheckView::Bindings,
     CheckView::Names,
     CheckView::Unused,
+    CheckView::Words,
 ];
 
 impl CheckView {

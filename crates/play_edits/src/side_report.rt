@@ -53,8 +53,9 @@ impl SideReport {
             ++ side_note self.old.view session.now.machine.rules.cave.now (applied_item item.now)
             outcome.now before.now session.now.game) }
     {
+        let view = self.view;
         let text = &mut self.text;
-        match self.view {
+        match view {
             None => Ok(()),
             Some(ReportView::Reports) => push_account(alloc, text, session, item, outcome),
             Some(ReportView::Table) => push_row(alloc, text, session, item, outcome, before),
@@ -73,8 +74,9 @@ impl SideReport {
     }
 }
 
-/// Applies an item to the held game, as `apply_item` does, and appends what a report has of it.
-pub fn apply_reported(
+/// Applies an item to the held game, and appends what a report has of it. The state before it is
+/// copied for that.
+fn apply_noted(
     alloc: Global,
     session: &mut Session<CaveMachine<'_>>,
     item: &Item,
@@ -98,4 +100,30 @@ pub fn apply_reported(
     let outcome = apply_item(alloc, session, item, view, text)?;
     report.note(alloc, session, item, &outcome, &before)?;
     Ok(outcome)
+}
+
+/// Applies an item to the held game, as `apply_item` does, and appends what a report has of it.
+pub fn apply_reported(
+    alloc: Global,
+    session: &mut Session<CaveMachine<'_>>,
+    item: &Item,
+    view: EditView,
+    text: &mut Vec<u8>,
+    report: &mut SideReport,
+) -> Result<Result<Done, Refusal>, AllocError>
+    ensures applies { IfOk result (Applies (applied_item item.now) session.old session.new) }
+    ensures back_free { IfOk result (λ outcome. IfOk outcome (λ done.
+        fault_of_all (changes_of done.inverse.items) session.new.game.log 0 ≡ None)) }
+    ensures told { IfOk result (λ outcome. text.new.items ≡ text.old.items
+        ++ text_of_item view session.old.machine.rules.cave.now (applied_item item.now)
+        session.old.game outcome) }
+    ensures reported { IfOk result (λ outcome. report.new.text.items ≡ report.old.text.items
+        ++ side_text_of_item report.old.view session.old.machine.rules.cave.now
+        (applied_item item.now) session.old.game outcome) }
+    ensures asked { report.new.view ≡ report.old.view }
+{
+    match report.view {
+        None => apply_item(alloc, session, item, view, text),
+        Some(_) => apply_noted(alloc, session, item, view, text, report),
+    }
 }

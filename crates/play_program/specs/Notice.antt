@@ -1,5 +1,6 @@
 -- What the program says of the head of a log before a run.
-use Rattle.std.specs.Prelude.{◌≡◌, ℕ, Bool, true, false, List, [], ◌∷◌, take, Option, None, Some, option_map}
+use Rattle.std.specs.Prelude.{◌≡◌, ℕ, Bool, true, false, List, [], ◌∷◌, take, Option, None, Some}
+use Rattle.std.specs.Prelude.{option_map}
 use Rattle.std.specs.Option.{option_and_then}
 use Rattle.play_command.specs.declared.line.Files.{Files}
 use Rattle.play_command.specs.declared.line.Line.{Line}
@@ -20,9 +21,9 @@ words_of_files files seed = record {
 -- what a line says of how its log is played, if it plays or edits one
 abbrev pub words_asked : Line → Option PlayWords
 words_asked (Check files view) = None
-words_asked (Doubts files strict) = None
+words_asked (Doubts files known strict) = None
 words_asked (Play files log seed view) = Some (words_of_files files seed)
-words_asked (Edit files log script editing) = Some (words_of_files files editing.seed)
+words_asked (Edit files log script editing aside) = Some (words_of_files files editing.seed)
 words_asked (Cover files logs seed view) = None
 words_asked (Map files logs seed) = None
 words_asked (Script old new output form) = None

@@ -79,7 +79,8 @@ RunsLine (Check files view) texts logs old new ended =
     (IsChecked view texts.database texts.bindings) old new ended
 RunsLine (Doubts files known strict) texts logs old new ended =
     (alone : Result (Unit {0}) PlayFault) × (listed : DoubtFiles) × (ended ≡ ended_alone alone)
-    × AreListed files (option_map (λ s. s.now) known) listed × RunsDoubts strict listed texts old new alone
+    × AreListed files (option_map (λ s. s.now) known) listed
+    × RunsDoubts strict listed texts old new alone
 RunsLine (Play files log seed view) texts logs old new ended =
     RunsAlone (play_stages texts.database texts.bindings texts.log seed)
     (IsPlayed texts.database texts.bindings texts.log seed view) old new ended

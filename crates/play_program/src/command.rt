@@ -1,6 +1,6 @@
 //! The run that a command line asks for, over readers of its files.
 
-ghost use Rattle.std.specs.Prelude.{◌≡◌, ℕ, List, map};
+ghost use Rattle.std.specs.Prelude.{◌≡◌, ℕ, List, map, option_map};
 ghost use Rattle.std.specs.List.{AllZip};
 ghost use Rattle.cave_play.specs.Input.{AreTextsOf, InputTexts, Says, input_left};
 ghost use Rattle.play_program.specs.Runs.{AreListed, RunsEdits, RunsLine, ended_alone};

@@ -74,7 +74,7 @@ pub const EDITED_TEXT: &str = "line 1: ok\nline 2: refused 1\nline 3: ok\n[welco
 /// What it replays, with a checkpoint at each line.
 pub const REPORTS: &str =
     "line 1: ok, from 2, met 3, played 1 of 6, score 32 of 132, turns 4, at 9\n\
-line 2: refused 1, no such line\n\
+line 2: refused 1, no such line: the log has 6\n\
 line 3: ok, from 1, met none, played 4 of 5, score 32 of 132, turns 3, at 9\n\
 played 5 lines; from the start it would have been 11\n";
 

@@ -29,7 +29,7 @@ fn run_in_memory<R: Abort>(
     words: Vec<String>,
     output: &mut Output<Vec<u8>>,
 ) -> u8
-    ensures ends { EndsWords (map string_bytes words.entry.items)
+    ensures ends { EndsWords (map string_bytes words.items)
         (λ name. bytes_at system.old.cave.items system.old.log.bytes.items system.old.script.items
         (file_named name)) (Some (calls_by system.old.kept.items))
         (Some (calls_by system.new.kept.items)) (Some output.old.writer.items)
@@ -67,6 +67,7 @@ fn end_of<R: Abort>(
         kept: Vec::new(alloc),
     };
     let mut given = Vec::new(alloc);
+    given.push(String::from_str(alloc, "cave")?)?;
     for word in words {
         given.push(String::from_str(alloc, *word)?)?;
     }

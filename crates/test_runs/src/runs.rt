@@ -44,7 +44,7 @@ pub const EDIT: Run = Run::Edit(EditView::Transcript);
 pub const COVER: Run = Run::Cover(CoverView::Said(TextView::Counts));
 
 /// Each run that the program can be asked for, and what it prints for the usual inputs.
-pub const RUNS: [(Run, Printed); 25] = [
+pub const RUNS: [(Run, Printed); 26] = [
     (
         Run::Check(CheckView::Maximum),
         Printed::Whole("cave ok, maximum 132\n"),
@@ -60,6 +60,13 @@ pub const RUNS: [(Run, Printed); 25] = [
     (
         Run::Check(CheckView::Unused),
         Printed::Whole("message\ttext\n"),
+    ),
+    (
+        Run::Check(CheckView::Words),
+        Printed::Between(
+            "class\tnumber\twords\nmotion\t11\tOUT\n",
+            "action\t18\tQUIT\n",
+        ),
     ),
     (Run::Doubts, Printed::Whole("-- 0 doubts\n")),
     (PLAY, Printed::Whole(LONG_TEXT)),

@@ -179,7 +179,7 @@ returns g c =
     c.in_ok-report.ensures.text
     (λ view is. c.in_ok-totals.ensures.reported view (c.in_ok-report.ensures.view ∙ is))
     (λ is. c.in_ok-totals.ensures.unreported (c.in_ok-report.ensures.view ∙ is))
-    (c.in_ok-end.ensures
+    (c.in_ok-end.ensures.text
     ∙ ap (λ view. c.apply.new.kept.report.text.items ++ side_end view totals.played totals.lines)
     (c.in_ok-totals.ensures.asked ∙ c.in_ok-report.ensures.view)) in
     record { judged = (edits, said, (none, ((edited, after), noted, reported))) }

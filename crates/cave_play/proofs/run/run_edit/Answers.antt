@@ -240,11 +240,11 @@ returns-in_err-write_output g c =
       report = c.in_ok-edited.edited.report;
     } in
     let report =
-    report_printed c.args.report database bindings moves edits editing _ _ read.1 edited.1.1.1 in
+    report_printed c.args.report database bindings moves edits editing _ _ read.1 edited.1.2 in
     let is : IsEdited database bindings moves edits editing run.played c.in_ok-text.text.items =
     printed_of database bindings moves edits editing _ _ _ _ _ read.1 edited.1.0
     c.in_ok-text.ensures in
-    let output = subst (right run) (sym c.deref-2.ensures.value) (is, edited.1.1.0, report) in
+    let output = subst (right run) (sym c.deref-2.ensures.value) (is, edited.1.1, report) in
     let small =
     sym (size_of database bindings moves edits editing _ _ is)
     ∙ sym (ap (λ t. size_fault editing.view (length t)) c.deref.ensures.value)
@@ -275,11 +275,11 @@ returns g c =
       report = c.in_ok-edited.edited.report;
     } in
     let report =
-    report_printed c.args.report database bindings moves edits editing _ _ read.1 edited.1.1.1 in
+    report_printed c.args.report database bindings moves edits editing _ _ read.1 edited.1.2 in
     let is : IsEdited database bindings moves edits editing run.played c.in_ok-text.text.items =
     printed_of database bindings moves edits editing _ _ _ _ _ read.1 edited.1.0
     c.in_ok-text.ensures in
-    let output = subst (right run) (sym c.deref-2.ensures.value) (is, edited.1.1.0, report) in
+    let output = subst (right run) (sym c.deref-2.ensures.value) (is, edited.1.1, report) in
     let small =
     sym (size_of database bindings moves edits editing _ _ is)
     ∙ sym (ap (λ t. size_fault editing.view (length t)) c.deref.ensures.value)

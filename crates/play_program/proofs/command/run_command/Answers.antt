@@ -40,9 +40,9 @@ returns-in-Doubts g c =
             (g.W.Write.contents c.run_doubts.new.output) c.alone-in-Doubts.result)
             (sym c.in-Doubts.is) (
               c.run_doubts.result,
-              c.doubt_files.result,
+              c.doubt_files-files.result,
               c.alone-in-Doubts.ensures,
-              c.doubt_files.ensures,
+              c.doubt_files-files.ensures,
               runs,
             ),
       );

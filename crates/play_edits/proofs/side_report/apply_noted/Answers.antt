@@ -1,7 +1,7 @@
 use Rattle.std.proofs.Common.{◌++◌, ap, ◌∙◌}
 use Rattle.replay_scripts.specs.Views.{applied_item}
 use Rattle.play_edits.proofs.SideLemmas.{side_note-held}
-use Rattle.play_edits.proofs.side_report.apply_reported.Goals as goal
+use Rattle.play_edits.proofs.side_report.apply_noted.Goals as goal
 
 pub returns-clause-reported : goal.returns-clause-reported
 returns-clause-reported c =
