@@ -4,3 +4,5 @@ pub mod GuardedLines
 pub mod GuardedReading
 pub mod GuardedSpelling
 pub mod Holding
+pub mod NeverTaken
+pub mod WaySteps

@@ -1,3 +1,4 @@
 pub mod ApartEdits
 pub mod GuardedScripts
 pub mod Held
+pub mod NeverTaken

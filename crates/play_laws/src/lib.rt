@@ -1,5 +1,5 @@
-//! Laws about the states that a session of a game holds, and about edits of any log and scripts
-//! of edits.
+//! Laws about the states that a session of a game holds, about edits of any log and scripts of
+//! edits, and about ways that are never taken.
 #![tactic(auto)]
 
 ghost use Rattle.std.specs.Prelude.{◌<◌};
@@ -8,6 +8,7 @@ ghost use Rattle.turn_laws.specs.ObjectLaws.{IsInOnePlace};
 ghost use Rattle.turn_laws.specs.Reachable.{IsLawful, IsReachable};
 
 pub mod edit_laws;
+pub mod way_laws;
 
 use cave_replay::Session;
 use play_machine::CaveMachine;
