@@ -5,4 +5,5 @@ pub mod GuardedReading
 pub mod GuardedSpelling
 pub mod Holding
 pub mod NeverTaken
+pub mod Period
 pub mod WaySteps

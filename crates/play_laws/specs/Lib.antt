@@ -1,4 +1,5 @@
 pub mod ApartEdits
+pub mod DrawsMade
 pub mod GuardedScripts
 pub mod Held
 pub mod NeverTaken

@@ -1,5 +1,5 @@
 //! Laws about the states that a session of a game holds, about edits of any log and scripts of
-//! edits, and about ways that are never taken.
+//! edits, about ways that are never taken, and about how many draws are counted.
 #![tactic(auto)]
 
 ghost use Rattle.std.specs.Prelude.{◌<◌};
@@ -7,6 +7,7 @@ ghost use Rattle.play_laws.specs.Held.{EachIsOfAGame};
 ghost use Rattle.turn_laws.specs.ObjectLaws.{IsInOnePlace};
 ghost use Rattle.turn_laws.specs.Reachable.{IsLawful, IsReachable};
 
+pub mod draw_laws;
 pub mod edit_laws;
 pub mod way_laws;
 
