@@ -4,7 +4,7 @@ ghost use Rattle.std.specs.Prelude.{◌≡◌, ◌++◌, OnOk};
 ghost use Rattle.play_cover.specs.Marks.{is_marked};
 ghost use Rattle.play_cover.specs.RowReport.{row_report, row_sums};
 
-use crate::coverage::{Detail, Groups, CoverTotals, push_groups};
+use crate::coverage::{CoverTotals, Detail, Groups, push_groups};
 use crate::each_table::EACH_TABLE;
 use crate::marks::MarkSet;
 use crate::rule_tables::{row_count, table_name, table_number, words_of_row};

@@ -6,7 +6,7 @@ ghost use Rattle.play_cover.specs.TextReport.{detail_of, first_line_shown, headi
 ghost use Rattle.play_cover.specs.TextReport.{text_at, text_report, word_of_kind};
 
 use crate::cave_texts::CaveTexts;
-use crate::coverage::{Detail, Groups, CoverTotals, push_groups};
+use crate::coverage::{CoverTotals, Detail, Groups, push_groups};
 use crate::marks::MarkSet;
 use crate::text::{KINDS, NUMBERS, PROPS_PER_OBJECT, TextKind};
 use cave_data::Cave;

@@ -1,5 +1,6 @@
 pub mod ApartEdits
 pub mod ApartLogs
+pub mod ClassRows
 pub mod GuardedLines
 pub mod GuardedReading
 pub mod GuardedSpelling

@@ -3,3 +3,4 @@ pub mod DrawsMade
 pub mod GuardedScripts
 pub mod Held
 pub mod NeverTaken
+pub mod Unreached

@@ -1,5 +1,6 @@
 //! Laws about the states that a session of a game holds, about edits of any log and scripts of
-//! edits, about ways that are never taken, and about how many draws are counted.
+//! edits, about ways that are never taken and classes that no score reaches, and about how many
+//! draws are counted.
 #![tactic(auto)]
 
 ghost use Rattle.std.specs.Prelude.{◌<◌};
@@ -7,6 +8,7 @@ ghost use Rattle.play_laws.specs.Held.{EachIsOfAGame};
 ghost use Rattle.turn_laws.specs.ObjectLaws.{IsInOnePlace};
 ghost use Rattle.turn_laws.specs.Reachable.{IsLawful, IsReachable};
 
+pub mod class_laws;
 pub mod draw_laws;
 pub mod edit_laws;
 pub mod way_laws;
