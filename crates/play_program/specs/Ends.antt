@@ -1,6 +1,6 @@
 -- What a run over files leaves, and what the program reports of it.
 use Rattle.std.specs.Prelude.{◌≡◌, ◌⊎◌, ℕ, List, [], ◌∷◌, ◌++◌, map, Option, None, Some}
-use Rattle.std.specs.Prelude.{Bool, true, false, Result, Ok, Err, MatchResult, take}
+use Rattle.std.specs.Prelude.{◌==◌, Bool, true, false, Result, Ok, Err, MatchResult, length, take}
 use Rattle.std.specs.Io.KnownBytes.{Appends}
 use Rattle.std.specs.List.{AllZip}
 use Rattle.std.specs.declared.io.Error.{Error}
@@ -130,11 +130,12 @@ SaysBeside asked names calls called old new made status =
     (called ≡ and_then calls (told_beside (aside_of asked) names made)) × (status ≡ 0)
     × Appends old new (report_in made)
 
--- the report couldn't be printed, for this reason if the writer gave one
+-- there is a report, and it couldn't be printed, for this reason if the writer gave one
 abbrev pub FailsBeside : FileNames → Option (List Call) → Option (List Call)
     → Option (List ℕ) → Option (List ℕ) → Option EditRun → ℕ → Type 0
 FailsBeside names calls called old new made status = (reason : Option Error)
     × TellsFailure names calls called (with_reason (Run fault.Write None) reason) status
+    × ((length (report_in made) == 0) ≡ false)
     × ((n : ℕ) × Appends old new (take n (report_in made)))
 
 -- what is left of a run that ended like this: if it ended well, what is said beside its output

@@ -1,6 +1,6 @@
 //! What the program says beside the output of a run that ended well.
 
-ghost use Rattle.std.specs.Prelude.{◌≡◌, ℕ, MatchResult, take};
+ghost use Rattle.std.specs.Prelude.{◌≡◌, ◌==◌, ℕ, MatchResult, false, length, take};
 ghost use Rattle.std.specs.Io.KnownBytes.{Appends};
 ghost use Rattle.play_program.specs.Beside.{aside_of, refusals_told, report_in, told_beside};
 ghost use Rattle.play_program.specs.Calls.{and_then};
@@ -50,10 +50,15 @@ fn report_in(made: &Option<EditRun>) -> &[u8]
 pub fn print_report<W: Write>(made: &Option<EditRun>, output: &mut W) -> Result<(), PlayFault>
     ensures { MatchResult result
         (λ _. Appends (W.contents output.old) (W.contents output.new) (report_in made.now))
-        (λ fault. (fault ≡ PlayFault.Write) × ((n : ℕ)
+        (λ fault. (fault ≡ PlayFault.Write) × ((length (report_in made.now) == 0) ≡ false)
+        × ((n : ℕ)
         × Appends (W.contents output.old) (W.contents output.new) (take n (report_in made.now)))) }
 {
-    write_output(output, report_in(made))
+    let report = report_in(made);
+    if report.is_empty() {
+        return Ok(());
+    }
+    write_output(output, report)
 }
 
 /// Says what a line asks to have said beside its output.

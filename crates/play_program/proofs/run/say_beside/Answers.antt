@@ -21,4 +21,5 @@ returns-in-Err g c =
           c.tell_failure.result) failure
           (c.tell_failure.ensures.told, c.tell_failure.ensures.status),
       fails.1,
+      fails.2,
     )
