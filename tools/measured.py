@@ -43,7 +43,7 @@ def write(title, text):
         page = file.read()
     head = f"## {title}\n"
     said = f"Measured on {today()}, on {os.cpu_count()} processors."
-    new = f"{head}{said}\n\n{text.strip()}\n"
+    new = f"{head}{said}\n{text.strip()}\n"
     old = re.search(rf"^{head}.*?(?=\n## |\Z)", page, re.MULTILINE | re.DOTALL)
     if old:
         page = page[: old.start()] + new + page[old.end() :]
