@@ -22,7 +22,7 @@ WITH_LAST = re.compile(r"^\w+ d = \w+_by_table table\.(\w+) (\w+)$", re.MULTILIN
 CASES = re.compile(r"\bnote_row table\.(\w+) \(question_row ")
 HEAD = re.compile(r"^(?:abbrev|unfoldable) pub (\w+) : ((?:ℕ → )*)List ", re.MULTILINE)
 DEFINITION = """\
--- How many rows the definition of each table has, made by `tools/check/rule-words --write`.
+-- How many rows the definition of each table has, made by `tools/rule-words --write`.
 use Rattle.std.specs.Prelude.{{ℕ, ◌+◌, length}}
 use Rattle.cave_world.specs.declared.tables.Table.{{Table}}
 use Rattle.cave_world.specs.declared.tables.Table.TheVariants as table
@@ -33,7 +33,7 @@ unfoldable pub rows_in : Table → ℕ
 {cases}
 """
 PROOF = """\
--- Each table has words for each of its rows, made by `tools/check/rule-words --write`.
+-- Each table has words for each of its rows, made by `tools/rule-words --write`.
 use Rattle.std.proofs.Common.{{◌≡◌, refl}}
 use Rattle.cave_world.specs.declared.tables.Table.{{Table}}
 use Rattle.cave_world.specs.declared.tables.Table.TheVariants as table

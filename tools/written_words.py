@@ -11,7 +11,7 @@ CRATE = "crates/play_cover"
 SPECS = "Rattle.play_cover.specs"
 MAX_LINE = 100
 CODE = """\
-//! The tables of the rules, as the pages have them, made by `tools/check/rule-words --write`.
+//! The tables of the rules, as the pages have them, made by `tools/rule-words --write`.
 
 ghost use Rattle.std.specs.Prelude.{{◌≡◌, ◌<◌, length, map}};
 ghost use Rattle.play_cover.specs.RuleTables.{{row_words, table_name}};
@@ -61,7 +61,7 @@ pub fn table_name_and_words(table: Table) -> (&'static str, &'static [&'static s
 }}
 """
 DEFINITION = """\
--- The tables of the rules, as the pages have them, made by `tools/check/rule-words --write`.
+-- The tables of the rules, as the pages have them, made by `tools/rule-words --write`.
 use Rattle.std.specs.Prelude.{{ℕ, List, [], ◌∷◌, codes}}
 use Rattle.cave_world.specs.declared.tables.Table.{{Table}}
 use Rattle.cave_world.specs.declared.tables.Table.TheVariants as table

@@ -1,4 +1,4 @@
--- Each table has words for each of its rows, made by `tools/check/rule-words --write`.
+-- Each table has words for each of its rows, made by `tools/rule-words --write`.
 use Rattle.std.proofs.Common.{◌≡◌, refl}
 use Rattle.cave_world.specs.declared.tables.Table.{Table}
 use Rattle.cave_world.specs.declared.tables.Table.TheVariants as table

@@ -1,4 +1,4 @@
--- How many rows the definition of each table has, made by `tools/check/rule-words --write`.
+-- How many rows the definition of each table has, made by `tools/rule-words --write`.
 use Rattle.std.specs.Prelude.{ℕ, ◌+◌, length}
 use Rattle.cave_world.specs.declared.tables.Table.{Table}
 use Rattle.cave_world.specs.declared.tables.Table.TheVariants as table

@@ -1,4 +1,4 @@
-//! The tables of the rules, as the pages have them, made by `tools/check/rule-words --write`.
+//! The tables of the rules, as the pages have them, made by `tools/rule-words --write`.
 
 ghost use Rattle.std.specs.Prelude.{◌≡◌, ◌<◌, length, map};
 ghost use Rattle.play_cover.specs.RuleTables.{row_words, table_name};
