@@ -4,7 +4,7 @@ use Rattle.std.proofs.Common.{append-nil, refl}
 use Rattle.std.specs.Str.Lines.{lines}
 use Rattle.cave_data.specs.CaveView.{CaveView}
 use Rattle.cave_data.specs.Reads.{Reads}
-use Rattle.cave_play.specs.EditRun.{IsReport, IsReportOf}
+use Rattle.cave_play.specs.EditRun.{IsSideReport, IsSideReportOf}
 use Rattle.cave_play.proofs.ViewLemmas.{told-whole}
 use Rattle.cave_replay.specs.Session.{SessionView}
 use Rattle.cave_world.specs.declared.state.State.{State}
@@ -31,62 +31,61 @@ module _ (old : SessionView CaveMachine Piece State) (items : List Applied) (gua
     by_view : (view : ReportView) → start ≡ side_start (Some view)
         → IsApplied (edit_view_of view) items old start text played lines
         → whole ≡ text ++ side_end (Some view) played lines
-        → IsReportOf (Some view) old.machine.rules.cave.now old.every old.game guarded script whole
+        → IsSideReportOf (Some view) old.machine.rules.cave.now old.every old.game guarded script
+        played whole
     by_view Reports began applied ends =
         let cave = old.machine.rules.cave.now in
         let said = text_of_items (text_of_item (edit_view_of Reports) cave) items old.game
-        applied.outcomes in (
-          played,
-          record {
-            items = items;
-            spelled = spelled;
-            checkpoints = old.checkpoints;
-            spaced = spaced;
-            outcomes = applied.outcomes;
-            came = applied.came;
-            played_is = applied.played_is;
-            written = told-whole (edit_view_of Reports) cave old.every items old.game guarded
-                old.checkpoints applied.outcomes played lines [] text whole applied.came
-                (applied.told ∙ ap (λ t. t ++ said) began) applied.played_is applied.lines_are ends tt
-                refl good;
-          },
-        )
+        applied.outcomes in
+        record {
+          items = items;
+          spelled = spelled;
+          checkpoints = old.checkpoints;
+          spaced = spaced;
+          outcomes = applied.outcomes;
+          came = applied.came;
+          played_is = applied.played_is;
+          written = told-whole (edit_view_of Reports) cave old.every items old.game guarded
+              old.checkpoints applied.outcomes played lines [] text whole applied.came
+              (applied.told ∙ ap (λ t. t ++ said) began) applied.played_is applied.lines_are ends tt
+              refl good;
+        }
     by_view Table began applied ends =
         let cave = old.machine.rules.cave.now in
         let said = text_of_items (text_of_item (edit_view_of Table) cave) items old.game
-        applied.outcomes in (
-          played,
-          record {
-            items = items;
-            spelled = spelled;
-            checkpoints = old.checkpoints;
-            spaced = spaced;
-            outcomes = applied.outcomes;
-            came = applied.came;
-            played_is = applied.played_is;
-            written = told-whole (edit_view_of Table) cave old.every items old.game guarded
-                old.checkpoints applied.outcomes played lines [] text whole applied.came
-                (applied.told ∙ ap (λ t. t ++ said) began) applied.played_is applied.lines_are ends tt
-                refl good;
-          },
-        )
+        applied.outcomes in
+        record {
+          items = items;
+          spelled = spelled;
+          checkpoints = old.checkpoints;
+          spaced = spaced;
+          outcomes = applied.outcomes;
+          came = applied.came;
+          played_is = applied.played_is;
+          written = told-whole (edit_view_of Table) cave old.every items old.game guarded
+              old.checkpoints applied.outcomes played lines [] text whole applied.came
+              (applied.told ∙ ap (λ t. t ++ said) began) applied.played_is applied.lines_are ends tt
+              refl good;
+        }
 
     pub report_made : (report : Option ReportView) → start ≡ side_start report
         → ((view : ReportView) → report ≡ Some view
         → IsApplied (edit_view_of view) items old start text played lines)
         → (report ≡ None → text ≡ start) → whole ≡ text ++ side_end report played lines
-        → IsReportOf report old.machine.rules.cave.now old.every old.game guarded script whole
+        → IsSideReportOf report old.machine.rules.cave.now old.every old.game guarded script played
+        whole
     report_made None began applied stays ends = ends ∙ append-nil text ∙ stays refl ∙ began
     report_made (Some view) began applied stays ends = by_view view began (applied view refl) ends
 
 -- and what the run that prints it alone prints
 pub report_printed : (report : Option ReportView) (database bindings log script : List ℕ)
-    (editing : Editing) (cave : CaveView) (text : List ℕ) → Reads database bindings cave
-    → IsReportOf report cave editing.every (game_of editing.seed (lines log)) editing.guarded script
-    text
-    → IsReport report database bindings log script editing text
-report_printed None database bindings log script editing cave text reads is = is
-report_printed (Some Reports) database bindings log script editing cave text reads (played, edit) =
-    (played, (cave, reads, record { text = text; edit = edit; printed = refl }))
-report_printed (Some Table) database bindings log script editing cave text reads (played, edit) =
-    (played, (cave, reads, record { text = text; edit = edit; printed = refl }))
+    (editing : Editing) (cave : CaveView) (played : ℕ) (text : List ℕ)
+    → Reads database bindings cave
+    → IsSideReportOf report cave editing.every (game_of editing.seed (lines log)) editing.guarded
+    script played text
+    → IsSideReport report database bindings log script editing played text
+report_printed None database bindings log script editing cave played text reads is = is
+report_printed (Some Reports) database bindings log script editing cave played text reads edit =
+    (cave, reads, record { text = text; edit = edit; printed = refl })
+report_printed (Some Table) database bindings log script editing cave played text reads edit =
+    (cave, reads, record { text = text; edit = edit; printed = refl })

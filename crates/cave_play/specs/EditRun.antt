@@ -15,10 +15,11 @@ use Rattle.play_edits.specs.LogEnds.{EndsOfLog, shown_ends}
 use Rattle.replay_edits.specs.Edit.{Game, game_of}
 
 -- the report on what the script makes of the game is what the view that prints it alone asks for
-abbrev pub IsReportOf : Option ReportView → CaveView → ℕ → Game → Bool → List ℕ → List ℕ → Type 0
-IsReportOf None cave every game guarded script text = text ≡ []
-IsReportOf (Some view) cave every game guarded script text =
-    (played : ℕ) × IsEditOf (edit_view_of view) cave every game guarded script played text
+abbrev pub IsSideReportOf : Option ReportView → CaveView → ℕ → Game → Bool → List ℕ → ℕ → List ℕ
+    → Type 0
+IsSideReportOf None cave every game guarded script played text = text ≡ []
+IsSideReportOf (Some view) cave every game guarded script played text =
+    IsEditOf (edit_view_of view) cave every game guarded script played text
 
 -- what edits made is what the script makes of the game, whose lines end like this before them
 abbrev pub IsMadeOf : EditView → Option ReportView → CaveView → ℕ → Game → Bool → List ℕ → EndsOfLog
@@ -27,15 +28,14 @@ IsMadeOf view report cave every game guarded script before made =
     IsEndedEditOf view cave every game guarded script before made.played made.text.items
     (shown_ends made.ends)
     × (made.refused.items ≡ refusals_by guarded script game)
-    × IsReportOf report cave every game guarded script made.report.items
+    × IsSideReportOf report cave every game guarded script made.played made.report.items
 
--- the report is what the edit prints if it prints that alone
-abbrev pub IsReport : Option ReportView → List ℕ → List ℕ → List ℕ → List ℕ → Editing → List ℕ
-    → Type 0
-IsReport None database bindings log script editing text = text ≡ []
-IsReport (Some view) database bindings log script editing text = (played : ℕ)
-    × IsEdited database bindings log script (record editing { view = edit_view_of view }) played
-    text
+-- the report is what the edit prints if it prints that alone, with as many lines played
+abbrev pub IsSideReport : Option ReportView → List ℕ → List ℕ → List ℕ → List ℕ → Editing → ℕ
+    → List ℕ → Type 0
+IsSideReport None database bindings log script editing played text = text ≡ []
+IsSideReport (Some view) database bindings log script editing played text =
+    IsEdited database bindings log script (record editing { view = edit_view_of view }) played text
 
 -- the output is that of the edit, and what is returned says which items are refused, and has the
 -- report, if one is asked for
@@ -44,4 +44,4 @@ abbrev pub IsEditRun : List ℕ → List ℕ → List ℕ → List ℕ → Editi
 IsEditRun database bindings log script editing report run output =
     IsEdited database bindings log script editing run.played output
     × (run.refused.items ≡ refusals_by editing.guarded script (game_of editing.seed (lines log)))
-    × IsReport report database bindings log script editing run.report.items
+    × IsSideReport report database bindings log script editing run.played run.report.items

@@ -27,7 +27,7 @@ use std::io::{ErrorKind, Read, Write};
 const DONE: u8 = 0;
 
 /// How many bytes of a log are looked at before the run: the most that a line and its end have.
-const HEAD_BYTES: usize = 257;
+const MAX_HEAD_BYTES: usize = 257;
 
 /// Does a run whose output goes to a writer.
 fn run_into<'a, S: System, W: Write>(
@@ -44,7 +44,7 @@ fn run_into<'a, S: System, W: Write>(
     let Readers { inputs, logs } = open_files(alloc, system, names)?;
     let Inputs { cave, log, script } = inputs;
     let mut log = log;
-    let mut buffer = [0; HEAD_BYTES];
+    let mut buffer = [0; MAX_HEAD_BYTES];
     let peeked = peek(&mut log, &mut buffer);
     let head = &buffer[..peeked.count];
     tell_head(system, asked, names.log, peeked.failed, head);

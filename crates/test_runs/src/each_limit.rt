@@ -1,7 +1,8 @@
 //! How much the inputs of a run may have.
 
 use crate::caves::LONG_TEXT;
-use crate::runs::{COVER, EDIT, Feeds, PLAY, Run, RunEnd, edit, play};
+use crate::feeds::{Feeds, RunEnd, edit, play};
+use crate::runs::{COVER, EDIT, PLAY, Run};
 use crate::streams::TestReader;
 use base_lines::limits::MAX_INPUT_BYTES;
 use cave_play::{Input, LogFault, PlayFault, ScriptFault};

@@ -13,6 +13,8 @@ mod edits;
 #[cfg(test)]
 mod faults;
 #[cfg(test)]
+mod feeds;
+#[cfg(test)]
 mod games;
 #[cfg(test)]
 mod in_memory;

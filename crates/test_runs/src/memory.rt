@@ -1,7 +1,8 @@
 //! Runs whose allocations are refused: `tools/soak/refuse` refuses each in turn, and all from each
 //! one on.
 
-use crate::runs::{Feeds, Printed, RUNS, Run};
+use crate::feeds::Feeds;
+use crate::runs::{Printed, RUNS, Run};
 use crate::streams::Sink;
 use cave_play::PlayFault;
 use std::alloc::Global;

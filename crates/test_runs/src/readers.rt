@@ -1,7 +1,8 @@
 //! Runs whose readers fail, and the order in which inputs are read and judged.
 
 use crate::caves::{LONG_LOG, LONG_TEXT};
-use crate::runs::{COVER, EDIT, Feeds, PLAY, RUNS, Run};
+use crate::feeds::Feeds;
+use crate::runs::{COVER, EDIT, PLAY, RUNS, Run};
 use crate::streams::TestReader;
 use base_lines::LineFlaw;
 use cave_play::{LogFault, PlayFault, ScriptFault};

@@ -1,6 +1,7 @@
 //! Runs whose writers fail, or take little at once.
 
-use crate::runs::{EDIT, Feeds, PLAY, Printed, RUNS, Run};
+use crate::feeds::Feeds;
+use crate::runs::{EDIT, PLAY, Printed, RUNS, Run};
 use crate::streams::Sink;
 use cave_play::PlayFault;
 use play_command::CheckView;

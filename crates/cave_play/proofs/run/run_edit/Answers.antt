@@ -240,7 +240,8 @@ returns-in_err-write_output g c =
       report = c.in_ok-edited.edited.report;
     } in
     let report =
-    report_printed c.args.report database bindings moves edits editing _ _ read.1 edited.1.2 in
+    report_printed c.args.report database bindings moves edits editing _ _ _ read.1 edited.1.2
+    in
     let is : IsEdited database bindings moves edits editing run.played c.in_ok-text.text.items =
     printed_of database bindings moves edits editing _ _ _ _ _ read.1 edited.1.0
     c.in_ok-text.ensures in
@@ -275,7 +276,8 @@ returns g c =
       report = c.in_ok-edited.edited.report;
     } in
     let report =
-    report_printed c.args.report database bindings moves edits editing _ _ read.1 edited.1.2 in
+    report_printed c.args.report database bindings moves edits editing _ _ _ read.1 edited.1.2
+    in
     let is : IsEdited database bindings moves edits editing run.played c.in_ok-text.text.items =
     printed_of database bindings moves edits editing _ _ _ _ _ read.1 edited.1.0
     c.in_ok-text.ensures in
