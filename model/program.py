@@ -18,6 +18,9 @@ import walk
 from database import KEYS, PLACES, ROLES, Cave, bindings_of, sections_of, with_mark
 from lines import GREATEST_SEED, MOST_BYTES, Fault, flaw_of, lines_of, log_of, near_name
 
+# The commands, each with what other programs call it.
+COMMANDS = {"check": ["test", "verify"], "play": ["run"], "edit": ["replay", "patch"],
+            "script": ["diff"], "cover": ["coverage"], "map": ["graph"]}
 FILES = {"check": ["<CAVE>"], "play": ["<CAVE>", "<LOG>"], "edit": ["<CAVE>", "<LOG>", "[SCRIPT]"],
          "cover": ["<CAVE>", "<LOG>..."]}
 PRINTS = {"check": ["maximum", "bindings", "names", "unused", "words", "doubts"],
@@ -36,7 +39,7 @@ LETTERS = {"-b": "--bind", "-s": "--seed", "-p": "--print", "-e": "--edit", "-q"
 KNOWN = {"check": ["--bind", "--print", "--strict", "--known"],
          "play": ["--bind", "--seed", "--print"],
          "edit": [it for it in OPTIONS if it != "--known"],
-         "cover": ["--bind", "--seed", "--print"]}
+         "cover": ["--bind", "--seed", "--print", "--strict", "--known"]}
 
 class Stop(Exception):
     """The end of a run: its status, what is said on standard error, and the lines that are printed
@@ -52,10 +55,9 @@ def wrong(message, usage=None):
     shown = f"\n\nUsage: cave {usage}" if usage else ""
     return Stop(2, f"error: {message}{shown}\n\nFor more information, try '--help'.\n")
 
-def wanted(given, names):
-    """What is said about a name that isn't one of these."""
+def wanted(given, names, near):
+    """What is said about a name that isn't one of these, and perhaps is near to one."""
     *some, last = names
-    near = near_name(given, names)
     return f"wanted is {', '.join(some)} or {last}" + (
         f"\n\n  tip: did you mean '{near}'?" if near else "")
 
@@ -63,8 +65,9 @@ def words_of(words):
     """The command, its files and its options."""
     if not words or words[0] not in FILES:
         word = (words or [""])[0]
-        commands = ["check", "play", "edit", "script", "cover", "map"]
-        raise wrong(f"unrecognized subcommand '{word}': {wanted(word, commands)}", "<COMMAND>")
+        names = {it: command for command, more in COMMANDS.items() for it in (command, *more)}
+        said = wanted(word, [*COMMANDS], names.get(near_name(word, names)))
+        raise wrong(f"unrecognized subcommand '{word}': {said}", "<COMMAND>")
     command, files, options, rest, only_files = words[0], [], {}, list(words[1:]), False
     below_zero = seed_below_zero(command, rest)
     usage = f"{command} {' '.join(FILES[command])}"
@@ -130,11 +133,14 @@ def judged_options(command, files, options):
     """The options, and what they are if they aren't given."""
     seed = number_in("--seed", options.get("--seed", "0"), 0, GREATEST_SEED)
     number_in("--every", options.get("--every", "50"), 1, 10_000)
-    asks_doubts = command == "check" and ("--strict" in options or "--known" in options)
-    prints = options.get("--print", "doubts" if asks_doubts else PRINTS[command][0])
-    if prints not in PRINTS[command]:
+    usual = PRINTS[command][0]
+    if "--strict" in options or "--known" in options:
+        usual = {"check": "doubts", "cover": "texts"}.get(command, usual)
+    prints = options.get("--print", usual)
+    names = PRINTS[command]
+    if prints not in names:
         raise wrong(f"invalid value '{prints}' for '--print <WHAT>':"
-                    f" {wanted(prints, PRINTS[command])}")
+                    f" {wanted(prints, names, near_name(prints, names))}")
     if command == "edit" and len(files) == 3 and "--edit" in options:
         raise wrong("only one of SCRIPT, '--edit <EDIT>' and '--to <FILE>' can be used")
     if command == "edit" and len(files) == 2 and "--edit" not in options:
@@ -195,13 +201,12 @@ def head_notice(name, text, database, options):
     if not line.startswith("# cave:") or flaw_of(line):
         return ""
     said = line.removeprefix("# cave:")
-    first, second = fullmatch("[ \t]*([^ \t]*)[ \t]*([^ \t]*).*", said).groups()
-    cave = second if first in ("play", "edit") else first
-    words = findall("(?<=[ \t])[^ \t]+", said)
+    words = findall("[^ \t]+", said)
+    cave = [*words, "", ""][words[:1] in (["play"], ["edit"])]
     bind, seed = said_in_head(words, "--bind"), said_in_head(words, "--seed")
     if cave and not cave.startswith("-") and base(cave) != base(database):
         other = cave
-    elif bind and (options["bind"] is None or base(bind) != base(options["bind"])):
+    elif bind is not None and (options["bind"] is None or base(bind) != base(options["bind"])):
         other = f"--bind {bind}"
     elif seed and fullmatch("[0-9]{1,10}", seed) and int(seed) != options["seed"]:
         other = f"--seed {seed}"
@@ -210,13 +215,15 @@ def head_notice(name, text, database, options):
     return f"cave: {name}:1: the log's head says {other}\n"
 
 def said_in_head(words, option):
-    """The value of an option among words, where it has one first."""
-    for word, after in zip(words, [*words[1:], ""]):
-        name, _, value = word.partition("=")
-        if word in (option, option[1:3]):
-            name, value = option, after
-        if name == option and value:
-            return value
+    """The value of an option: in the first word that has it, or the word after its name."""
+    letter = option[1:3]
+    for word, after in zip(words, [*words[1:], None]):
+        if word in (option, letter):
+            return after
+        if word.startswith(f"{option}="):
+            return word.removeprefix(f"{option}=")
+        if word.startswith(letter):
+            return word.removeprefix(letter).removeprefix("=")
     return None
 
 def base(path):

@@ -101,12 +101,10 @@ impl<'a> FileBeside<'a> {
         }
     }
 
-    /// Gives a draft the permissions of the file.
+    /// Gives a draft the permissions of the file, or those of a new one.
     fn permit(&self, draft: &DraftFile) -> io::Result<()> {
-        match &self.permissions {
-            Some(permissions) => draft.file.set_permissions(permissions.clone()?),
-            None => Ok(()),
-        }
+        let permissions = self.permissions.as_ref().unwrap_or(&draft.usual);
+        draft.file.set_permissions(permissions.clone()?)
     }
 
     /// Puts a draft that is on the disk in the place of the file. The permissions come last, since

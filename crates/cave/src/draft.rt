@@ -1,26 +1,32 @@
 //! The draft of a file: a file in the same folder, which one run at a time holds by a lock. The
 //! lock ends with the run, however that ends. So a draft that no run holds was abandoned by a run
-//! that was ended, and the next run removes it.
+//! that was ended, and the next run removes it. A file of its name that is no draft stays.
 
-ghost use Rattle.std.specs.Prelude.{◌≡◌, ◌++◌, IfOk, codes, string_bytes};
+ghost use Rattle.std.specs.Prelude.{◌≡◌, ◌==◌, ◌||◌, ◌++◌, IfOk, codes, string_bytes};
 
 use std::alloc::{AllocError, Global};
-use std::fs::{File, OpenOptions, TryLockError};
+use std::fs::{File, OpenOptions, Permissions, TryLockError};
 use std::io::{ErrorKind, Write};
-use std::os::unix::fs::{MetadataExt, OpenOptionsExt};
+use std::os::unix::fs::{MetadataExt, OpenOptionsExt, PermissionsExt};
 use std::{fs, io};
+
+/// The bits of a file's mode that say who may read, write and run it.
+const ALL_PERMISSIONS: u32 = 0o777;
 
 /// How often this run makes a draft again because another run takes it away first.
 const MAX_TRIES: u32 = 100;
 
-/// Until it is whole, only its owner may read a draft that replaces a file.
-const OWNER_ALONE: u32 = 0o600;
+/// The permissions of a draft until it is whole: its owner may write it, and nobody may read it. No
+/// file that somebody keeps has these.
+const OWNER_WRITES: u32 = 0o200;
 
 /// A file that is written before it replaces another.
 #[derive(Drop)]
 pub(crate) struct DraftFile {
     pub(crate) file: File,
     pub(crate) path: String,
+    /// The permissions of a new file.
+    pub(crate) usual: Permissions,
 }
 
 impl Write for DraftFile {
@@ -38,6 +44,19 @@ fn draft_name(alloc: Global, path: &str) -> Result<String, AllocError>
     ensures { IfOk result (λ name. string_bytes name ≡ path.now ++ codes ".cave-draft") }
 {
     format!(in alloc; "{path}.cave-draft")
+}
+
+/// Whether a file with this length and these permissions may be removed as an abandoned draft: it
+/// has no bytes, or is one that only its owner may write, and nobody may read.
+fn is_draft(length: u64, permissions: u32) -> bool
+    ensures { result ≡ (length == 0 || permissions == 0o200) }
+{
+    length == 0 || permissions == OWNER_WRITES
+}
+
+/// Why a file can't be written if a file that is no draft has the name of its draft.
+fn taken() -> io::Error {
+    io::Error::other("the name of its draft is taken")
 }
 
 /// Why a file can't be written if another run holds its draft.
@@ -60,7 +79,7 @@ fn create(rt: &HostRuntime, path: &str, replaces: bool) -> io::Result<Option<Fil
     let mut options = OpenOptions::new();
     options.write(true).create_new(true);
     if replaces {
-        options.mode(OWNER_ALONE);
+        options.mode(OWNER_WRITES);
     }
     match options.open(rt, path) {
         Ok(file) => Ok(Some(file)),
@@ -97,17 +116,21 @@ fn remove_locked(rt: &HostRuntime, file: &File, path: &str) -> io::Result<()> {
             return Err(io::Error::other("its draft is there, and can't be locked"));
         }
     }
-    if is_named(rt, file, path)? {
-        return fs::remove_file(rt, path);
+    if !is_named(rt, file, path)? {
+        return Ok(());
     }
-    Ok(())
+    let found = file.metadata()?;
+    if !is_draft(found.len(), found.permissions().mode() & ALL_PERMISSIONS) {
+        return Err(taken());
+    }
+    fs::remove_file(rt, path)
 }
 
 /// Removes an abandoned draft, if it is still there.
 fn remove_left(rt: &HostRuntime, path: &str) -> io::Result<()> {
     match fs::symlink_metadata(rt, path) {
         Ok(found) if found.is_file() => {}
-        Ok(_) => return Err(io::Error::other("the name of its draft is taken")),
+        Ok(_) => return Err(taken()),
         Err(reason) if reason.kind() == ErrorKind::NotFound => return Ok(()),
         Err(reason) => return Err(reason),
     }
@@ -116,6 +139,14 @@ fn remove_left(rt: &HostRuntime, path: &str) -> io::Result<()> {
         Err(reason) if reason.kind() == ErrorKind::NotFound => Ok(()),
         Err(reason) => Err(reason),
     }
+}
+
+/// Lets nobody read a new draft, where the file system has permissions, and returns those that it
+/// had.
+fn hide(file: &File) -> io::Result<Permissions> {
+    let usual = file.metadata()?.permissions();
+    let _ = file.set_permissions(Permissions::from_mode(OWNER_WRITES));
+    Ok(usual)
 }
 
 /// Makes a draft that this run holds.
@@ -138,7 +169,8 @@ impl DraftFile {
     pub(crate) fn beside(rt: &HostRuntime, file: &str, replaces: bool) -> io::Result<DraftFile> {
         let path = draft_name(rt.alloc(), file)?;
         let file = make(rt, path.as_str(), replaces)?;
-        Ok(DraftFile { file, path })
+        let usual = hide(&file)?;
+        Ok(DraftFile { file, path, usual })
     }
 
     /// Removes it.

@@ -20,6 +20,8 @@ use Rattle.play_command.specs.declared.fault.CommandFault.TheVariants.{BadEvery,
 use Rattle.play_command.specs.declared.fault.CommandFault.TheVariants.{BadPlayView, BadCheckView}
 use Rattle.play_command.specs.declared.fault.CommandFault.TheVariants.{BadCoverView, NoCommand}
 use Rattle.play_command.specs.declared.fault.CommandFault.TheVariants.{NoScript, TwoScripts, BadReport, ReportAlone}
+use Rattle.play_command.specs.declared.fault.CommandFault.TheVariants.{BadPlace, BadWays, SeenAlone}
+use Rattle.play_command.specs.declared.fault.CommandFault.TheVariants.{WithinAlone}
 use Rattle.play_command.specs.declared.line.Line.{Line}
 use Rattle.play_command.specs.declared.line.Line.TheVariants as run
 
@@ -65,8 +67,8 @@ found_run met (Ok (run.Check files view)) is = is
 found_run met (Ok (run.Doubts files known strict)) is = is
 found_run met (Ok (run.Play files log seed view)) is = is
 found_run met (Ok (run.Edit files log script editing aside)) is = is
-found_run met (Ok (run.Cover files logs seed view)) is = is
-found_run met (Ok (run.Map files logs seed)) is = is
+found_run met (Ok (run.Cover files logs seed view known strict)) is = is
+found_run met (Ok (run.Map files logs seed part)) is = is
 found_run met (Ok (run.Script old new output form)) is = is
 found_run met (Ok (run.Text error)) is = tt
 found_run met (Err fault) is = tt
@@ -81,8 +83,8 @@ found_asked kinds met (Ok (run.Check files view)) none is = none
 found_asked kinds met (Ok (run.Doubts files known strict)) none is = none
 found_asked kinds met (Ok (run.Play files log seed view)) none is = none
 found_asked kinds met (Ok (run.Edit files log script editing aside)) none is = none
-found_asked kinds met (Ok (run.Cover files logs seed view)) none is = none
-found_asked kinds met (Ok (run.Map files logs seed)) none is = none
+found_asked kinds met (Ok (run.Cover files logs seed view known strict)) none is = none
+found_asked kinds met (Ok (run.Map files logs seed part)) none is = none
 found_asked kinds met (Ok (run.Script old new output form)) none is = none
 found_asked kinds met (Ok (run.Text error)) none is = absurd (no_text met error is)
 found_asked kinds met (Err fault) none is = tt
@@ -113,6 +115,10 @@ found_refused words kinds met (Err NoScript) none is = (none, is)
 found_refused words kinds met (Err TwoScripts) none is = (none, is)
 found_refused words kinds met (Err (BadReport name)) none is = (none, is)
 found_refused words kinds met (Err ReportAlone) none is = (none, is)
+found_refused words kinds met (Err (BadPlace text)) none is = (none, is)
+found_refused words kinds met (Err (BadWays text)) none is = (none, is)
+found_refused words kinds met (Err WithinAlone) none is = (none, is)
+found_refused words kinds met (Err SeenAlone) none is = (none, is)
 found_refused words kinds met (Err (NoCommand text)) none is = absurd (no_stray met text is)
 found_refused words kinds met (Err Memory) none is = tt
 
@@ -161,6 +167,10 @@ error_refused words kinds met error NoScript has is = absurd is
 error_refused words kinds met error TwoScripts has is = absurd is
 error_refused words kinds met error (BadReport name) has is = absurd is
 error_refused words kinds met error ReportAlone has is = absurd is
+error_refused words kinds met error (BadPlace text) has is = absurd is
+error_refused words kinds met error (BadWays text) has is = absurd is
+error_refused words kinds met error WithinAlone has is = absurd is
+error_refused words kinds met error SeenAlone has is = absurd is
 error_refused words kinds met error (NoCommand text) has (invalid, stray) = (
   subst (λ (kind : ErrorKind). IsAmong kind kinds) invalid
       (among kinds error has (no_memory_invalid (kind_of error) invalid)),

@@ -79,6 +79,17 @@ abbrev pub quiet_argument : Rule
 quiet_argument = record (new_rule (codes "quiet"))
     { short = Some 113; long = Some (codes "quiet"); action = Some SetTrue }
 
+abbrev pub seen_argument : Rule
+seen_argument =
+    record (new_rule (codes "seen")) { long = Some (codes "seen"); action = Some SetTrue }
+
+abbrev pub from_argument : Rule
+from_argument = record (new_rule (codes "from")) { long = Some (codes "from"); value_names = 1 }
+
+abbrev pub within_argument : Rule
+within_argument =
+    record (new_rule (codes "within")) { long = Some (codes "within"); value_names = 1 }
+
 -- an option that stands for its usual value if it has none
 abbrev pub report_argument : Rule
 report_argument = record (new_rule (codes "report")) {
@@ -121,7 +132,9 @@ with_options app = with_rule (with_rule app bind_argument) seed_argument
 
 -- a command with the options of the coverage of logs
 abbrev pub with_cover_options : App → App
-with_cover_options app = with_rule (with_options app) print_argument
+with_cover_options app =
+    with_rule (with_rule (with_rule (with_options app) print_argument) strict_argument)
+    known_argument
 
 -- a command with what edits are read from
 abbrev pub with_script : App → App
@@ -157,9 +170,14 @@ script_app = with_output (with_difference (new_app (codes "script")))
 abbrev pub cover_app : App
 cover_app = with_output (with_cover_options (with_logs (new_app (codes "cover"))))
 
+-- a command with the part of a cave that a map draws
+abbrev pub with_part : App → App
+with_part app =
+    with_rule (with_rule (with_rule app seen_argument) from_argument) within_argument
+
 abbrev pub map_app : App
-map_app = with_output
-    (with_options (with_rule (with_rule (new_app (codes "map")) cave_argument) some_logs_argument))
+map_app = with_output (with_part
+    (with_options (with_rule (with_rule (new_app (codes "map")) cave_argument) some_logs_argument)))
 
 -- the program, which requires one of the commands
 abbrev pub plain_command : App

@@ -3,6 +3,9 @@ pub mod Aside
 pub mod BelowZero
 pub mod Found
 pub mod Line
+pub mod MapPart
+pub mod Meant
+pub mod Number
 pub mod Source
 pub mod Stray
 pub mod Views

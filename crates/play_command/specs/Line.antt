@@ -1,10 +1,8 @@
 -- Which run the words ask for, and why they are refused.
 use Rattle.std.specs.Prelude.{◌≡◌, ◌≢◌, ◌⊎◌, ◌&&◌, ◌||◌, ℕ, Bool, true, false, bytes_eq, is_some}
 use Rattle.std.specs.Prelude.{List, [], Option, Some, None, option_map, unwrap_or, map, codes}
-use Rattle.std.specs.Prelude.{Result, MatchResult, nat_lt, nat_le, length}
-use Rattle.std.specs.Prelude.{if◌then◌else◌}
+use Rattle.std.specs.Prelude.{Result, MatchResult, if◌then◌else◌}
 use Rattle.std.specs.Option.{option_map_or}
-use Rattle.std.specs.List.{list_all}
 use Rattle.clap.specs.Words.{IsAmong, Kinds, Row, all_of, first_of, kind_of}
 use Rattle.clap.specs.Words.{HasKind, fault_of, subcommand_of, subcommand_rows_of}
 use Rattle.clap.specs.declared.error.Error.{Error}
@@ -22,6 +20,8 @@ use Rattle.play_command.specs.declared.line.Line.TheVariants.{Check, Doubts, Pla
 use Rattle.play_command.specs.declared.line.Line.TheVariants.{Script, Text}
 use Rattle.play_command.specs.App.{cave_app}
 use Rattle.play_command.specs.Aside.{IsAside, IsBadReport}
+use Rattle.play_command.specs.MapPart.{IsBadPart, IsMapPart}
+use Rattle.play_command.specs.Number.{IsNumberGiven, number_in_range}
 use Rattle.play_command.specs.Found.{is_set}
 use Rattle.play_command.specs.Source.{IsBadScript, IsScriptSource}
 use Rattle.play_command.specs.Views.{edit_view_named, check_view_named, cover_view_named}
@@ -31,14 +31,13 @@ use Rattle.play_command.specs.declared.views.CheckView.{CheckView}
 use Rattle.play_command.specs.declared.views.CheckView.TheVariants.{Maximum}
 use Rattle.play_command.specs.declared.views.CoverView.{CoverView}
 use Rattle.play_command.specs.declared.views.CoverView.TheVariants.{Said}
-use Rattle.play_command.specs.declared.views.TextView.TheVariants.{Counts}
+use Rattle.play_command.specs.declared.views.TextView.TheVariants.{Counts, Texts}
 use Rattle.play_command.specs.declared.editing.Editing.{Editing}
 use Rattle.play_command.specs.declared.editing.EditView.{EditView}
 use Rattle.play_command.specs.declared.editing.EditView.TheVariants.{Transcript}
 use Rattle.play_command.specs.declared.views.PlayView.{PlayView}
 use Rattle.play_command.specs.declared.views.PlayView.TheVariants as play
-use Rattle.base_lines.specs.Limits.{MAX_SEED, MAX_EVERY, MAX_DIGITS}
-use Rattle.base_lines.specs.Bytes.{is_digit, number_of}
+use Rattle.base_lines.specs.Limits.{MAX_SEED, MAX_EVERY}
 
 -- 7 if memory ran out, and 2 for anything wrong with the words
 abbrev pub status_of_command : CommandFault → ℕ
@@ -52,22 +51,6 @@ IsParse words answer = MatchResult answer
     (λ matches. (fault_of cave_app words ≡ [])
     × (subcommand_rows_of matches ≡ subcommand_of cave_app words))
     (HasKind (fault_of cave_app words))
-
--- 1 to 10 digits and nothing else
-abbrev pub is_option_number : List ℕ → Bool
-is_option_number text = nat_lt 0 (length text) && nat_le (length text) MAX_DIGITS
-    && list_all is_digit text
-
--- the number that the text writes, if it is from `least` to `most`
-unfoldable pub number_in_range : ℕ → ℕ → List ℕ → Option ℕ
-number_in_range least most text =
-    if is_option_number text && nat_le least (number_of text) && nat_le (number_of text) most
-    then Some (number_of text) else None
-
--- the value of an option of a number, or its default if the option isn't given
-abbrev pub IsNumberGiven : ℕ → ℕ → ℕ → Option (List ℕ) → ℕ → Type 0
-IsNumberGiven least most absent None number = number ≡ absent
-IsNumberGiven least most absent (Some text) number = number_in_range least most text ≡ Some number
 
 -- a command that was met, with what was found for its arguments
 abbrev pub MetCommand : Type 0
@@ -95,13 +78,20 @@ IsCheckViewGiven (Some name) view = check_view_named name ≡ Some view
 abbrev pub IsCheckView : List Row → CheckView → Type 0
 IsCheckView rows view = IsCheckViewGiven (first_of (codes "print") rows) view
 
--- what is printed of texts, if this was found for it, or otherwise how many there are
-abbrev pub IsCoverViewGiven : Option (List ℕ) → CoverView → Type 0
-IsCoverViewGiven None view = view ≡ Said Counts
-IsCoverViewGiven (Some name) view = cover_view_named name ≡ Some view
+-- what is printed of texts if nothing is asked for: each that is left, if the run is strict or
+-- something is known, and otherwise how many there are
+abbrev pub usual_cover_view : List Row → CoverView
+usual_cover_view rows =
+    if is_set (codes "strict") rows || is_some (first_of (codes "known") rows) then Said Texts
+    else Said Counts
+
+-- what is printed of texts, if this was found for it
+abbrev pub IsCoverViewGiven : Option (List ℕ) → List Row → CoverView → Type 0
+IsCoverViewGiven None rows view = view ≡ usual_cover_view rows
+IsCoverViewGiven (Some name) rows view = cover_view_named name ≡ Some view
 
 abbrev pub IsCoverView : List Row → CoverView → Type 0
-IsCoverView rows view = IsCoverViewGiven (first_of (codes "print") rows) view
+IsCoverView rows view = IsCoverViewGiven (first_of (codes "print") rows) rows view
 
 -- what an edit prints, if this was found for it, or otherwise the transcript
 abbrev pub IsEditViewGiven : Option (List ℕ) → EditView → Type 0
@@ -150,14 +140,15 @@ IsRunOf name rows (Play files log seed view) =
 IsRunOf name rows (Edit files log script editing aside) =
     (name ≡ codes "edit") × IsFiles rows files × (first_of (codes "log") rows ≡ Some log.now)
     × IsScriptSource rows script × IsEditing rows editing × IsAside rows editing.view aside
-IsRunOf name rows (Cover files logs seed view) =
+IsRunOf name rows (Cover files logs seed view known strict) =
     (name ≡ codes "cover") × IsFiles rows files
     × (all_of (codes "log") rows ≡ Some (map (λ log. log.now) logs.items)) × IsSeed rows seed
-    × IsCoverView rows view
-IsRunOf name rows (Map files logs seed) =
+    × IsCoverView rows view × (first_of (codes "known") rows ≡ option_map (λ s. s.now) known)
+    × (strict ≡ is_set (codes "strict") rows)
+IsRunOf name rows (Map files logs seed part) =
     (name ≡ codes "map") × IsFiles rows files
     × (unwrap_or (all_of (codes "log") rows) [] ≡ map (λ log. log.now) logs.items)
-    × IsSeed rows seed
+    × IsSeed rows seed × IsMapPart rows part
 IsRunOf name rows (Script old new output form) =
     (name ≡ codes "script") × (first_of (codes "old") rows ≡ Some old.now)
     × (first_of (codes "new") rows ≡ Some new.now)
@@ -256,6 +247,14 @@ IsBadOption name rows (fault_is.BadReport given) =
     (name ≡ codes "edit") × IsBadReport rows (fault_is.BadReport given)
 IsBadOption name rows fault_is.ReportAlone =
     (name ≡ codes "edit") × IsBadReport rows fault_is.ReportAlone
+IsBadOption name rows (fault_is.BadPlace given) =
+    (name ≡ codes "map") × IsBadPart rows (fault_is.BadPlace given)
+IsBadOption name rows (fault_is.BadWays given) =
+    (name ≡ codes "map") × IsBadPart rows (fault_is.BadWays given)
+IsBadOption name rows fault_is.WithinAlone =
+    (name ≡ codes "map") × IsBadPart rows fault_is.WithinAlone
+IsBadOption name rows fault_is.SeenAlone =
+    (name ≡ codes "map") × IsBadPart rows fault_is.SeenAlone
 IsBadOption name rows fault = IsBadSeed rows fault ⊎ IsBadEvery rows fault
 
 -- what is wrong with what was found

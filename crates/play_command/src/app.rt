@@ -9,15 +9,17 @@ ghost use Rattle.play_command.specs.App.{check_play_edit_and_script_command};
 ghost use Rattle.play_command.specs.App.{plain_command, play_app, script_app, with_check_options};
 ghost use Rattle.play_command.specs.App.{with_cover_options, with_difference, with_edit_options};
 ghost use Rattle.play_command.specs.App.{with_game};
-ghost use Rattle.play_command.specs.App.{with_logs, with_options, with_output, with_refusals};
-ghost use Rattle.play_command.specs.App.{with_script};
+ghost use Rattle.play_command.specs.App.{with_logs, with_options, with_output, with_part};
+ghost use Rattle.play_command.specs.App.{with_refusals, with_script};
 
 use crate::arguments::{
     bind_argument, cave_argument, check_print_argument, check_strict_argument,
-    cover_print_argument, edit_print_argument, every_argument, group_argument, guarded_argument,
-    known_argument, lines_argument, log_argument, logs_argument, new_argument, old_argument,
-    output_argument, play_print_argument, quiet_argument, report_argument, script_argument,
-    seed_argument, some_logs_argument, strict_argument, to_argument, with_guards_argument,
+    cover_known_argument, cover_print_argument, cover_strict_argument, edit_print_argument,
+    every_argument, from_argument, group_argument, guarded_argument, known_argument,
+    lines_argument, log_argument, logs_argument, new_argument, old_argument, output_argument,
+    play_print_argument, quiet_argument, report_argument, script_argument, seed_argument,
+    seen_argument, some_logs_argument, strict_argument, to_argument, with_guards_argument,
+    within_argument,
 };
 use clap::Command;
 use std::alloc::{AllocError, Global};
@@ -134,12 +136,16 @@ fn with_logs<'a>(alloc: Global, command: Command<'a>) -> Result<Command<'a>, All
     command.arg(cave_argument(alloc))?.arg(logs_argument(alloc))
 }
 
-/// Adds the options of the coverage of logs: those of a game, and what is printed.
+/// Adds the options of the coverage of logs: those of a game, what is printed, whether the run fails
+/// if something is left, and what is known.
 fn with_cover_options<'a>(alloc: Global, command: Command<'a>) -> Result<Command<'a>, AllocError>
     requires { (out-Command command).has_globals ≡ false }
     ensures { IfOk result (IsLocal (with_cover_options (app_of command.entry))) }
 {
-    with_options(alloc, command)?.arg(cover_print_argument(alloc))
+    with_options(alloc, command)?
+        .arg(cover_print_argument(alloc))?
+        .arg(cover_strict_argument(alloc))?
+        .arg(cover_known_argument(alloc))
 }
 
 /// Adds what edits are read from: the file of a script, its lines on the command line, or a log.
@@ -236,6 +242,17 @@ fn cover_command<'a>(alloc: Global) -> Result<Command<'a>, AllocError>
     with_output(alloc, command)
 }
 
+/// Adds which part of a cave a map draws.
+fn with_part<'a>(alloc: Global, command: Command<'a>) -> Result<Command<'a>, AllocError>
+    requires { (out-Command command).has_globals ≡ false }
+    ensures { IfOk result (IsLocal (with_part (app_of command.entry))) }
+{
+    command
+        .arg(seen_argument(alloc))?
+        .arg(from_argument(alloc))?
+        .arg(within_argument(alloc))
+}
+
 fn map_command<'a>(alloc: Global) -> Result<Command<'a>, AllocError>
     ensures { IfOk result (IsLocal map_app) }
 {
@@ -245,7 +262,7 @@ fn map_command<'a>(alloc: Global) -> Result<Command<'a>, AllocError>
     let command = command
         .arg(cave_argument(alloc))?
         .arg(some_logs_argument(alloc))?;
-    let command = with_options(alloc, command)?;
+    let command = with_part(alloc, with_options(alloc, command)?)?;
     with_output(alloc, command)
 }
 

@@ -10,7 +10,8 @@ ghost use Rattle.play_command.specs.App.{print_argument, script_argument, seed_a
 ghost use Rattle.play_command.specs.App.{group_argument, guarded_argument, new_argument};
 ghost use Rattle.play_command.specs.App.{old_argument, quiet_argument, some_logs_argument};
 ghost use Rattle.play_command.specs.App.{report_argument, strict_argument};
-ghost use Rattle.play_command.specs.App.{to_argument};
+ghost use Rattle.play_command.specs.App.{from_argument, seen_argument, to_argument};
+ghost use Rattle.play_command.specs.App.{within_argument};
 
 use clap::{Arg, ArgAction};
 use std::alloc::Global;
@@ -244,6 +245,29 @@ pub(crate) fn known_argument<'a>(alloc: Global) -> Arg<'a>
         )
 }
 
+pub(crate) fn cover_strict_argument<'a>(alloc: Global) -> Arg<'a>
+    ensures rule { rule_of result ≡ strict_argument }
+    ensures local { result.global ≡ false }
+{
+    Arg::new(alloc, "strict")
+        .long("strict")
+        .action(ArgAction::SetTrue)
+        .help(
+            "Prints `texts`; where something is left that no log shows, ends with status 1, and \
+             writes no file",
+        )
+}
+
+pub(crate) fn cover_known_argument<'a>(alloc: Global) -> Arg<'a>
+    ensures rule { rule_of result ≡ known_argument }
+    ensures local { result.global ≡ false }
+{
+    Arg::new(alloc, "known")
+        .long("known")
+        .value_name("FILE")
+        .help("Prints `texts` except those that are known never to be shown: lines of this file")
+}
+
 pub(crate) fn strict_argument<'a>(alloc: Global) -> Arg<'a>
     ensures rule { rule_of result ≡ strict_argument }
     ensures local { result.global ≡ false }
@@ -311,4 +335,34 @@ pub(crate) fn group_argument<'a>(alloc: Global) -> Arg<'a>
         .long("group")
         .action(ArgAction::SetTrue)
         .help("Makes the edits one group, which is accepted or refused as a whole")
+}
+
+pub(crate) fn seen_argument<'a>(alloc: Global) -> Arg<'a>
+    ensures rule { rule_of result ≡ seen_argument }
+    ensures local { result.global ≡ false }
+{
+    Arg::new(alloc, "seen")
+        .long("seen")
+        .action(ArgAction::SetTrue)
+        .help("Draws only what the logs saw")
+}
+
+pub(crate) fn from_argument<'a>(alloc: Global) -> Arg<'a>
+    ensures rule { rule_of result ≡ from_argument }
+    ensures local { result.global ≡ false }
+{
+    Arg::new(alloc, "from")
+        .long("from")
+        .value_name("PLACE")
+        .help("Draws only the places around this one, which is a number from 1 to 300")
+}
+
+pub(crate) fn within_argument<'a>(alloc: Global) -> Arg<'a>
+    ensures rule { rule_of result ≡ within_argument }
+    ensures local { result.global ≡ false }
+{
+    Arg::new(alloc, "within")
+        .long("within")
+        .value_name("N")
+        .help("With --from, the most ways from PLACE, from 0 to 300 [default: 2]")
 }

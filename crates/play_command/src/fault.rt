@@ -5,13 +5,10 @@ ghost use Rattle.play_command.specs.declared.fault.CommandFault.TheVariants.{Mem
 use crate::aside::REPORT_VIEWS;
 use crate::editing::EDIT_VIEWS;
 use crate::views::{CHECK_VIEWS, COVER_VIEWS, PLAY_VIEWS};
-use crate::wanted::Wanted;
+use crate::wanted::{Wanted, WantedCommand};
 use clap::Error as ParseError;
 use std::alloc::{AllocError, AllocFailed};
 use thiserror::Error;
-
-/// The commands.
-const COMMANDS: [&str; 6] = ["check", "play", "edit", "script", "cover", "map"];
 
 /// Why a command line asks for no run. Its text is whole lines, for standard error.
 #[derive(Debug, Drop, Error)]
@@ -45,7 +42,7 @@ pub enum CommandFault<'a> {
     /// The word isn't a command.
     #[error("error: unrecognized subcommand '{}': {}\n\n\
         Usage: cave <COMMAND>\n\n\
-        For more information, try '--help'.\n", .0, Wanted {given: *.0, names: &COMMANDS})]
+        For more information, try '--help'.\n", .0, WantedCommand {given: *.0})]
     NoCommand(&'a str),
     /// An edit has neither a script nor a log to make.
     #[error("error: SCRIPT, '--edit <EDIT>' or '--to <FILE>' is wanted\n\n\
@@ -63,6 +60,22 @@ pub enum CommandFault<'a> {
         reports\n\n\
         For more information, try '--help'.\n")]
     ReportAlone,
+    #[error("error: invalid value '{0}' for '--from <PLACE>': wanted are 1 to 10 digits, \
+        from 1 to 300\n\n\
+        For more information, try '--help'.\n")]
+    BadPlace(&'a str),
+    #[error("error: invalid value '{0}' for '--within <N>': wanted are 1 to 10 digits, \
+        from 0 to 300\n\n\
+        For more information, try '--help'.\n")]
+    BadWays(&'a str),
+    /// A number of ways is given, and no place from which they are counted.
+    #[error("error: '--within <N>' is for '--from <PLACE>'\n\n\
+        For more information, try '--help'.\n")]
+    WithinAlone,
+    /// Only what logs saw is to be drawn, and there are no logs.
+    #[error("error: '--seen' is for logs: LOG is wanted\n\n\
+        For more information, try '--help'.\n")]
+    SeenAlone,
     #[error("cave: there isn't enough memory\n")]
     Memory,
 }

@@ -1,5 +1,6 @@
 use crate::aside::Aside;
 use crate::editing::Editing;
+use crate::map_part::MapPart;
 use crate::views::{CheckView, CoverView, PlayView};
 use clap::Error;
 use replay_difference::script::ScriptForm;
@@ -58,12 +59,17 @@ pub enum Line<'a> {
         logs: Vec<&'a str>,
         seed: u32,
         view: CoverView,
+        /// The file of what is known never to be said or to apply, if there is one.
+        known: Option<&'a str>,
+        /// Whether the run fails if something else is left.
+        strict: bool,
     },
     Map {
         files: Files<'a>,
         /// The logs whose visits the map shows. There may be none.
         logs: Vec<&'a str>,
         seed: u32,
+        part: MapPart,
     },
     /// The script of edits that make one log of another.
     Script {

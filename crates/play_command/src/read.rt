@@ -13,6 +13,7 @@ ghost use Rattle.play_command.specs.Line.{IsCheckView, IsCoverView, IsEditing, I
 ghost use Rattle.play_command.specs.Line.{IsFiles, IsRun, IsRunMet, IsRunOf, IsRefusal, IsRefused};
 ghost use Rattle.play_command.specs.Line.{IsRequest, IsSeed, IsUnmade, IsView};
 ghost use Rattle.play_command.specs.Line.{IsBadPlayView, IsPlayView, are_doubts_asked};
+ghost use Rattle.play_command.specs.Line.{usual_cover_view};
 
 use crate::app::cave_app;
 use crate::aside::aside_in;
@@ -21,6 +22,7 @@ use crate::editing::{EditView, Editing};
 use crate::fault::CommandFault;
 use crate::found::{is_set, value_in, values_in};
 use crate::line::{Files, Line};
+use crate::map_part::part_in;
 use crate::number::number_in;
 use crate::script_source::script_in;
 use crate::stray::stray_command;
@@ -258,6 +260,8 @@ fn cover_of<'a>(
         logs,
         seed,
         view,
+        known: value_in(found, "known"),
+        strict: is_set(found, "strict"),
     })
 }
 
@@ -273,8 +277,14 @@ fn map_of<'a>(
 {
     let logs = values_in(found, "log").unwrap_or(&[]);
     let seed = seed_in(found)?;
+    let part = part_in(found)?;
     let logs = Vec::from_slice(alloc, logs)?;
-    Ok(Line::Map { files, logs, seed })
+    Ok(Line::Map {
+        files,
+        logs,
+        seed,
+        part,
+    })
 }
 
 fn files_in<'a>(found: &ArgMatches<'a>) -> Option<Files<'a>>
@@ -338,13 +348,23 @@ fn check_view_in<'a>(found: &ArgMatches<'a>) -> Result<CheckView, CommandFault<'
     }
 }
 
+/// What is printed of the texts that logs say, if nothing is asked for.
+fn usual_cover_view(found: &ArgMatches<'_>) -> CoverView
+    ensures { result ≡ usual_cover_view (rows_in found.now) }
+{
+    if is_set(found, "strict") || value_in(found, "known").is_some() {
+        return CoverView::Said(TextView::Texts);
+    }
+    CoverView::Said(TextView::Counts)
+}
+
 /// What is printed of the texts that logs say.
 fn cover_view_in<'a>(found: &ArgMatches<'a>) -> Result<CoverView, CommandFault<'a>>
     ensures { MatchResult result (IsCoverView (rows_in found.now))
         (IsBadCoverView (rows_in found.now)) }
 {
     match value_in(found, "print") {
-        None => Ok(CoverView::Said(TextView::Counts)),
+        None => Ok(usual_cover_view(found)),
         Some(name) => CoverView::named(name).ok_or(CommandFault::BadCoverView(name)),
     }
 }

@@ -1,13 +1,13 @@
 -- What the head of a log says of how the log is played, and what of it a command line doesn't say.
 use Rattle.std.specs.Prelude.{ℕ, ◌==◌, ◌&&◌, ◌||◌, Bool, true, false, not, bytes_eq, nat_le, nat_lt}
 use Rattle.std.specs.Prelude.{List, [], ◌∷◌, length, take, drop, Option, None, Some, codes}
-use Rattle.std.specs.Prelude.{if◌then◌else◌, option_map}
+use Rattle.std.specs.Prelude.{if◌then◌else◌, option_map, unwrap_or}
 use Rattle.std.specs.Option.{option_and_then, option_map_or, option_or}
 use Rattle.std.specs.Str.Lines.{lines}
-use Rattle.base_lines.specs.Bytes.{after_prefix, is_blank, is_digit, is_nonblank, number_of}
-use Rattle.base_lines.specs.Bytes.{prefix_while}
+use Rattle.base_lines.specs.Bytes.{after_prefix, is_digit, number_of, prefix_while}
 use Rattle.base_lines.specs.Limits.{MAX_DIGITS}
 use Rattle.base_lines.specs.Line.{is_line}
+use Rattle.data_rows.specs.Fields.{fields}
 use Rattle.play_program.specs.declared.head.HeadSaid.{HeadSaid}
 use Rattle.play_program.specs.declared.head.HeadWords.{HeadWords}
 
@@ -21,18 +21,7 @@ pub record PlayWords : Type 0 where
   pub bindings : Option (List ℕ)
   pub seed : ℕ
 
--- ---- the words of a head
-
--- the first word of a text, or nothing
-abbrev pub first_word : List ℕ → List ℕ
-first_word text = prefix_while is_nonblank (after_prefix is_blank text)
-
-abbrev pub after_first_word : List ℕ → List ℕ
-after_first_word text = after_prefix is_nonblank (after_prefix is_blank text)
-
-abbrev pub unless_empty : List ℕ → Option (List ℕ)
-unless_empty [] = None
-unless_empty (byte ∷ bytes) = Some (byte ∷ bytes)
+-- ---- the words of a head, which are read as those of a command line
 
 abbrev pub is_command : List ℕ → Bool
 is_command word = bytes_eq word (codes "play") || bytes_eq word (codes "edit")
@@ -41,33 +30,44 @@ abbrev pub is_option : List ℕ → Bool
 is_option [] = false
 is_option (byte ∷ bytes) = byte == 45
 
--- a word that isn't an option
-abbrev pub unless_option : List ℕ → Option (List ℕ)
-unless_option word = if is_option word then None else unless_empty word
+abbrev pub first_word : List (List ℕ) → Option (List ℕ)
+first_word [] = None
+first_word (word ∷ words) = Some word
+
+-- the first word, unless it is an option
+abbrev pub first_file : List (List ℕ) → Option (List ℕ)
+first_file [] = None
+first_file (word ∷ words) = if is_option word then None else Some word
 
 -- the database of a head: its first word, or the one after the name of a command
-unfoldable pub head_cave : List ℕ → Option (List ℕ)
-head_cave text =
-    if is_command (first_word text) then unless_option (first_word (after_first_word text))
-    else unless_option (first_word text)
+abbrev pub head_cave : List (List ℕ) → Option (List ℕ)
+head_cave [] = None
+head_cave (word ∷ words) =
+    if is_command word then first_file words else first_file (word ∷ words)
 
--- the value of an option that a text begins with, if it does: in the same word, after the long name
--- and `=`, or the next word
-unfoldable pub value_here : List ℕ → List ℕ → List ℕ → Option (List ℕ)
-value_here long short text =
-    let word = prefix_while is_nonblank text in
-    if bytes_eq word long || bytes_eq word short
-    then unless_empty (first_word (after_prefix is_nonblank text))
-    else (if bytes_eq (take (length long) word) long
-    && bytes_eq (take 1 (drop (length long) word)) (codes "=")
-    then unless_empty (drop 1 (drop (length long) word)) else None)
+-- what follows the first bytes of a word, if it begins with them
+abbrev pub after_start : List ℕ → List ℕ → Option (List ℕ)
+after_start start word =
+    if bytes_eq (take (length start) word) start then Some (drop (length start) word) else None
 
--- the value of an option, where it first stands after a blank
-abbrev pub value_of : List ℕ → List ℕ → List ℕ → Option (List ℕ)
-value_of long short [] = None
-value_of long short (byte ∷ bytes) =
-    if is_blank byte then option_or (value_here long short bytes) (value_of long short bytes)
-    else value_of long short bytes
+-- bytes without a `=` before them
+abbrev pub after_equals : List ℕ → List ℕ
+after_equals bytes = unwrap_or (after_start (codes "=") bytes) bytes
+
+-- the value that an option has in its own word: after its name and `=`, or right after its letter,
+-- where `=` may be, too
+abbrev pub value_in_word : List ℕ → List ℕ → List ℕ → Option (List ℕ)
+value_in_word name letter word =
+    option_or (option_and_then (after_start (codes "=")) (after_start name word))
+    (option_map after_equals (after_start letter word))
+
+-- the value of an option: the word after its name or its letter, or what one word says of it,
+-- whichever comes first
+abbrev pub value_of : List ℕ → List ℕ → List (List ℕ) → Option (List ℕ)
+value_of name letter [] = None
+value_of name letter (word ∷ words) =
+    if bytes_eq word name || bytes_eq word letter then first_word words
+    else option_or (value_in_word name letter word) (value_of name letter words)
 
 -- ---- the head of a log
 
@@ -83,6 +83,10 @@ head_text line =
 -- what the head of a log says, if its first line is one
 abbrev pub head_of : List ℕ → Option (List ℕ)
 head_of log = head_text (first_line (lines log))
+
+-- its words are its runs of nonblanks
+abbrev pub head_words : List ℕ → Option (List (List ℕ))
+head_words log = option_map fields (head_of log)
 
 -- ---- what differs
 
@@ -125,15 +129,15 @@ other_seed seed said = said_if (is_other_seed seed said) (codes "--seed ") said
 
 -- the first of these that a head says differently: the database, its bindings, the seed; what it
 -- doesn't say doesn't differ
-abbrev pub other_said : PlayWords → List ℕ → Option Said
-other_said words text = option_or (option_and_then (other_cave words.cave) (head_cave text))
+abbrev pub other_said : PlayWords → List (List ℕ) → Option Said
+other_said words head = option_or (option_and_then (other_cave words.cave) (head_cave head))
     (option_or (option_and_then (other_bindings words.bindings)
-    (value_of (codes "--bind") (codes "-b") text))
-    (option_and_then (other_seed words.seed) (value_of (codes "--seed") (codes "-s") text)))
+    (value_of (codes "--bind") (codes "-b") head))
+    (option_and_then (other_seed words.seed) (value_of (codes "--seed") (codes "-s") head)))
 
 -- what the head of a log says differently from the command line, if it does
 unfoldable pub head_notice : PlayWords → List ℕ → Option Said
-head_notice words log = option_and_then (other_said words) (head_of log)
+head_notice words log = option_and_then (other_said words) (head_words log)
 
 -- ---- what the code has
 

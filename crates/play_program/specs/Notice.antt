@@ -24,8 +24,8 @@ words_asked (Check files view) = None
 words_asked (Doubts files known strict) = None
 words_asked (Play files log seed view) = Some (words_of_files files seed)
 words_asked (Edit files log script editing aside) = Some (words_of_files files editing.seed)
-words_asked (Cover files logs seed view) = None
-words_asked (Map files logs seed) = None
+words_asked (Cover files logs seed view known strict) = None
+words_asked (Map files logs seed part) = None
 words_asked (Script old new output form) = None
 words_asked (Text error) = None
 

@@ -87,10 +87,10 @@ RunsLine (Play files log seed view) texts logs old new ended =
 RunsLine (Edit files log script editing aside) texts logs old new ended =
     (edited : Result EditRun PlayFault) × (ended ≡ ended_edits edited)
     × RunsEdits script texts editing (report_of aside) old new edited
-RunsLine (Cover files log seed view) texts logs old new ended =
+RunsLine (Cover files log seed view known strict) texts logs old new ended =
     RunsOverLogs (first_stages texts.database texts.bindings seed) logs
     (IsCovered texts.database texts.bindings logs seed view) old new ended
-RunsLine (Map files log seed) texts logs old new ended =
+RunsLine (Map files log seed part) texts logs old new ended =
     RunsOverLogs (first_stages texts.database texts.bindings seed) logs
     (IsMapped texts.database texts.bindings logs seed) old new ended
 RunsLine (Script before after output form) texts logs old new ended =

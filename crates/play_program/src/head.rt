@@ -1,15 +1,16 @@
 //! The head of a log: what it says of how the log is played, and what of it a command line
 //! doesn't say.
 
-ghost use Rattle.std.specs.Prelude.{◌≡◌, option_map};
-ghost use Rattle.play_program.specs.Head.{base_name, first_word};
-ghost use Rattle.play_program.specs.Head.{after_first_word, head_cave, head_notice, head_of};
+ghost use Rattle.std.specs.Prelude.{◌≡◌, ◌<◌, [], ◌∷◌, IfSome, MatchOption, length, option_map};
+ghost use Rattle.data_rows.specs.Fields.{fields};
+ghost use Rattle.play_program.specs.Head.{after_equals, after_start, base_name, first_file};
+ghost use Rattle.play_program.specs.Head.{first_word, head_cave, head_notice, head_of};
 ghost use Rattle.play_program.specs.Head.{head_text, is_command, is_option, is_other_seed};
 ghost use Rattle.play_program.specs.Head.{is_same_file, other_bindings, other_cave, other_said};
-ghost use Rattle.play_program.specs.Head.{other_seed, play_words, said_if, said_in, unless_empty};
-ghost use Rattle.play_program.specs.Head.{unless_option, value_here, value_of};
+ghost use Rattle.play_program.specs.Head.{other_seed, play_words, said_if, said_in};
+ghost use Rattle.play_program.specs.Head.{value_in_word, value_of};
 
-use base_lines::bytes::{is_blank, number_of, skip_blanks, split_digits, split_word};
+use base_lines::bytes::{number_of, skip_blanks, split_digits, split_word};
 use base_lines::limits::is_long_number;
 use base_lines::{check_line, split_line};
 use std::fmt;
@@ -41,28 +42,26 @@ impl fmt::Display for HeadSaid<'_> {
     }
 }
 
-/// The first word of a text, or nothing.
-fn first_word(text: &[u8]) -> &[u8]
-    ensures { result.now ≡ first_word text.now }
+/// The first word of a text, and what follows it.
+#[tactic(auto, using(data_rows::proofs::FieldLemmas::fields_of_first))]
+fn next_word(text: &[u8]) -> Option<(&[u8], &[u8])>
+    ensures value { MatchOption result (fields text.now ≡ [])
+        (λ found. fields text.now ≡ found.0.now ∷ fields found.1.now) }
+    ensures shorter { IfSome result (λ found. length found.1.now < length text.now) }
 {
-    let (word, _) = split_word(skip_blanks(text));
-    word
-}
-
-fn after_first_word(text: &[u8]) -> &[u8]
-    ensures { result.now ≡ after_first_word text.now }
-{
-    let (_, rest) = split_word(skip_blanks(text));
-    rest
-}
-
-fn unless_empty(word: &[u8]) -> Option<&[u8]>
-    ensures { option_map (λ word. word.now) result ≡ unless_empty word.now }
-{
-    match word {
-        [] => None,
-        [_, ..] => Some(word),
+    let text = skip_blanks(text);
+    if text.is_empty() {
+        None
+    } else {
+        Some(split_word(text))
     }
+}
+
+fn first_word(text: &[u8]) -> Option<&[u8]>
+    ensures { option_map (λ word. word.now) result ≡ first_word (fields text.now) }
+{
+    let (word, _) = next_word(text)?;
+    Some(word)
 }
 
 fn is_command(word: &[u8]) -> bool
@@ -80,52 +79,69 @@ fn is_option(word: &[u8]) -> bool
     }
 }
 
-fn unless_option(word: &[u8]) -> Option<&[u8]>
-    ensures { option_map (λ word. word.now) result ≡ unless_option word.now }
+/// The first word of a text, unless it is an option.
+fn first_file(text: &[u8]) -> Option<&[u8]>
+    ensures { option_map (λ word. word.now) result ≡ first_file (fields text.now) }
 {
-    if is_option(word) {
-        return None;
-    }
-    unless_empty(word)
+    let (word, _) = next_word(text)?;
+    if is_option(word) { None } else { Some(word) }
 }
 
 /// The database of a head: its first word, or the one after the name of a command.
-#[tactic(auto, unfolding(crate::specs::Head::head_cave))]
 fn head_cave(text: &[u8]) -> Option<&[u8]>
-    ensures { option_map (λ word. word.now) result ≡ head_cave text.now }
+    ensures { option_map (λ word. word.now) result ≡ head_cave (fields text.now) }
 {
-    let first = first_word(text);
-    if is_command(first) {
-        return unless_option(first_word(after_first_word(text)));
+    let (word, rest) = next_word(text)?;
+    if is_command(word) {
+        return first_file(rest);
     }
-    unless_option(first)
+    first_file(text)
 }
 
-/// The value of an option that a text begins with, if it does.
-#[tactic(auto, unfolding(crate::specs::Head::value_here))]
-fn value_here<'a>(long: &[u8], short: &[u8], text: &'a [u8]) -> Option<&'a [u8]>
-    ensures { option_map (λ word. word.now) result ≡ value_here long.now short.now text.now }
+/// What follows the first bytes of a word, if it begins with them.
+fn after_start<'a>(start: &[u8], word: &'a [u8]) -> Option<&'a [u8]>
+    ensures { option_map (λ rest. rest.now) result ≡ after_start start.now word.now }
 {
-    let (word, rest) = split_word(text);
-    if word == long || word == short {
-        return unless_empty(first_word(rest));
-    }
-    let after = word.strip_prefix(long)?;
-    unless_empty(after.strip_prefix(b"=")?)
+    word.strip_prefix(start)
 }
 
-/// The value of an option, where it first stands after a blank.
-fn value_of<'a>(long: &[u8], short: &[u8], text: &'a [u8]) -> Option<&'a [u8]>
-    ensures { option_map (λ word. word.now) result ≡ value_of long.now short.now text.now }
+fn after_equals(bytes: &[u8]) -> &[u8]
+    ensures { result.now ≡ after_equals bytes.now }
+{
+    match after_start(b"=", bytes) {
+        Some(rest) => rest,
+        None => bytes,
+    }
+}
+
+/// The value of an option in its own word, if it has one there.
+fn value_in_word<'a>(name: &[u8], letter: &[u8], word: &'a [u8]) -> Option<&'a [u8]>
+    ensures { option_map (λ value. value.now) result
+        ≡ value_in_word name.now letter.now word.now }
+{
+    if let Some(rest) = after_start(name, word) {
+        if let Some(value) = after_start(b"=", rest) {
+            return Some(value);
+        }
+    }
+    let value = after_start(letter, word)?;
+    Some(after_equals(value))
+}
+
+/// The value of an option among the words of a head.
+fn value_of<'a>(name: &[u8], letter: &[u8], text: &'a [u8]) -> Option<&'a [u8]>
+    ensures { option_map (λ value. value.now) result
+        ≡ value_of name.now letter.now (fields text.now) }
 {
     let mut rest = text;
-    while let [byte, more @ ..] = rest {
-        rest = more;
-        if is_blank(*byte) {
-            if let Some(value) = value_here(long, short, more) {
-                return Some(value);
-            }
+    while let Some((word, after)) = next_word(rest) {
+        if word == name || word == letter {
+            return first_word(after);
         }
+        if let Some(value) = value_in_word(name, letter, word) {
+            return Some(value);
+        }
+        rest = after;
     }
     None
 }
@@ -220,7 +236,7 @@ fn other_seed<'a>(seed: u32, said: &'a [u8]) -> Option<HeadSaid<'a>>
 
 /// The first of these that a head says differently: the database, its bindings, the seed.
 fn other_said<'a>(words: &HeadWords<'_>, text: &'a [u8]) -> Option<HeadSaid<'a>>
-    ensures { option_map said_in result ≡ other_said (play_words words.now) text.now }
+    ensures { option_map said_in result ≡ other_said (play_words words.now) (fields text.now) }
 {
     if let Some(said) = head_cave(text) {
         if let Some(other) = other_cave(words.cave, said) {

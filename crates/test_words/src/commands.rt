@@ -21,7 +21,7 @@ fn shown(alloc: Global, words: &[&str]) -> Result<String, AllocError> {
 }
 
 /// Words, and what the answer to them says.
-const ANSWERS: [(&[&str], &str); 43] = [
+const ANSWERS: [(&[&str], &str); 50] = [
     (
         &["cave", "check", "a"],
         "Check { files: Files { cave: \"a\", bind: None, output: None }, view: Maximum }",
@@ -155,22 +155,53 @@ const ANSWERS: [(&[&str], &str); 43] = [
             "cave", "cover", "a", "b", "--seed=7", "c", "--bind", "d", "e",
         ],
         "Cover { files: Files { cave: \"a\", bind: Some(\"d\"), output: None }, \
-        logs: [\"b\", \"c\", \"e\"], seed: 7, view: Said(Counts) }",
+        logs: [\"b\", \"c\", \"e\"], seed: 7, view: Said(Counts), known: None, strict: false }",
     ),
     (
-        &["cave", "cover", "a", "b", "--print", "rules"],
+        &[
+            "cave",
+            "cover",
+            "a",
+            "b",
+            "--print",
+            "rules",
+            "--known=c",
+            "--strict",
+        ],
         "Cover { files: Files { cave: \"a\", bind: None, output: None }, \
-        logs: [\"b\"], seed: 0, view: Rules }",
+        logs: [\"b\"], seed: 0, view: Rules, known: Some(\"c\"), strict: true }",
     ),
     (
         &["cave", "map", "a"],
-        "Map { files: Files { cave: \"a\", bind: None, output: None }, logs: [], seed: 0 }",
+        "Map { files: Files { cave: \"a\", bind: None, output: None }, logs: [], seed: 0, \
+        part: MapPart { seen: false, around: None } }",
     ),
     (
         &["cave", "map", "--bind", "d", "a", "b", "--seed=7", "c"],
         "Map { files: Files { cave: \"a\", bind: Some(\"d\"), output: None }, \
-        logs: [\"b\", \"c\"], seed: 7 }",
+        logs: [\"b\", \"c\"], seed: 7, part: MapPart { seen: false, around: None } }",
     ),
+    (
+        &["cave", "map", "a", "b", "--seen", "--from", "300"],
+        "Map { files: Files { cave: \"a\", bind: None, output: None }, logs: [\"b\"], seed: 0, \
+        part: MapPart { seen: true, around: Some(Surroundings { place: 300, ways: 2 }) } }",
+    ),
+    (
+        &["cave", "map", "a", "--within", "0", "--from=1"],
+        "Map { files: Files { cave: \"a\", bind: None, output: None }, logs: [], seed: 0, \
+        part: MapPart { seen: false, around: Some(Surroundings { place: 1, ways: 0 }) } }",
+    ),
+    (&["cave", "map", "a", "--from", "0"], "2 BadPlace(\"0\")"),
+    (
+        &["cave", "map", "a", "--from", "301"],
+        "2 BadPlace(\"301\")",
+    ),
+    (
+        &["cave", "map", "a", "--from=1", "--within", "301"],
+        "2 BadWays(\"301\")",
+    ),
+    (&["cave", "map", "a", "--within", "1"], "2 WithinAlone"),
+    (&["cave", "map", "a", "--seen"], "2 SeenAlone"),
     (&["cave", "play", "a"], "2 MissingRequiredArgument"),
     (&["cave", "cover", "a"], "2 MissingRequiredArgument"),
     (&["cave", "play", "a", "b", "--seed"], "2 InvalidValue"),
