@@ -16,8 +16,10 @@ from collections import namedtuple
 from steps import Stop
 
 SVG = "http://www.w3.org/2000/svg"
+HOVER = "{http://www.w3.org/1999/xlink}title"
 PLACE, WAY = re.compile(r"\d+"), re.compile(r"(\d+)\.(\d+)")
-EDGE = re.compile(r"\d+->(\d+\.\d+)|(\d+\.\d+)->\d+")
+EDGE = re.compile(r"\d+->(\d+\.\d+)|(\d+\.\d+)->\d+|(\d+->\d+)")
+CAPTION = re.compile(r"^  graph \[labelloc=.*\n", re.MULTILINE)
 LABEL = re.compile(r'^  (\d+) \[label="((?:[^"\\]|\\.)*)"', re.MULTILINE)
 OWN_LINE = re.compile(r"\+ \S|= \w|visits \d")
 THICK, DARK = "2.5", ("#cccccc", "gray80")
@@ -58,11 +60,21 @@ def classes_of(kind, shapes):
     return found + ["forced"] * any(it.tag.endswith("}ellipse") for it in shapes)
 
 
+def unwrap(group):
+    """Puts the text that is shown on hover into the title of a group, for the link around it."""
+    for wrap in group.findall(f"{{{SVG}}}g"):
+        link = wrap.find(f"{{{SVG}}}a")
+        tree.SubElement(group, f"{{{SVG}}}title").text = link.get(HOVER).strip("\n")
+        group.extend(link)
+        group.remove(wrap)
+
+
 def mark(group):
     """Puts the classes and numbers of a group in, and takes its colours out."""
     title = group.find(f"{{{SVG}}}title")
     name = (title.text or "").strip()
     group.remove(title)
+    unwrap(group)
     shapes = [it for it in group.iter() if it is not group]
     hollow = [it for it in shapes if it.get("fill") == "none" and it.tag.endswith("}polygon")]
     edge = EDGE.fullmatch(name)
@@ -73,7 +85,8 @@ def mark(group):
         group.set("data-place", name)
     elif edge or WAY.fullmatch(name):
         group.set("class", " ".join(classes_of("way", shapes) + ["label"] * (not edge)))
-        group.set("data-way", (edge[1] or edge[2]) if edge else name)
+        way = next(filter(None, edge.groups())) if edge else name
+        group.set("data-way", way.replace("->", "."))
         group.set("aria-hidden", "true")
     for it in [group, *shapes]:
         for attribute in TAKEN_OUT:
@@ -94,7 +107,7 @@ def of(graph):
     """The drawing of a graph: what a page has inside its element `svg`, and the titles."""
     tree.register_namespace("", SVG)
     try:
-        root = tree.fromstring(drawn_by_dot(graph))
+        root = tree.fromstring(drawn_by_dot(CAPTION.sub("", graph)))
     except tree.ParseError as wrong:
         raise Stop(f"what dot draws can't be read: {wrong}") from None
     whole = root.find(f"{{{SVG}}}g")

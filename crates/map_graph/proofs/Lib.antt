@@ -1,2 +1,5 @@
+pub mod Bools
+pub mod DrawnLemmas
 pub mod PartLemmas
+pub mod RegionLemmas
 pub mod TitleLemmas

@@ -1,13 +1,14 @@
--- The edge of a way, or of a way and the way back.
-use Rattle.std.specs.Prelude.{ℕ, ◌+◌, Bool, ◌==◌, ◌||◌, ◌&&◌, not}
+-- The edge of two places between which ways lead.
+use Rattle.std.specs.Prelude.{ℕ, Bool, ◌==◌, ◌||◌, ◌&&◌, not, nat_lt}
 use Rattle.std.specs.Prelude.{if◌then◌else◌, List, [], ◌++◌, codes, length}
 use Rattle.std.specs.Fmt.{decimal}
-use Rattle.std.specs.List.{flat_map}
+use Rattle.std.specs.List.{filter, flat_map}
 use Rattle.cave_data.specs.CaveView.{CaveView}
 use Rattle.map_ways.specs.Labels.{label_of}
+use Rattle.map_ways.specs.Ways.{are_joined, ends_of_edges, is_way}
+use Rattle.map_graph.specs.Parts.{is_one_of}
 use Rattle.map_graph.specs.Places.{strength}
 use Rattle.map_graph.specs.Stops.{is_way_taken}
-use Rattle.map_ways.specs.Ways.{ends_of_edges, is_both_ways}
 use Rattle.map_graph.specs.declared.stops.Stop.{Stop}
 use Rattle.map_graph.specs.WayTexts.{way_text}
 
@@ -15,30 +16,36 @@ use Rattle.map_graph.specs.WayTexts.{way_text}
 unfoldable pub edge_text : CaveView → ℕ → ℕ → List ℕ
 edge_text cave from to =
     way_text cave [] from to
-    ++ (if is_both_ways cave from to then way_text cave (codes " /") to from else [])
+    ++ (if from == to then [] else way_text cave (codes " /") to from)
 
--- an edge for both ways has a head at its own place too; it is hollow if plays took only the way
--- there
-unfoldable pub head_back : Bool → Bool → Bool → List ℕ
-head_back is_both is_taken_there is_taken_back =
-    if not is_both then codes "dir=none"
-    else (if is_taken_there && not is_taken_back then codes "dir=back, arrowtail=empty"
-    else codes "dir=back")
+-- the way leads there, and plays took it
+abbrev pub is_taken : CaveView → List Stop → ℕ → ℕ → Bool
+is_taken cave stops from to = is_way cave from to && is_way_taken cave stops from to
 
--- the head at the other place, which is hollow if plays took only the way back
-unfoldable pub head_there : Bool → Bool → Bool → List ℕ
-head_there is_both is_taken_there is_taken_back =
-    if is_both && (is_taken_back && not is_taken_there) then codes "dir=forward, arrowhead=empty"
-    else codes "dir=forward"
-
--- the edge is that of a way that plays took, or whose way back they took
+-- plays took a way of the edge
 abbrev pub is_edge_taken : CaveView → List Stop → ℕ → ℕ → Bool
-is_edge_taken cave stops from to =
-    is_way_taken cave stops from to
-    || (is_both_ways cave from to && is_way_taken cave stops to from)
+is_edge_taken cave stops from to = is_taken cave stops from to || is_taken cave stops to from
 
--- how the line of an edge begins: with its label, which is a node that both parts of the edge meet,
--- as only the layout of nodes keeps labels apart
+-- the head where a way ends: it is hollow if plays took only the other way
+unfoldable pub head : Bool → Bool → Bool → List ℕ
+head is_end is_reached is_left =
+    if not is_end then codes "none"
+    else (if is_left && not is_reached then codes "empty" else codes "normal")
+
+abbrev pub head_at : CaveView → List Stop → ℕ → ℕ → List ℕ
+head_at cave stops from to =
+    head (is_way cave from to) (is_taken cave stops from to) (is_taken cave stops to from)
+
+-- the head at the lower place; a way from a place to itself has one head
+abbrev pub head_back : CaveView → List Stop → ℕ → ℕ → List ℕ
+head_back cave stops from to = if from == to then codes "none" else head_at cave stops to from
+
+-- how thickly an edge is drawn
+abbrev pub edge_strength : CaveView → List Stop → ℕ → ℕ → ℕ → List ℕ
+edge_strength cave stops logs from to = strength logs (is_edge_taken cave stops from to)
+
+-- how the line of an edge with a label begins: with the label, which is a node that both parts of
+-- the edge meet, as only the layout of nodes keeps labels apart
 abbrev pub edge_opening : ℕ → ℕ → List ℕ
 edge_opening from to =
     codes "  " ++ (decimal from ++ (codes "." ++ (decimal to ++ codes " [label=")))
@@ -47,41 +54,73 @@ edge_opening from to =
 abbrev pub part_to_label : ℕ → ℕ → List ℕ → List ℕ → List ℕ
 part_to_label from to head strong =
     codes "]; " ++ (decimal from ++ (codes " -> " ++ (decimal from ++ (codes "."
-    ++ (decimal to ++ (codes " [" ++ (head ++ strong)))))))
+    ++ (decimal to ++ (codes " [arrowtail=" ++ (head ++ strong)))))))
 
 abbrev pub part_from_label : ℕ → ℕ → List ℕ → List ℕ → List ℕ
 part_from_label from to head strong =
     codes "]; " ++ (decimal from ++ (codes "." ++ (decimal to ++ (codes " -> "
-    ++ (decimal to ++ (codes " [" ++ (head ++ (strong ++ codes "];\n"))))))))
-
--- how thickly an edge is drawn
-abbrev pub edge_strength : CaveView → List Stop → ℕ → ℕ → ℕ → List ℕ
-edge_strength cave stops logs from to = strength logs (is_edge_taken cave stops from to)
+    ++ (decimal to ++ (codes " [arrowhead=" ++ (head ++ (strong ++ codes "];\n"))))))))
 
 abbrev pub edge_parts : CaveView → List Stop → ℕ → ℕ → ℕ → List ℕ
 edge_parts cave stops logs from to =
-    part_to_label from to
-    (head_back (is_both_ways cave from to) (is_way_taken cave stops from to)
-    (is_way_taken cave stops to from))
-    (edge_strength cave stops logs from to)
-    ++ part_from_label from to
-    (head_there (is_both_ways cave from to) (is_way_taken cave stops from to)
-    (is_way_taken cave stops to from))
-    (edge_strength cave stops logs from to)
+    part_to_label from to (head_back cave stops from to) (edge_strength cave stops logs from to)
+    ++ part_from_label from to (head_at cave stops from to) (edge_strength cave stops logs from to)
 
 -- a label without a text takes no room
 abbrev pub label_look : List ℕ → List ℕ
 label_look text =
     if length text == 0 then codes ", shape=point, width=0.01, style=invis" else []
 
--- the line of an edge
-unfoldable pub edge : CaveView → List Stop → ℕ → ℕ → ℕ → List ℕ
-edge cave stops logs from to =
+-- the line of an edge whose text is drawn
+unfoldable pub labelled_edge : CaveView → List Stop → ℕ → ℕ → ℕ → List ℕ
+labelled_edge cave stops logs from to =
     edge_opening from to
     ++ (label_of (edge_text cave from to)
     ++ (label_look (edge_text cave from to)
     ++ (edge_strength cave stops logs from to ++ edge_parts cave stops logs from to)))
 
--- the edges of a place
-abbrev pub edges : CaveView → List Stop → ℕ → ℕ → List ℕ
-edges cave stops logs from = flat_map (edge cave stops logs from) (ends_of_edges cave from)
+-- how the line of an edge begins that has its text on hover
+abbrev pub plain_opening : ℕ → ℕ → List ℕ → List ℕ → List ℕ
+plain_opening from to tail head =
+    codes "  " ++ (decimal from ++ (codes " -> " ++ (decimal to ++ (codes " [len=3, arrowtail="
+    ++ (tail ++ (codes ", arrowhead=" ++ (head ++ codes ", tooltip=")))))))
+
+-- the line of an edge that has its text on hover
+unfoldable pub plain_edge : CaveView → List Stop → ℕ → ℕ → ℕ → List ℕ
+plain_edge cave stops logs from to =
+    plain_opening from to (head_back cave stops from to) (head_at cave stops from to)
+    ++ (label_of (edge_text cave from to) ++ (edge_strength cave stops logs from to ++ codes "];\n"))
+
+-- the line of an edge
+abbrev pub edge : CaveView → List Stop → ℕ → Bool → ℕ → ℕ → List ℕ
+edge cave stops logs is_plain from to =
+    if is_plain then plain_edge cave stops logs from to
+    else labelled_edge cave stops logs from to
+
+-- of places that are drawn, an edge is drawn, or only if plays took a way of it
+abbrev pub is_shown : CaveView → List Stop → Bool → ℕ → ℕ → Bool
+is_shown cave stops seen from to = not seen || is_edge_taken cave stops from to
+
+-- the most edges of a place at which texts leave room for the places
+abbrev pub MAX_EDGES_WITH_TEXT : ℕ
+MAX_EDGES_WITH_TEXT = 6
+
+-- the place has more edges to places that are drawn than that
+abbrev pub is_crowded : CaveView → List Stop → Bool → List ℕ → ℕ → Bool
+is_crowded cave stops seen places place =
+    nat_lt MAX_EDGES_WITH_TEXT
+    (length (filter (λ other. are_joined cave place other && is_shown cave stops seen place other)
+    places))
+
+-- the edge from one place to another, if it is drawn; between two crowded places it is plain
+abbrev pub drawn_edge : CaveView → List Stop → ℕ → Bool → List ℕ → ℕ → ℕ → List ℕ
+drawn_edge cave stops logs seen places from to =
+    if is_one_of places to && is_shown cave stops seen from to
+    then edge cave stops logs
+    (is_crowded cave stops seen places from && is_crowded cave stops seen places to) from to
+    else []
+
+-- the edges of a place that are drawn
+abbrev pub edges : CaveView → List Stop → ℕ → Bool → List ℕ → ℕ → List ℕ
+edges cave stops logs seen places from =
+    flat_map (drawn_edge cave stops logs seen places from) (ends_of_edges cave from)

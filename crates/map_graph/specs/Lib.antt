@@ -1,7 +1,9 @@
 pub mod Stops
 pub mod Names
+pub mod Parts
 pub mod Titles
 pub mod Places
 pub mod WayTexts
 pub mod Edges
+pub mod Captions
 pub mod Map

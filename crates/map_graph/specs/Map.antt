@@ -1,37 +1,41 @@
 -- The map of a cave as a graph, and what plays saw of it.
-use Rattle.std.specs.Prelude.{ℕ, ◌==◌, if◌then◌else◌, List, [], ◌++◌, length, codes, ◌≡◌, true}
-use Rattle.std.specs.Fmt.{decimal}
+use Rattle.std.specs.Prelude.{ℕ, Bool, ◌==◌, if◌then◌else◌, List, [], ◌++◌, length, codes, ◌≡◌}
+use Rattle.std.specs.Prelude.{true}
 use Rattle.std.specs.List.{filter, flat_map, sum_by}
 use Rattle.cave_data.specs.CaveView.{CaveView}
+use Rattle.map_graph.specs.Captions.{caption, seen_words}
 use Rattle.map_graph.specs.Edges.{edges, edge}
+use Rattle.map_graph.specs.Parts.{drawn_places}
 use Rattle.map_graph.specs.Places.{node}
 use Rattle.map_graph.specs.Stops.{is_way_taken, is_visited}
 use Rattle.map_ways.specs.Ways.{ends_of_ways, mapped_places}
+use Rattle.map_graph.specs.declared.captions.SeenCounts.{SeenCounts}
+use Rattle.play_command.specs.declared.map_part.MapPart.{MapPart}
 use Rattle.map_graph.specs.declared.stops.Stop.{Stop}
 use Rattle.map_ways.specs.Labels.{is_one_line}
 
 -- each node is one line
 abbrev pub NodesAreLines : Type 0
 NodesAreLines =
-    (cave : CaveView) (stops : List Stop) (logs place : ℕ)
-    → is_one_line (node cave stops logs place) ≡ true
+    (cave : CaveView) (mapped : List ℕ) (stops : List Stop) (logs place : ℕ)
+    → is_one_line (node cave mapped stops logs place) ≡ true
 
 -- each edge is one line
 abbrev pub EdgesAreLines : Type 0
 EdgesAreLines =
-    (cave : CaveView) (stops : List Stop) (logs from to : ℕ)
-    → is_one_line (edge cave stops logs from to) ≡ true
+    (cave : CaveView) (stops : List Stop) (logs : ℕ) (is_plain : Bool) (from to : ℕ)
+    → is_one_line (edge cave stops logs is_plain from to) ≡ true
 
 -- how the graph begins: with its layout, with its page, which is one A3, and with how places and
 -- edges look if they don't say so
 abbrev pub graph_opening : List ℕ
 graph_opening =
     codes "digraph cave {\n"
-    ++ (codes "  graph [layout=neato, model=subset, overlap=false, sep=\"+2\", splines=line];\n"
+    ++ (codes "  graph [layout=neato, overlap=false, sep=\"+2\", splines=line, bgcolor=white];\n"
     ++ (codes "  graph [outputorder=edgesfirst, size=\"16.1,11.2\", margin=0.2];\n"
     ++ (codes "  node [shape=box, width=0.1, height=0.1, margin=\"0.04,0.03\"];\n"
     ++ (codes "  node [style=filled, fillcolor=white, fontname=\"Helvetica\", fontsize=10];\n"
-    ++ codes "  edge [arrowsize=0.4];\n"))))
+    ++ codes "  edge [dir=both, arrowsize=0.4, arrowtail=none, arrowhead=none];\n"))))
 
 -- how the labels of edges, which follow the places, look
 abbrev pub labels_opening : List ℕ
@@ -51,28 +55,34 @@ count_taken cave stops = sum_by (λ from. length (ends_taken cave stops from)) (
 unfoldable pub count_ways : CaveView → ℕ
 count_ways cave = sum_by (λ from. length (ends_of_ways cave from)) (mapped_places cave)
 
--- the line that sums up what plays of this many logs saw
-abbrev pub seen_line : ℕ → ℕ → ℕ → ℕ → ℕ → List ℕ
-seen_line visited places taken ways logs =
-    codes "// -- " ++ (decimal visited ++ (codes " of " ++ (decimal places
-    ++ (codes " places, " ++ (decimal taken ++ (codes " of " ++ (decimal ways
-    ++ (codes " ways in " ++ (decimal logs ++ codes " logs\n")))))))))
+-- how many of the cave's places and ways plays saw
+unfoldable pub seen_counts : CaveView → List Stop → SeenCounts
+seen_counts cave stops = record {
+  visited = length (places_visited cave stops);
+  places = length (mapped_places cave);
+  taken = count_taken cave stops;
+  ways = count_ways cave;
+}
 
--- that line, if there were logs
-unfoldable pub sums : CaveView → List Stop → ℕ → List ℕ
-sums cave stops logs =
-    if logs == 0 then []
-    else seen_line (length (places_visited cave stops)) (length (mapped_places cave))
-    (count_taken cave stops) (count_ways cave) logs
+-- the line that sums up what plays saw, if there were logs
+abbrev pub sums : SeenCounts → ℕ → List ℕ
+sums counts logs =
+    if logs == 0 then [] else codes "// -- " ++ (seen_words counts logs ++ codes "\n")
 
-abbrev pub nodes_and_edges : CaveView → List Stop → ℕ → List ℕ → List ℕ
-nodes_and_edges cave stops logs places =
-    flat_map (node cave stops logs) places
-    ++ (labels_opening ++ flat_map (edges cave stops logs) places)
+abbrev pub nodes_and_edges : CaveView → List ℕ → List Stop → ℕ → Bool → List ℕ → List ℕ
+nodes_and_edges cave mapped stops logs seen places =
+    flat_map (node cave mapped stops logs) places
+    ++ (labels_opening ++ flat_map (edges cave stops logs seen places) places)
 
--- the map, if plays of this many logs had these stops
-unfoldable pub map_of_places : CaveView → List Stop → ℕ → List ℕ
-map_of_places cave stops logs =
+-- the part of a map that is drawn, with what stands above it
+unfoldable pub drawing : CaveView → List ℕ → List Stop → MapPart → ℕ → List ℕ
+drawing cave mapped stops part logs =
+    caption (seen_counts cave stops) logs part
+    ++ nodes_and_edges cave mapped stops logs part.seen (drawn_places cave stops part mapped)
+
+-- the map, or a part of it, if plays of this many logs had these stops
+unfoldable pub map_of_places : CaveView → List Stop → MapPart → ℕ → List ℕ
+map_of_places cave stops part logs =
     graph_opening
-    ++ (nodes_and_edges cave stops logs (mapped_places cave)
-    ++ (codes "}\n" ++ sums cave stops logs))
+    ++ (drawing cave (mapped_places cave) stops part logs
+    ++ (codes "}\n" ++ sums (seen_counts cave stops) logs))

@@ -43,21 +43,21 @@ abbrev pub visits_label_line : ℕ → List ℕ
 visits_label_line count =
     if count == 0 then [] else codes "visits " ++ (decimal count ++ codes "\n")
 
-abbrev pub title_line : CaveView → ℕ → List ℕ
-title_line cave place = decimal place ++ (title cave place ++ codes "\n")
+abbrev pub title_line : CaveView → List ℕ → ℕ → List ℕ
+title_line cave mapped place = decimal place ++ (title cave mapped place ++ codes "\n")
 
 -- what is written at a place where a player stays, line by line
-unfoldable pub stay_text : CaveView → List Stop → ℕ → List ℕ
-stay_text cave stops place =
-    title_line cave place
+unfoldable pub stay_text : CaveView → List ℕ → List Stop → ℕ → List ℕ
+stay_text cave mapped stops place =
+    title_line cave mapped place
     ++ (flat_map (object_label_line cave) (objects_beginning cave place)
     ++ (flat_map (role_label_line cave place) place_keys
     ++ visits_label_line (visits stops place)))
 
 -- what is written at a node, which for a place of a forced motion is only its number
-unfoldable pub node_text : CaveView → List Stop → ℕ → List ℕ
-node_text cave stops place =
-    if forced cave place then decimal place else stay_text cave stops place
+unfoldable pub node_text : CaveView → List ℕ → List Stop → ℕ → List ℕ
+node_text cave mapped stops place =
+    if forced cave place then decimal place else stay_text cave mapped stops place
 
 -- a place of a forced motion is a small circle, and one without light is dark
 unfoldable pub look_of_place : CaveView → ℕ → List ℕ
@@ -88,9 +88,9 @@ abbrev pub node_end : ℕ → List ℕ
 node_end count = codes "];" ++ (nowhere_note count ++ codes "\n")
 
 -- the line of a node
-unfoldable pub node : CaveView → List Stop → ℕ → ℕ → List ℕ
-node cave stops logs place =
+unfoldable pub node : CaveView → List ℕ → List Stop → ℕ → ℕ → List ℕ
+node cave mapped stops logs place =
     node_opening place
-    ++ (label_of (node_text cave stops place)
+    ++ (label_of (node_text cave mapped stops place)
     ++ (look_of_place cave place
     ++ (strength logs (is_visited cave stops place) ++ node_end (count_nowhere cave place))))

@@ -1,15 +1,20 @@
--- The title of a place: the first words of its text.
-use Rattle.std.specs.Prelude.{ℕ, zero, suc, ◌+◌, ◌%◌, ◌==◌, ◌&&◌, not, if◌then◌else◌, List, [], ◌∷◌}
-use Rattle.std.specs.Prelude.{◌++◌, Option, None, Some, unwrap_or, length}
+-- The title of a place: the first words of its text, as many as tell it from other places.
+use Rattle.std.specs.Prelude.{◌≡◌, true, Bool, ℕ, zero, suc, ◌+◌, ◌%◌, ◌==◌, ◌&&◌, not, nat_lt, if◌then◌else◌}
+use Rattle.std.specs.Prelude.{List, [], ◌∷◌, ◌++◌, Option, None, Some, unwrap_or, length, bytes_eq}
 use Rattle.std.specs.FinMap as map
+use Rattle.map_graph.specs.Parts.{is_one_of}
 use Rattle.data_bindings.specs.Listing.{first_line}
 use Rattle.cave_data.specs.CaveView.{CaveView}
 use Rattle.cave_words.specs.Words.{after_first_run, first_word_of}
 use Rattle.map_ways.specs.Labels.{BLANK, LINE_FEED}
 
--- how many words of a text are on the map
+-- how many words a title has, if these tell it from the others
 abbrev pub WORDS_SHOWN : ℕ
 WORDS_SHOWN = 8
+
+-- how many words of a line are looked at
+abbrev pub MAX_TITLE_WORDS : ℕ
+MAX_TITLE_WORDS = 40
 
 -- the most words of a title on a line
 abbrev pub WORDS_PER_LINE : ℕ
@@ -37,9 +42,6 @@ words_as_shown shown [] = []
 words_as_shown shown (word ∷ words) =
     word_start shown ++ (word ++ words_as_shown (shown + 1) words)
 
-unfoldable pub first_words_shown : List ℕ → List ℕ
-first_words_shown line = words_as_shown 0 (first_words WORDS_SHOWN line)
-
 abbrev pub or_other : List ℕ → List ℕ → List ℕ
 or_other text other = if length text == 0 then other else text
 
@@ -48,6 +50,53 @@ abbrev pub text_for_title : CaveView → ℕ → List ℕ
 text_for_title cave place =
     or_other (unwrap_or (map.get cave.short place) []) (unwrap_or (map.get cave.long place) [])
 
--- the title of a place: the first words of the first line of that text
-abbrev pub title : CaveView → ℕ → List ℕ
-title cave place = first_words_shown (first_line (text_for_title cave place))
+-- the line that a title is taken from: the first of that text
+unfoldable pub title_source : CaveView → ℕ → List ℕ
+title_source cave place = first_line (text_for_title cave place)
+
+unfoldable pub words_of_line : List ℕ → List (List ℕ)
+words_of_line line = first_words MAX_TITLE_WORDS line
+
+-- there is a word, and it is the same as the other
+abbrev pub is_shared : List ℕ → List ℕ → Bool
+is_shared word other = not (length word == 0) && bytes_eq word other
+
+-- with how many of the same words both begin
+abbrev pub count_shared : List (List ℕ) → List (List ℕ) → ℕ
+count_shared [] others = 0
+count_shared words [] = 0
+count_shared (word ∷ words) (other ∷ others) =
+    if bytes_eq word other then suc (count_shared words others) else 0
+
+-- how many words tell a place from another: one more than both begin with
+abbrev pub words_telling : CaveView → ℕ → ℕ → ℕ
+words_telling cave place other =
+    if place == other then 0
+    else suc (count_shared (words_of_line (title_source cave place))
+    (words_of_line (title_source cave other)))
+
+abbrev pub greater_of : ℕ → ℕ → ℕ
+greater_of one other = if nat_lt one other then other else one
+
+-- how many words tell a place from each of others, and at least this many
+abbrev pub words_telling_all : CaveView → ℕ → ℕ → List ℕ → ℕ
+words_telling_all cave place least [] = least
+words_telling_all cave place least (other ∷ others) =
+    words_telling_all cave place (greater_of least (words_telling cave place other)) others
+
+-- the words of the title of a place among others
+abbrev pub title_words : CaveView → List ℕ → ℕ → List (List ℕ)
+title_words cave places place =
+    first_words (words_telling_all cave place WORDS_SHOWN places) (title_source cave place)
+
+unfoldable pub title : CaveView → List ℕ → ℕ → List ℕ
+title cave places place = words_as_shown 0 (title_words cave places place)
+
+-- two places have one title only if the lines that it is taken from have the same words
+abbrev pub TitlesTellApart : Type 0
+TitlesTellApart =
+    (cave : CaveView) (places : List ℕ) (place other : ℕ)
+    → is_one_of places place ≡ true
+    → is_one_of places other ≡ true
+    → title_words cave places place ≡ title_words cave places other
+    → words_of_line (title_source cave place) ≡ words_of_line (title_source cave other)

@@ -1,20 +1,25 @@
-//! The edges of ways.
+//! The edges of places between which ways lead.
 
 ghost use Rattle.std.specs.Prelude.{◌≡◌, ◌≤◌, ◌++◌, OnOk};
 ghost use Rattle.base_lines.specs.Numbers.{LAST_PLACE};
 ghost use Rattle.map_ways.specs.Labels.{label_of};
-ghost use Rattle.map_graph.specs.Stops.{is_way_taken};
-ghost use Rattle.map_ways.specs.Ways.{is_both_ways};
-ghost use Rattle.map_graph.specs.Edges.{edge, edge_opening, edge_parts, edge_strength, edge_text};
-ghost use Rattle.map_graph.specs.Edges.{edges, head_back, head_there, is_edge_taken, label_look};
-ghost use Rattle.map_graph.specs.Edges.{part_from_label, part_to_label};
+ghost use Rattle.map_graph.specs.Edges.{drawn_edge, edge_opening, edge_parts, edge_strength};
+ghost use Rattle.map_graph.specs.Edges.{edge_text, edges, head, head_at, head_back, is_crowded};
+ghost use Rattle.map_graph.specs.Edges.{is_edge_taken, is_shown, is_taken, label_look};
+ghost use Rattle.map_graph.specs.Edges.{labelled_edge, part_from_label, part_to_label, plain_edge};
+ghost use Rattle.map_graph.specs.Edges.{plain_opening};
 
 use crate::nodes::strength;
+use crate::parts::is_one_of;
+use crate::sights::Sights;
 use crate::stops::{Stop, is_way_taken};
 use crate::way_texts::push_way;
 use cave_data::Cave;
-use map_ways::{ends_of_edges, is_both_ways, push_label};
+use map_ways::{are_joined, ends_of_edges, is_way, push_label};
 use std::alloc::{AllocError, Global};
+
+/// The most edges of a place at which texts leave room for the places.
+const MAX_EDGES_WITH_TEXT: usize = 6;
 
 /// Appends what is written at an edge.
 #[tactic(auto, unfolding(crate::specs::Edges::edge_text))]
@@ -30,51 +35,67 @@ fn push_edge_text(
     ensures { OnOk result (text.new.items ≡ text.old.items ++ edge_text cave.now from to) }
 {
     push_way(alloc, cave, "", from, to, text)?;
-    if !is_both_ways(cave, from, to) {
+    if from == to {
         return Ok(());
     }
     push_way(alloc, cave, " /", to, from, text)
 }
 
-/// The head of an edge at its own place, which it has if it is for both ways.
-#[tactic(auto, unfolding(crate::specs::Edges::head_back))]
-fn head_back(is_both: bool, is_taken_there: bool, is_taken_back: bool) -> &'static str
-    ensures { result.now ≡ head_back is_both is_taken_there is_taken_back }
+/// Whether a way leads from one place to another, and plays took it.
+fn is_taken(cave: &Cave, stops: &[Stop], from: u16, to: u16) -> bool
+    ensures { result ≡ is_taken cave.now stops.now from to }
 {
-    match (is_both, is_taken_there, is_taken_back) {
-        (false, _, _) => "dir=none",
-        (true, true, false) => "dir=back, arrowtail=empty",
-        (true, _, _) => "dir=back",
-    }
+    is_way(cave, from, to) && is_way_taken(cave, stops, from, to)
 }
 
-/// The head of an edge at the other place.
-#[tactic(auto, unfolding(crate::specs::Edges::head_there))]
-fn head_there(is_both: bool, is_taken_there: bool, is_taken_back: bool) -> &'static str
-    ensures { result.now ≡ head_there is_both is_taken_there is_taken_back }
-{
-    match (is_both, is_taken_there, is_taken_back) {
-        (true, false, true) => "dir=forward, arrowhead=empty",
-        (_, _, _) => "dir=forward",
-    }
-}
-
-/// Whether plays took the way of an edge, or the way back, if the edge is for both.
+/// Whether plays took a way of an edge.
 fn is_edge_taken(cave: &Cave, stops: &[Stop], from: u16, to: u16) -> bool
     ensures { result ≡ is_edge_taken cave.now stops.now from to }
 {
-    is_way_taken(cave, stops, from, to)
-        || (is_both_ways(cave, from, to) && is_way_taken(cave, stops, to, from))
+    is_taken(cave, stops, from, to) || is_taken(cave, stops, to, from)
 }
 
-/// How thickly the edge of a way is drawn.
-fn edge_strength(cave: &Cave, stops: &[Stop], logs: usize, from: u16, to: u16) -> &'static str
-    ensures { result.now ≡ edge_strength cave.now stops.now logs from to }
+/// The head where a way ends, if one does.
+#[tactic(auto, unfolding(crate::specs::Edges::head))]
+fn head(is_end: bool, is_reached: bool, is_left: bool) -> &'static str
+    ensures { result.now ≡ head is_end is_reached is_left }
 {
-    strength(logs, is_edge_taken(cave, stops, from, to))
+    match (is_end, is_reached, is_left) {
+        (false, _, _) => "none",
+        (true, false, true) => "empty",
+        (true, _, _) => "normal",
+    }
 }
 
-/// Appends how the line of an edge begins.
+fn head_at(cave: &Cave, stops: &[Stop], from: u16, to: u16) -> &'static str
+    ensures { result.now ≡ head_at cave.now stops.now from to }
+{
+    head(
+        is_way(cave, from, to),
+        is_taken(cave, stops, from, to),
+        is_taken(cave, stops, to, from),
+    )
+}
+
+/// The head of an edge at its lower place. A way from a place to itself has one head.
+fn head_back(cave: &Cave, stops: &[Stop], from: u16, to: u16) -> &'static str
+    ensures { result.now ≡ head_back cave.now stops.now from to }
+{
+    if from == to {
+        return "none";
+    }
+    head_at(cave, stops, to, from)
+}
+
+/// How thickly an edge is drawn.
+fn edge_strength(cave: &Cave, sights: Sights<'_>, from: u16, to: u16) -> &'static str
+    ensures { let saw = sights.entry in
+        result.now ≡ edge_strength cave.now saw.stops.now saw.logs from to }
+{
+    strength(sights.logs, is_edge_taken(cave, sights.stops, from, to))
+}
+
+/// Appends how the line of an edge with a label begins.
 fn push_edge_opening(
     alloc: Global,
     from: u16,
@@ -99,7 +120,7 @@ fn push_part_to_label(
     ensures { OnOk result (text.new.items
         ≡ text.old.items ++ part_to_label from to head.now strong.now) }
 {
-    let part = format!(in alloc; "]; {from} -> {from}.{to} [{head}{strong}")?;
+    let part = format!(in alloc; "]; {from} -> {from}.{to} [arrowtail={head}{strong}")?;
     text.extend_from_slice(part.as_bytes())
 }
 
@@ -115,7 +136,7 @@ fn push_part_from_label(
     ensures { OnOk result (text.new.items
         ≡ text.old.items ++ part_from_label from to head.now strong.now) }
 {
-    let part = format!(in alloc; "]; {from}.{to} -> {to} [{head}{strong}];\n")?;
+    let part = format!(in alloc; "]; {from}.{to} -> {to} [arrowhead={head}{strong}];\n")?;
     text.extend_from_slice(part.as_bytes())
 }
 
@@ -123,37 +144,21 @@ fn push_part_from_label(
 fn push_edge_parts(
     alloc: Global,
     cave: &Cave,
-    stops: &[Stop],
-    logs: usize,
-    ends: (u16, u16),
+    sights: Sights<'_>,
+    from: u16,
+    to: u16,
     text: &mut Vec<u8>,
 ) -> Result<(), AllocError>
-    ensures { OnOk result (text.new.items
-        ≡ text.old.items ++ edge_parts cave.now stops.now logs ends.0 ends.1) }
+    ensures { let saw = sights.entry in OnOk result (text.new.items
+        ≡ text.old.items ++ edge_parts cave.now saw.stops.now saw.logs from to) }
 {
-    let (from, to) = ends;
-    let is_both = is_both_ways(cave, from, to);
-    let (there, back) = (
-        is_way_taken(cave, stops, from, to),
-        is_way_taken(cave, stops, to, from),
+    let strong = edge_strength(cave, sights, from, to);
+    let (back, there) = (
+        head_back(cave, sights.stops, from, to),
+        head_at(cave, sights.stops, from, to),
     );
-    let strong = edge_strength(cave, stops, logs, from, to);
-    push_part_to_label(
-        alloc,
-        from,
-        to,
-        head_back(is_both, there, back),
-        strong,
-        text,
-    )?;
-    push_part_from_label(
-        alloc,
-        from,
-        to,
-        head_there(is_both, there, back),
-        strong,
-        text,
-    )
+    push_part_to_label(alloc, from, to, back, strong, text)?;
+    push_part_from_label(alloc, from, to, there, strong, text)
 }
 
 /// How a label looks: one without a text takes no room.
@@ -186,43 +191,148 @@ fn push_edge_label(
     text.extend_from_slice(label_look(&label).as_bytes())
 }
 
-/// Appends the line of an edge.
-#[tactic(auto, unfolding(crate::specs::Edges::edge))]
-fn push_edge(
+/// Appends the line of an edge whose text is drawn.
+#[tactic(auto, unfolding(crate::specs::Edges::labelled_edge))]
+fn push_labelled_edge(
     alloc: Global,
     cave: &Cave,
-    stops: &[Stop],
-    logs: usize,
-    ends: (u16, u16),
+    sights: Sights<'_>,
+    from: u16,
+    to: u16,
     text: &mut Vec<u8>,
 ) -> Result<(), AllocError>
-    requires from { ends.0 ≤ LAST_PLACE }
-    requires to { ends.1 ≤ LAST_PLACE }
-    ensures { OnOk result (text.new.items
-        ≡ text.old.items ++ edge cave.now stops.now logs ends.0 ends.1) }
+    requires from { from ≤ LAST_PLACE }
+    requires to { to ≤ LAST_PLACE }
+    ensures { let saw = sights.entry in OnOk result (text.new.items
+        ≡ text.old.items ++ labelled_edge cave.now saw.stops.now saw.logs from to) }
 {
-    let (from, to) = ends;
     push_edge_opening(alloc, from, to, text)?;
     push_edge_label(alloc, cave, from, to, text)?;
-    text.extend_from_slice(edge_strength(cave, stops, logs, from, to).as_bytes())?;
-    push_edge_parts(alloc, cave, stops, logs, ends, text)
+    text.extend_from_slice(edge_strength(cave, sights, from, to).as_bytes())?;
+    push_edge_parts(alloc, cave, sights, from, to, text)
 }
 
-/// Appends the edges of a place.
+/// Appends how the line of an edge begins that has its text on hover.
+fn push_plain_opening(
+    alloc: Global,
+    from: u16,
+    to: u16,
+    tail: &str,
+    head: &str,
+    text: &mut Vec<u8>,
+) -> Result<(), AllocError>
+    ensures { OnOk result (text.new.items
+        ≡ text.old.items ++ plain_opening from to tail.now head.now) }
+{
+    let opening = format!(in alloc;
+        "  {from} -> {to} [len=3, arrowtail={tail}, arrowhead={head}, tooltip="
+    )?;
+    text.extend_from_slice(opening.as_bytes())
+}
+
+fn push_tooltip(
+    alloc: Global,
+    cave: &Cave,
+    from: u16,
+    to: u16,
+    text: &mut Vec<u8>,
+) -> Result<(), AllocError>
+    requires from { from ≤ LAST_PLACE }
+    requires to { to ≤ LAST_PLACE }
+    ensures { OnOk result
+        (text.new.items ≡ text.old.items ++ label_of (edge_text cave.now from to)) }
+{
+    let mut label = Vec::new(alloc);
+    push_edge_text(alloc, cave, from, to, &mut label)?;
+    push_label(&label, text)
+}
+
+/// Appends the line of an edge that has its text on hover.
+#[tactic(auto, unfolding(crate::specs::Edges::plain_edge))]
+fn push_plain_edge(
+    alloc: Global,
+    cave: &Cave,
+    sights: Sights<'_>,
+    from: u16,
+    to: u16,
+    text: &mut Vec<u8>,
+) -> Result<(), AllocError>
+    requires from { from ≤ LAST_PLACE }
+    requires to { to ≤ LAST_PLACE }
+    ensures { let saw = sights.entry in OnOk result (text.new.items
+        ≡ text.old.items ++ plain_edge cave.now saw.stops.now saw.logs from to) }
+{
+    let (back, there) = (
+        head_back(cave, sights.stops, from, to),
+        head_at(cave, sights.stops, from, to),
+    );
+    push_plain_opening(alloc, from, to, back, there, text)?;
+    push_tooltip(alloc, cave, from, to, text)?;
+    text.extend_from_slice(edge_strength(cave, sights, from, to).as_bytes())?;
+    text.extend_from_slice(b"];\n")
+}
+
+/// Whether an edge between places that are drawn is drawn too.
+fn is_shown(cave: &Cave, sights: Sights<'_>, from: u16, to: u16) -> bool
+    ensures { let saw = sights.entry in
+        result ≡ is_shown cave.now saw.stops.now saw.is_seen_only from to }
+{
+    !sights.is_seen_only || is_edge_taken(cave, sights.stops, from, to)
+}
+
+/// Whether a place has so many edges that their texts would hide places.
+fn is_crowded(cave: &Cave, sights: Sights<'_>, place: u16) -> bool
+    ensures { let saw = sights.entry in
+        result ≡ is_crowded cave.now saw.stops.now saw.is_seen_only saw.places.now place }
+{
+    let count = sights
+        .places
+        .iter()
+        .filter(|other| {
+            are_joined(cave, place, **other) && is_shown(cave, sights, place, **other)
+        })
+        .count();
+    count > MAX_EDGES_WITH_TEXT
+}
+
+/// Appends the edge from one place to another, if it is drawn.
+fn push_drawn_edge(
+    alloc: Global,
+    cave: &Cave,
+    sights: Sights<'_>,
+    from: u16,
+    to: u16,
+    text: &mut Vec<u8>,
+) -> Result<(), AllocError>
+    requires from { from ≤ LAST_PLACE }
+    requires to { to ≤ LAST_PLACE }
+    ensures { let saw = sights.entry in OnOk result (text.new.items ≡ text.old.items
+        ++ drawn_edge cave.now saw.stops.now saw.logs saw.is_seen_only saw.places.now from to) }
+{
+    if !is_one_of(sights.places, to) || !is_shown(cave, sights, from, to) {
+        return Ok(());
+    }
+    if is_crowded(cave, sights, from) && is_crowded(cave, sights, to) {
+        return push_plain_edge(alloc, cave, sights, from, to, text);
+    }
+    push_labelled_edge(alloc, cave, sights, from, to, text)
+}
+
+/// Appends the edges of a place that are drawn.
 pub fn push_edges(
     alloc: Global,
     cave: &Cave,
-    stops: &[Stop],
-    logs: usize,
+    sights: Sights<'_>,
     from: u16,
     text: &mut Vec<u8>,
 ) -> Result<(), AllocError>
     requires { from ≤ LAST_PLACE }
-    ensures { OnOk result (text.new.items ≡ text.old.items ++ edges cave.now stops.now logs from) }
+    ensures { let saw = sights.entry in OnOk result (text.new.items ≡ text.old.items
+        ++ edges cave.now saw.stops.now saw.logs saw.is_seen_only saw.places.now from) }
 {
     let ends = ends_of_edges(alloc, cave, from)?;
     for to in &ends {
-        push_edge(alloc, cave, stops, logs, (from, *to), text)?;
+        push_drawn_edge(alloc, cave, sights, from, *to, text)?;
     }
     Ok(())
 }

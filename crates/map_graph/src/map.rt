@@ -4,19 +4,23 @@ ghost use Rattle.std.specs.Prelude.{◌≡◌, ◌≤◌, ◌++◌, All, OnOk, l
 ghost use Rattle.std.specs.List.{filter, flat_map, sum_by};
 ghost use Rattle.base_lines.specs.Numbers as defined;
 ghost use Rattle.map_graph.specs.Edges.{edges};
-ghost use Rattle.map_graph.specs.Map.{count_taken, count_ways, ends_taken, graph_opening};
-ghost use Rattle.map_graph.specs.Map.{labels_opening, map_of_places, nodes_and_edges};
-ghost use Rattle.map_graph.specs.Map.{places_visited, seen_line, sums};
+ghost use Rattle.map_graph.specs.Map.{ends_taken, graph_opening, labels_opening};
+ghost use Rattle.map_graph.specs.Map.{map_of_places, nodes_and_edges, seen_counts, sums};
+ghost use Rattle.map_graph.specs.Parts.{drawn_places};
 ghost use Rattle.map_graph.specs.Places.{node};
 ghost use Rattle.map_graph.specs.Stops.{is_visited};
 ghost use Rattle.map_ways.specs.Ways.{ends_of_ways, mapped_places};
 
+use crate::captions::{SeenCounts, push_caption, push_seen_words};
 use crate::edges::push_edges;
 use crate::nodes::push_node;
+use crate::parts::drawn_places;
+use crate::sights::Sights;
 use crate::stops::{Stop, is_visited, is_way_taken};
 use base_lines::numbers::LAST_PLACE;
 use cave_data::Cave;
 use map_ways::{count_ends_of_ways, is_way, mapped_places};
+use play_command::MapPart;
 use std::alloc::{AllocError, Global};
 
 /// Appends how the graph begins.
@@ -25,11 +29,11 @@ fn push_graph_opening(text: &mut Vec<u8>) -> Result<(), AllocError>
 {
     text.extend_from_slice(
         b"digraph cave {\
-        \n  graph [layout=neato, model=subset, overlap=false, sep=\"+2\", splines=line];\
+        \n  graph [layout=neato, overlap=false, sep=\"+2\", splines=line, bgcolor=white];\
         \n  graph [outputorder=edgesfirst, size=\"16.1,11.2\", margin=0.2];\
         \n  node [shape=box, width=0.1, height=0.1, margin=\"0.04,0.03\"];\
         \n  node [style=filled, fillcolor=white, fontname=\"Helvetica\", fontsize=10];\
-        \n  edge [arrowsize=0.4];\n",
+        \n  edge [dir=both, arrowsize=0.4, arrowtail=none, arrowhead=none];\n",
     )
 }
 
@@ -43,17 +47,16 @@ fn push_labels_opening(text: &mut Vec<u8>) -> Result<(), AllocError>
 fn push_nodes(
     alloc: Global,
     cave: &Cave,
-    stops: &[Stop],
-    logs: usize,
-    places: &[u16],
+    mapped: &[u16],
+    sights: Sights<'_>,
     text: &mut Vec<u8>,
 ) -> Result<(), AllocError>
-    requires { All (λ place. place ≤ defined.LAST_PLACE) places.now }
-    ensures { OnOk result (text.new.items
-        ≡ text.old.items ++ flat_map (node cave.now stops.now logs) places.now) }
+    requires { All (λ place. place ≤ defined.LAST_PLACE) sights.places.now }
+    ensures { let saw = sights.entry in OnOk result (text.new.items ≡ text.old.items
+        ++ flat_map (node cave.now mapped.now saw.stops.now saw.logs) saw.places.now) }
 {
-    for place in places {
-        push_node(alloc, cave, stops, logs, *place, text)?;
+    for place in sights.places {
+        push_node(alloc, cave, mapped, sights, *place, text)?;
     }
     Ok(())
 }
@@ -61,17 +64,16 @@ fn push_nodes(
 fn push_all_edges(
     alloc: Global,
     cave: &Cave,
-    stops: &[Stop],
-    logs: usize,
-    places: &[u16],
+    sights: Sights<'_>,
     text: &mut Vec<u8>,
 ) -> Result<(), AllocError>
-    requires { All (λ place. place ≤ defined.LAST_PLACE) places.now }
-    ensures { OnOk result (text.new.items
-        ≡ text.old.items ++ flat_map (edges cave.now stops.now logs) places.now) }
+    requires { All (λ place. place ≤ defined.LAST_PLACE) sights.places.now }
+    ensures { let saw = sights.entry in OnOk result (text.new.items ≡ text.old.items
+        ++ flat_map (edges cave.now saw.stops.now saw.logs saw.is_seen_only saw.places.now)
+        saw.places.now) }
 {
-    for place in places {
-        push_edges(alloc, cave, stops, logs, *place, text)?;
+    for place in sights.places {
+        push_edges(alloc, cave, sights, *place, text)?;
     }
     Ok(())
 }
@@ -79,27 +81,18 @@ fn push_all_edges(
 fn push_nodes_and_edges(
     alloc: Global,
     cave: &Cave,
-    stops: &[Stop],
-    logs: usize,
-    places: &[u16],
+    mapped: &[u16],
+    sights: Sights<'_>,
     text: &mut Vec<u8>,
 ) -> Result<(), AllocError>
-    requires { All (λ place. place ≤ defined.LAST_PLACE) places.now }
-    ensures { OnOk result (text.new.items
-        ≡ text.old.items ++ nodes_and_edges cave.now stops.now logs places.now) }
+    requires { All (λ place. place ≤ defined.LAST_PLACE) sights.places.now }
+    ensures { let saw = sights.entry in OnOk result (text.new.items ≡ text.old.items
+        ++ nodes_and_edges cave.now mapped.now saw.stops.now saw.logs saw.is_seen_only
+        saw.places.now) }
 {
-    push_nodes(alloc, cave, stops, logs, places, text)?;
+    push_nodes(alloc, cave, mapped, sights, text)?;
     push_labels_opening(text)?;
-    push_all_edges(alloc, cave, stops, logs, places, text)
-}
-
-/// How many places and ways there are, and how many of them plays saw.
-#[derive(Clone, Copy)]
-struct SeenCounts {
-    visited: usize,
-    places: usize,
-    taken: usize,
-    ways: usize,
+    push_all_edges(alloc, cave, sights, text)
 }
 
 /// How many of these places plays were at.
@@ -139,95 +132,95 @@ fn count_taken_and_all(cave: &Cave, stops: &[Stop], places: &[u16]) -> (usize, u
     (taken, all)
 }
 
-/// How many of the places and the ways of a map plays saw.
-fn count_seen(cave: &Cave, stops: &[Stop], places: &[u16]) -> SeenCounts
-    requires { places.now ≡ mapped_places cave.now }
-    ensures visited { result.visited ≡ length (places_visited cave.now stops.now) }
-    ensures places { result.places ≡ length (mapped_places cave.now) }
-    ensures taken { result.taken ≡ count_taken cave.now stops.now }
-    ensures ways { result.ways ≡ count_ways cave.now }
+/// How many of a cave's places and ways plays saw.
+fn seen_counts(cave: &Cave, stops: &[Stop], mapped: &[u16]) -> SeenCounts
+    requires { mapped.now ≡ mapped_places cave.now }
+    ensures { result ≡ seen_counts cave.now stops.now }
 {
-    let (taken, ways) = count_taken_and_all(cave, stops, places);
+    let (taken, ways) = count_taken_and_all(cave, stops, mapped);
     SeenCounts {
-        visited: count_visited(cave, stops, places),
-        places: places.len(),
+        visited: count_visited(cave, stops, mapped),
+        places: mapped.len(),
         taken,
         ways,
     }
 }
 
-/// Appends the line about what plays of this many logs saw.
-fn push_seen_line(
-    alloc: Global,
-    counts: &SeenCounts,
-    logs: usize,
-    text: &mut Vec<u8>,
-) -> Result<(), AllocError>
-    ensures { let seen = counts.now in OnOk result (text.new.items ≡ text.old.items
-        ++ seen_line seen.visited seen.places seen.taken seen.ways logs) }
-{
-    let SeenCounts {
-        visited,
-        places,
-        taken,
-        ways,
-    } = *counts;
-    let line = format!(in alloc;
-        "// -- {visited} of {places} places, {taken} of {ways} ways in {logs} logs\n"
-    )?;
-    text.extend_from_slice(line.as_bytes())
-}
-
 /// Appends the line that sums up what plays saw, if there were logs.
-#[tactic(auto, unfolding(crate::specs::Map::sums))]
 fn push_sums(
     alloc: Global,
-    cave: &Cave,
-    stops: &[Stop],
+    counts: SeenCounts,
     logs: usize,
-    places: &[u16],
     text: &mut Vec<u8>,
 ) -> Result<(), AllocError>
-    requires { places.now ≡ mapped_places cave.now }
-    ensures { OnOk result (text.new.items ≡ text.old.items ++ sums cave.now stops.now logs) }
+    ensures { OnOk result (text.new.items ≡ text.old.items ++ sums counts logs) }
 {
     if logs == 0 {
         return Ok(());
     }
-    push_seen_line(alloc, &count_seen(cave, stops, places), logs, text)
+    text.extend_from_slice(b"// -- ")?;
+    push_seen_words(alloc, counts, logs, text)?;
+    text.extend_from_slice(b"\n")
 }
 
-/// Appends the map of a cave, which has these places.
-#[tactic(auto, unfolding(crate::specs::Map::map_of_places))]
+/// Appends the places and edges of a part of a cave, which has these places on its map.
+fn push_part(
+    alloc: Global,
+    cave: &Cave,
+    mapped: &[u16],
+    stops: &[Stop],
+    drawn: (MapPart, usize),
+    text: &mut Vec<u8>,
+) -> Result<(), AllocError>
+    requires { mapped.now ≡ mapped_places cave.now }
+    ensures { OnOk result (text.new.items ≡ text.old.items
+        ++ nodes_and_edges cave.now mapped.now stops.now drawn.1 drawn.0.seen
+        (drawn_places cave.now stops.now drawn.0 mapped.now)) }
+{
+    let (part, logs) = drawn;
+    let places = drawn_places(alloc, cave, stops, part, mapped)?;
+    let sights = Sights {
+        stops,
+        logs,
+        is_seen_only: part.seen,
+        places: &places,
+    };
+    push_nodes_and_edges(alloc, cave, mapped, sights, text)
+}
+
+/// Appends the map of a cave, or a part of it, which has these places.
 fn push_map_of_places(
     alloc: Global,
     cave: &Cave,
+    mapped: &[u16],
     stops: &[Stop],
-    logs: usize,
-    places: &[u16],
+    drawn: (MapPart, usize),
     text: &mut Vec<u8>,
 ) -> Result<(), AllocError>
-    requires { places.now ≡ mapped_places cave.now }
+    requires { mapped.now ≡ mapped_places cave.now }
     ensures { OnOk result (text.new.items
-        ≡ text.old.items ++ map_of_places cave.now stops.now logs) }
+        ≡ text.old.items ++ map_of_places cave.now stops.now drawn.0 drawn.1) }
 {
+    let counts = seen_counts(cave, stops, mapped);
     push_graph_opening(text)?;
-    push_nodes_and_edges(alloc, cave, stops, logs, places, text)?;
+    push_caption(alloc, counts, drawn.1, drawn.0, text)?;
+    push_part(alloc, cave, mapped, stops, drawn, text)?;
     text.extend_from_slice(b"}\n")?;
-    push_sums(alloc, cave, stops, logs, places, text)
+    push_sums(alloc, counts, drawn.1, text)
 }
 
-/// Appends the map of a cave, if plays of this many logs had these stops.
+/// Appends the map of a cave, or a part of it, if plays of this many logs had these stops.
 pub fn push_map(
     alloc: Global,
     cave: &Cave,
     stops: &[Stop],
+    part: MapPart,
     logs: usize,
     text: &mut Vec<u8>,
 ) -> Result<(), AllocError>
     ensures { OnOk result (text.new.items
-        ≡ text.old.items ++ map_of_places cave.now stops.now logs) }
+        ≡ text.old.items ++ map_of_places cave.now stops.now part logs) }
 {
-    let places = mapped_places(alloc, cave)?;
-    push_map_of_places(alloc, cave, stops, logs, &places, text)
+    let mapped = mapped_places(alloc, cave)?;
+    push_map_of_places(alloc, cave, &mapped, stops, (part, logs), text)
 }

@@ -14,6 +14,7 @@ ghost use Rattle.map_graph.specs.Places.{objects_beginning, role_label_line, sta
 ghost use Rattle.map_graph.specs.Places.{title_line, visits_label_line};
 
 use crate::names::{number_of_object, push_word_or_number};
+use crate::sights::Sights;
 use crate::stops::{Stop, is_visited, visits};
 use crate::titles::push_title;
 use base_lines::numbers::LAST_OBJECT;
@@ -131,14 +132,16 @@ fn push_visits_label_line(alloc: Global, count: usize, text: &mut Vec<u8>) -> Re
 fn push_title_line(
     alloc: Global,
     cave: &Cave,
+    mapped: &[u16],
     place: u16,
     text: &mut Vec<u8>,
 ) -> Result<(), AllocError>
-    ensures { OnOk result (text.new.items ≡ text.old.items ++ title_line cave.now place) }
+    ensures { OnOk result
+        (text.new.items ≡ text.old.items ++ title_line cave.now mapped.now place) }
 {
     let number = format!(in alloc; "{place}")?;
     text.extend_from_slice(number.as_bytes())?;
-    push_title(cave, place, text)?;
+    push_title(cave, mapped, place, text)?;
     text.extend_from_slice(b"\n")
 }
 
@@ -160,13 +163,15 @@ fn push_objects_beginning(
 fn push_stay_text(
     alloc: Global,
     cave: &Cave,
+    mapped: &[u16],
     stops: &[Stop],
     place: u16,
     text: &mut Vec<u8>,
 ) -> Result<(), AllocError>
-    ensures { OnOk result (text.new.items ≡ text.old.items ++ stay_text cave.now stops.now place) }
+    ensures { OnOk result
+        (text.new.items ≡ text.old.items ++ stay_text cave.now mapped.now stops.now place) }
 {
-    push_title_line(alloc, cave, place, text)?;
+    push_title_line(alloc, cave, mapped, place, text)?;
     push_objects_beginning(alloc, cave, place, text)?;
     push_roles_of_place(cave, place, text)?;
     push_visits_label_line(alloc, visits(stops, place), text)
@@ -184,17 +189,19 @@ fn push_number(alloc: Global, number: u16, text: &mut Vec<u8>) -> Result<(), All
 fn push_node_text(
     alloc: Global,
     cave: &Cave,
+    mapped: &[u16],
     stops: &[Stop],
     place: u16,
     text: &mut Vec<u8>,
 ) -> Result<(), AllocError>
     requires { place ≤ LAST_PLACE }
-    ensures { OnOk result (text.new.items ≡ text.old.items ++ node_text cave.now stops.now place) }
+    ensures { OnOk result
+        (text.new.items ≡ text.old.items ++ node_text cave.now mapped.now stops.now place) }
 {
     if forced(cave, Place::new(place)) {
         return push_number(alloc, place, text);
     }
-    push_stay_text(alloc, cave, stops, place, text)
+    push_stay_text(alloc, cave, mapped, stops, place, text)
 }
 
 /// How a place looks: one of a forced motion is a small circle, and one without light is dark.
@@ -250,16 +257,17 @@ fn push_node_opening(alloc: Global, place: u16, text: &mut Vec<u8>) -> Result<()
 fn push_node_label(
     alloc: Global,
     cave: &Cave,
+    mapped: &[u16],
     stops: &[Stop],
     place: u16,
     text: &mut Vec<u8>,
 ) -> Result<(), AllocError>
     requires { place ≤ LAST_PLACE }
-    ensures { OnOk result
-        (text.new.items ≡ text.old.items ++ label_of (node_text cave.now stops.now place)) }
+    ensures { OnOk result (text.new.items
+        ≡ text.old.items ++ label_of (node_text cave.now mapped.now stops.now place)) }
 {
     let mut label = Vec::new(alloc);
-    push_node_text(alloc, cave, stops, place, &mut label)?;
+    push_node_text(alloc, cave, mapped, stops, place, &mut label)?;
     push_label(&label, text)
 }
 
@@ -277,18 +285,22 @@ fn push_node_end(alloc: Global, count: usize, text: &mut Vec<u8>) -> Result<(), 
 pub fn push_node(
     alloc: Global,
     cave: &Cave,
-    stops: &[Stop],
-    logs: usize,
+    mapped: &[u16],
+    sights: Sights<'_>,
     place: u16,
     text: &mut Vec<u8>,
 ) -> Result<(), AllocError>
     requires { place ≤ LAST_PLACE }
     ensures { OnOk result
-        (text.new.items ≡ text.old.items ++ node cave.now stops.now logs place) }
+        (text.new.items
+        ≡ text.old.items ++ node cave.now mapped.now sights.entry.stops.now sights.entry.logs place) }
 {
     push_node_opening(alloc, place, text)?;
-    push_node_label(alloc, cave, stops, place, text)?;
+    push_node_label(alloc, cave, mapped, sights.stops, place, text)?;
     text.extend_from_slice(look_of_place(cave, place).as_bytes())?;
-    text.extend_from_slice(strength(logs, is_visited(cave, stops, place)).as_bytes())?;
+    text.extend_from_slice(strength(
+        sights.logs,
+        is_visited(cave, sights.stops, place),
+    ).as_bytes())?;
     push_node_end(alloc, count_nowhere(cave, place), text)
 }

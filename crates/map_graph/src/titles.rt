@@ -1,16 +1,21 @@
-//! The title of a place: the first words of its text.
+//! The title of a place: the first words of its text, as many as tell it from other places.
 
-ghost use Rattle.std.specs.Prelude.{◌≡◌, ◌++◌, OnOk};
-ghost use Rattle.map_graph.specs.Titles.{first_words_shown, or_other, text_for_title, title};
-ghost use Rattle.map_graph.specs.Titles.{word_start};
+ghost use Rattle.std.specs.Prelude.{◌≡◌, ◌≤◌, ◌++◌, OnOk};
+ghost use Rattle.map_graph.specs.Titles.{count_shared, first_words, greater_of, is_shared, or_other};
+ghost use Rattle.map_graph.specs.Titles.{text_for_title, title, title_source, word_start};
+ghost use Rattle.map_graph.specs.Titles.{words_as_shown, words_of_line, words_telling};
+ghost use Rattle.map_graph.specs.Titles.{words_telling_all};
 
 use base_lines::bytes::{skip_blanks, split_word};
 use cave_data::Cave;
 use data_bindings::first_line;
 use std::alloc::AllocError;
 
-/// How many words of a text are on the map.
+/// How many words a title has, if these tell it from the others.
 const WORDS_SHOWN: usize = 8;
+
+/// How many words of a line are looked at.
+const MAX_TITLE_WORDS: usize = 40;
 
 /// The most words of a title on a line.
 const WORDS_PER_LINE: usize = 3;
@@ -29,6 +34,14 @@ fn text_for_title(cave: &Cave, place: u16) -> &[u8]
     or_other(short, cave.long(place).unwrap_or(&[]))
 }
 
+/// The line that a title is taken from: the first of that text.
+#[tactic(auto, unfolding(crate::specs::Titles::title_source))]
+fn title_source(cave: &Cave, place: u16) -> &[u8]
+    ensures { result.now ≡ title_source cave.now place }
+{
+    first_line(text_for_title(cave, place))
+}
+
 /// What comes before a word that follows this many others.
 fn word_start(shown: usize) -> &'static str
     ensures { result.now ≡ word_start shown }
@@ -40,13 +53,13 @@ fn word_start(shown: usize) -> &'static str
     }
 }
 
-/// Appends the first words of a line. Blanks between them are one.
-#[tactic(auto, unfolding(crate::specs::Titles::first_words_shown))]
-fn push_first_words(line: &[u8], text: &mut Vec<u8>) -> Result<(), AllocError>
-    ensures { OnOk result (text.new.items ≡ text.old.items ++ first_words_shown line.now) }
+/// Appends the first words of a line, at most this many. Blanks between them are one.
+fn push_first_words(line: &[u8], most: usize, text: &mut Vec<u8>) -> Result<(), AllocError>
+    ensures { OnOk result
+        (text.new.items ≡ text.old.items ++ words_as_shown 0 (first_words most line.now)) }
 {
     let mut rest = line;
-    for shown in 0..WORDS_SHOWN {
+    for shown in 0..most {
         let (word, after) = split_word(skip_blanks(rest));
         if word.is_empty() {
             return Ok(());
@@ -58,9 +71,70 @@ fn push_first_words(line: &[u8], text: &mut Vec<u8>) -> Result<(), AllocError>
     Ok(())
 }
 
-/// Appends the title of a place.
-pub fn push_title(cave: &Cave, place: u16, text: &mut Vec<u8>) -> Result<(), AllocError>
-    ensures { OnOk result (text.new.items ≡ text.old.items ++ title cave.now place) }
+/// Whether there is a word, and it is the same as the other.
+fn is_shared(word: &[u8], other: &[u8]) -> bool
+    ensures { result ≡ is_shared word.now other.now }
 {
-    push_first_words(first_line(text_for_title(cave, place)), text)
+    !word.is_empty() && word == other
+}
+
+/// With how many of the same words two lines begin.
+#[tactic(auto, unfolding(crate::specs::Titles::words_of_line))]
+fn count_shared(line: &[u8], other: &[u8]) -> usize
+    ensures value { result ≡ count_shared (words_of_line line.now) (words_of_line other.now) }
+    ensures within { result ≤ 40 }
+{
+    let (mut rest, mut rest_of_other) = (line, other);
+    for shared in 0..MAX_TITLE_WORDS {
+        let (word, after) = split_word(skip_blanks(rest));
+        let (word_of_other, after_other) = split_word(skip_blanks(rest_of_other));
+        if !is_shared(word, word_of_other) {
+            return shared;
+        }
+        rest = after;
+        rest_of_other = after_other;
+    }
+    MAX_TITLE_WORDS
+}
+
+/// How many words tell a place from another: one more than both begin with.
+fn words_telling(cave: &Cave, place: u16, other: u16) -> usize
+    ensures { result ≡ words_telling cave.now place other }
+{
+    if place == other {
+        return 0;
+    }
+    count_shared(title_source(cave, place), title_source(cave, other)) + 1
+}
+
+fn greater_of(one: usize, other: usize) -> usize
+    ensures { result ≡ greater_of one other }
+{
+    if one < other { other } else { one }
+}
+
+/// How many words tell a place from each of others, and at least as many as a title has.
+fn words_telling_all(cave: &Cave, place: u16, others: &[u16]) -> usize
+    ensures { result ≡ words_telling_all cave.now place 8 others.now }
+{
+    let mut least = WORDS_SHOWN;
+    for other in others {
+        least = greater_of(least, words_telling(cave, place, *other));
+    }
+    least
+}
+
+/// Appends the title of a place among others.
+#[tactic(auto, unfolding(crate::specs::Titles::title))]
+pub fn push_title(
+    cave: &Cave,
+    places: &[u16],
+    place: u16,
+    text: &mut Vec<u8>,
+) -> Result<(), AllocError>
+    ensures { OnOk result
+        (text.new.items ≡ text.old.items ++ title cave.now places.now place) }
+{
+    let most = words_telling_all(cave, place, places);
+    push_first_words(title_source(cave, place), most, text)
 }

@@ -1,5 +1,4 @@
 pub mod Rows
-pub mod Pairs
 pub mod Counts
 pub mod WayLemmas
 pub mod States

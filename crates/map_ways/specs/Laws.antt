@@ -11,7 +11,7 @@ use Rattle.cave_world.specs.Motions.{any_motion}
 use Rattle.cave_world.specs.Travel.{lists_motion, travel}
 use Rattle.map_ways.specs.Falls.{motions_taking}
 use Rattle.map_ways.specs.Leads.{CanLead, IsStateAt, emerald_of}
-use Rattle.map_ways.specs.Ways.{ends_at, ends_of_edges, is_both_ways, is_mapped, is_way}
+use Rattle.map_ways.specs.Ways.{are_joined, ends_at, ends_of_edges, is_mapped, is_way}
 use Rattle.map_ways.specs.Ways.{mapped_places}
 
 abbrev pub IsPlaceNumber : ℕ → Type 0
@@ -32,19 +32,19 @@ EachPlaceHasOneNode =
     → IsPlaceNumber place
     → count_of place (mapped_places cave) ≡ count_if (is_mapped cave place)
 
--- how many edges are for the way: those from its place, and those back if they are for both
+-- how many edges are between two places: those of the one, and those of the other if it is another
 abbrev pub count_edges_of : CaveView → ℕ → ℕ → ℕ
 count_edges_of cave from to =
     count_of to (ends_of_edges cave from)
-    + (if is_both_ways cave to from then count_of from (ends_of_edges cave to) else 0)
+    + (if from == to then 0 else count_of from (ends_of_edges cave to))
 
--- each way has one edge, and there is none where no row leads
+-- each way has one edge, which is also that of the way back, and where no way leads there is none
 abbrev pub EachWayHasOneEdge : Type 0
 EachWayHasOneEdge =
     (cave : CaveView) (from to : ℕ)
     → IsPlaceNumber from
     → IsPlaceNumber to
-    → count_edges_of cave from to ≡ count_if (is_way cave from to)
+    → count_edges_of cave from to ≡ count_if (are_joined cave from to)
 
 -- each place from or to which a way leads is on the map
 abbrev pub EndsAreNodes : Type 0

@@ -1,18 +1,15 @@
 -- Places of a cave, and the ways between them.
-use Rattle.std.specs.Prelude.{ℕ, Bool, true, false, ◌==◌, ◌&&◌, ◌||◌, not, nat_le, is_some}
+use Rattle.std.specs.Prelude.{ℕ, Bool, true, false, ◌==◌, ◌&&◌, ◌||◌, nat_le, is_some}
 use Rattle.std.specs.Prelude.{List, [], ◌∷◌, ◌++◌, length}
-use Rattle.std.specs.List.{filter, list_all, list_any, range_with_len}
+use Rattle.std.specs.List.{filter, list_any, range_with_len}
 use Rattle.std.specs.FinMap as map
 use Rattle.data_rows.specs.Rows.{Going}
 use Rattle.data_rows.specs.Targets.{leads_to_place}
-use Rattle.data_rows.specs.declared.targets.Condition.{Condition}
-use Rattle.data_rows.specs.declared.targets.Condition.TheVariants.{Always, NotForDwarves}
 use Rattle.data_rows.specs.declared.targets.Destination.{Destination}
 use Rattle.data_rows.specs.declared.targets.Destination.TheVariants.{Place}
-use Rattle.data_rows.specs.contracts.targets.ConditionPartialEq.TheImpl as condition_eq
 use Rattle.cave_data.specs.CaveView.{CaveView, ways_from}
 use Rattle.base_lines.specs.Numbers.{LAST_PLACE}
-use Rattle.cave_world.specs.Travel.{row_condition, row_destination}
+use Rattle.cave_world.specs.Travel.{row_destination}
 use Rattle.map_ways.specs.Falls.{is_reached}
 use Rattle.map_ways.specs.Leads.{emerald_of}
 
@@ -35,10 +32,13 @@ lead_to emerald place before (row ∷ rows) =
 abbrev pub is_way : CaveView → ℕ → ℕ → Bool
 is_way cave from to = lead_to (emerald_of cave) to [] (ways_from cave from)
 
+-- a way leads from one of the two places to the other
+abbrev pub are_joined : CaveView → ℕ → ℕ → Bool
+are_joined cave from to = is_way cave from to || is_way cave to from
+
 -- a way begins or ends at the place
 abbrev pub has_way : CaveView → ℕ → Bool
-has_way cave place =
-    list_any (λ other. is_way cave place other || is_way cave other place) place_numbers
+has_way cave place = list_any (are_joined cave place) place_numbers
 
 -- a place is on the map if it has a text, or a way
 abbrev pub is_mapped : CaveView → ℕ → Bool
@@ -62,42 +62,9 @@ leads_nowhere row = is_no_place (row_destination row)
 abbrev pub count_nowhere : CaveView → ℕ → ℕ
 count_nowhere cave place = length (filter leads_nowhere (ways_from cave place))
 
--- a condition for a player, for whom that of dwarves holds always
-abbrev pub for_player : Condition → Condition
-for_player NotForDwarves = Always
-for_player condition = condition
-
-abbrev pub condition_for_player : Going → Condition
-condition_for_player row = for_player (row_condition row)
-
-abbrev pub is_same_condition : Condition → Condition → Bool
-is_same_condition = condition_eq.eq-value.it
-
-abbrev pub have_condition : Condition → ℕ → List Going → Bool
-have_condition condition place rows =
-    list_all (λ row. not (ends_at place row)
-    || is_same_condition (condition_for_player row) condition) rows
-
--- all rows that lead to a place, and all others that lead back, have one condition
-abbrev pub rows_agree : ℕ → ℕ → List Going → List Going → Bool
-rows_agree to from rows others =
-    list_all (λ row. not (ends_at to row)
-    || have_condition (condition_for_player row) from others) rows
-
--- the rows from each of two places to the other have one condition
-abbrev pub have_one_condition : CaveView → ℕ → ℕ → Bool
-have_one_condition cave from to = rows_agree to from (ways_from cave from) (ways_from cave to)
-
--- the ways from a place to another one and back are drawn as one
-abbrev pub is_both_ways : CaveView → ℕ → ℕ → Bool
-is_both_ways cave from to =
-    not (from == to) && is_way cave from to && is_way cave to from
-    && have_one_condition cave from to
-
--- the way begins an edge of its place: if one edge is for both ways, it belongs to the lower place
+-- the way begins the edge of two places between which ways lead: it belongs to the lower of them
 abbrev pub begins_edge : CaveView → ℕ → ℕ → Bool
-begins_edge cave from to =
-    is_way cave from to && (nat_le from to || not (is_both_ways cave from to))
+begins_edge cave from to = nat_le from to && are_joined cave from to
 
 -- the other ends of the edges of a place
 unfoldable pub ends_of_edges : CaveView → ℕ → List ℕ

@@ -9,7 +9,7 @@ pub fn each_place_has_one_node()
     ensures { EachPlaceHasOneNode }
 {}
 
-/// Each way has one edge, and there is none where no row leads.
+/// Each way has one edge, which is that of the way back too, and there is none where no way leads.
 pub fn each_way_has_one_edge()
     ensures { EachWayHasOneEdge }
 {}

@@ -12,5 +12,5 @@ pub mod ways;
 pub use falls::motions_taking;
 pub use labels::push_label;
 pub use ways::{
-    count_ends_of_ways, count_nowhere, ends_at, ends_of_edges, is_both_ways, is_way, mapped_places,
+    are_joined, count_ends_of_ways, count_nowhere, ends_at, ends_of_edges, is_way, mapped_places,
 };

@@ -5,15 +5,14 @@ ghost use Rattle.std.specs.List.{filter};
 ghost use Rattle.base_lines.specs.Numbers as defined;
 ghost use Rattle.data_rows.specs.RowViews.{going};
 ghost use Rattle.map_ways.specs.Leads.{emerald_of};
-ghost use Rattle.map_ways.specs.Ways.{begins_edge, condition_for_player, count_nowhere};
-ghost use Rattle.map_ways.specs.Ways.{ends_of_edges, ends_of_ways, has_way, have_condition};
-ghost use Rattle.map_ways.specs.Ways.{have_one_condition, is_both_ways, is_mapped, is_way, lead_to};
-ghost use Rattle.map_ways.specs.Ways.{ends_at, leads_nowhere, mapped_places, rows_agree};
+ghost use Rattle.map_ways.specs.Ways.{are_joined, begins_edge, count_nowhere, ends_at};
+ghost use Rattle.map_ways.specs.Ways.{ends_of_edges, ends_of_ways, has_way, is_mapped, is_way};
+ghost use Rattle.map_ways.specs.Ways.{lead_to, leads_nowhere, mapped_places};
 
 use crate::falls::is_reached;
 use base_lines::numbers::LAST_PLACE;
 use cave_data::Cave;
-use data_rows::{Condition, Destination, Row};
+use data_rows::{Destination, Row};
 use std::alloc::{AllocError, Global};
 
 /// Whether a row leads to a place.
@@ -42,12 +41,19 @@ fn lead_to(cave: &Cave, rows: &[Row], place: u16) -> bool
     false
 }
 
+/// Whether a way leads from one of two places to the other.
+pub fn are_joined(cave: &Cave, from: u16, to: u16) -> bool
+    ensures { result ≡ are_joined cave.now from to }
+{
+    is_way(cave, from, to) || is_way(cave, to, from)
+}
+
 /// Whether a way begins or ends at a place.
 #[tactic(auto, unfolding(crate::specs::Ways::place_numbers))]
 fn has_way(cave: &Cave, place: u16) -> bool
     ensures { result ≡ has_way cave.now place }
 {
-    (1..LAST_PLACE + 1).any(|other| is_way(cave, place, other) || is_way(cave, other, place))
+    (1..LAST_PLACE + 1).any(|other| are_joined(cave, place, other))
 }
 
 fn is_mapped(cave: &Cave, place: u16) -> bool
@@ -100,52 +106,11 @@ fn count_leading_nowhere(rows: &[Row]) -> usize
     rows.iter().filter(|row| leads_nowhere(*row)).count()
 }
 
-fn condition_for_player(row: &Row) -> Condition
-    ensures { result ≡ condition_for_player (going row.now) }
-{
-    match row.condition() {
-        Condition::NotForDwarves => Condition::Always,
-        condition => condition,
-    }
-}
-
-fn have_condition(rows: &[Row], place: u16, condition: Condition) -> bool
-    ensures { result ≡ have_condition condition place (map going rows.now) }
-{
-    rows.iter().all(|row| !ends_at(row, place) || condition_for_player(row) == condition)
-}
-
-/// Whether the rows from each of two places to the other have one condition.
-fn have_one_condition(cave: &Cave, from: u16, to: u16) -> bool
-    ensures { result ≡ have_one_condition cave.now from to }
-{
-    rows_agree(cave.travel(from), to, cave.travel(to), from)
-}
-
-/// Whether all rows that lead to a place, and all others that lead back, have one condition.
-fn rows_agree(rows: &[Row], to: u16, others: &[Row], from: u16) -> bool
-    ensures { result ≡ rows_agree to from (map going rows.now) (map going others.now) }
-{
-    rows.iter().all(|row| {
-        !ends_at(row, to) || have_condition(others, from, condition_for_player(row))
-    })
-}
-
-/// Whether the ways from a place to another one and back are drawn as one.
-pub fn is_both_ways(cave: &Cave, from: u16, to: u16) -> bool
-    ensures { result ≡ is_both_ways cave.now from to }
-{
-    from != to
-        && is_way(cave, from, to)
-        && is_way(cave, to, from)
-        && have_one_condition(cave, from, to)
-}
-
-/// Whether a way begins an edge of its place.
+/// Whether a way begins the edge of two places between which ways lead.
 fn begins_edge(cave: &Cave, from: u16, to: u16) -> bool
     ensures { result ≡ begins_edge cave.now from to }
 {
-    is_way(cave, from, to) && (from <= to || !is_both_ways(cave, from, to))
+    from <= to && are_joined(cave, from, to)
 }
 
 /// The other ends of the edges of a place.

@@ -1,14 +1,20 @@
 -- Maps by stops that say the same of each place and of each way are the same.
-use Rattle.std.proofs.Common.{◌≡◌, ℕ, Bool, cond, List, [], ◌∷◌, length, refl, ap, ap₂}
+use Rattle.std.proofs.Common.{◌≡◌, ℕ, Bool, cond, List, [], ◌∷◌, ◌++◌, length, refl, ap, ap₂, ◌∙◌}
+use Rattle.std.specs.Prelude.{◌&&◌, ◌||◌, not, nat_lt, codes, if◌then◌else◌}
 use Rattle.std.specs.List.{filter}
 use Rattle.play_logs.proofs.Lists.{agree_flat, agree_sum}
 use Rattle.cave_data.specs.CaveView.{CaveView}
-use Rattle.map_graph.specs.Edges.{edge, edges}
-use Rattle.map_graph.specs.Map.{count_taken, ends_taken, map_of_places, places_visited, sums}
+use Rattle.map_graph.specs.Captions.{caption}
+use Rattle.map_graph.specs.Edges.{MAX_EDGES_WITH_TEXT, drawn_edge, edge, edges, is_crowded, is_shown}
+use Rattle.map_graph.specs.Edges.{labelled_edge, plain_edge}
+use Rattle.map_graph.specs.Map.{count_taken, drawing, ends_taken, graph_opening, labels_opening}
+use Rattle.map_graph.specs.Map.{map_of_places, nodes_and_edges, places_visited, seen_counts, sums}
+use Rattle.map_graph.specs.Parts.{drawn_places, is_one_of, places_around}
 use Rattle.map_graph.specs.Places.{node, node_text, stay_text}
 use Rattle.map_graph.specs.Stops.{is_way_taken, is_visited, visits}
-use Rattle.map_ways.specs.Ways.{ends_of_edges, ends_of_ways, mapped_places}
+use Rattle.play_command.specs.declared.map_part.MapPart.{MapPart}
 use Rattle.map_graph.specs.declared.stops.Stop.{Stop}
+use Rattle.map_ways.specs.Ways.{are_joined, ends_of_edges, ends_of_ways, mapped_places}
 
 agree_filter : {X : Type 0} (p q : X → Bool) (xs : List X) → ((x : X) → p x ≡ q x)
     → filter p xs ≡ filter q xs
@@ -20,18 +26,43 @@ module _ (cave : CaveView) (stops others : List Stop)
     (visited : (place : ℕ) → is_visited cave stops place ≡ is_visited cave others place)
     (taken : (from to : ℕ) → is_way_taken cave stops from to ≡ is_way_taken cave others from to)
     (counted : (place : ℕ) → visits stops place ≡ visits others place) where
-  agree_node : (logs place : ℕ) → node cave stops logs place ≡ node cave others logs place
+  agree_node : (mapped : List ℕ) (logs place : ℕ)
+      → node cave mapped stops logs place ≡ node cave mapped others logs place
   unfolding node node_text stay_text
-  agree_node logs place = rw (visited place, counted place) refl
+  agree_node mapped logs place = rw (visited place, counted place) refl
 
-  agree_edge : (logs from to : ℕ) → edge cave stops logs from to ≡ edge cave others logs from to
-  unfolding edge
-  agree_edge logs from to = rw (taken from to, taken to from) refl
+  agree_shown : (seen : Bool) (from to : ℕ)
+      → is_shown cave stops seen from to ≡ is_shown cave others seen from to
+  agree_shown seen from to = rw (taken from to, taken to from) refl
 
-  agree_edges : (logs from : ℕ) → edges cave stops logs from ≡ edges cave others logs from
-  agree_edges logs from =
-      agree_flat (edge cave stops logs from) (edge cave others logs from)
-      (ends_of_edges cave from) (agree_edge logs from)
+  agree_crowded : (seen : Bool) (places : List ℕ) (place : ℕ)
+      → is_crowded cave stops seen places place ≡ is_crowded cave others seen places place
+  agree_crowded seen places place =
+      ap (λ found. nat_lt MAX_EDGES_WITH_TEXT (length found))
+      (agree_filter _ _ places
+      (λ other. ap (λ b. are_joined cave place other && b) (agree_shown seen place other)))
+
+  agree_edge : (logs : ℕ) (is_plain : Bool) (from to : ℕ)
+      → edge cave stops logs is_plain from to ≡ edge cave others logs is_plain from to
+  unfolding plain_edge labelled_edge
+  agree_edge logs is_plain from to = rw (taken from to, taken to from) refl
+
+  agree_drawn : (logs : ℕ) (seen : Bool) (places : List ℕ) (from to : ℕ)
+      → drawn_edge cave stops logs seen places from to
+      ≡ drawn_edge cave others logs seen places from to
+  agree_drawn logs seen places from to =
+      let plain = ap₂ (λ a b. a && b) (agree_crowded seen places from)
+      (agree_crowded seen places to) in
+      ap₂ (λ shown line. if is_one_of places to && shown then line else [])
+      (agree_shown seen from to)
+      (ap (λ p. edge cave stops logs p from to) plain ∙ agree_edge logs _ from to)
+
+  agree_edges : (logs : ℕ) (seen : Bool) (places : List ℕ) (from : ℕ)
+      → edges cave stops logs seen places from ≡ edges cave others logs seen places from
+  agree_edges logs seen places from =
+      agree_flat (drawn_edge cave stops logs seen places from)
+      (drawn_edge cave others logs seen places from) (ends_of_edges cave from)
+      (agree_drawn logs seen places from)
 
   agree_visited : places_visited cave stops ≡ places_visited cave others
   unfolding places_visited
@@ -52,17 +83,38 @@ module _ (cave : CaveView) (stops others : List Stop)
       (λ from. length (ends_taken cave others from)) (mapped_places cave)
       (λ from. ap length (agree_taken from))
 
-  agree_sums : (logs : ℕ) → sums cave stops logs ≡ sums cave others logs
-  unfolding sums
-  agree_sums logs = rw (agree_visited, agree_count) refl
+  agree_counts : seen_counts cave stops ≡ seen_counts cave others
+  unfolding seen_counts
+  agree_counts = rw (agree_visited, agree_count) refl
 
-  pub agree_map : (logs : ℕ) → map_of_places cave stops logs ≡ map_of_places cave others logs
+  agree_places : (part : MapPart) (mapped : List ℕ)
+      → drawn_places cave stops part mapped ≡ drawn_places cave others part mapped
+  unfolding drawn_places
+  agree_places part mapped =
+      agree_filter _ _ (places_around cave mapped part.around)
+      (λ place. ap (λ b. not part.seen || b) (visited place))
+
+  agree_parts : (mapped : List ℕ) (logs : ℕ) (seen : Bool) (places : List ℕ)
+      → nodes_and_edges cave mapped stops logs seen places
+      ≡ nodes_and_edges cave mapped others logs seen places
+  agree_parts mapped logs seen places =
+      ap₂ (λ nodes lines. nodes ++ (labels_opening ++ lines))
+      (agree_flat (node cave mapped stops logs) (node cave mapped others logs) places
+      (agree_node mapped logs))
+      (agree_flat (edges cave stops logs seen places) (edges cave others logs seen places) places
+      (agree_edges logs seen places))
+
+  agree_drawing : (mapped : List ℕ) (part : MapPart) (logs : ℕ)
+      → drawing cave mapped stops part logs ≡ drawing cave mapped others part logs
+  unfolding drawing
+  agree_drawing mapped part logs =
+      ap₂ (λ counts lines. caption counts logs part ++ lines) agree_counts
+      (ap (nodes_and_edges cave mapped stops logs part.seen) (agree_places part mapped)
+      ∙ agree_parts mapped logs part.seen (drawn_places cave others part mapped))
+
+  pub agree_map : (part : MapPart) (logs : ℕ)
+      → map_of_places cave stops part logs ≡ map_of_places cave others part logs
   unfolding map_of_places
-  agree_map logs =
-      rw (
-        agree_flat (node cave stops logs) (node cave others logs) (mapped_places cave)
-            (agree_node logs),
-        agree_flat (edges cave stops logs) (edges cave others logs) (mapped_places cave)
-            (agree_edges logs),
-        agree_sums logs,
-      ) refl
+  agree_map part logs =
+      ap₂ (λ lines counts. graph_opening ++ (lines ++ (codes "}\n" ++ sums counts logs)))
+      (agree_drawing (mapped_places cave) part logs) agree_counts

@@ -48,17 +48,17 @@ count_in_order cave seed test logs others shuffled =
     ∙ sym (count_flat test (stops_in_log cave seed) logs)
 
 pub order_of_logs_is_nothing : OrderOfLogsIsNothing
-order_of_logs_is_nothing cave seed logs others shuffled =
+order_of_logs_is_nothing cave seed part logs others shuffled =
     agree_map cave (stops_in_all cave seed others) (stops_in_all cave seed logs)
     (λ place. any_in_order cave seed (is_at cave place) logs others shuffled)
     (λ from to. any_in_order cave seed (comes_by cave from to) logs others shuffled)
     (λ place. count_in_order cave seed (arrives_at place) logs others shuffled) (length others)
-    ∙ ap (map_of_places cave (stops_in_all cave seed logs)) (length_permutation logs others shuffled)
+    ∙ ap (map_of_places cave (stops_in_all cave seed logs) part) (length_permutation logs others shuffled)
 
 pub one_map : OneMap
-one_map database bindings logs seed =
+one_map database bindings logs seed part =
     λ one other first second.
     let (cave, reads, is) = first in
     let (kept, rereads, same) = second in
     let caves = same_cave database bindings kept cave rereads reads in
-    is ∙ ap (λ c. map_text c seed logs) caves ∙ sym same
+    is ∙ ap (λ c. map_text c seed part logs) caves ∙ sym same

@@ -5,22 +5,23 @@ use Rattle.std.proofs.lemmas.List.{length-map}
 use Rattle.std.proofs.lemmas.List.Folds.{flat_map-map}
 use Rattle.play_logs.specs.Faults.{IsReported, games_of}
 use Rattle.map_graph.specs.Map.{map_of_places}
+use Rattle.play_command.specs.declared.map_part.MapPart.{MapPart}
 use Rattle.play_map.specs.Plays.{IsMapped, map_of_games, stops_in, stops_in_all}
 use Rattle.replay_edits.specs.Edit.{game_of}
 
 -- the map of the games of logs is that of the logs
 pub mapped-reported : (database bindings : List ℕ) (logs : List (List ℕ)) (seed : ℕ)
-    (output : List ℕ)
-    → IsReported (λ _ cave (_ : Unit {0}) games. map_of_games cave games) database bindings logs seed
-    tt
+    (part : MapPart) (output : List ℕ)
+    → IsReported (λ _ cave part games. map_of_games cave part games) database bindings logs seed
+    part
     output
-    → IsMapped database bindings logs seed output
-mapped-reported database bindings logs seed output (cave, reads, is) =
+    → IsMapped database bindings logs seed part output
+mapped-reported database bindings logs seed part output (cave, reads, is) =
     let game = λ (log : List ℕ). game_of seed (lines log) in (
       cave,
       reads,
       is
-          ∙ ap (λ stops. map_of_places cave stops (length (games_of seed logs)))
+          ∙ ap (λ stops. map_of_places cave stops part (length (games_of seed logs)))
           (flat_map-map (stops_in cave) game logs)
-          ∙ ap (map_of_places cave (stops_in_all cave seed logs)) (length-map logs game),
+          ∙ ap (map_of_places cave (stops_in_all cave seed logs) part) (length-map logs game),
     )

@@ -13,6 +13,7 @@ use Rattle.cave_world.specs.declared.state.State.{State}
 use Rattle.replay_edits.specs.Edit.{Game, game_of}
 use Rattle.map_graph.specs.Map.{map_of_places}
 use Rattle.map_graph.specs.Stops.{stop}
+use Rattle.play_command.specs.declared.map_part.MapPart.{MapPart}
 use Rattle.map_graph.specs.declared.stops.Stop.{Stop}
 use Rattle.std.specs.List.Sorted.{IsPermutation}
 use Rattle.cave_play.specs.Run.{AtMostOne}
@@ -39,9 +40,10 @@ stops_in cave game =
     noted_of (λ cave begun (greeting : List Part). first_stop begun ∷ [])
     (λ cave moment. stop_at moment ∷ []) cave game
 
--- the map of a cave with what the plays of games saw of it
-abbrev pub map_of_games : CaveView → List Game → List ℕ
-map_of_games cave games = map_of_places cave (flat_map (stops_in cave) games) (length games)
+-- the map of a part of a cave with what the plays of games saw of it
+abbrev pub map_of_games : CaveView → MapPart → List Game → List ℕ
+map_of_games cave part games =
+    map_of_places cave (flat_map (stops_in cave) games) part (length games)
 
 abbrev pub stops_in_log : CaveView → ℕ → List ℕ → List Stop
 stops_in_log cave seed log = stops_in cave (game_of seed (lines log))
@@ -50,22 +52,23 @@ stops_in_log cave seed log = stops_in cave (game_of seed (lines log))
 abbrev pub stops_in_all : CaveView → ℕ → List (List ℕ) → List Stop
 stops_in_all cave seed logs = flat_map (stops_in_log cave seed) logs
 
-abbrev pub map_text : CaveView → ℕ → List (List ℕ) → List ℕ
-map_text cave seed logs = map_of_places cave (stops_in_all cave seed logs) (length logs)
+abbrev pub map_text : CaveView → ℕ → MapPart → List (List ℕ) → List ℕ
+map_text cave seed part logs =
+    map_of_places cave (stops_in_all cave seed logs) part (length logs)
 
 -- the output is the map of the logs in the cave of the database and its bindings
-abbrev pub IsMapped : List ℕ → List ℕ → List (List ℕ) → ℕ → List ℕ → Type 0
-IsMapped database bindings logs seed output =
-    (cave : CaveView) × Reads database bindings cave × (output ≡ map_text cave seed logs)
+abbrev pub IsMapped : List ℕ → List ℕ → List (List ℕ) → ℕ → MapPart → List ℕ → Type 0
+IsMapped database bindings logs seed part output =
+    (cave : CaveView) × Reads database bindings cave × (output ≡ map_text cave seed part logs)
 
 -- the order of the logs changes no byte of a map
 abbrev pub OrderOfLogsIsNothing : Type 0
 OrderOfLogsIsNothing =
-    (cave : CaveView) (seed : ℕ) (logs others : List (List ℕ))
-    → IsPermutation logs others → map_text cave seed others ≡ map_text cave seed logs
+    (cave : CaveView) (seed : ℕ) (part : MapPart) (logs others : List (List ℕ))
+    → IsPermutation logs others → map_text cave seed part others ≡ map_text cave seed part logs
 
 -- a database with its bindings, logs and a seed have at most one map
 abbrev pub OneMap : Type 0
 OneMap =
-    (database bindings : List ℕ) (logs : List (List ℕ)) (seed : ℕ)
-    → AtMostOne (IsMapped database bindings logs seed)
+    (database bindings : List ℕ) (logs : List (List ℕ)) (seed : ℕ) (part : MapPart)
+    → AtMostOne (IsMapped database bindings logs seed part)

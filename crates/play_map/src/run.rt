@@ -10,6 +10,7 @@ use crate::plays::Stops;
 use cave_data::Cave;
 use cave_play::CaveReaders;
 use map_graph::map::push_map;
+use play_command::MapPart;
 use play_logs::fault::LogsFault;
 use play_logs::notes::PlayNotes;
 use play_logs::run::run_logs;
@@ -19,9 +20,9 @@ use std::io::{Read, Write};
 impl PlayNotes for Stops {
     ghost use Rattle.play_map.specs.Plays.{map_of_games};
 
-    type View = ();
+    type View = MapPart;
 
-    ghost report_on = { λ _ cave _ games. map_of_games cave games };
+    ghost report_on = { λ _ cave part games. map_of_games cave part games };
 
     fn none(alloc: Global) -> Result<Stops, AllocError> {
         Ok(Stops::new(alloc))
@@ -32,21 +33,22 @@ impl PlayNotes for Stops {
         alloc: Global,
         _database: &[u8],
         cave: &Cave,
-        _view: (),
+        part: MapPart,
         logs: usize,
         text: &mut Vec<u8>,
     ) -> Result<(), AllocError> {
-        push_map(alloc, cave, self.as_slice(), logs, text)
+        push_map(alloc, cave, self.as_slice(), part, logs, text)
     }
 }
 
-/// Plays logs, each by itself from its first line, and writes the map of the cave with what their
-/// plays saw of it. Without logs it is just the map.
+/// Plays logs, each by itself from its first line, and writes the map of a part of the cave with
+/// what their plays saw of it. Without logs it is just the map.
 pub fn run_map<C: Read, B: Read, L: Read, W: Write>(
     alloc: Global,
     cave: &mut CaveReaders<C, B>,
     logs: &mut [L],
     seed: u32,
+    part: MapPart,
     output: &mut W,
 ) -> Result<(), LogsFault>
     ensures runs { (database : List ℕ) × (bindings : List ℕ) × (moves : List (List ℕ))
@@ -54,8 +56,8 @@ pub fn run_map<C: Read, B: Read, L: Read, W: Write>(
         × Says (B.remaining cave.old.bindings) bindings
         × AllZip Says (map L.remaining logs.old) moves
         × RunsLogs (first_stages database bindings seed) moves
-        (IsMapped database bindings moves seed)
+        (IsMapped database bindings moves seed part)
         (W.contents output.old) (W.contents output.new) result }
 {
-    run_logs::<Stops, C, B, L, W>(alloc, cave, logs, seed, (), output)
+    run_logs::<Stops, C, B, L, W>(alloc, cave, logs, seed, part, output)
 }

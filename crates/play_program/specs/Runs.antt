@@ -92,7 +92,7 @@ RunsLine (Cover files log seed view known strict) texts logs old new ended =
     (IsCovered texts.database texts.bindings logs seed view) old new ended
 RunsLine (Map files log seed part) texts logs old new ended =
     RunsOverLogs (first_stages texts.database texts.bindings seed) logs
-    (IsMapped texts.database texts.bindings logs seed) old new ended
+    (IsMapped texts.database texts.bindings logs seed part) old new ended
 RunsLine (Script before after output form) texts logs old new ended =
     (alone : Result (Unit {0}) PlayFault) × (ended ≡ ended_alone alone)
     × RunsScript form texts old new alone

@@ -122,9 +122,9 @@ pub fn run_command<'a, F: Read, L: Read, W: Write>(
             let logs = logs.as_mut_slice();
             over_logs(run_cover(alloc, &mut inputs.cave, logs, *seed, *view, output))
         }
-        Line::Map { seed, .. } => {
+        Line::Map { seed, part, .. } => {
             let logs = logs.as_mut_slice();
-            over_logs(run_map(alloc, &mut inputs.cave, logs, *seed, output))
+            over_logs(run_map(alloc, &mut inputs.cave, logs, *seed, *part, output))
         }
         Line::Text(_) => Ok(None),
     }

@@ -4,7 +4,7 @@ use crate::runs::{EDIT, INPUTS, PLAY, Run};
 use crate::streams::{Sink, TestReader};
 use cave_play::{CaveReaders, Inputs, PlayFault, run_check, run_doubts, run_edit, run_play};
 use check_doubts::DoubtFiles;
-use play_command::{CheckView, CoverView, Editing, PlayView};
+use play_command::{CheckView, CoverView, Editing, MapPart, PlayView};
 use play_cover::run::run_cover;
 use play_logs::fault::LogsFault;
 use play_map::run::run_map;
@@ -110,7 +110,11 @@ fn map_into<C: Read, B: Read, L: Read, W: Write>(
     seed: u32,
     sink: &mut W,
 ) -> Result<(), LogsFault> {
-    run_map(alloc, cave, logs, seed, sink)
+    let part = MapPart {
+        seen: false,
+        around: None,
+    };
+    run_map(alloc, cave, logs, seed, part, sink)
 }
 
 impl<'a> Feeds<'a> {

@@ -6,4 +6,5 @@ use Rattle.map_graph.proofs.map.push_all_edges.Given as goal
 abbrev pub invariant-loop-place : goal.invariant-loop-place
 invariant-loop-place l =
     l.text.items ≡ l.initial.text.items
-    ++ flat_map (edges l.cave l.stops l.logs) (take l.place-index l.places)
+    ++ flat_map (edges l.cave l.sights.stops.now l.sights.logs l.sights.is_seen_only
+    l.sights.places.now) (take l.place-index l.sights.places.now)

@@ -1,5 +1,5 @@
 use Rattle.std.proofs.Common.{◌++◌, ◌+◌, ◌-◌, ap, sym, ◌∙◌}
-use Rattle.map_graph.specs.Titles.{WORDS_SHOWN, first_words, words_as_shown}
+use Rattle.map_graph.specs.Titles.{first_words, words_as_shown}
 use Rattle.map_graph.proofs.TitleLemmas.{shown_on, shown_whole}
 use Rattle.map_graph.proofs.titles.push_first_words.Goals as goal
 
@@ -7,7 +7,7 @@ pub returns-then-is_empty : goal.returns-then-is_empty
 returns-then-is_empty c =
     sym (shown_whole c.loop-shown.rest.now c.skip_blanks.result.now c.split_word.result.0.now
     c.skip_blanks.ensures c.split_word.ensures.prefix c.loop-shown.text.items c.loop-shown.shown
-    (WORDS_SHOWN - c.loop-shown.shown) (sym c.is_empty.ensures ∙ c.if-is_empty.true))
+    (c.args.most - c.loop-shown.shown) (sym c.is_empty.ensures ∙ c.if-is_empty.true))
     ∙ c.loop-shown.invariant
 
 pub loop-shown-preserved : goal.loop-shown-preserved
@@ -18,10 +18,10 @@ loop-shown-preserved c =
     let after = c.split_word.result.1.now in
     let begun = c.in_ok-extend_from_slice.ensures.items
     ∙ ap (λ start. before ++ start) (c.as_bytes.ensures.value ∙ c.word_start.ensures) in
-    let left = first_words (WORDS_SHOWN - (shown + 1)) after in
+    let left = first_words (c.args.most - (shown + 1)) after in
     ap (λ items. items ++ words_as_shown (shown + 1) left)
     (c.in_ok-extend_from_slice-2.ensures.items ∙ ap (λ items. items ++ word) begun)
     ∙ shown_on c.loop-shown.rest.now c.skip_blanks.result.now word c.skip_blanks.ensures
-    c.split_word.ensures.prefix before shown after c.split_word.ensures.rest
+    c.split_word.ensures.prefix before shown c.args.most after c.split_word.ensures.rest
     (sym c.is_empty.ensures ∙ c.if-is_empty.false) c.loop-shown-test.true
     ∙ c.loop-shown.invariant

@@ -1,0 +1,27 @@
+-- The places that are drawn are some of a map's.
+use Rattle.std.proofs.Common.{ℕ, zero, suc, All, List, Option, None, Some}
+use Rattle.std.specs.Prelude.{◌==◌, ◌||◌, not}
+use Rattle.std.proofs.lemmas.List.Elements.{All-filter}
+use Rattle.cave_data.specs.CaveView.{CaveView}
+use Rattle.map_graph.specs.Parts.{drawn_places, is_way_on, places_around, places_within}
+use Rattle.map_graph.specs.Stops.{is_visited}
+use Rattle.play_command.specs.declared.map_part.MapPart.{MapPart}
+use Rattle.play_command.specs.declared.map_part.Surroundings.{Surroundings}
+use Rattle.map_graph.specs.declared.stops.Stop.{Stop}
+
+module _ (P : ℕ → Type 0) (cave : CaveView) (mapped : List ℕ) (all : All P mapped) where
+  within_all : (from ways : ℕ) → All P (places_within cave mapped from ways)
+  within_all from zero = All-filter (λ place. place == from) P mapped all
+  within_all from (suc ways) =
+      All-filter (is_way_on cave (places_within cave mapped from ways)) P mapped all
+
+  around_all : (around : Option Surroundings) → All P (places_around cave mapped around)
+  around_all None = all
+  around_all (Some around) = within_all around.place around.ways
+
+  pub drawn_within : (stops : List Stop) (part : MapPart)
+      → All P (drawn_places cave stops part mapped)
+  unfolding drawn_places
+  drawn_within stops part =
+      All-filter (λ place. not part.seen || is_visited cave stops place) P
+      (places_around cave mapped part.around) (around_all part.around)

@@ -1,0 +1,75 @@
+-- What stands above a map: how much of the cave plays saw, which part is drawn, and a legend.
+use Rattle.std.specs.Prelude.{ℕ, Bool, ◌==◌, if◌then◌else◌, List, [], ◌++◌, codes, Option, None, Some}
+use Rattle.std.specs.Fmt.{decimal}
+use Rattle.map_graph.specs.declared.captions.SeenCounts.{SeenCounts}
+use Rattle.play_command.specs.declared.map_part.MapPart.{MapPart}
+use Rattle.play_command.specs.declared.map_part.Surroundings.{Surroundings}
+
+-- how many of a cave's places and ways plays of this many logs saw
+abbrev pub seen_words : SeenCounts → ℕ → List ℕ
+seen_words counts logs =
+    decimal counts.visited ++ (codes " of " ++ (decimal counts.places
+    ++ (codes " places, " ++ (decimal counts.taken ++ (codes " of " ++ (decimal counts.ways
+    ++ (codes " ways in " ++ (decimal logs ++ codes " logs"))))))))
+
+-- how many there are
+abbrev pub count_words : SeenCounts → List ℕ
+count_words counts =
+    decimal counts.places ++ (codes " places, " ++ (decimal counts.ways ++ codes " ways"))
+
+abbrev pub title_of_map : SeenCounts → ℕ → List ℕ
+title_of_map counts logs = if logs == 0 then count_words counts else seen_words counts logs
+
+-- which places are drawn, if not all are
+abbrev pub around_words : Option Surroundings → List ℕ
+around_words None = []
+around_words (Some around) =
+    codes "<BR/>drawn: at most " ++ (decimal around.ways
+    ++ (codes " ways from place " ++ decimal around.place))
+
+abbrev pub seen_only_words : Bool → List ℕ
+seen_only_words seen = if seen then codes "<BR/>drawn: what the logs saw" else []
+
+abbrev pub part_words : MapPart → List ℕ
+part_words part = around_words part.around ++ seen_only_words part.seen
+
+-- what lines and colours mean that show what plays saw
+abbrev pub seen_legend : Bool → List ℕ
+seen_legend seen =
+    codes "<TD BORDER=\"3\">a log was here</TD>"
+    ++ ((if seen then []
+    else codes "<TD BORDER=\"1\" COLOR=\"gray65\"><FONT COLOR=\"gray40\">no log was here</FONT></TD>")
+    ++ codes "<TD>hollow head: no log went there</TD>")
+
+abbrev pub logs_legend : ℕ → Bool → List ℕ
+logs_legend logs seen = if logs == 0 then [] else seen_legend seen
+
+-- what they mean on each map
+abbrev pub cave_legend : List ℕ
+cave_legend =
+    codes "<TD BORDER=\"1\" BGCOLOR=\"gray80\">dark</TD>"
+    ++ codes "<TD BORDER=\"1\" STYLE=\"ROUNDED\">circle: leads on by itself</TD>"
+
+-- what words and marks mean, and how the line of what stands above the map ends
+abbrev pub words_legend : List ℕ
+words_legend =
+    codes "</TR></TABLE></TD></TR><TR><TD>EAST / WEST: to the higher number / to the lower. "
+    ++ codes "+ begins here, = is this to the rules</TD></TR></TABLE>>];\n"
+
+-- how it begins
+abbrev pub caption_opening : List ℕ
+caption_opening =
+    codes "  graph [labelloc=t, fontname=\"Helvetica\", fontsize=10, label=<<TABLE BORDER=\"0\">"
+    ++ codes "<TR><TD><FONT POINT-SIZE=\"16\">"
+
+abbrev pub legend_opening : List ℕ
+legend_opening = codes "</FONT></TD></TR><TR><TD><TABLE BORDER=\"0\" CELLSPACING=\"6\"><TR>"
+
+abbrev pub heading : SeenCounts → ℕ → MapPart → List ℕ
+heading counts logs part =
+    caption_opening ++ (title_of_map counts logs ++ (part_words part ++ legend_opening))
+
+-- the line of what stands above the map
+unfoldable pub caption : SeenCounts → ℕ → MapPart → List ℕ
+caption counts logs part =
+    heading counts logs part ++ ((logs_legend logs part.seen ++ cave_legend) ++ words_legend)
