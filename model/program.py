@@ -300,7 +300,7 @@ def run_edit(cave, file, log, script, log_ends, options, told):
     What is said on standard error is added to `told`."""
     seed, reports, backs, with_guards, rows = options["seed"], [], [], [], []
     replays = options["print"] in ("reports", "table")
-    is_told = not (replays or options["print"] == "transcript" or options["quiet"])
+    is_told = not (options["print"] in ("transcript", "reports") or options["quiet"])
     before, played, wanted = edits.play(cave, seed, log, True) if replays else None, 0, 0
     for group in script:
         try:

@@ -8,7 +8,7 @@ use Rattle.play_command.specs.declared.aside.ReportView.{ReportView}
 use Rattle.play_command.specs.declared.editing.Editing.{Editing}
 use Rattle.replay_difference.specs.ScriptTo.{IsScriptTo}
 use Rattle.replay_difference.specs.declared.script.ScriptForm.{ScriptForm}
-use Rattle.replay_edits.specs.Edit.{Game, IsGame, log_of}
+use Rattle.replay_edits.specs.Edit.{Game, IsGame, game_of, log_of}
 use Rattle.replay_scripts.specs.Guards.{IsScriptBy}
 use Rattle.replay_scripts.specs.Script.{Applied}
 use Rattle.play_edits.specs.Items.{game_after_items}
@@ -97,9 +97,9 @@ RunsEditTo texts editing report old new ended =
     × RunsWith (edit_stages texts.database texts.bindings texts.log script editing)
     (IsEditRun texts.database texts.bindings texts.log script editing report) old new ended)
 
--- a script that makes one log of another leaves that log of a game that has the first
+-- a script that makes one log of another leaves that log of a game that has the first, with its seed
 abbrev pub DifferencesMakeTheLog : Type 0
 DifferencesMakeTheLog =
     (form : ScriptForm) (script : List ℕ) (game : Game) (new : List (List ℕ))
     (items : List Applied) → IsGame game → IsScriptTo form script game.log new
-    → IsScriptBy form.guarded script items → (game_after_items items game).log ≡ new
+    → IsScriptBy form.guarded script items → game_after_items items game ≡ game_of game.seed new

@@ -81,7 +81,7 @@ pub fn met_guards_no_other_log()
     ensures { MetGuardsNoOtherLog }
 {}
 
-/// A script that makes one log of another leaves that log.
+/// A script that makes one log of another leaves that log, and the seed as it is.
 pub fn differences_make_the_log()
     ensures { DifferencesMakeTheLog }
 {}

@@ -1,10 +1,9 @@
 -- What is said of an edit beside its output, by what the parser found.
-use Rattle.std.specs.Prelude.{◌≡◌, ℕ, Bool, true, false, List, bytes_eq, codes, if◌then◌else◌}
-use Rattle.std.specs.Prelude.{Option, Some, None, is_some, option_map}
+use Rattle.std.specs.Prelude.{◌≡◌, ◌&&◌, ℕ, Bool, true, false, not, List, bytes_eq, codes}
+use Rattle.std.specs.Prelude.{if◌then◌else◌, Option, Some, None, is_some}
 use Rattle.clap.specs.Words.{Row, first_of}
 use Rattle.play_command.specs.Found.{is_set}
 use Rattle.play_command.specs.declared.aside.Aside.{Aside}
-use Rattle.play_command.specs.declared.aside.Aside.TheVariants.{Nothing, Refusals, Report}
 use Rattle.play_command.specs.declared.aside.ReportView.{ReportView}
 use Rattle.play_command.specs.declared.aside.ReportView.TheVariants as report
 use Rattle.play_command.specs.declared.editing.EditView.{EditView}
@@ -12,21 +11,16 @@ use Rattle.play_command.specs.declared.editing.EditView.TheVariants as asked
 use Rattle.play_command.specs.declared.fault.CommandFault.{CommandFault}
 use Rattle.play_command.specs.declared.fault.CommandFault.TheVariants as fault_is
 
--- the view says itself which items of the script are refused
-abbrev pub says_refusals : EditView → Bool
-says_refusals asked.Transcript = true
-says_refusals asked.Reports = true
-says_refusals asked.Table = true
-says_refusals _ = false
+-- what is printed has reports on the items of the script: the view has, or they are beside it
+abbrev pub has_reports : EditView → Option ReportView → Bool
+has_reports view (Some report.Reports) = true
+has_reports asked.Transcript beside = true
+has_reports asked.Reports beside = true
+has_reports _ beside = false
 
--- refusals are said beside a view that doesn't say them
-abbrev pub usual_aside : EditView → Aside
-usual_aside view = if says_refusals view then Nothing else Refusals
-
--- nothing is said if that was asked for
-abbrev pub aside_unless_quiet : List Row → EditView → Aside
-aside_unless_quiet rows view =
-    if is_set (codes "quiet") rows then Nothing else usual_aside view
+-- why items are refused is said of what is printed without reports, unless that wasn't to be said
+abbrev pub says_refusals : Bool → EditView → Option ReportView → Bool
+says_refusals quiet view beside = not quiet && not (has_reports view beside)
 
 abbrev pub report_named : List ℕ → Option ReportView
 report_named name =
@@ -38,20 +32,20 @@ abbrev pub edit_view_of : ReportView → EditView
 edit_view_of report.Reports = asked.Reports
 edit_view_of report.Table = asked.Table
 
-abbrev pub report_of : Aside → Option ReportView
-report_of (Report view) = Some view
-report_of _ = None
+-- the report of this name is asked for, which goes to standard output, so the output goes into a
+-- file; or none is
+abbrev pub IsReportBy : Option (List ℕ) → List Row → Option ReportView → Type 0
+IsReportBy None rows beside = beside ≡ None
+IsReportBy (Some name) rows beside =
+    (is_some (first_of (codes "output") rows) ≡ true) × (is_some beside ≡ true)
+    × (report_named name ≡ beside)
 
--- what is said if this was found for a report: the report, which goes to standard output, so the
--- output goes into a file
-abbrev pub IsAsideBy : Option (List ℕ) → List Row → EditView → Aside → Type 0
-IsAsideBy None rows view aside = aside ≡ aside_unless_quiet rows view
-IsAsideBy (Some name) rows view aside =
-    (is_some (first_of (codes "output") rows) ≡ true)
-    × (option_map Report (report_named name) ≡ Some aside)
+abbrev pub IsReport : List Row → Option ReportView → Type 0
+IsReport rows beside = IsReportBy (first_of (codes "report") rows) rows beside
 
-abbrev pub IsAside : List Row → EditView → Aside → Type 0
-IsAside rows view aside = IsAsideBy (first_of (codes "report") rows) rows view aside
+pub record IsAside (rows : List Row) (view : EditView) (aside : Aside) : Type 0 where
+  pub report : IsReport rows aside.report
+  pub refusals : aside.refusals ≡ says_refusals (is_set (codes "quiet") rows) view aside.report
 
 -- what was found for a report names none, or the output doesn't go into a file
 abbrev pub IsBadReport : List Row → CommandFault → Type 0

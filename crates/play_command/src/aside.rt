@@ -1,8 +1,8 @@
 //! What is said of an edit beside its output.
 
 ghost use Rattle.std.specs.Prelude.{◌≡◌, MatchResult};
-ghost use Rattle.play_command.specs.Aside.{IsAside, IsBadReport, aside_unless_quiet, report_named};
-ghost use Rattle.play_command.specs.Aside.{edit_view_of, report_of, says_refusals, usual_aside};
+ghost use Rattle.play_command.specs.Aside.{IsAside, IsBadReport, IsReport, edit_view_of};
+ghost use Rattle.play_command.specs.Aside.{has_reports, report_named, says_refusals};
 ghost use Rattle.play_command.specs.Found.{rows_in};
 
 use crate::by_name::named;
@@ -34,24 +34,11 @@ impl ReportView {
 
 /// What is said of an edit beside its output.
 #[derive(Clone, Copy, Debug, PartialEq, Eq)]
-pub enum Aside {
-    Nothing,
-    /// A line on standard error for each item of the script that is refused.
-    Refusals,
-    /// A report on each item, on standard output.
-    Report(ReportView),
-}
-
-impl Aside {
-    /// The report that is asked for, if one is.
-    pub fn report(self) -> Option<ReportView>
-        ensures { result ≡ report_of self }
-    {
-        match self {
-            Aside::Report(view) => Some(view),
-            Aside::Nothing | Aside::Refusals => None,
-        }
-    }
+pub struct Aside {
+    /// Whether each item of the script that is refused is a line on standard error.
+    pub refusals: bool,
+    /// The report on each item that goes to standard output, if one is asked for.
+    pub report: Option<ReportView>,
 }
 
 /// The names of what may be printed beside the output.
@@ -67,40 +54,42 @@ fn report_named(name: &str) -> Option<ReportView>
     named(&REPORT_VIEWS, &EACH_REPORT_VIEW, name)
 }
 
-/// Whether a view says itself which items are refused.
-fn says_refusals(view: EditView) -> bool
-    ensures { result ≡ says_refusals view }
+/// Whether what is printed has reports on the items: the view has, or they are beside it.
+fn has_reports(view: EditView, beside: Option<ReportView>) -> bool
+    ensures { result ≡ has_reports view beside }
 {
-    matches!(
-        view,
-        EditView::Transcript | EditView::Reports | EditView::Table
-    )
-}
-
-/// What is said beside this view, if nothing is asked for.
-fn usual_aside(view: EditView) -> Aside
-    ensures { result ≡ usual_aside view }
-{
-    if says_refusals(view) {
-        Aside::Nothing
-    } else {
-        Aside::Refusals
+    match (view, beside) {
+        (_, Some(ReportView::Reports)) => true,
+        (EditView::Transcript, _) | (EditView::Reports, _) => true,
+        _ => false,
     }
 }
 
-/// What is said beside this view, if no report is asked for.
-fn aside_unless_quiet(found: &ArgMatches<'_>, view: EditView) -> Aside
-    ensures { result ≡ aside_unless_quiet (rows_in found.now) view }
+/// Whether it is said why items are refused.
+fn says_refusals(quiet: bool, view: EditView, beside: Option<ReportView>) -> bool
+    ensures { result ≡ says_refusals quiet view beside }
 {
-    if is_set(found, "quiet") {
-        Aside::Nothing
-    } else {
-        usual_aside(view)
+    !quiet && !has_reports(view, beside)
+}
+
+/// The report that the parser found, if it found one. It goes to standard output, so the output has
+/// to go into a file.
+fn report_found<'a>(found: &ArgMatches<'a>) -> Result<Option<ReportView>, CommandFault<'a>>
+    ensures { MatchResult result (IsReport (rows_in found.now)) (IsBadReport (rows_in found.now)) }
+{
+    let Some(name) = value_in(found, "report") else {
+        return Ok(None);
+    };
+    if value_in(found, "output").is_none() {
+        return Err(CommandFault::ReportAlone);
+    }
+    match report_named(name) {
+        Some(report) => Ok(Some(report)),
+        None => Err(CommandFault::BadReport(name)),
     }
 }
 
-/// What is said beside this view, by what the parser found. A report goes to standard output, so
-/// the output has to go into a file.
+/// What is said beside this view, by what the parser found.
 pub(crate) fn aside_in<'a>(
     found: &ArgMatches<'a>,
     view: EditView,
@@ -108,14 +97,7 @@ pub(crate) fn aside_in<'a>(
     ensures { MatchResult result (IsAside (rows_in found.now) view)
         (IsBadReport (rows_in found.now)) }
 {
-    let Some(name) = value_in(found, "report") else {
-        return Ok(aside_unless_quiet(found, view));
-    };
-    if value_in(found, "output").is_none() {
-        return Err(CommandFault::ReportAlone);
-    }
-    match report_named(name) {
-        Some(report) => Ok(Aside::Report(report)),
-        None => Err(CommandFault::BadReport(name)),
-    }
+    let report = report_found(found)?;
+    let refusals = says_refusals(is_set(found, "quiet"), view, report);
+    Ok(Aside { refusals, report })
 }

@@ -19,7 +19,7 @@ mod stray;
 pub mod views;
 mod wanted;
 
-pub use aside::{Aside, ReportView};
+pub use aside::ReportView;
 pub use editing::{EditView, Editing};
 pub use fault::CommandFault;
 pub use line::{Files, Line, ScriptSource};

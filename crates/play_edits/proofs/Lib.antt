@@ -4,6 +4,7 @@ pub mod GameLemmas
 pub mod GuardLemmas
 pub mod GuardedLemmas
 mod DetailLemmas
+mod NearestLemmas
 mod KeptLemmas
 pub mod MetLemmas
 pub mod SayableLemmas

@@ -27,8 +27,8 @@ use Rattle.play_edits.specs.declared.refusal.Refusal.TheVariants.{Edit, NoLine, 
 abbrev pub edit_fault_words : EditFault → List ℕ
 edit_fault_words cause.NoSuchPlace = codes "no such line"
 edit_fault_words cause.BadLine = codes "a bad line"
-edit_fault_words cause.LogFull = codes "a full log"
-edit_fault_words cause.BadSeed = codes "a bad seed"
+edit_fault_words cause.LogFull = codes "a full log: a log has at most 65,535 lines"
+edit_fault_words cause.BadSeed = codes "a bad seed: a seed is at most 2147483647"
 edit_fault_words cause.MeterFull = codes "a full meter"
 edit_fault_words cause.Memory = codes "no memory"
 edit_fault_words cause.EmptyGroup = codes "an empty group"

@@ -1,10 +1,14 @@
 -- Laws about items: what guards do to one, and what scripts do in turn.
-use Rattle.std.specs.Prelude.{◌≡◌, ◌++◌, List, ℕ, [], None, Some, take, slice_get}
+use Rattle.std.specs.Prelude.{◌≡◌, ◌++◌, List, ℕ, [], false, None, Some, take, slice_get}
 use Rattle.std.specs.List.{AllByRecursion}
 use Rattle.replay_scripts.specs.Script.{Applied, Expectation, guarded_by}
 use Rattle.replay_edits.specs.Edit.{Change, Game}
 use Rattle.replay_edits.specs.Faults.{fault_of_all, log_after_all}
+use Rattle.base_lines.specs.Line.{is_line}
 use Rattle.play_edits.specs.Items.{game_after_item, game_after_items, reports}
+use Rattle.play_edits.specs.Refusal.{IsNearestAt, IsNowhere, expected_line, kept_line}
+use Rattle.play_edits.specs.declared.refusal.ExpectedLine.{ExpectedLine}
+use Rattle.play_edits.specs.declared.refusal.ExpectedLine.TheVariants.{At, Impossible, Nowhere}
 
 -- A log meets a guard among changes: if none of the changes before it is refused, the log that they
 -- leave has the guard's text at its place.
@@ -22,6 +26,19 @@ GuardsRefuseAlone =
     → game_after_item item game ≡ game_after_item (guarded_by [] item) game)
     × (¬ AllByRecursion (IsMet item.changes game.log) item.guards
     → game_after_item item game ≡ game)
+
+-- A guard's place, its text and a log lead to what a refusal says of where the log has the text: at
+-- the place nearest to the guard's, or nowhere; or no log may have it.
+abbrev pub IsWhere : Expectation → List (List ℕ) → ExpectedLine → Type 0
+IsWhere guard log Impossible = is_line guard.text ≡ false
+IsWhere guard log (Nowhere line) =
+    (line ≡ kept_line guard.text) × IsNowhere guard.text log
+IsWhere guard log (At line place) =
+    (line ≡ kept_line guard.text) × IsNearestAt guard.place guard.text log place
+
+abbrev pub NearestLinesAreNamed : Type 0
+NearestLinesAreNamed =
+    (guard : Expectation) (log : List (List ℕ)) → IsWhere guard log (expected_line guard log)
 
 -- the items of one script and then of another do what the first does, and then what the second
 -- does, and so do their reports

@@ -1,5 +1,5 @@
 -- Why an item of a script is refused.
-use Rattle.std.specs.Prelude.{◌≡◌, ◌≤◌, ℕ, ◌+◌, ◌-◌, ◌^◌, ◌++◌, nat_le, nat_lt, List, [], ◌∷◌}
+use Rattle.std.specs.Prelude.{◌≡◌, ◌<◌, ◌≤◌, ℕ, ◌+◌, ◌-◌, ◌^◌, ◌++◌, nat_le, nat_lt, List, [], ◌∷◌}
 use Rattle.std.specs.Prelude.{length, take, replicate}
 use Rattle.std.specs.Prelude.{bytes_eq, Option, None, Some, option_map, is_none, slice_get}
 use Rattle.std.specs.Prelude.{if◌then◌else◌}
@@ -88,6 +88,24 @@ nearest_from place text at found (line ∷ lines) =
 
 abbrev pub nearest : ℕ → List ℕ → List (List ℕ) → Option ℕ
 nearest place text log = nearest_from place text 0 None log
+
+-- A log has this text at the place `found`. Each other place that has it is farther from `place`, or
+-- as far and later.
+pub record IsNearestAt (place : ℕ) (text : List ℕ) (log : List (List ℕ)) (found : ℕ)
+    : Type 0 where
+  pub there : slice_get log found ≡ Some text
+  pub closest : (at : ℕ) → slice_get log at ≡ Some text → distance found place ≤ distance at place
+  pub first : (at : ℕ) → slice_get log at ≡ Some text → at < found
+      → distance found place < distance at place
+
+-- no place of a log has this text
+abbrev pub IsNowhere : List ℕ → List (List ℕ) → Type 0
+IsNowhere text log = (at : ℕ) → ¬ (slice_get log at ≡ Some text)
+
+-- the place nearest to `place` at which a log has this text, or none if no place has it
+abbrev pub IsNearest : ℕ → List ℕ → List (List ℕ) → Option ℕ → Type 0
+IsNearest place text log None = IsNowhere text log
+IsNearest place text log (Some found) = IsNearestAt place text log found
 
 -- what a log may have, by the place where it has it
 abbrev pub expected_by : List ℕ → Option ℕ → ExpectedLine

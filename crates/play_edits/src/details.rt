@@ -8,8 +8,8 @@ ghost use Rattle.replay_edits.specs.Draft.{IsDraft, edits_in, log_before, made_i
 ghost use Rattle.replay_edits.specs.Edit.{changes_of, log_of};
 ghost use Rattle.replay_edits.specs.Faults.{fault_of_all, log_after_all};
 ghost use Rattle.replay_scripts.specs.Views.{applied_item, expectation_in};
-ghost use Rattle.play_edits.specs.Refusal.{distance, edit_detail, edit_refusal, expected_by};
-ghost use Rattle.play_edits.specs.Refusal.{expected_line, found_with, group_refusal};
+ghost use Rattle.play_edits.specs.Refusal.{IsNearest, distance, edit_detail, edit_refusal};
+ghost use Rattle.play_edits.specs.Refusal.{expected_by, expected_line, found_with, group_refusal};
 ghost use Rattle.play_edits.specs.Refusal.{line_of_edit, log_in, nearer, nearest};
 
 use crate::refusal::{EditDetail, ExpectedLine, KeptLine, Refusal};
@@ -42,7 +42,8 @@ fn nearest(place: usize, text: &[u8], draft: &Draft<'_>, lines: usize) -> Option
     requires draft { IsDraft (edits_in draft.now) (log_before draft.now) (made_in draft.now)
         draft.now }
     requires lines { lines ≡ length (log_in draft.now) }
-    ensures { result ≡ nearest place text.now (log_in draft.now) }
+    ensures value { result ≡ nearest place text.now (log_in draft.now) }
+    ensures nearest { IsNearest place text.now (log_in draft.now) result }
 {
     let mut found = None;
     for at in 0..lines {

@@ -172,8 +172,8 @@ fn edit_words(fault: EditFault) -> &'static str
     match fault {
         EditFault::NoSuchPlace => "no such line",
         EditFault::BadLine => "a bad line",
-        EditFault::LogFull => "a full log",
-        EditFault::BadSeed => "a bad seed",
+        EditFault::LogFull => "a full log: a log has at most 65,535 lines",
+        EditFault::BadSeed => "a bad seed: a seed is at most 2147483647",
         EditFault::MeterFull => "a full meter",
         EditFault::Memory => "no memory",
         EditFault::EmptyGroup => "an empty group",

@@ -9,7 +9,7 @@ use Rattle.cave_play.specs.declared.edits.EditRun.{EditRun}
 use Rattle.cave_play.specs.declared.fault.PlayFault.{PlayFault}
 use Rattle.cave_play.specs.declared.fault.PlayFault.TheVariants as fault
 use Rattle.play_command.specs.declared.line.Line.{Line}
-use Rattle.play_program.specs.Beside.{aside_of, report_in, told_beside}
+use Rattle.play_program.specs.Beside.{asks_refusals, report_in, told_beside}
 use Rattle.play_program.specs.Calls.{Call, Told, and_then}
 use Rattle.play_program.specs.Calls.Call.{Puts, Tells}
 use Rattle.play_program.specs.Failures.{failure_status, is_silent, message_of}
@@ -127,7 +127,7 @@ TellsFailure names calls called failure status =
 abbrev pub SaysBeside : Line → FileNames → Option (List Call) → Option (List Call)
     → Option (List ℕ) → Option (List ℕ) → Option EditRun → ℕ → Type 0
 SaysBeside asked names calls called old new made status =
-    (called ≡ and_then calls (told_beside (aside_of asked) names made)) × (status ≡ 0)
+    (called ≡ and_then calls (told_beside (asks_refusals asked) names made)) × (status ≡ 0)
     × Appends old new (report_in made)
 
 -- there is a report, and it couldn't be printed, for this reason if the writer gave one

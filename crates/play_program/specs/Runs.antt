@@ -13,7 +13,6 @@ use Rattle.cave_play.specs.declared.edits.EditRun.{EditRun}
 use Rattle.cave_play.specs.declared.fault.PlayFault.{PlayFault}
 use Rattle.play_map.specs.Plays.{IsMapped}
 use Rattle.play_cover.specs.Plays.{IsCovered}
-use Rattle.play_command.specs.Aside.{report_of}
 use Rattle.play_command.specs.declared.aside.ReportView.{ReportView}
 use Rattle.play_command.specs.declared.editing.Editing.{Editing}
 use Rattle.play_command.specs.declared.line.Files.{Files}
@@ -86,7 +85,7 @@ RunsLine (Play files log seed view) texts logs old new ended =
     (IsPlayed texts.database texts.bindings texts.log seed view) old new ended
 RunsLine (Edit files log script editing aside) texts logs old new ended =
     (edited : Result EditRun PlayFault) × (ended ≡ ended_edits edited)
-    × RunsEdits script texts editing (report_of aside) old new edited
+    × RunsEdits script texts editing aside.report old new edited
 RunsLine (Cover files log seed view known strict) texts logs old new ended =
     RunsOverLogs (first_stages texts.database texts.bindings seed) logs
     (IsCovered texts.database texts.bindings logs seed view) old new ended

@@ -2,7 +2,8 @@
 
 ghost use Rattle.std.specs.Prelude.{◌≡◌, ◌==◌, ℕ, MatchResult, false, length, take};
 ghost use Rattle.std.specs.Io.KnownBytes.{Appends};
-ghost use Rattle.play_program.specs.Beside.{aside_of, refusals_told, report_in, told_beside};
+ghost use Rattle.play_program.specs.Beside.{asks_refusals, refusals_told, report_in};
+ghost use Rattle.play_program.specs.Beside.{told_beside};
 ghost use Rattle.play_program.specs.Calls.{and_then};
 ghost use Rattle.play_program.specs.Names.{names_in};
 
@@ -11,17 +12,17 @@ use crate::names::Names;
 use crate::system::System;
 use cave_play::output::write_output;
 use cave_play::{EditRun, PlayFault};
-use play_command::{Aside, Line};
+use play_command::Line;
 use play_edits::Refusal;
 use std::io::Write;
 
-/// What a line asks to have said beside its output.
-fn aside_of(asked: &Line<'_>) -> Aside
-    ensures { result ≡ aside_of asked.now }
+/// Whether a line asks to have said why items are refused.
+fn asks_refusals(asked: &Line<'_>) -> bool
+    ensures { result ≡ asks_refusals asked.now }
 {
     match asked {
-        Line::Edit { aside, .. } => *aside,
-        _ => Aside::Nothing,
+        Line::Edit { aside, .. } => aside.refusals,
+        _ => false,
     }
 }
 
@@ -69,10 +70,10 @@ pub fn tell_beside<S: System>(
     made: &Option<EditRun>,
 )
     ensures { S.calls system.new ≡ and_then (S.calls system.old)
-        (told_beside (aside_of asked.now) (names_in names.entry) made.now) }
+        (told_beside (asks_refusals asked.now) (names_in names.entry) made.now) }
 {
-    match (aside_of(asked), made) {
-        (Aside::Refusals, Some(run)) => tell_refusals(system, &run.refused, names),
+    match (asks_refusals(asked), made) {
+        (true, Some(run)) => tell_refusals(system, &run.refused, names),
         _ => {}
     }
 }

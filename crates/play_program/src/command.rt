@@ -114,7 +114,7 @@ pub fn run_command<'a, F: Read, L: Read, W: Write>(
             aside,
             ..
         } => {
-            let report = aside.report();
+            let report = aside.report;
             ended_edits(run_edits(alloc, script, inputs, *editing, report, output))
         }
         Line::Script { form, .. } => alone(run_script(alloc, inputs, *form, output)),

@@ -54,12 +54,23 @@ fn end_of<R: Abort>(
     words: &[&str],
     room: usize,
 ) -> Result<ProgramEnd, AllocError> {
+    end_with(rt, alloc, LONG_LOG, words, room)
+}
+
+/// Does what words ask for over the usual files and this log. A draft of it takes this many bytes.
+fn end_with<R: Abort>(
+    rt: &R,
+    alloc: Global,
+    log: &[u8],
+    words: &[&str],
+    room: usize,
+) -> Result<ProgramEnd, AllocError> {
     let mut system = MemorySystem {
         rt,
         alloc,
         cave: Vec::from_slice(alloc, CAVE)?,
         log: MemoryTarget {
-            bytes: Vec::from_slice(alloc, LONG_LOG)?,
+            bytes: Vec::from_slice(alloc, log)?,
             alloc,
             room,
         },
@@ -167,6 +178,32 @@ fn a_log_in_memory_is_played_to_the_writer(rt: HostRuntime) -> Result<(), Fail> 
     assert!(rt; opens(end.kept.get(0), "cave"));
     assert!(rt; opens(end.kept.get(1), "log"));
     assert_eq!(rt; end.kept.len(), 2);
+    Ok(())
+}
+
+/// Whether a call tells that the head of the log says this option and this text.
+fn tells_head(call: Option<&KeptCall>, option: &str, text: &[u8]) -> bool {
+    match call {
+        Some(KeptCall::Tells(KeptMessage::Head(file, said, given))) => {
+            file.as_str() == "log" && *said == option && given.as_slice() == text
+        }
+        _ => false,
+    }
+}
+
+#[test]
+fn a_head_that_says_another_seed_is_told_if_it_can_be_read(rt: HostRuntime) -> Result<(), Fail> {
+    let log = b"# cave: cave --seed 3\nno\nin\n";
+    let words = ["play", "cave", "log", "--seed", "4"];
+    let end = end_with(&rt, rt.alloc(), log, &words, usize::MAX)?;
+    assert_eq!(rt; end.status, 0);
+    assert!(rt; opens(end.kept.get(1), "log"));
+    assert!(rt; tells_head(end.kept.get(2), "--seed ", b"3"));
+    assert_eq!(rt; end.kept.len(), 3);
+    let words = ["play", "cave", "log", "--seed", "3"];
+    let same = end_with(&rt, rt.alloc(), log, &words, usize::MAX)?;
+    assert_eq!(rt; same.status, 0);
+    assert_eq!(rt; same.kept.len(), 2);
     Ok(())
 }
 

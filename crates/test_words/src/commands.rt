@@ -21,7 +21,7 @@ fn shown(alloc: Global, words: &[&str]) -> Result<String, AllocError> {
 }
 
 /// Words, and what the answer to them says.
-const ANSWERS: [(&[&str], &str); 50] = [
+const ANSWERS: [(&[&str], &str); 54] = [
     (
         &["cave", "check", "a"],
         "Check { files: Files { cave: \"a\", bind: None, output: None }, view: Maximum }",
@@ -78,7 +78,7 @@ const ANSWERS: [(&[&str], &str); 50] = [
         "Edit { files: Files { cave: \"a\", bind: None, output: None }, \
         log: \"b\", script: File(\"c\"), \
         editing: Editing { seed: 0, every: 50, view: Transcript, strict: false, guarded: false }, \
-        aside: Nothing }",
+        aside: Aside { refusals: false, report: None } }",
     ),
     (
         &[
@@ -93,7 +93,7 @@ const ANSWERS: [(&[&str], &str); 50] = [
         "Edit { files: Files { cave: \"a\", bind: None, output: None }, \
         log: \"b\", script: File(\"c\"), \
         editing: Editing { seed: 3, every: 10000, view: Transcript, strict: false, guarded: false }, \
-        aside: Nothing }",
+        aside: Aside { refusals: false, report: None } }",
     ),
     (
         &[
@@ -110,42 +110,98 @@ const ANSWERS: [(&[&str], &str); 50] = [
         "Edit { files: Files { cave: \"a\", bind: None, output: Some(\"d\") }, \
         log: \"b\", script: File(\"c\"), \
         editing: Editing { seed: 0, every: 50, view: Log, strict: true, guarded: false }, \
-        aside: Refusals }",
+        aside: Aside { refusals: true, report: None } }",
     ),
     (
         &["cave", "edit", "a", "b", "c", "--print=reports"],
         "Edit { files: Files { cave: \"a\", bind: None, output: None }, \
         log: \"b\", script: File(\"c\"), \
         editing: Editing { seed: 0, every: 50, view: Reports, strict: false, guarded: false }, \
-        aside: Nothing }",
+        aside: Aside { refusals: false, report: None } }",
     ),
     (
         &["cave", "edit", "a", "b", "c", "--print=steps"],
         "Edit { files: Files { cave: \"a\", bind: None, output: None }, \
         log: \"b\", script: File(\"c\"), \
         editing: Editing { seed: 0, every: 50, view: Steps, strict: false, guarded: false }, \
-        aside: Refusals }",
+        aside: Aside { refusals: true, report: None } }",
     ),
     (
         &["cave", "edit", "a", "b", "c", "--print=walk"],
         "Edit { files: Files { cave: \"a\", bind: None, output: None }, \
         log: \"b\", script: File(\"c\"), \
         editing: Editing { seed: 0, every: 50, view: Walk, strict: false, guarded: false }, \
-        aside: Refusals }",
+        aside: Aside { refusals: true, report: None } }",
     ),
     (
         &["cave", "edit", "--guarded", "a", "b", "c"],
         "Edit { files: Files { cave: \"a\", bind: None, output: None }, \
         log: \"b\", script: File(\"c\"), \
         editing: Editing { seed: 0, every: 50, view: Transcript, strict: false, guarded: true }, \
-        aside: Nothing }",
+        aside: Aside { refusals: false, report: None } }",
     ),
     (
         &["cave", "edit", "a", "b", "c", "-q", "--print=log"],
         "Edit { files: Files { cave: \"a\", bind: None, output: None }, \
         log: \"b\", script: File(\"c\"), \
         editing: Editing { seed: 0, every: 50, view: Log, strict: false, guarded: false }, \
-        aside: Nothing }",
+        aside: Aside { refusals: false, report: None } }",
+    ),
+    (
+        &["cave", "edit", "a", "b", "c", "--print=table"],
+        "Edit { files: Files { cave: \"a\", bind: None, output: None }, \
+        log: \"b\", script: File(\"c\"), \
+        editing: Editing { seed: 0, every: 50, view: Table, strict: false, guarded: false }, \
+        aside: Aside { refusals: true, report: None } }",
+    ),
+    (
+        &[
+            "cave",
+            "edit",
+            "a",
+            "b",
+            "c",
+            "--print=log",
+            "--output=d",
+            "--report=table",
+        ],
+        "Edit { files: Files { cave: \"a\", bind: None, output: Some(\"d\") }, \
+        log: \"b\", script: File(\"c\"), \
+        editing: Editing { seed: 0, every: 50, view: Log, strict: false, guarded: false }, \
+        aside: Aside { refusals: true, report: Some(Table) } }",
+    ),
+    (
+        &[
+            "cave",
+            "edit",
+            "a",
+            "b",
+            "c",
+            "-q",
+            "--print=log",
+            "--output=d",
+            "--report=table",
+        ],
+        "Edit { files: Files { cave: \"a\", bind: None, output: Some(\"d\") }, \
+        log: \"b\", script: File(\"c\"), \
+        editing: Editing { seed: 0, every: 50, view: Log, strict: false, guarded: false }, \
+        aside: Aside { refusals: false, report: Some(Table) } }",
+    ),
+    (
+        &[
+            "cave",
+            "edit",
+            "a",
+            "b",
+            "c",
+            "--print=log",
+            "--output=d",
+            "--report=reports",
+        ],
+        "Edit { files: Files { cave: \"a\", bind: None, output: Some(\"d\") }, \
+        log: \"b\", script: File(\"c\"), \
+        editing: Editing { seed: 0, every: 50, view: Log, strict: false, guarded: false }, \
+        aside: Aside { refusals: false, report: Some(Reports) } }",
     ),
     (&["cave", "help", "edit"], "text DisplayHelp"),
     (&["cave", "-V"], "text DisplayVersion"),
@@ -217,7 +273,7 @@ const ANSWERS: [(&[&str], &str); 50] = [
         "Edit { files: Files { cave: \"a\", bind: Some(\"e\"), output: Some(\"d\") }, \
         log: \"b\", script: Typed(\"delete 1\\nseed 2\\n\"), \
         editing: Editing { seed: 3, every: 50, view: Log, strict: false, guarded: false }, \
-        aside: Refusals }",
+        aside: Aside { refusals: true, report: None } }",
     ),
     (&["cave", "check", "a", "--seed", "7"], "2 UnknownArgument"),
     (

@@ -1,7 +1,8 @@
-use Rattle.std.proofs.Common.{◌+◌, ◌<◌, drop, length, sym, ap, ◌∙◌, arith}
+use Rattle.std.proofs.Common.{◌+◌, ◌<◌, drop, length, sym, subst, ap, ◌∙◌, arith}
 use Rattle.std.specs.Option.{option_map_or}
-use Rattle.play_edits.specs.Refusal.{found_with, log_in, nearest_from}
+use Rattle.play_edits.specs.Refusal.{IsNearest, found_with, log_in, nearest_from}
 use Rattle.play_edits.proofs.DetailLemmas.{nearest-end, nearest-more}
+use Rattle.play_edits.proofs.NearestLemmas.{the_nearest}
 use Rattle.play_edits.proofs.details.nearest.Goals as goal
 
 pub loop-at-preserved : goal.loop-at-preserved
@@ -20,5 +21,11 @@ loop-at-preserved c =
 pub returns : goal.returns
 returns c =
     let log = log_in c.args.draft.now in
-    sym (nearest-end c.args.place c.args.text.now log c.loop-at.at c.loop-at.found
-    (omega (arith, c.loop-at-test.false, c.requires.lines))) ∙ c.loop-at.invariant
+    let place = c.args.place in
+    let text = c.args.text.now in
+    let found = sym (nearest-end place text log c.loop-at.at c.loop-at.found
+    (omega (arith, c.loop-at-test.false, c.requires.lines))) ∙ c.loop-at.invariant in
+    record {
+      value = found;
+      nearest = subst (IsNearest place text log) (sym found) (the_nearest place text log);
+    }

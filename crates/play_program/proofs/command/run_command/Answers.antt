@@ -1,11 +1,10 @@
-use Rattle.std.proofs.Common.{None, Ok, Option, map, refl, subst, sym}
+use Rattle.std.proofs.Common.{None, Ok, map, refl, subst, sym}
 use Rattle.std.specs.List.{AllZip}
 use Rattle.cave_play.specs.Input.{InputTexts, Says, input_left}
 use Rattle.cave_play.proofs.InputLemmas.{Says-some}
 use Rattle.play_command.specs.declared.line.Line.{Line}
 use Rattle.play_logs.proofs.FaultLemmas.{AllSay-some}
-use Rattle.play_command.specs.declared.aside.ReportView.{ReportView}
-use Rattle.play_program.specs.Runs.{RunsEdits, RunsLine}
+use Rattle.play_program.specs.Runs.{RunsLine}
 use Rattle.play_program.proofs.command.run_command.Goals as goal
 
 pub returns-in-Check : goal.returns-in-Check
@@ -68,11 +67,6 @@ returns-in-Play g c =
 pub returns-in-Edit : goal.returns-in-Edit
 returns-in-Edit g c =
     let (texts, are, runs) = c.run_edits.ensures.runs in
-    let reported =
-    subst
-    (λ (report : Option ReportView). RunsEdits c.in-Edit.script texts c.in-Edit.editing report
-    (g.W.Write.contents c.args.output.now) (g.W.Write.contents c.run_edits.new.output)
-    c.run_edits.result) c.report-report.ensures runs in
     let (logs, say) = AllSay-some (map g.F.Read.remaining c.args.readers.now.logs.items) in
     record {
       runs = (
@@ -83,7 +77,7 @@ returns-in-Edit g c =
         subst
             (λ (line : Line). RunsLine line texts logs (g.W.Write.contents c.args.output.now)
             (g.W.Write.contents c.run_edits.new.output) c.ended_edits.result)
-            (sym c.in-Edit.is) (c.run_edits.result, c.ended_edits.ensures, reported),
+            (sym c.in-Edit.is) (c.run_edits.result, c.ended_edits.ensures, runs),
       );
     }
 
