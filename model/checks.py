@@ -233,9 +233,8 @@ def entry_of(doubt):
     file, _, words = doubt
     return f"{file}: {words}"
 
-def unmet_lines(name, known, found):
-    """A line for each entry of a list that none of the doubts is."""
-    entries = {*map(entry_of, found)}
-    for at, line in enumerate(lines_of(known), 1):
+def unmet_lines(name, lines, entries, words):
+    """A line with these words for each line of a list that is none of the entries."""
+    for at, line in enumerate(lines, 1):
         if says_something(line) and line not in entries:
-            yield f"{name}:{at}: no doubt says this"
+            yield f"{name}:{at}: {words}"

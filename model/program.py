@@ -31,6 +31,8 @@ PRINTS = {"check": ["maximum", "bindings", "names", "unused", "words", "doubts"]
 OPTIONS = {"--bind": "FILE", "--seed": "N", "--every": "K", "--print": "WHAT", "--strict": None,
            "--guarded": None, "--edit": "EDIT", "--quiet": None, "--known": "FILE",
            "--report": "WHAT"}
+# What a strict run or one with a list of what is known prints.
+LISTS = {"check": "doubts", "cover": "texts"}
 # What an option without a value stands for, and what may be asked for by it.
 USUAL = {"--report": "reports"}
 REPORTS = ["reports", "table"]
@@ -133,10 +135,9 @@ def judged_options(command, files, options):
     """The options, and what they are if they aren't given."""
     seed = number_in("--seed", options.get("--seed", "0"), 0, GREATEST_SEED)
     number_in("--every", options.get("--every", "50"), 1, 10_000)
-    usual = PRINTS[command][0]
-    if "--strict" in options or "--known" in options:
-        usual = {"check": "doubts", "cover": "texts"}.get(command, usual)
-    prints = options.get("--print", usual)
+    asks_left = "--strict" in options or "--known" in options
+    usual = LISTS.get(command) if asks_left else None
+    prints = options.get("--print", usual or PRINTS[command][0])
     names = PRINTS[command]
     if prints not in names:
         raise wrong(f"invalid value '{prints}' for '--print <WHAT>':"
@@ -148,7 +149,7 @@ def judged_options(command, files, options):
     if "--report" in options:
         raise wrong("'--report <WHAT>' is for '--output <FILE>': without it, '--print <WHAT>'"
                     " prints reports")
-    known = options.get("--known") if prints == "doubts" else None
+    known = options.get("--known") if prints == "doubts" or command == "cover" else None
     return {"edit": options.get("--edit"), "bind": options.get("--bind"), "print": prints,
             "strict": "--strict" in options, "guarded": "--guarded" in options,
             "quiet": "--quiet" in options, "seed": seed, "known": known}
@@ -253,7 +254,8 @@ def doubts_lines(cave, options, name, database, bindings, known):
     """The doubts that a list doesn't know, after the entries of the list that no doubt is."""
     found = checks.doubts(cave, name, database, options["bind"], bindings)
     left = [it for it in found if checks.entry_of(it) not in lines_of(known)]
-    unmet = checks.unmet_lines(options["known"], known, found)
+    entries = {*map(checks.entry_of, found)}
+    unmet = checks.unmet_lines(options["known"], lines_of(known), entries, "no doubt says this")
     lines = [*unmet, *map(checks.doubt_line, left), f"-- {len(left)} doubts"]
     if left and options["strict"]:
         raise Stop(1, f"cave: {checks.doubt_line(left[0])}\n", lines)
@@ -351,13 +353,24 @@ def run_edit(cave, file, log, script, log_ends, options, told):
             "play": ended.transcript,
             "transcript": [*reports, *ended.transcript]}[options["print"]]
 
-def run_cover(cave, names, files, options):
+def run_cover(cave, names, files, options, known):
     """Plays logs, and returns what is printed about the texts that none of them says, as lines."""
-    said = set()
+    said, known = set(), cover.known_of(lines_of(known))
     for name, file in zip(names, files):
         log = judged_as(3, name, log_of, text_of(file))
         said |= edits.play(cave, options["seed"], log).game.said
-    return cover.report(cave, said, len(names), options["print"])
+    entries, lines, left = cover.report(cave, said, len(names), options["print"], known)
+    words = "nothing that is never shown says this"
+    lines = [*checks.unmet_lines(options["known"], known, entries, words), *lines]
+    if left and options["strict"]:
+        raise Stop(1, f"cave: {left} left that no log shows\n", lines)
+    return lines
+
+def check_known(name, text):
+    """Ends the run if a list of what is known is too large."""
+    if len(text) > MOST_BYTES:
+        large = "the list of what is known is larger than 1,048,576 bytes"
+        raise Stop(1, f"cave: {name}: {large}\n")
 
 def run_words(words, told):
     """What a run prints, as lines or as a text; a fault of it ends it by `Stop`. What else is said
@@ -368,6 +381,9 @@ def run_words(words, told):
     files = [None if it is None else opened(it) for it in in_order]
     log_text = text_of(files[2]) if command in ("play", "edit") else ""
     told.append(head_notice((names + [""])[1], log_text, names[0], options))
+    listed = text_of(files.pop()) if known is not None else ""
+    if command == "cover":
+        check_known(known, listed)
     database, bindings = text_of(files[0]), text_of(files[1]) if files[1] else ""
     for name, text, says in [(names[0], database, "a database has"),
                              (bind, bindings, "bindings have")]:
@@ -376,13 +392,10 @@ def run_words(words, told):
             raise Stop(1, f"cave: {name}: the input is too large: {says} {most}\n")
     cave = cave_of(names[0], database, bind, bindings)
     if command == "check":
-        list_text = text_of(files[2]) if known is not None else ""
-        if len(list_text) > MOST_BYTES:
-            large = "the list of known doubts is larger than 1,048,576 bytes"
-            raise Stop(1, f"cave: {known}: {large}\n")
-        return check_lines(cave, options, names[0], database, bindings, list_text)
+        check_known(known, listed)
+        return check_lines(cave, options, names[0], database, bindings, listed)
     if command == "cover":
-        return run_cover(cave, names[1:], files[2:], options)
+        return run_cover(cave, names[1:], files[2:], options, listed)
     log = judged_as(3, names[1], log_of, log_text)
     if command == "edit":
         name, text = (names[2], text_of(files[3])) if options["edit"] is None else (

@@ -19,6 +19,7 @@ abbrev pub status_of : PlayFault → ℕ
 status_of (fault.Cave error clue) = 1
 status_of (fault.Doubt found) = 1
 status_of fault.LargeKnown = 1
+status_of (fault.Unshown count) = 1
 status_of fault.Seed = 2
 status_of fault.Every = 2
 status_of (fault.Log refused) = 3

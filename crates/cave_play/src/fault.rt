@@ -22,7 +22,7 @@ pub enum Input {
     Log,
     /// What a log is edited by: a script, or the log that the edits are to make.
     Script,
-    /// The doubts that are known.
+    /// What is known: doubts, or what no log shows.
     Known,
 }
 
@@ -118,9 +118,12 @@ pub enum PlayFault {
     /// This doubt isn't known, and the run is strict.
     #[error("{}", .0.flaw)]
     Doubt(Doubt),
-    /// The list of known doubts has more bytes than an input may have.
-    #[error("the list of known doubts is larger than 1,048,576 bytes")]
+    /// The list of what is known has more bytes than an input may have.
+    #[error("the list of what is known is larger than 1,048,576 bytes")]
     LargeKnown,
+    /// No log shows this many things, they aren't known, and the run is strict.
+    #[error("{0} left that no log shows")]
+    Unshown(usize),
     /// The seed is too great.
     #[error("a seed is at most 2147483647")]
     Seed,
@@ -180,7 +183,8 @@ impl PlayFault {
         ensures { result ≡ status_of self }
     {
         match self {
-            PlayFault::Cave(_, _) | PlayFault::Doubt(_) | PlayFault::LargeKnown => 1,
+            PlayFault::Cave(_, _) | PlayFault::Doubt(_) => 1,
+            PlayFault::LargeKnown | PlayFault::Unshown(_) => 1,
             PlayFault::Seed | PlayFault::Every => 2,
             PlayFault::Log(_) | PlayFault::NewLog(_) => 3,
             PlayFault::Script(_) | PlayFault::Refused(_) => 4,
@@ -205,7 +209,7 @@ impl PlayFault {
             }
             PlayFault::Read(input) => Some(input),
             PlayFault::Seed | PlayFault::Every | PlayFault::Write | PlayFault::Memory => None,
-            PlayFault::LargeLog | PlayFault::LargeScript => None,
+            PlayFault::LargeLog | PlayFault::LargeScript | PlayFault::Unshown(_) => None,
         }
     }
 

@@ -10,7 +10,7 @@ pub mod inputs;
 pub mod judge;
 pub mod laws;
 pub mod output;
-mod read;
+pub mod read;
 pub mod run;
 pub mod two_logs;
 mod views;

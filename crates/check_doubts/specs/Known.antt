@@ -16,6 +16,18 @@ has_line text wanted = list_any (λ line. bytes_eq line wanted) (lines text)
 abbrev pub is_unmet : List ℕ → List ℕ → Bool
 is_unmet entries line = not (is_skipped line) && not (has_line entries line)
 
+-- what is said of a line of a file
+abbrev pub unmet_line : List ℕ → List ℕ → ℕ → List ℕ
+unmet_line file words number =
+    file ++ (codes ":" ++ (decimal number ++ (codes ": " ++ (words ++ codes "\n"))))
+
+-- it is said of each line that is none of the entries; the first of the lines has this number
+abbrev pub unmet_lines : List ℕ → List ℕ → List ℕ → ℕ → List (List ℕ) → List ℕ
+unmet_lines file words entries number [] = []
+unmet_lines file words entries number (line ∷ lines) =
+    (if is_unmet entries line then unmet_line file words number else [])
+    ++ unmet_lines file words entries (suc number) lines
+
 module _ (files : DoubtFiles) where
   -- the entry of a doubt: its line in the list of doubts, without the number
   abbrev pub entry_of : Doubt → List ℕ
@@ -35,17 +47,7 @@ module _ (files : DoubtFiles) where
   abbrev pub entries_of : List Doubt → List ℕ
   entries_of doubts = flat_map entry_line doubts
 
-  abbrev pub unmet_line : ℕ → List ℕ
-  unmet_line number =
-      files.known.now ++ (codes ":" ++ (decimal number ++ codes ": no doubt says this\n"))
-
-  -- a line for each such line of these, the first of which has this number
-  abbrev pub unmet_lines : List ℕ → ℕ → List (List ℕ) → List ℕ
-  unmet_lines entries number [] = []
-  unmet_lines entries number (line ∷ lines) =
-      (if is_unmet entries line then unmet_line number else [])
-      ++ unmet_lines entries (suc number) lines
-
   -- a line for each entry of a text that none of these doubts meets
   unfoldable pub unmet_text : List ℕ → List Doubt → List ℕ
-  unmet_text known doubts = unmet_lines (entries_of doubts) 1 (lines known)
+  unmet_text known doubts =
+      unmet_lines files.known.now (codes "no doubt says this") (entries_of doubts) 1 (lines known)

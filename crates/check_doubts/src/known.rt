@@ -11,7 +11,8 @@ use crate::listing::{DoubtFiles, file_of};
 use base_lines::{is_skipped, split_line};
 use std::alloc::{AllocError, Global};
 
-fn has_line(text: &[u8], wanted: &[u8]) -> bool
+/// Whether a text has a line.
+pub fn has_line(text: &[u8], wanted: &[u8]) -> bool
     ensures { result ≡ has_line text.now wanted.now }
 {
     let mut rest = text;
@@ -99,37 +100,38 @@ fn is_unmet(entries: &[u8], line: &[u8]) -> bool
     !is_skipped(line) && !has_line(entries, line)
 }
 
-/// Appends that no doubt is what this line of the list says.
+/// Appends these words about a line of a file.
 fn push_unmet_line(
     alloc: Global,
-    files: &DoubtFiles<'_>,
+    file: &str,
+    words: &str,
     number: usize,
     text: &mut Vec<u8>,
 ) -> Result<(), AllocError>
-    ensures { OnOk result (text.new.items ≡ text.old.items ++ unmet_line files.now number) }
+    ensures { OnOk result (text.new.items ≡ text.old.items ++ unmet_line file.now words.now number) }
 {
-    let file = files.known;
-    let told = format!(in alloc; "{file}:{number}: no doubt says this\n")?;
+    let told = format!(in alloc; "{file}:{number}: {words}\n")?;
     text.extend_from_slice(told.as_bytes())
 }
 
-/// Appends a line for each line of a list that is none of the entries.
-fn push_unmet_lines(
+/// Appends these words about each line of a list, which is in a file, that is none of the entries.
+pub fn push_unmet_lines(
     alloc: Global,
-    files: &DoubtFiles<'_>,
+    file: &str,
+    words: &str,
     entries: &[u8],
     known: &[u8],
     text: &mut Vec<u8>,
 ) -> Result<(), AllocError>
     ensures { OnOk result (text.new.items
-        ≡ text.old.items ++ unmet_lines files.now entries.now 1 (lines known.now)) }
+        ≡ text.old.items ++ unmet_lines file.now words.now entries.now 1 (lines known.now)) }
 {
     let mut rest = known;
     let mut number = 0usize;
     while let Some((line, after)) = split_line(rest) {
         number += 1;
         if is_unmet(entries, line) {
-            push_unmet_line(alloc, files, number, text)?;
+            push_unmet_line(alloc, file, words, number, text)?;
         }
         rest = after;
     }
@@ -149,5 +151,12 @@ pub fn push_unmet(
         (text.new.items ≡ text.old.items ++ unmet_text files.now known.now doubts.now) }
 {
     let entries = entries_of(alloc, files, doubts)?;
-    push_unmet_lines(alloc, files, &entries, known, text)
+    push_unmet_lines(
+        alloc,
+        files.known,
+        "no doubt says this",
+        &entries,
+        known,
+        text,
+    )
 }

@@ -2,7 +2,7 @@
 use Rattle.std.proofs.Common.{◌≡◌, ℕ, zero, suc, ◌+◌, ◌-◌, ◌<◌, ◌≤◌, Bool, true, false, List, [], ◌∷◌}
 use Rattle.std.proofs.Common.{◌++◌, Option, None, Some, cond, length, refl, sym, ap, ap₂, ◌∙◌, subst}
 use Rattle.std.proofs.Common.{append_assoc, append-nil, arith}
-use Rattle.std.specs.Prelude.{◌==◌, ◌&&◌, ◌||◌, not, bytes_eq, nat_lt}
+use Rattle.std.specs.Prelude.{◌==◌, ◌||◌, not, bytes_eq, nat_lt}
 use Rattle.std.proofs.lemmas.Bool.{eq-eqb, eqb-false, eqb-true, false≢true, ltb-false, ltb-true}
 use Rattle.std.proofs.lemmas.Bool.{ne_eqb}
 use Rattle.std.proofs.lemmas.Slice.Eq.{bytes_eq-Decides}
@@ -11,8 +11,8 @@ use Rattle.cave_data.specs.CaveView.{CaveView}
 use Rattle.cave_words.specs.Words.{after_first_run, first_word_of, some_run}
 use Rattle.map_graph.specs.Parts.{is_one_of}
 use Rattle.map_graph.specs.Titles.{MAX_TITLE_WORDS, TitlesTellApart, WORDS_SHOWN, count_shared}
-use Rattle.map_graph.proofs.Bools.{and_both, both_and}
-use Rattle.map_graph.specs.Titles.{first_words, greater_of, is_shared, title_source, word_start}
+use Rattle.map_graph.proofs.Bools.{not_false, or_none}
+use Rattle.map_graph.specs.Titles.{first_words, greater_of, parts_from, title_source, word_start}
 use Rattle.map_graph.specs.Titles.{words_as_shown, words_from, words_of_line, words_telling}
 use Rattle.map_graph.specs.Titles.{words_telling_all}
 
@@ -78,7 +78,7 @@ module _ (line rest word : List ℕ) (blanks : rest ≡ after_prefix is_blank li
       ∙ ap (λ n. before ++ words_as_shown shown (first_words n line)) one
 
 -- two lines share no more words if the first has none, or if the next ones differ
-shares_end : (w v : List ℕ) (words others : List (List ℕ)) → is_shared w v ≡ false
+shares_end : (w v : List ℕ) (words others : List (List ℕ)) → parts_from w v ≡ true
     → count_shared (words_from (some_run w) words) (words_from (some_run v) others) ≡ 0
 shares_end [] v words others ends = refl
 shares_end (byte ∷ bytes) [] words others ends = refl
@@ -91,25 +91,44 @@ shares_end (byte ∷ bytes) (first ∷ more) words others ends =
     by_test : (b : Bool) → bytes_eq (byte ∷ bytes) (first ∷ more) ≡ b
         → cond b (suc (count_shared words others)) 0 ≡ 0
     by_test false is = refl
-    by_test true is =
-        absurd (false≢true (sym (ends)
-        ∙ both_and (not (length (byte ∷ bytes) == 0)) (bytes_eq (byte ∷ bytes) (first ∷ more))
-        (ap not some) is))
+    by_test true is = absurd (false≢true (sym (ap₂ (λ a b. a || not b) some is) ∙ ends))
 
 -- and otherwise one more
-shares_more : (w v : List ℕ) (words others : List (List ℕ)) → is_shared w v ≡ true
+shares_more : (w v : List ℕ) (words others : List (List ℕ)) → parts_from w v ≡ false
     → count_shared (words_from (some_run w) words) (words_from (some_run v) others)
     ≡ suc (count_shared words others)
 shares_more [] v words others more =
-    absurd (false≢true (subst (λ b. (not b && bytes_eq [] v) ≡ true) (eq-eqb 0 0 refl) more))
+    absurd (false≢true (sym more ∙ ap (λ b. b || not (bytes_eq [] v)) (eq-eqb 0 0 refl)))
 shares_more (byte ∷ bytes) [] words others more =
-    let both = and_both (not (length (byte ∷ bytes) == 0)) (bytes_eq (byte ∷ bytes) []) more in
-    let same : (byte ∷ bytes) ≡ [] = (bytes_eq-Decides (byte ∷ bytes) []).0 both.1 in
+    let same : (byte ∷ bytes) ≡ [] = (bytes_eq-Decides (byte ∷ bytes) []).0
+    (not_false (bytes_eq (byte ∷ bytes) [])
+    (or_none (length (byte ∷ bytes) == 0) (not (bytes_eq (byte ∷ bytes) [])) more)) in
     cc
 shares_more (byte ∷ bytes) (first ∷ rest) words others more =
-    let both = and_both (not (length (byte ∷ bytes) == 0))
-    (bytes_eq (byte ∷ bytes) (first ∷ rest)) more in
-    ap (λ b. cond b (suc (count_shared words others)) 0) both.1
+    ap (λ b. cond b (suc (count_shared words others)) 0)
+    (not_false (bytes_eq (byte ∷ bytes) (first ∷ rest))
+    (or_none (length (byte ∷ bytes) == 0) (not (bytes_eq (byte ∷ bytes) (first ∷ rest))) more))
+
+zero_plus : (n : ℕ) → 0 + n ≡ n
+zero_plus n = omega arith
+
+pub begins_shared : (line other : List ℕ)
+    → 0 + count_shared (first_words MAX_TITLE_WORDS line) (first_words MAX_TITLE_WORDS other)
+    ≡ count_shared (words_of_line line) (words_of_line other)
+unfolding words_of_line
+begins_shared line other =
+    zero_plus
+    (count_shared (first_words MAX_TITLE_WORDS line) (first_words MAX_TITLE_WORDS other))
+
+pub ends_shared : (shared whole : ℕ) (line other : List ℕ) → MAX_TITLE_WORDS - shared ≡ 0
+    → shared ≤ MAX_TITLE_WORDS
+    → shared + count_shared (first_words (MAX_TITLE_WORDS - shared) line)
+    (first_words (MAX_TITLE_WORDS - shared) other) ≡ whole
+    → MAX_TITLE_WORDS ≡ whole
+ends_shared shared whole line other none within is =
+    let last : shared + 0 ≡ whole =
+    subst (λ n. shared + count_shared (first_words n line) (first_words n other) ≡ whole) none is in
+    omega (arith, none, within, last)
 
 module _ (line other rest rest_of_other word word_of_other after after_other : List ℕ)
     (blanks : rest ≡ after_prefix is_blank line) (run : word ≡ prefix_while is_nonblank rest)
@@ -131,13 +150,13 @@ module _ (line other rest rest_of_other word word_of_other after after_other : L
       ∙ ap₂ count_shared (first_words_run line rest word blanks run fewer after left)
       (first_words_run other rest_of_other word_of_other also runs fewer after_other leaves)
 
-  pub shared_ends : is_shared word word_of_other ≡ false
+  pub shared_ends : parts_from word word_of_other ≡ true
       → shared + count_shared (first_words (MAX_TITLE_WORDS - shared) line)
       (first_words (MAX_TITLE_WORDS - shared) other) ≡ shared
   shared_ends ends =
       let none = shared_next ∙ shares_end word word_of_other _ _ ends in omega (arith, none)
 
-  pub shared_more : is_shared word word_of_other ≡ true
+  pub shared_more : parts_from word word_of_other ≡ false
       → (shared + 1) + count_shared (first_words fewer after) (first_words fewer after_other)
       ≡ shared + count_shared (first_words (MAX_TITLE_WORDS - shared) line)
       (first_words (MAX_TITLE_WORDS - shared) other)
@@ -200,6 +219,7 @@ module _ (cave : CaveView) (place : ℕ) where
 
   each_told : (least : ℕ) (others : List ℕ) (number : ℕ) → is_one_of others number ≡ true
       → words_telling cave place number ≤ words_telling_all cave place least others
+  each_told least [] number is = absurd (false≢true is)
   each_told least (other ∷ others) number is =
       by_test (other == number) refl is
       (each_told (greater_of least (words_telling cave place other)) others number)

@@ -105,12 +105,19 @@ is_shown cave stops seen from to = not seen || is_edge_taken cave stops from to
 abbrev pub MAX_EDGES_WITH_TEXT : ℕ
 MAX_EDGES_WITH_TEXT = 6
 
+-- there is an edge between two places, and if they are drawn it is drawn, too
+abbrev pub is_drawn_between : CaveView → List Stop → Bool → ℕ → ℕ → Bool
+is_drawn_between cave stops seen place other =
+    are_joined cave place other && is_shown cave stops seen place other
+
+abbrev pub count_drawn : CaveView → List Stop → Bool → List ℕ → ℕ → ℕ
+count_drawn cave stops seen places place =
+    length (filter (is_drawn_between cave stops seen place) places)
+
 -- the place has more edges to places that are drawn than that
 abbrev pub is_crowded : CaveView → List Stop → Bool → List ℕ → ℕ → Bool
 is_crowded cave stops seen places place =
-    nat_lt MAX_EDGES_WITH_TEXT
-    (length (filter (λ other. are_joined cave place other && is_shown cave stops seen place other)
-    places))
+    nat_lt MAX_EDGES_WITH_TEXT (count_drawn cave stops seen places place)
 
 -- the edge from one place to another, if it is drawn; between two crowded places it is plain
 abbrev pub drawn_edge : CaveView → List Stop → ℕ → Bool → List ℕ → ℕ → ℕ → List ℕ

@@ -1,5 +1,4 @@
 pub mod Stops
-pub mod Names
 pub mod Parts
 pub mod Titles
 pub mod Places

@@ -11,7 +11,7 @@ use Rattle.base_lines.specs.Numbers.{LAST_OBJECT}
 use Rattle.data_rows.specs.PlaceRole.{PLACE_NAMES}
 use Rattle.cave_world.specs.Sight.{LIGHT_BIT, has_condition, forced}
 use Rattle.map_ways.specs.Labels.{label_of}
-use Rattle.map_graph.specs.Names.{word_or_number, number_of_object}
+use Rattle.check_tables.specs.WayWords.{word_or_number, number_of_object}
 use Rattle.map_graph.specs.Stops.{is_visited, visits}
 use Rattle.map_graph.specs.Titles.{title}
 use Rattle.map_ways.specs.Ways.{count_nowhere}

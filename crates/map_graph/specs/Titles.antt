@@ -1,5 +1,5 @@
 -- The title of a place: the first words of its text, as many as tell it from other places.
-use Rattle.std.specs.Prelude.{◌≡◌, true, Bool, ℕ, zero, suc, ◌+◌, ◌%◌, ◌==◌, ◌&&◌, not, nat_lt, if◌then◌else◌}
+use Rattle.std.specs.Prelude.{◌≡◌, true, Bool, ℕ, zero, suc, ◌+◌, ◌%◌, ◌==◌, ◌&&◌, ◌||◌, not, nat_lt, if◌then◌else◌}
 use Rattle.std.specs.Prelude.{List, [], ◌∷◌, ◌++◌, Option, None, Some, unwrap_or, length, bytes_eq}
 use Rattle.std.specs.FinMap as map
 use Rattle.map_graph.specs.Parts.{is_one_of}
@@ -57,9 +57,9 @@ title_source cave place = first_line (text_for_title cave place)
 unfoldable pub words_of_line : List ℕ → List (List ℕ)
 words_of_line line = first_words MAX_TITLE_WORDS line
 
--- there is a word, and it is the same as the other
-abbrev pub is_shared : List ℕ → List ℕ → Bool
-is_shared word other = not (length word == 0) && bytes_eq word other
+-- there is no word, or it isn't the other one
+abbrev pub parts_from : List ℕ → List ℕ → Bool
+parts_from word other = length word == 0 || not (bytes_eq word other)
 
 -- with how many of the same words both begin
 abbrev pub count_shared : List (List ℕ) → List (List ℕ) → ℕ

@@ -4,18 +4,12 @@ use Rattle.std.specs.Prelude.{if◌then◌else◌, List, [], ◌∷◌, ◌++◌
 use Rattle.data_rows.specs.Rows.{Going}
 use Rattle.data_rows.specs.declared.targets.Condition.{Condition}
 use Rattle.cave_data.specs.CaveView.{CaveView, ways_from}
-use Rattle.cave_world.specs.Motions.{any_motion}
 use Rattle.cave_world.specs.Sight.{forced}
 use Rattle.cave_world.specs.Travel.{row_condition}
-use Rattle.map_graph.specs.Names.{condition_mark, word_or_number}
+use Rattle.check_tables.specs.WayWords.{condition_mark, motion_name}
 use Rattle.map_ways.specs.Falls.{motions_taking}
 use Rattle.map_ways.specs.Leads.{emerald_of}
 use Rattle.map_ways.specs.Ways.{ends_at}
-
--- the name of a motion
-abbrev pub motion_name : CaveView → ℕ → List ℕ
-motion_name cave motion =
-    if motion == any_motion then codes " any motion" else word_or_number cave motion
 
 -- the most motions on a line
 abbrev pub MOTIONS_PER_LINE : ℕ

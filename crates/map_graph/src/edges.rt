@@ -4,8 +4,9 @@ ghost use Rattle.std.specs.Prelude.{◌≡◌, ◌≤◌, ◌++◌, OnOk};
 ghost use Rattle.base_lines.specs.Numbers.{LAST_PLACE};
 ghost use Rattle.map_ways.specs.Labels.{label_of};
 ghost use Rattle.map_graph.specs.Edges.{drawn_edge, edge_opening, edge_parts, edge_strength};
-ghost use Rattle.map_graph.specs.Edges.{edge_text, edges, head, head_at, head_back, is_crowded};
-ghost use Rattle.map_graph.specs.Edges.{is_edge_taken, is_shown, is_taken, label_look};
+ghost use Rattle.map_graph.specs.Edges.{count_drawn, edge_text, edges, head, head_at, head_back};
+ghost use Rattle.map_graph.specs.Edges.{is_crowded, is_drawn_between, is_edge_taken, is_shown};
+ghost use Rattle.map_graph.specs.Edges.{is_taken, label_look};
 ghost use Rattle.map_graph.specs.Edges.{labelled_edge, part_from_label, part_to_label, plain_edge};
 ghost use Rattle.map_graph.specs.Edges.{plain_opening};
 
@@ -230,7 +231,23 @@ fn push_plain_opening(
     text.extend_from_slice(opening.as_bytes())
 }
 
-fn push_tooltip(
+fn push_plain_heads(
+    alloc: Global,
+    cave: &Cave,
+    stops: &[Stop],
+    ends: (u16, u16),
+    text: &mut Vec<u8>,
+) -> Result<(), AllocError>
+    ensures { OnOk result (text.new.items ≡ text.old.items
+        ++ plain_opening ends.0 ends.1 (head_back cave.now stops.now ends.0 ends.1)
+        (head_at cave.now stops.now ends.0 ends.1)) }
+{
+    let (from, to) = ends;
+    let back = head_back(cave, stops, from, to);
+    push_plain_opening(alloc, from, to, back, head_at(cave, stops, from, to), text)
+}
+
+fn push_hover_label(
     alloc: Global,
     cave: &Cave,
     from: u16,
@@ -262,12 +279,8 @@ fn push_plain_edge(
     ensures { let saw = sights.entry in OnOk result (text.new.items
         ≡ text.old.items ++ plain_edge cave.now saw.stops.now saw.logs from to) }
 {
-    let (back, there) = (
-        head_back(cave, sights.stops, from, to),
-        head_at(cave, sights.stops, from, to),
-    );
-    push_plain_opening(alloc, from, to, back, there, text)?;
-    push_tooltip(alloc, cave, from, to, text)?;
+    push_plain_heads(alloc, cave, sights.stops, (from, to), text)?;
+    push_hover_label(alloc, cave, from, to, text)?;
     text.extend_from_slice(edge_strength(cave, sights, from, to).as_bytes())?;
     text.extend_from_slice(b"];\n")
 }
@@ -280,19 +293,31 @@ fn is_shown(cave: &Cave, sights: Sights<'_>, from: u16, to: u16) -> bool
     !sights.is_seen_only || is_edge_taken(cave, sights.stops, from, to)
 }
 
-/// Whether a place has so many edges that their texts would hide places.
+/// Whether there is an edge between two places, and if they are drawn it is drawn, too.
+fn is_drawn_between(cave: &Cave, sights: Sights<'_>, place: u16, other: u16) -> bool
+    ensures { let saw = sights.entry in
+        result ≡ is_drawn_between cave.now saw.stops.now saw.is_seen_only place other }
+{
+    are_joined(cave, place, other) && is_shown(cave, sights, place, other)
+}
+
+fn count_drawn(cave: &Cave, sights: Sights<'_>, place: u16) -> usize
+    ensures { let saw = sights.entry in
+        result ≡ count_drawn cave.now saw.stops.now saw.is_seen_only saw.places.now place }
+{
+    sights
+        .places
+        .iter()
+        .filter(|other| is_drawn_between(cave, sights, place, **other))
+        .count()
+}
+
+/// Whether a place has more edges than leave room for their texts.
 fn is_crowded(cave: &Cave, sights: Sights<'_>, place: u16) -> bool
     ensures { let saw = sights.entry in
         result ≡ is_crowded cave.now saw.stops.now saw.is_seen_only saw.places.now place }
 {
-    let count = sights
-        .places
-        .iter()
-        .filter(|other| {
-            are_joined(cave, place, **other) && is_shown(cave, sights, place, **other)
-        })
-        .count();
-    count > MAX_EDGES_WITH_TEXT
+    count_drawn(cave, sights, place) > MAX_EDGES_WITH_TEXT
 }
 
 /// Appends the edge from one place to another, if it is drawn.

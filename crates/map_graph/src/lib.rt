@@ -5,7 +5,6 @@ mod captions;
 pub mod edges;
 pub mod laws;
 pub mod map;
-pub mod names;
 pub mod nodes;
 pub mod parts;
 pub mod sights;

@@ -164,7 +164,7 @@ fn push_sums(
 }
 
 /// Appends the places and edges of a part of a cave, which has these places on its map.
-fn push_part(
+fn push_drawn_nodes_and_edges(
     alloc: Global,
     cave: &Cave,
     mapped: &[u16],
@@ -204,7 +204,7 @@ fn push_map_of_places(
     let counts = seen_counts(cave, stops, mapped);
     push_graph_opening(text)?;
     push_caption(alloc, counts, drawn.1, drawn.0, text)?;
-    push_part(alloc, cave, mapped, stops, drawn, text)?;
+    push_drawn_nodes_and_edges(alloc, cave, mapped, stops, drawn, text)?;
     text.extend_from_slice(b"}\n")?;
     push_sums(alloc, counts, drawn.1, text)
 }

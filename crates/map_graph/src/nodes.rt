@@ -13,7 +13,6 @@ ghost use Rattle.map_graph.specs.Places.{node_text, nowhere_note, object_label_l
 ghost use Rattle.map_graph.specs.Places.{objects_beginning, role_label_line, stay_text, strength};
 ghost use Rattle.map_graph.specs.Places.{title_line, visits_label_line};
 
-use crate::names::{number_of_object, push_word_or_number};
 use crate::sights::Sights;
 use crate::stops::{Stop, is_visited, visits};
 use crate::titles::push_title;
@@ -21,6 +20,7 @@ use base_lines::numbers::LAST_OBJECT;
 use cave_data::Cave;
 use cave_world::sight::LIGHT_BIT;
 use cave_world::{forced, has_condition};
+use check_tables::way_words::{number_of_object, push_word_or_number};
 use data_bindings::place_keys;
 use data_rows::PlaceRole;
 use map_ways::{count_nowhere, push_label};

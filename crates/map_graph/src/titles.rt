@@ -1,7 +1,7 @@
 //! The title of a place: the first words of its text, as many as tell it from other places.
 
 ghost use Rattle.std.specs.Prelude.{◌≡◌, ◌≤◌, ◌++◌, OnOk};
-ghost use Rattle.map_graph.specs.Titles.{count_shared, first_words, greater_of, is_shared, or_other};
+ghost use Rattle.map_graph.specs.Titles.{count_shared, first_words, greater_of, or_other, parts_from};
 ghost use Rattle.map_graph.specs.Titles.{text_for_title, title, title_source, word_start};
 ghost use Rattle.map_graph.specs.Titles.{words_as_shown, words_of_line, words_telling};
 ghost use Rattle.map_graph.specs.Titles.{words_telling_all};
@@ -71,11 +71,11 @@ fn push_first_words(line: &[u8], most: usize, text: &mut Vec<u8>) -> Result<(), 
     Ok(())
 }
 
-/// Whether there is a word, and it is the same as the other.
-fn is_shared(word: &[u8], other: &[u8]) -> bool
-    ensures { result ≡ is_shared word.now other.now }
+/// Whether there is no word, or it isn't the other one.
+fn parts_from(word: &[u8], other: &[u8]) -> bool
+    ensures { result ≡ parts_from word.now other.now }
 {
-    !word.is_empty() && word == other
+    word.is_empty() || word != other
 }
 
 /// With how many of the same words two lines begin.
@@ -88,7 +88,7 @@ fn count_shared(line: &[u8], other: &[u8]) -> usize
     for shared in 0..MAX_TITLE_WORDS {
         let (word, after) = split_word(skip_blanks(rest));
         let (word_of_other, after_other) = split_word(skip_blanks(rest_of_other));
-        if !is_shared(word, word_of_other) {
+        if parts_from(word, word_of_other) {
             return shared;
         }
         rest = after;

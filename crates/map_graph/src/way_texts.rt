@@ -3,13 +3,13 @@
 ghost use Rattle.std.specs.Prelude.{◌≡◌, ◌≤◌, ◌++◌, IfOk, OnOk, [], map};
 ghost use Rattle.base_lines.specs.Numbers.{LAST_PLACE};
 ghost use Rattle.data_rows.specs.RowViews.{going};
-ghost use Rattle.map_graph.specs.WayTexts.{line_of_text, motion_name, motion_start, motions_after};
+ghost use Rattle.map_graph.specs.WayTexts.{line_of_text, motion_start, motions_after};
 ghost use Rattle.map_graph.specs.WayTexts.{motions_of_row, motions_text, row_lines, row_motions};
 ghost use Rattle.map_graph.specs.WayTexts.{text_to, taking_text, two_texts, way_text};
 
-use crate::names::{push_condition_mark, push_word_or_number};
 use cave_data::Cave;
-use cave_world::{Motion, forced};
+use cave_world::forced;
+use check_tables::way_words::{push_condition_mark, push_motion};
 use data_rows::{Condition, Row};
 use map_ways::{ends_at, motions_taking};
 use std::alloc::{AllocError, Global};
@@ -17,21 +17,6 @@ use world_objects::Place;
 
 /// The most motions on a line, so that a map of many places can be read on a page.
 const MOTIONS_PER_LINE: usize = 3;
-
-/// Appends the name of a motion.
-fn push_motion(
-    alloc: Global,
-    cave: &Cave,
-    motion: u16,
-    text: &mut Vec<u8>,
-) -> Result<(), AllocError>
-    ensures { OnOk result (text.new.items ≡ text.old.items ++ motion_name cave.now motion) }
-{
-    if motion == Motion::Any.number() {
-        return text.extend_from_slice(b" any motion");
-    }
-    push_word_or_number(alloc, cave, motion, text)
-}
 
 /// What comes before the name of a motion that follows this many others.
 fn motion_start(shown: usize) -> &'static str

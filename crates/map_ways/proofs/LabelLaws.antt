@@ -62,15 +62,21 @@ module _ (cave : CaveView) (motion from to : ℕ) (low : 0 < from) where
       (takes_by s at draws (count_unlisted motion ways) (from_listed motion ways)
       (subst (LeadsFrom s draws) at.here leads))
 
-  leads : from ≤ LAST_PLACE → label_names cave motion from to ≡ true
+  pub taken_leads : from ≤ LAST_PLACE
+      → takes_to (emerald_of cave) to [] (from_listed motion ways) ≡ true
       → CanLead cave motion from to
-  leads high is =
+  taken_leads high takes =
       let (s, (at, found)) = taken_to_leads (emerald_of cave) to from low high []
-      (from_listed motion ways)
-      (named_takes (emerald_of cave) (begins_as_any motion ways) motion to [] ways refl is) in
+      (from_listed motion ways) takes in
       let (draws, (all, there)) = by_draws s at (count_unlisted motion ways)
       (from_listed motion ways) found in
       (s, (draws, (at, (all, subst (LeadsFrom s draws) (sym at.here) there))))
+
+  leads : from ≤ LAST_PLACE → label_names cave motion from to ≡ true
+      → CanLead cave motion from to
+  leads high is =
+      taken_leads high
+      (named_takes (emerald_of cave) (begins_as_any motion ways) motion to [] ways refl is)
 
 pub labels_name_what_leads : LabelsNameWhatLeads
 labels_name_what_leads cave motion from to number =
@@ -89,11 +95,12 @@ by_stream emerald s failed number (row ∷ rows) =
     else try_of emerald s number row ∷ (if is_some (row_outcome s row) then [] else all))
     (by_stream emerald (after_trying_row emerald s row) (Some row.target) (number + 1) rows)
 
-pub what_leads_is_named : WhatLeadsIsNamed
+-- what leads to the place by the stream leads there with some draws, as there are none
+pub leads_by_stream : (cave : CaveView) (motion from to : ℕ) (s : State) → IsStateAt from s
+    → (travel cave (emerald_of cave) motion s).outcome ≡ Go to → CanLead cave motion from to
 unfolding travel travel_by_rows
-what_leads_is_named cave motion from to s number at leads =
-    let ways = ways_from cave s.trail.here in
-    named cave motion from to number.0 (
+leads_by_stream cave motion from to s at leads =
+    let ways = ways_from cave s.trail.here in (
       s,
       (
         [],
@@ -108,3 +115,7 @@ what_leads_is_named cave motion from to s number at leads =
         ),
       ),
     )
+
+pub what_leads_is_named : WhatLeadsIsNamed
+what_leads_is_named cave motion from to s number at leads =
+    named cave motion from to number.0 (leads_by_stream cave motion from to s at leads)

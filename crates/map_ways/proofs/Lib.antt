@@ -17,6 +17,8 @@ pub mod Tried
 pub mod Named
 pub mod NamedBack
 pub mod LabelLaws
+pub mod WayLeads
+pub mod AppliedRows
 pub mod Emeralds
 pub mod Passed
 pub mod Begun

@@ -87,7 +87,7 @@ module _ (emerald : ℕ) (as_any : Bool) (motion : ℕ) where
       (and_second (not (lists_motion motion row)) (begins_as_any motion (before ++ rows)) both)
       (or_false_rest (lists_motion any_motion row) (any_lists any_motion before) none))
 
-  record BeginsAt (before : List Going) (first : Going) : Type 0 where
+  pub record BeginsAt (before : List Going) (first : Going) : Type 0 where
     pub unlisted : any_lists motion before ≡ false
     pub listed : lists_motion motion first ≡ true
 
@@ -120,7 +120,7 @@ module _ (emerald : ℕ) (as_any : Bool) (motion : ℕ) where
       by_test : Begins before first.motions → BeginsAt before first
       by_test b = by_number b (b.number == motion) refl
 
-  from_first : (before : List Going) (first : Going) (rows : List Going) → BeginsAt before first
+  pub from_first : (before : List Going) (first : Going) (rows : List Going) → BeginsAt before first
       → from_listed motion (before ++ first ∷ rows) ≡ first ∷ rows
   from_first [] first rows begins =
       ap (λ b. if b then first ∷ rows else from_listed motion rows) begins.listed
@@ -134,7 +134,7 @@ module _ (emerald : ℕ) (as_any : Bool) (motion : ℕ) where
         listed = begins.listed;
       })
 
-  takes_at : (place : ℕ) (done mid : List Going) (row : Going) (rows : List Going)
+  pub takes_at : (place : ℕ) (done mid : List Going) (row : Going) (rows : List Going)
       → ends_at place row ≡ true → is_taken_after emerald (done ++ mid) row ≡ true
       → takes_to emerald place done (mid ++ row ∷ rows) ≡ true
   takes_at place done [] row rows ends taken =
@@ -145,7 +145,7 @@ module _ (emerald : ℕ) (as_any : Bool) (motion : ℕ) where
       (subst (λ all. is_taken_after emerald all row ≡ true)
       (sym (append_assoc done (first ∷ []) mid)) taken))
 
-  among_none : (b : Bool) (numbers : List ℕ)
+  pub among_none : (b : Bool) (numbers : List ℕ)
       → is_among as_any motion (if b then numbers else []) ≡ true
       → (b ≡ true) × (is_among as_any motion numbers ≡ true)
   among_none true numbers among = (refl, among)

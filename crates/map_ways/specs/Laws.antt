@@ -1,14 +1,15 @@
 -- Laws about ways.
 use Rattle.std.specs.Prelude.{◌≡◌, ℕ, ◌+◌, ◌<◌, ◌≤◌, Bool, true, false, ◌==◌, ◌&&◌, ◌||◌, not}
-use Rattle.std.specs.Prelude.{if◌then◌else◌, List, [], ◌∷◌, ◌++◌, length}
-use Rattle.std.specs.List.{filter, list_any}
+use Rattle.std.specs.Prelude.{if◌then◌else◌, List, [], ◌∷◌, ◌++◌, length, Some, Contains}
+use Rattle.std.specs.List.{filter, list_any, slice_get}
 use Rattle.cave_data.specs.CaveView.{CaveView, ways_from}
 use Rattle.base_lines.specs.Numbers.{LAST_PLACE}
 use Rattle.data_rows.specs.Rows.{Going}
 use Rattle.cave_world.specs.declared.state.State.{State}
 use Rattle.cave_world.specs.declared.travel_rows.Outcome.TheVariants.{Go}
+use Rattle.cave_world.specs.declared.tables.RuleRow.TheVariants.{OfPlace}
 use Rattle.cave_world.specs.Motions.{any_motion}
-use Rattle.cave_world.specs.Travel.{lists_motion, travel}
+use Rattle.cave_world.specs.Travel.{lists_motion, rows_tried_from, travel}
 use Rattle.map_ways.specs.Falls.{motions_taking}
 use Rattle.map_ways.specs.Leads.{CanLead, IsStateAt, emerald_of}
 use Rattle.map_ways.specs.Ways.{are_joined, ends_at, ends_of_edges, is_mapped, is_way}
@@ -103,3 +104,24 @@ WhatLeadsIsNamed =
     → IsStateAt from s
     → (travel cave (emerald_of cave) motion s).outcome ≡ Go to
     → label_names cave motion from to ≡ true
+
+-- a way leads from one place to the other exactly if some motion leads there by `travel`, in some
+-- state in which the player is at the one, with some draws
+abbrev pub WaysAreWhatLeads : Type 0
+WaysAreWhatLeads =
+    (cave : CaveView) (from to : ℕ)
+    → IsPlaceNumber from
+    → (is_way cave from to ≡ true → (motion : ℕ) × CanLead cave motion from to)
+    × ((motion : ℕ) → CanLead cave motion from to → is_way cave from to ≡ true)
+
+-- a row of a place that a motion tries there, and that applies, is one of a way if it leads to a
+-- place: so the map draws what `travel` notes
+abbrev pub AppliedRowsAreWays : Type 0
+AppliedRowsAreWays =
+    (cave : CaveView) (motion from to index : ℕ) (s : State) (row : Going)
+    → IsPlaceNumber from
+    → IsStateAt from s
+    → Contains (rows_tried_from cave (emerald_of cave) motion s) (OfPlace from index true)
+    → slice_get (ways_from cave from) index ≡ Some row
+    → ends_at to row ≡ true
+    → is_way cave from to ≡ true

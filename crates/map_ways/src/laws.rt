@@ -1,7 +1,8 @@
 //! Laws about ways. Each is the contract of a function that does nothing.
 
-ghost use Rattle.map_ways.specs.Laws.{EachPlaceHasOneNode, EachWayHasOneEdge, EndsAreNodes};
-ghost use Rattle.map_ways.specs.Laws.{LabelsNameWhatLeads, WhatLeadsIsNamed};
+ghost use Rattle.map_ways.specs.Laws.{AppliedRowsAreWays, EachPlaceHasOneNode};
+ghost use Rattle.map_ways.specs.Laws.{EachWayHasOneEdge, EndsAreNodes};
+ghost use Rattle.map_ways.specs.Laws.{LabelsNameWhatLeads, WaysAreWhatLeads, WhatLeadsIsNamed};
 
 /// Each place that has a text, or a way, is exactly once among the places of the map, and no other
 /// is.
@@ -27,4 +28,16 @@ pub fn labels_name_what_leads()
 /// If a motion leads to a place by the stream, the label of the edge there names it.
 pub fn what_leads_is_named()
     ensures { WhatLeadsIsNamed }
+{}
+
+/// A way leads from one place to another exactly if some motion leads there in some state, with
+/// some draws.
+pub fn ways_are_what_leads()
+    ensures { WaysAreWhatLeads }
+{}
+
+/// A row of a place that a motion tries there, and that applies, is one of a way if it leads to a
+/// place.
+pub fn applied_rows_are_ways()
+    ensures { AppliedRowsAreWays }
 {}

@@ -4,7 +4,7 @@ use Rattle.std.proofs.Common.{append-nil, get_or, map, take, refl, sym, ap, ◌�
 use Rattle.std.specs.Prelude.{◌||◌, ◌&&◌, ◌==◌, slice_index_or}
 use Rattle.std.proofs.lemmas.Bool.{eqb-true}
 use Rattle.cave_world.specs.declared.tables.RuleRow.{RuleRow}
-use Rattle.play_cover.specs.RowReport.{mark_of_row}
+use Rattle.play_cover.specs.RowMarks.{mark_of_row}
 use Rattle.std.specs.List.{flat_map}
 use Rattle.std.proofs.lemmas.List.{map-append, take_all, take_more}
 use Rattle.std.proofs.lemmas.Grind.{flat_map-append}

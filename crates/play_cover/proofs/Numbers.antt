@@ -1,6 +1,7 @@
 -- The numbers from 1 on.
-use Rattle.std.proofs.Common.{◌≡◌, ℕ, zero, suc, ◌+◌, [], ◌∷◌, ◌++◌, ap, ◌∙◌, arith}
-use Rattle.std.specs.List.{range_with_len}
+use Rattle.std.proofs.Common.{◌≡◌, ℕ, zero, suc, ◌+◌, List, [], ◌∷◌, ◌++◌, append-nil, ap, ◌∙◌, arith}
+use Rattle.std.proofs.lemmas.List.Concat.{flat_map-append}
+use Rattle.std.specs.List.{flat_map, range_with_len}
 
 range_more : (a n : ℕ) → range_with_len a (n + 1) ≡ range_with_len a n ++ (a + n) ∷ []
 range_more a zero =
@@ -15,3 +16,10 @@ pub numbers_more : (n : ℕ) → range_with_len 1 (n + 1) ≡ range_with_len 1 n
 numbers_more n =
     let last : 1 + n ≡ n + 1 = omega arith in
     range_more 1 n ∙ ap (λ k. range_with_len 1 n ++ k ∷ []) last
+
+-- what one more number gives
+pub flat_numbers_more : {X : Type 0} (f : ℕ → List X) (n : ℕ)
+    → flat_map f (range_with_len 1 (n + 1)) ≡ flat_map f (range_with_len 1 n) ++ f (n + 1)
+flat_numbers_more f n =
+    ap (flat_map f) (numbers_more n) ∙ flat_map-append f (range_with_len 1 n) ((n + 1) ∷ [])
+    ∙ ap (λ more. flat_map f (range_with_len 1 n) ++ more) (append-nil (f (n + 1)))

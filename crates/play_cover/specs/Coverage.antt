@@ -2,20 +2,23 @@
 use Rattle.std.specs.Prelude.{ℕ, Bool, not, List, [], ◌∷◌, ◌++◌, length, codes}
 use Rattle.std.specs.Fmt.{decimal}
 use Rattle.std.specs.List.{filter, flat_map, sum_by}
+use Rattle.play_cover.specs.Known.{KnownEntries, is_known}
 use Rattle.play_cover.specs.Marks.{mark}
 use Rattle.play_cover.specs.declared.coverage.Detail.{Detail}
 use Rattle.play_cover.specs.declared.coverage.Detail.TheVariants.{Both, Counts, Missing}
 use Rattle.play_cover.specs.declared.marks.Mark.{Mark}
 
 -- the groups, in the order of the report: for each its number, how its line begins, and the numbers
--- of its things; for each of these its name, and its own line if it isn't covered
+-- of its things; for each of these its name, and the entry that says of it that it isn't covered.
+-- The line of an entry begins with the indent
 pub record Catalogue (Group : Type 0) : Type 0 where
   pub groups : List Group
   pub number : Group → ℕ
   pub heading : Group → List ℕ
   pub present : Group → List ℕ
   pub name : Group → ℕ → List ℕ
-  pub missing_line : Group → ℕ → List ℕ
+  pub indent : List ℕ
+  pub words : Group → ℕ → List ℕ
 
 module _ {Group : Type 0} (of : Catalogue Group) where
   -- the names of those that were never covered, if there are any
@@ -25,6 +28,27 @@ module _ {Group : Type 0} (of : Catalogue Group) where
   abbrev pub never : Group → List ℕ → List ℕ
   never group [] = []
   never group (first ∷ others) = codes ", never" ++ names group (first ∷ others)
+
+  -- the entries of these things, each as a line after this
+  abbrev pub entry_lines : List ℕ → Group → List ℕ → List ℕ
+  entry_lines indent group numbers =
+      flat_map (λ n. indent ++ (of.words group n ++ codes "\n")) numbers
+
+  -- those of these things that a list doesn't know
+  abbrev pub left_of : KnownEntries → Group → List ℕ → List ℕ
+  left_of known group numbers = filter (λ n. not (is_known known (of.words group n))) numbers
+
+  -- the line of a group, of whose things this many are covered, and these are missing
+  abbrev pub line_with : Group → ℕ → ℕ → List ℕ → List ℕ
+  line_with group covered present missing =
+      of.heading group ++ (codes ": " ++ (decimal covered
+      ++ (codes " of " ++ (decimal present ++ (never group missing ++ codes "\n")))))
+
+  -- what is written about a group that has this line, some of whose things are left
+  abbrev pub detail_text : Detail → Group → List ℕ → List ℕ → List ℕ
+  detail_text Counts group line left = line
+  detail_text Missing group line left = entry_lines of.indent group left
+  detail_text Both group line left = line ++ entry_lines of.indent group left
 
   -- how many things there are
   abbrev pub present_count : ℕ
@@ -40,22 +64,28 @@ module _ {Group : Type 0} (of : Catalogue Group) where
     -- the line of a group
     abbrev pub line : Group → List ℕ
     line group =
-        of.heading group ++ (codes ": " ++ (decimal (length (covered group))
-        ++ (codes " of " ++ (decimal (length (of.present group))
-        ++ (never group (missing group) ++ codes "\n")))))
-
-    abbrev pub missing_lines : Group → List ℕ
-    missing_lines group = flat_map (of.missing_line group) (missing group)
-
-    -- what is written about a group
-    abbrev pub group_text : Detail → Group → List ℕ
-    group_text Counts group = line group
-    group_text Missing group = missing_lines group
-    group_text Both group = line group ++ missing_lines group
-
-    abbrev pub groups_text : Detail → List ℕ
-    groups_text detail = flat_map (group_text detail) of.groups
+        line_with group (length (covered group)) (length (of.present group)) (missing group)
 
     -- how many things are covered
     abbrev pub covered_count : ℕ
     covered_count = sum_by (λ group. length (covered group)) of.groups
+
+    -- the entries of all things that aren't covered
+    abbrev pub all_entries : List ℕ
+    all_entries = flat_map (λ group. entry_lines [] group (missing group)) of.groups
+
+    module _ (known : KnownEntries) where
+      -- what is missing, and isn't known
+      abbrev pub left : Group → List ℕ
+      left group = left_of known group (missing group)
+
+      -- what is written about a group
+      abbrev pub group_text : Detail → Group → List ℕ
+      group_text detail group = detail_text detail group (line group) (left group)
+
+      abbrev pub groups_text : Detail → List ℕ
+      groups_text detail = flat_map (group_text detail) of.groups
+
+      -- how many things are left
+      abbrev pub left_count : ℕ
+      left_count = sum_by (λ group. length (left group)) of.groups

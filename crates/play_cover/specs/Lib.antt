@@ -1,6 +1,7 @@
 pub mod Coverage
 pub mod DefinedRows
 pub mod EachTable
+pub mod Known
 pub mod Marks
 pub mod Plays
 pub mod QuestionRows
@@ -10,3 +11,4 @@ pub mod RowReport
 pub mod RuleTables
 pub mod TextReport
 pub mod Texts
+pub mod TravelRows

@@ -7,6 +7,7 @@ use Rattle.std.specs.Str.Lines.{lines}
 use Rattle.cave_data.specs.CaveView.{CaveView}
 use Rattle.cave_data.specs.Reads.{Reads}
 use Rattle.cave_play.specs.Run.{AtMostOne}
+use Rattle.cave_play.specs.Stages.{Stage, known_stage}
 use Rattle.cave_world.specs.declared.part.Part.{Part}
 use Rattle.cave_world.specs.declared.state.State.{State}
 use Rattle.cave_world.specs.declared.tables.RuleRow.TheVariants.{OfTable}
@@ -14,11 +15,14 @@ use Rattle.cave_world.specs.declared.tables.Table.TheVariants as table
 use Rattle.data_bindings.specs.WayLines.{way_lines}
 use Rattle.play_command.specs.declared.views.CoverView.{CoverView}
 use Rattle.play_command.specs.declared.views.CoverView.TheVariants.{Rules, Said}
+use Rattle.play_logs.specs.Faults.{first_stages}
 use Rattle.play_machine.specs.Moments.{Moment, noted_of}
 use Rattle.replay_edits.specs.Edit.{Game, game_of}
+use Rattle.play_cover.specs.Known.{KnownEntries}
 use Rattle.play_cover.specs.Marks.{is_among}
-use Rattle.play_cover.specs.RowReport.{mark_of_row, row_report}
-use Rattle.play_cover.specs.TextReport.{text_report}
+use Rattle.play_cover.specs.RowMarks.{mark_of_row}
+use Rattle.play_cover.specs.RowReport.{row_report, rows_left}
+use Rattle.play_cover.specs.TextReport.{text_report, texts_left}
 use Rattle.play_cover.specs.Texts.{said_by_all}
 use Rattle.play_cover.specs.declared.marks.Mark.{Mark}
 
@@ -46,14 +50,29 @@ covered_in Rules cave game = noted_of rows_at_start rows_at cave game
 -- ---- what is reported
 
 -- the report on this many logs, by what they cover
-abbrev pub report_by : CoverView → List ℕ → CaveView → (Mark → Bool) → ℕ → List ℕ
-report_by (Said view) database cave is_covered logs = text_report cave view is_covered logs
-report_by Rules database cave is_covered logs = row_report is_covered (way_lines database) logs
+abbrev pub report_by : CoverView → KnownEntries → List ℕ → CaveView → (Mark → Bool) → ℕ → List ℕ
+report_by (Said view) known database cave is_covered logs =
+    text_report cave is_covered known view logs
+report_by Rules known database cave is_covered logs =
+    row_report is_covered cave known (way_lines database) logs
 
-abbrev pub report_on_games : CoverView → List ℕ → CaveView → List Game → List ℕ
-report_on_games view database cave games =
-    report_by view database cave (λ mark. is_among mark (flat_map (covered_in view cave) games))
-    (length games)
+-- how many things they don't cover that aren't known
+abbrev pub left_by : CoverView → KnownEntries → List ℕ → CaveView → (Mark → Bool) → ℕ
+left_by (Said view) known database cave is_covered = texts_left cave is_covered known
+left_by Rules known database cave is_covered =
+    rows_left is_covered cave known (way_lines database)
+
+-- the mark is of something that a play of these games covers
+abbrev pub is_covered_in : CoverView → CaveView → List Game → Mark → Bool
+is_covered_in view cave games mark = is_among mark (flat_map (covered_in view cave) games)
+
+abbrev pub report_on_games : CoverView → KnownEntries → List ℕ → CaveView → List Game → List ℕ
+report_on_games view known database cave games =
+    report_by view known database cave (is_covered_in view cave games) (length games)
+
+abbrev pub left_in_games : CoverView → KnownEntries → List ℕ → CaveView → List Game → ℕ
+left_in_games view known database cave games =
+    left_by view known database cave (is_covered_in view cave games)
 
 abbrev pub covered_in_log : CoverView → CaveView → ℕ → List ℕ → List Mark
 covered_in_log view cave seed log = covered_in view cave (game_of seed (lines log))
@@ -62,42 +81,56 @@ covered_in_log view cave seed log = covered_in view cave (game_of seed (lines lo
 abbrev pub covered_in_all : CoverView → CaveView → ℕ → List (List ℕ) → List Mark
 covered_in_all view cave seed logs = flat_map (covered_in_log view cave seed) logs
 
-abbrev pub report_of_logs : List ℕ → CaveView → ℕ → CoverView → List (List ℕ) → ℕ → List ℕ
-report_of_logs database cave seed view logs count =
-    report_by view database cave (λ mark. is_among mark (covered_in_all view cave seed logs)) count
+module _ (known : KnownEntries) (database : List ℕ) (cave : CaveView) (seed : ℕ) where
+  abbrev pub report_of_logs : CoverView → List (List ℕ) → ℕ → List ℕ
+  report_of_logs view logs count =
+      report_by view known database cave (λ mark. is_among mark (covered_in_all view cave seed logs))
+      count
 
-abbrev pub cover_text : List ℕ → CaveView → ℕ → CoverView → List (List ℕ) → List ℕ
-cover_text database cave seed view logs =
-    report_of_logs database cave seed view logs (length logs)
+  abbrev pub cover_text : CoverView → List (List ℕ) → List ℕ
+  cover_text view logs = report_of_logs view logs (length logs)
 
--- the output is the report on the logs in the cave of the database and its bindings
-abbrev pub IsCovered : List ℕ → List ℕ → List (List ℕ) → ℕ → CoverView → List ℕ → Type 0
-IsCovered database bindings logs seed view output =
+  -- how many things are left that no log shows
+  abbrev pub left_in_logs : CoverView → List (List ℕ) → ℕ
+  left_in_logs view logs =
+      left_by view known database cave (λ mark. is_among mark (covered_in_all view cave seed logs))
+
+-- the list of what is known is read first, and then a cave
+abbrev pub cover_stages : List ℕ → List ℕ → List ℕ → ℕ → List Stage
+cover_stages database bindings list seed = known_stage list ∷ first_stages database bindings seed
+
+-- the output is the report on the logs in the cave of the database and its bindings, and this many
+-- things are left that none of them shows
+abbrev pub IsCovered : List ℕ → List ℕ → KnownEntries → List (List ℕ) → ℕ → CoverView
+    → ℕ → List ℕ → Type 0
+IsCovered database bindings known logs seed view left output =
     (cave : CaveView) × Reads database bindings cave
-    × (output ≡ cover_text database cave seed view logs)
+    × (output ≡ cover_text known database cave seed view logs)
+    × (left ≡ left_in_logs known database cave seed view logs)
 
 -- ---- laws
 
 -- the order of the logs changes no byte of the output
 abbrev pub OrderIsNothing : Type 0
 OrderIsNothing =
-    (database : List ℕ) (cave : CaveView) (seed : ℕ) (view : CoverView)
+    (known : KnownEntries) (database : List ℕ) (cave : CaveView) (seed : ℕ) (view : CoverView)
     (logs others : List (List ℕ))
     → IsPermutation logs others
-    → cover_text database cave seed view others ≡ cover_text database cave seed view logs
+    → cover_text known database cave seed view others ≡ cover_text known database cave seed view logs
 
 -- a log that is given once more changes nothing in it except the number of logs
 abbrev pub AgainIsNothing : Type 0
 AgainIsNothing =
-    (database : List ℕ) (cave : CaveView) (seed : ℕ) (view : CoverView) (logs : List (List ℕ))
-    (log : List ℕ)
+    (known : KnownEntries) (database : List ℕ) (cave : CaveView) (seed : ℕ) (view : CoverView)
+    (logs : List (List ℕ)) (log : List ℕ)
     → Contains logs log
     → (count : ℕ)
-    → report_of_logs database cave seed view (log ∷ logs) count
-    ≡ report_of_logs database cave seed view logs count
+    → report_of_logs known database cave seed view (log ∷ logs) count
+    ≡ report_of_logs known database cave seed view logs count
 
--- a database with its bindings, logs and a seed have at most one output
+-- a database with its bindings, a list of what is known, logs and a seed have at most one output
 abbrev pub OneCoveredOutput : Type 0
 OneCoveredOutput =
-    (database bindings : List ℕ) (logs : List (List ℕ)) (seed : ℕ) (view : CoverView)
-    → AtMostOne (IsCovered database bindings logs seed view)
+    (database bindings : List ℕ) (known : KnownEntries) (logs : List (List ℕ)) (seed : ℕ)
+    (view : CoverView)
+    → AtMostOne (λ output. (left : ℕ) × IsCovered database bindings known logs seed view left output)

@@ -9,7 +9,9 @@ use Rattle.data_bindings.specs.Listing.{first_line}
 use Rattle.data_rows.specs.Role.{ROLE_NAMES}
 use Rattle.play_command.specs.declared.views.TextView.{TextView}
 use Rattle.play_command.specs.declared.views.TextView.TheVariants as asked
-use Rattle.play_cover.specs.Coverage.{Catalogue, covered_count, groups_text, present_count}
+use Rattle.play_cover.specs.Coverage.{Catalogue, all_entries, covered_count, groups_text}
+use Rattle.play_cover.specs.Coverage.{left_count, present_count}
+use Rattle.play_cover.specs.Known.{KnownEntries, unmet_text}
 use Rattle.play_cover.specs.Texts.{PROPS_PER_OBJECT, end_of_numbers, has_text, kind_number}
 use Rattle.play_cover.specs.declared.coverage.Detail.{Detail}
 use Rattle.play_cover.specs.declared.coverage.Detail.TheVariants as detail
@@ -64,12 +66,12 @@ text_at cave kind.Class number = option_map (λ (rated : Rated). rated.text)
 
 -- what follows the name of a text: its first line, if there is one
 abbrev pub first_line_shown : Option (List ℕ) → List ℕ
-first_line_shown None = codes "\n"
-first_line_shown (Some text) = codes ": " ++ (first_line text ++ codes "\n")
+first_line_shown None = []
+first_line_shown (Some text) = codes ": " ++ first_line text
 
--- the line of a text that was never said
-abbrev pub missing_text_line : CaveView → TextKind → ℕ → List ℕ
-missing_text_line cave kind number =
+-- the entry of a text that was never said
+abbrev pub text_entry : CaveView → TextKind → ℕ → List ℕ
+text_entry cave kind number =
     word_of_kind kind ++ (codes " " ++ (name_of_text kind number
     ++ first_line_shown (text_at cave kind number)))
 
@@ -80,17 +82,29 @@ cave_texts cave = record {
   heading = heading_of_kind;
   present = texts_of_kind cave;
   name = name_of_text;
-  missing_line = missing_text_line cave;
+  indent = [];
+  words = text_entry cave;
 }
 
 abbrev pub detail_of : TextView → Detail
 detail_of asked.Counts = detail.Counts
 detail_of asked.Texts = detail.Missing
 
--- what the view asks for about each kind, or about each text that was never said, and the sum
-unfoldable pub text_report : CaveView → TextView → (Mark → Bool) → ℕ → List ℕ
-text_report cave view is_said logs =
-    groups_text (cave_texts cave) is_said (detail_of view)
-    ++ (codes "-- " ++ (decimal (covered_count (cave_texts cave) is_said)
-    ++ (codes " of " ++ (decimal (present_count (cave_texts cave))
-    ++ (codes " texts in " ++ (decimal logs ++ codes " logs\n"))))))
+-- the line that sums up
+abbrev pub text_sums : ℕ → ℕ → ℕ → List ℕ
+text_sums covered present logs =
+    codes "-- " ++ (decimal covered ++ (codes " of " ++ (decimal present
+    ++ (codes " texts in " ++ (decimal logs ++ codes " logs\n")))))
+
+module _ (cave : CaveView) (is_said : Mark → Bool) (known : KnownEntries) where
+  -- which entries of the list no text is; then what the view asks for about each kind, or about
+  -- each text that is left, and the sum
+  unfoldable pub text_report : TextView → ℕ → List ℕ
+  text_report view logs =
+      unmet_text known (all_entries (cave_texts cave) is_said)
+      ++ (groups_text (cave_texts cave) is_said known (detail_of view)
+      ++ text_sums (covered_count (cave_texts cave) is_said) (present_count (cave_texts cave)) logs)
+
+  -- how many texts are left
+  abbrev pub texts_left : ℕ
+  texts_left = left_count (cave_texts cave) is_said known

@@ -1,13 +1,15 @@
 //! The report on things of several groups, some of which are covered.
 
-ghost use Rattle.std.specs.Prelude.{◌≡◌, ◌≤◌, codes, ◌++◌, ◌^◌, length, IfOk, OnOk};
-ghost use Rattle.play_cover.specs.Coverage.{Catalogue, covered, covered_count, group_text};
-ghost use Rattle.play_cover.specs.Coverage.{groups_text, line, missing, names, never};
-ghost use Rattle.std.specs.List.{filter, flat_map};
+ghost use Rattle.std.specs.Prelude.{◌≡◌, ◌≤◌, codes, [], ◌++◌, ◌^◌, length, IfOk, OnOk};
+ghost use Rattle.play_cover.specs.Coverage.{Catalogue, all_entries, covered, covered_count};
+ghost use Rattle.play_cover.specs.Coverage.{detail_text, entry_lines, groups_text, left, left_count};
+ghost use Rattle.play_cover.specs.Coverage.{line_with, missing, names, never, present_count, left_of};
+ghost use Rattle.std.specs.List.{filter};
 ghost use Rattle.std.specs.Prelude.{not};
-ghost use Rattle.play_cover.specs.Coverage.{present_count};
+ghost use Rattle.play_cover.specs.Known.{is_known};
 ghost use Rattle.play_cover.specs.Marks.{is_marked, mark};
 
+use crate::known::KnownList;
 use crate::marks::{Mark, MarkSet};
 use std::alloc::{AllocError, Global};
 
@@ -49,8 +51,12 @@ pub trait Groups {
         ensures { OnOk result (text.new.items
             ≡ text.old.items ++ (codes " " ++ (catalogue self.now).name group number)) };
 
-    /// Appends the line of a thing that isn't covered.
-    fn push_missing_line(
+    /// What the line of a thing that isn't covered begins with.
+    fn indent(&self) -> &'static str
+        ensures { result.now ≡ (catalogue self.now).indent };
+
+    /// Appends the entry of a thing that isn't covered.
+    fn push_entry(
         &self,
         alloc: Global,
         group: Self::Group,
@@ -58,11 +64,11 @@ pub trait Groups {
         text: &mut Vec<u8>,
     ) -> Result<(), AllocError>
         ensures { OnOk result (text.new.items
-            ≡ text.old.items ++ (catalogue self.now).missing_line group number) };
+            ≡ text.old.items ++ (catalogue self.now).words group number) };
 }
 
 /// What is written about a group: its counts with the names of what isn't covered, a line for each
-/// of these, or both.
+/// of these that isn't known, or both.
 #[derive(Clone, Copy, Debug, PartialEq, Eq)]
 pub enum Detail {
     Counts,
@@ -70,19 +76,23 @@ pub enum Detail {
     Both,
 }
 
-/// How many things of all groups are covered, and how many there are.
+/// How many things of all groups are covered, how many there are, and how many aren't covered and
+/// aren't known.
 #[derive(Clone, Copy, Debug, PartialEq, Eq)]
 pub struct CoverTotals {
     pub covered: usize,
     pub present: usize,
+    pub left: usize,
 }
 
-/// The numbers of a group's things, which of them are missing, and how many are covered.
+/// How many of a group's things are covered, how many there are, which of them are missing, and
+/// which of these aren't known.
 #[derive(Drop)]
 struct Found {
     covered: usize,
     present: usize,
     missing: Vec<u16>,
+    left: Vec<u16>,
 }
 
 fn is_covered(marks: &MarkSet, group: usize, number: u16) -> bool
@@ -111,8 +121,9 @@ fn missing(
     group: usize,
     numbers: &[u16],
 ) -> Result<Vec<u16>, AllocError>
-    ensures { IfOk result (λ found. found.items
+    ensures value { IfOk result (λ found. found.items
         ≡ filter (λ n. not (is_marked marks.now (mark group n))) numbers.now) }
+    ensures few { IfOk result (λ found. length found.items ≤ length numbers.now) }
 {
     numbers
         .iter()
@@ -121,11 +132,50 @@ fn missing(
         .collect(alloc)
 }
 
+/// Whether a list knows a thing.
+fn is_known_thing<T: Groups>(
+    alloc: Global,
+    of: &T,
+    known: &KnownList,
+    group: T::Group,
+    number: u16,
+) -> Result<bool, AllocError>
+    ensures { IfOk result (λ found.
+        found ≡ is_known known.now ((T.catalogue of.now).words group number)) }
+{
+    let mut entry = Vec::new(alloc);
+    of.push_entry(alloc, group, number, &mut entry)?;
+    Ok(known.has(&entry))
+}
+
+/// The things that a list doesn't know.
+fn left_of<T: Groups>(
+    alloc: Global,
+    of: &T,
+    known: &KnownList,
+    group: T::Group,
+    numbers: &[u16],
+) -> Result<Vec<u16>, AllocError>
+    ensures value { IfOk result (λ left. left.items
+        ≡ left_of (T.catalogue of.now) known.now group numbers.now) }
+    ensures few { IfOk result (λ left. length left.items ≤ length numbers.now) }
+{
+    let mut left = Vec::new(alloc);
+    for number in numbers {
+        if !is_known_thing(alloc, of, known, group, *number)? {
+            left.push(*number)?;
+        }
+    }
+    Ok(left)
+}
+
+/// What is found of a group.
 #[tactic(auto, unfolding(crate::specs::Coverage::covered, crate::specs::Coverage::missing))]
 fn find<T: Groups>(
     alloc: Global,
     of: &T,
     marks: &MarkSet,
+    known: &KnownList,
     group: T::Group,
 ) -> Result<Found, AllocError>
     ensures covered { IfOk result (λ found. found.covered
@@ -134,15 +184,21 @@ fn find<T: Groups>(
         ≡ length ((T.catalogue of.now).present group)) }
     ensures missing { IfOk result (λ found. found.missing.items
         ≡ missing (T.catalogue of.now) (is_marked marks.now) group) }
-    ensures few { IfOk result (λ found.
-        (found.covered ≤ found.present) × (found.present ≤ 2 ^ 16)) }
+    ensures left { IfOk result (λ found. found.left.items
+        ≡ left (T.catalogue of.now) (is_marked marks.now) known.now group) }
+    ensures few { IfOk result (λ found. (found.covered ≤ found.present)
+        × (length found.left.items ≤ found.present) × (found.present ≤ 2 ^ 16)) }
 {
     let numbers = of.present(alloc, group)?;
     let number = of.number(group);
+    let covered = count_covered(marks, number, &numbers);
+    let missing = missing(alloc, marks, number, &numbers)?;
+    let left = left_of(alloc, of, known, group, &missing)?;
     Ok(Found {
-        covered: count_covered(marks, number, &numbers),
+        covered,
         present: numbers.len(),
-        missing: missing(alloc, marks, number, &numbers)?,
+        missing,
+        left,
     })
 }
 
@@ -184,18 +240,12 @@ fn push_never<T: Groups>(
 fn push_line<T: Groups>(
     alloc: Global,
     of: &T,
-    marks: &MarkSet,
     group: T::Group,
     found: &Found,
     text: &mut Vec<u8>,
 ) -> Result<(), AllocError>
-    requires covered { found.now.covered
-        ≡ length (covered (T.catalogue of.now) (is_marked marks.now) group) }
-    requires present { found.now.present ≡ length ((T.catalogue of.now).present group) }
-    requires missing { found.now.missing.items
-        ≡ missing (T.catalogue of.now) (is_marked marks.now) group }
-    ensures { OnOk result (text.new.items
-        ≡ text.old.items ++ line (T.catalogue of.now) (is_marked marks.now) group) }
+    ensures { OnOk result (text.new.items ≡ text.old.items ++ line_with (T.catalogue of.now) group
+        found.now.covered found.now.present found.now.missing.items) }
 {
     let heading = of.heading(group);
     let (covered, present) = (found.covered, found.present);
@@ -205,80 +255,113 @@ fn push_line<T: Groups>(
     text.extend_from_slice(b"\n")
 }
 
-fn push_missing_lines<T: Groups>(
+/// Appends the entries of things, each as a line after this.
+fn push_entries<T: Groups>(
     alloc: Global,
     of: &T,
+    indent: &str,
     group: T::Group,
     numbers: &[u16],
     text: &mut Vec<u8>,
 ) -> Result<(), AllocError>
-    ensures { OnOk result (text.new.items ≡ text.old.items
-        ++ flat_map ((T.catalogue of.now).missing_line group) numbers.now) }
+    ensures { OnOk result (text.new.items
+        ≡ text.old.items ++ entry_lines (T.catalogue of.now) indent.now group numbers.now) }
 {
     for number in numbers {
-        of.push_missing_line(alloc, group, *number, text)?;
+        text.extend_from_slice(indent.as_bytes())?;
+        of.push_entry(alloc, group, *number, text)?;
+        text.extend_from_slice(b"\n")?;
     }
     Ok(())
 }
 
-/// Appends what is written about a group, and returns how many of its things are covered, and how
-/// many there are.
-fn push_group<T: Groups>(
+/// Appends what is written about a group.
+fn push_detail<T: Groups>(
     alloc: Global,
     of: &T,
-    marks: &MarkSet,
     detail: Detail,
     group: T::Group,
+    found: &Found,
     text: &mut Vec<u8>,
-) -> Result<CoverTotals, AllocError>
-    ensures told { OnOk result (text.new.items ≡ text.old.items
-        ++ group_text (T.catalogue of.now) (is_marked marks.now) detail group) }
-    ensures covered { IfOk result (λ totals. totals.covered
-        ≡ length (covered (T.catalogue of.now) (is_marked marks.now) group)) }
-    ensures present { IfOk result (λ totals. totals.present
-        ≡ length ((T.catalogue of.now).present group)) }
-    ensures few { IfOk result (λ totals.
-        (totals.covered ≤ totals.present) × (totals.present ≤ 2 ^ 16)) }
+) -> Result<(), AllocError>
+    ensures { OnOk result (text.new.items ≡ text.old.items
+        ++ detail_text (T.catalogue of.now) detail group (line_with (T.catalogue of.now) group
+        found.now.covered found.now.present found.now.missing.items) found.now.left.items) }
 {
-    let found = find(alloc, of, marks, group)?;
     match detail {
-        Detail::Counts => push_line(alloc, of, marks, group, &found, text)?,
-        Detail::Missing => push_missing_lines(alloc, of, group, &found.missing, text)?,
+        Detail::Counts => push_line(alloc, of, group, found, text),
+        Detail::Missing => push_entries(alloc, of, of.indent(), group, &found.left, text),
         Detail::Both => {
-            push_line(alloc, of, marks, group, &found, text)?;
-            push_missing_lines(alloc, of, group, &found.missing, text)?;
+            push_line(alloc, of, group, found, text)?;
+            push_entries(alloc, of, of.indent(), group, &found.left, text)
         }
     }
-    Ok(CoverTotals {
-        covered: found.covered,
-        present: found.present,
-    })
 }
 
-/// Appends what is written about all groups, and returns how many of their things are covered, and
-/// how many there are.
+/// Appends what is written about all groups, and returns how many of their things are covered, how
+/// many there are, and how many are left.
 pub fn push_groups<T: Groups>(
     alloc: Global,
     of: &T,
     marks: &MarkSet,
+    known: &KnownList,
     detail: Detail,
     text: &mut Vec<u8>,
 ) -> Result<CoverTotals, AllocError>
     ensures told { OnOk result (text.new.items ≡ text.old.items
-        ++ groups_text (T.catalogue of.now) (is_marked marks.now) detail) }
+        ++ groups_text (T.catalogue of.now) (is_marked marks.now) known.now detail) }
     ensures covered { IfOk result (λ totals. totals.covered
         ≡ covered_count (T.catalogue of.now) (is_marked marks.now)) }
     ensures present { IfOk result (λ totals.
         totals.present ≡ present_count (T.catalogue of.now)) }
+    ensures left { IfOk result (λ totals. totals.left
+        ≡ left_count (T.catalogue of.now) (is_marked marks.now) known.now) }
+    ensures few { IfOk result (λ totals. totals.left ≤ 2 ^ 32) }
 {
     let mut totals = CoverTotals {
         covered: 0,
         present: 0,
+        left: 0,
     };
     for group in of.groups() {
-        let more = push_group(alloc, of, marks, detail, *group, text)?;
-        totals.covered += more.covered;
-        totals.present += more.present;
+        let found = find(alloc, of, marks, known, *group)?;
+        push_detail(alloc, of, detail, *group, &found, text)?;
+        totals.covered += found.covered;
+        totals.present += found.present;
+        totals.left += found.left.len();
     }
     Ok(totals)
+}
+
+/// Appends the entries of what isn't covered of a group, a line each.
+fn push_missing_entry_lines<T: Groups>(
+    alloc: Global,
+    of: &T,
+    marks: &MarkSet,
+    group: T::Group,
+    text: &mut Vec<u8>,
+) -> Result<(), AllocError>
+    ensures { OnOk result (text.new.items ≡ text.old.items
+        ++ entry_lines (T.catalogue of.now) [] group
+        (missing (T.catalogue of.now) (is_marked marks.now) group)) }
+{
+    let numbers = of.present(alloc, group)?;
+    let missing = missing(alloc, marks, of.number(group), &numbers)?;
+    push_entries(alloc, of, "", group, &missing, text)
+}
+
+/// Appends the entries of all things that aren't covered, a line each.
+pub fn push_all_entries<T: Groups>(
+    alloc: Global,
+    of: &T,
+    marks: &MarkSet,
+    text: &mut Vec<u8>,
+) -> Result<(), AllocError>
+    ensures { OnOk result (text.new.items
+        ≡ text.old.items ++ all_entries (T.catalogue of.now) (is_marked marks.now)) }
+{
+    for group in of.groups() {
+        push_missing_entry_lines(alloc, of, marks, *group, text)?;
+    }
+    Ok(())
 }

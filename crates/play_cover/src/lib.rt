@@ -4,6 +4,7 @@
 pub mod cave_texts;
 pub mod coverage;
 pub mod each_table;
+pub mod known;
 pub mod laws;
 pub mod line_rows;
 pub mod marks;
@@ -16,3 +17,4 @@ pub mod said;
 pub mod text;
 pub mod text_report;
 pub mod travel_report;
+mod travel_words;

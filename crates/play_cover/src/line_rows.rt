@@ -2,7 +2,7 @@
 
 ghost use Rattle.std.specs.Prelude.{◌≡◌, None, OnOk, map};
 ghost use Rattle.play_cover.specs.Marks.{Notes};
-ghost use Rattle.play_cover.specs.RowReport.{mark_of_row};
+ghost use Rattle.play_cover.specs.RowMarks.{mark_of_row};
 
 use crate::marks::{Mark, MarkSet};
 use crate::rule_tables::row_mark;

@@ -1,14 +1,18 @@
 //! The report on the rules, some of whose rows applied.
 
-ghost use Rattle.std.specs.Prelude.{◌≡◌, ◌++◌, OnOk};
+ghost use Rattle.std.specs.Prelude.{◌≡◌, ◌++◌, IfOk, OnOk};
+ghost use Rattle.play_cover.specs.Known.{unmet_text};
 ghost use Rattle.play_cover.specs.Marks.{is_marked};
-ghost use Rattle.play_cover.specs.RowReport.{row_report, row_sums};
+ghost use Rattle.play_cover.specs.RowReport.{row_entries, row_report, row_sums, rows_left};
 
-use crate::coverage::{CoverTotals, Detail, Groups, push_groups};
+use crate::coverage::{CoverTotals, Detail, Groups, push_all_entries, push_groups};
 use crate::each_table::EACH_TABLE;
+use crate::known::KnownList;
 use crate::marks::MarkSet;
 use crate::rule_tables::{row_count, table_name, table_number, words_of_row};
-use crate::travel_report::{count_applied_ways, push_travel};
+use crate::travel_report::{count_applied_ways, missing_ways, push_travel};
+use crate::travel_words::push_way_entries;
+use cave_data::Cave;
 use cave_world::Table;
 use data_bindings::WayLine;
 use std::alloc::{AllocError, Global};
@@ -56,7 +60,11 @@ impl Groups for RuleTables {
         text.extend_from_slice(name.as_bytes())
     }
 
-    fn push_missing_line(
+    fn indent(&self) -> &'static str {
+        "    "
+    }
+
+    fn push_entry(
         &self,
         alloc: Global,
         table: Table,
@@ -64,8 +72,8 @@ impl Groups for RuleTables {
         text: &mut Vec<u8>,
     ) -> Result<(), AllocError> {
         let (name, words) = (table_name(table), words_of_row(table, number));
-        let line = format!(in alloc; "    {name} {number}  {words}\n")?;
-        text.extend_from_slice(line.as_bytes())
+        let entry = format!(in alloc; "{name} {number}  {words}")?;
+        text.extend_from_slice(entry.as_bytes())
     }
 }
 
@@ -82,28 +90,60 @@ fn push_row_sums(
     ensures { OnOk result (text.new.items
         ≡ text.old.items ++ row_sums rows.covered rows.present taken all logs) }
 {
-    let CoverTotals { covered, present } = rows;
+    let (covered, present) = (rows.covered, rows.present);
     let closing = format!(in alloc;
         "-- {covered} of {present} rows and {taken} of {all} travel rows in {logs} logs\n"
     )?;
     text.extend_from_slice(closing.as_bytes())
 }
 
-/// Appends the report on the rules, and on the ways of a cave, some of whose rows were noted in
-/// this many logs.
+/// The travel rows of a cave, with their lines in its database.
+#[derive(Clone, Copy)]
+pub struct CaveWays<'a> {
+    pub cave: &'a Cave,
+    pub ways: &'a [WayLine],
+}
+
+/// Appends which entries of a list no row is that never applied.
+fn push_unmet_rows(
+    alloc: Global,
+    noted: &MarkSet,
+    cave: &Cave,
+    known: &KnownList,
+    ways: &[WayLine],
+    text: &mut Vec<u8>,
+) -> Result<(), AllocError>
+    ensures { OnOk result (text.new.items ≡ text.old.items
+        ++ unmet_text known.now (row_entries (is_marked noted.now) cave.now ways.now)) }
+{
+    let missing = missing_ways(alloc, noted, ways)?;
+    let mut entries = Vec::new(alloc);
+    push_all_entries(alloc, &RuleTables, noted, &mut entries)?;
+    push_way_entries(alloc, cave, &missing, &mut entries)?;
+    known.push_unmet(alloc, &entries, text)
+}
+
+/// Appends the report on the rules, and on the travel rows of a cave, some of which were noted in
+/// this many logs, and returns how many are left that a list doesn't know.
 #[tactic(auto, unfolding(crate::specs::RowReport::row_report))]
 pub fn push_row_report(
     alloc: Global,
     noted: &MarkSet,
-    ways: &[WayLine],
+    of: &CaveWays<'_>,
+    known: &KnownList,
     logs: usize,
     text: &mut Vec<u8>,
-) -> Result<(), AllocError>
-    ensures { OnOk result (text.new.items
-        ≡ text.old.items ++ row_report (is_marked noted.now) ways.now logs) }
+) -> Result<usize, AllocError>
+    ensures told { OnOk result (text.new.items ≡ text.old.items ++ row_report (is_marked noted.now)
+        of.now.cave.now known.now of.now.ways.now logs) }
+    ensures left { IfOk result (λ left. left ≡ rows_left (is_marked noted.now) of.now.cave.now
+        known.now of.now.ways.now) }
 {
-    let rows = push_groups(alloc, &RuleTables, noted, Detail::Both, text)?;
-    push_travel(alloc, noted, ways, text)?;
+    let CaveWays { cave, ways } = *of;
+    push_unmet_rows(alloc, noted, cave, known, ways, text)?;
+    let rows = push_groups(alloc, &RuleTables, noted, known, Detail::Both, text)?;
+    let left = push_travel(alloc, noted, cave, known, ways, text)?;
     let taken = count_applied_ways(noted, ways);
-    push_row_sums(alloc, rows, taken, ways.len(), logs, text)
+    push_row_sums(alloc, rows, taken, ways.len(), logs, text)?;
+    Ok(rows.left + left)
 }

@@ -1,8 +1,9 @@
 //! Which rows apply in plays.
 
+use crate::known::KnownList;
 use crate::line_rows::KeptRows;
 use crate::marks::MarkSet;
-use crate::row_report::push_row_report;
+use crate::row_report::{CaveWays, push_row_report};
 use crate::rule_tables::row_mark;
 use cave_data::Cave;
 use cave_world::{RuleRow, State, Table};
@@ -57,11 +58,17 @@ impl Watch for RuleNotes {
 
 impl PlayNotes for RuleNotes {
     ghost use Rattle.play_command.specs.declared.views.CoverView.TheVariants.{Rules};
-    ghost use Rattle.play_cover.specs.Plays.{report_on_games};
+    ghost use Rattle.play_cover.specs.Plays.{left_in_games, report_on_games};
 
-    type View = ();
+    type View = KnownList;
 
-    ghost report_on = { λ database cave _ games. report_on_games Rules database cave games };
+    type Found = usize;
+
+    ghost report_on = { λ database cave known games.
+        report_on_games Rules known database cave games };
+
+    ghost found_on = { λ database cave known games.
+        left_in_games Rules known database cave games };
 
     #[tactic(auto, using(crate::proofs::Noting::none_marked))]
     fn none(alloc: Global) -> Result<RuleNotes, AllocError> {
@@ -74,12 +81,14 @@ impl PlayNotes for RuleNotes {
         &self,
         alloc: Global,
         database: &[u8],
-        _cave: &Cave,
-        _view: (),
+        cave: &Cave,
+        known: &KnownList,
         logs: usize,
         text: &mut Vec<u8>,
-    ) -> Result<(), AllocError> {
+    ) -> Result<usize, AllocError> {
         let ways = way_lines(alloc, database)?;
-        push_row_report(alloc, &self.marks, &ways, logs, text)
+        let of = CaveWays { cave, ways: &ways };
+        let left = push_row_report(alloc, &self.marks, &of, known, logs, text)?;
+        Ok(left)
     }
 }

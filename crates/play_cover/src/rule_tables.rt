@@ -1,7 +1,7 @@
 //! The tables of the rules, by number and name, and the rows of each by their numbers.
 
 ghost use Rattle.std.specs.Prelude.{◌≡◌, ◌<◌};
-ghost use Rattle.play_cover.specs.RowReport.{mark_of_row};
+ghost use Rattle.play_cover.specs.RowMarks.{mark_of_row};
 ghost use Rattle.play_cover.specs.RuleTables.{row_count, table_name, table_number, words_of_row};
 ghost use Rattle.play_cover.specs.RuleTables as defined;
 

@@ -3,10 +3,9 @@
 use crate::cave_texts::CaveTexts;
 use crate::marks::MarkSet;
 use crate::parts::note_parts;
-use crate::text_report::push_text_report;
+use crate::text_report::{TextsAsked, push_text_report};
 use cave_data::Cave;
 use cave_world::{State, Unnoted};
-use play_command::TextView;
 use play_logs::notes::PlayNotes;
 use play_machine::{Begun, SeenLine, Watch};
 use std::alloc::{AllocError, Global};
@@ -56,12 +55,17 @@ impl Watch for SaidTexts {
 
 impl PlayNotes for SaidTexts {
     ghost use Rattle.play_command.specs.declared.views.CoverView.TheVariants.{Said};
-    ghost use Rattle.play_cover.specs.Plays.{report_on_games};
+    ghost use Rattle.play_cover.specs.Plays.{left_in_games, report_on_games};
 
-    type View = TextView;
+    type View = TextsAsked;
 
-    ghost report_on = { λ database cave view games.
-        report_on_games (Said view) database cave games };
+    type Found = usize;
+
+    ghost report_on = { λ database cave asked games.
+        report_on_games (Said asked.view) asked.known database cave games };
+
+    ghost found_on = { λ database cave asked games.
+        left_in_games (Said asked.view) asked.known database cave games };
 
     #[tactic(auto, using(crate::proofs::Noting::none_marked))]
     fn none(alloc: Global) -> Result<SaidTexts, AllocError> {
@@ -75,11 +79,12 @@ impl PlayNotes for SaidTexts {
         alloc: Global,
         _database: &[u8],
         cave: &Cave,
-        view: TextView,
+        view: &TextsAsked,
         logs: usize,
         text: &mut Vec<u8>,
-    ) -> Result<(), AllocError> {
+    ) -> Result<usize, AllocError> {
         let texts = CaveTexts::of(alloc, cave)?;
-        push_text_report(alloc, &texts, &self.marks, view, logs, text)
+        let left = push_text_report(alloc, &texts, &self.marks, view, logs, text)?;
+        Ok(left)
     }
 }

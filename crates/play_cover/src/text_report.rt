@@ -1,12 +1,17 @@
 //! The report on the texts of a cave, some of which were said.
 
-ghost use Rattle.std.specs.Prelude.{◌≡◌, [], ◌++◌, map, OnOk, option_map, slice_index_or};
+ghost use Rattle.std.specs.Prelude.{◌≡◌, [], ◌++◌, map, IfOk, OnOk, option_map, slice_index_or};
+ghost use Rattle.play_cover.specs.Coverage.{all_entries};
+ghost use Rattle.play_cover.specs.Known.{unmet_text};
 ghost use Rattle.play_cover.specs.Marks.{is_marked};
-ghost use Rattle.play_cover.specs.TextReport.{detail_of, first_line_shown, heading_of_kind};
-ghost use Rattle.play_cover.specs.TextReport.{text_at, text_report, word_of_kind};
+ghost use Rattle.play_cover.specs.TextReport.{cave_texts, detail_of, first_line_shown};
+ghost use Rattle.play_cover.specs.TextReport.{heading_of_kind};
+ghost use Rattle.play_cover.specs.TextReport.{text_at, text_report, text_sums, texts_left};
+ghost use Rattle.play_cover.specs.TextReport.{word_of_kind};
 
 use crate::cave_texts::CaveTexts;
-use crate::coverage::{CoverTotals, Detail, Groups, push_groups};
+use crate::coverage::{Detail, Groups, push_all_entries, push_groups};
+use crate::known::KnownList;
 use crate::marks::MarkSet;
 use crate::text::{KINDS, NUMBERS, PROPS_PER_OBJECT, TextKind};
 use cave_data::Cave;
@@ -14,6 +19,13 @@ use data_bindings::first_line;
 use data_rows::role::ROLE_NAMES;
 use play_command::TextView;
 use std::alloc::{AllocError, Global};
+
+/// What is asked about the texts of a cave: what is printed, and the list of what is known.
+#[derive(Drop)]
+pub struct TextsAsked {
+    pub view: TextView,
+    pub known: KnownList,
+}
 
 /// How the line of a kind begins.
 fn heading(kind: TextKind) -> &'static str
@@ -70,10 +82,9 @@ fn push_first_line(found: Option<&[u8]>, text: &mut Vec<u8>) -> Result<(), Alloc
     match found {
         Some(found) => {
             text.extend_from_slice(b": ")?;
-            text.extend_from_slice(first_line(found))?;
-            text.extend_from_slice(b"\n")
+            text.extend_from_slice(first_line(found))
         }
-        None => text.extend_from_slice(b"\n"),
+        None => Ok(()),
     }
 }
 
@@ -134,7 +145,11 @@ impl<'a> Groups for CaveTexts<'a> {
         text.extend_from_slice(name.as_bytes())
     }
 
-    fn push_missing_line(
+    fn indent(&self) -> &'static str {
+        ""
+    }
+
+    fn push_entry(
         &self,
         alloc: Global,
         kind: TextKind,
@@ -156,20 +171,55 @@ fn detail_of(view: TextView) -> Detail
     }
 }
 
-/// Appends what the view asks for about a cave, some of whose texts were said in this many logs.
+/// Appends the line that sums up.
+fn push_text_sums(
+    alloc: Global,
+    covered: usize,
+    present: usize,
+    logs: usize,
+    text: &mut Vec<u8>,
+) -> Result<(), AllocError>
+    ensures { OnOk result (text.new.items ≡ text.old.items ++ text_sums covered present logs) }
+{
+    let closing = format!(in alloc; "-- {covered} of {present} texts in {logs} logs\n")?;
+    text.extend_from_slice(closing.as_bytes())
+}
+
+/// Appends which entries of a list no text is that was never said.
+fn push_unmet_texts(
+    alloc: Global,
+    cave: &CaveTexts<'_>,
+    said: &MarkSet,
+    known: &KnownList,
+    text: &mut Vec<u8>,
+) -> Result<(), AllocError>
+    ensures { OnOk result (text.new.items ≡ text.old.items
+        ++ unmet_text known.now (all_entries (cave_texts cave.now) (is_marked said.now))) }
+{
+    let mut entries = Vec::new(alloc);
+    push_all_entries(alloc, cave, said, &mut entries)?;
+    known.push_unmet(alloc, &entries, text)
+}
+
+/// Appends what the view asks for about a cave, some of whose texts were said in this many logs,
+/// and returns how many are left that a list doesn't know.
 #[tactic(auto, unfolding(crate::specs::TextReport::text_report))]
 pub fn push_text_report(
     alloc: Global,
     cave: &CaveTexts<'_>,
     said: &MarkSet,
-    view: TextView,
+    view: &TextsAsked,
     logs: usize,
     text: &mut Vec<u8>,
-) -> Result<(), AllocError>
-    ensures { OnOk result (text.new.items
-        ≡ text.old.items ++ text_report cave.now view (is_marked said.now) logs) }
+) -> Result<usize, AllocError>
+    ensures told { OnOk result (text.new.items ≡ text.old.items
+        ++ text_report cave.now (is_marked said.now) view.now.known view.now.view logs) }
+    ensures left { IfOk result (λ left.
+        left ≡ texts_left cave.now (is_marked said.now) view.now.known) }
 {
-    let CoverTotals { covered, present } = push_groups(alloc, cave, said, detail_of(view), text)?;
-    let closing = format!(in alloc; "-- {covered} of {present} texts in {logs} logs\n")?;
-    text.extend_from_slice(closing.as_bytes())
+    push_unmet_texts(alloc, cave, said, &view.known, text)?;
+    let detail = detail_of(view.view);
+    let totals = push_groups(alloc, cave, said, &view.known, detail, text)?;
+    push_text_sums(alloc, totals.covered, totals.present, logs, text)?;
+    Ok(totals.left)
 }

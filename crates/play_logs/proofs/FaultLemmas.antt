@@ -91,13 +91,35 @@ IsFoundInLogs-after first logs found none (inl (at, memory)) =
 IsFoundInLogs-after first logs found none (inr (nothing, there)) = inr (none, there)
 
 -- a run whose outputs are also right in another way
-pub RunsLogs-also : (first : List Stage) (logs : List (List ℕ)) (P Q : List ℕ → Type 0)
-    (old new : Option (List ℕ)) (r : Result (Unit {0}) LogsFault)
-    → ((output : List ℕ) → P output → Q output)
+pub RunsLogs-also : {X : Type 0} (first : List Stage) (logs : List (List ℕ))
+    (P Q : X → List ℕ → Type 0) (old new : Option (List ℕ)) (r : Result X LogsFault)
+    → ((made : X) (output : List ℕ) → P made output → Q made output)
     → RunsLogs first logs P old new r → RunsLogs first logs Q old new r
-RunsLogs-also first logs P Q old new (Ok done) gives (none, right, (output, is, written)) =
-    (none, right, (output, gives output is, written))
+RunsLogs-also first logs P Q old new (Ok made) gives (none, right, (output, is, written)) =
+    (none, right, (output, gives made output is, written))
 RunsLogs-also first logs P Q old new (Err found) gives
-    (inl (is_write, none, right, (output, is, written))) =
-    inl (is_write, none, right, (output, gives output is, written))
+    (inl (is_write, none, right, (output, (made, is), written))) =
+    inl (is_write, none, right, (output, (made, gives made output is), written))
 RunsLogs-also first logs P Q old new (Err found) gives (inr decided) = inr decided
+
+after_stage : (stage : Stage) (first : List Stage) → stage.decides ≡ None
+    → first_decided first ≡ None → first_decided (stage ∷ first) ≡ None
+after_stage stage first never none = ap (λ d. option_or d (first_decided first)) never ∙ none
+
+-- the only stage decides no fault
+pub none_decided : (stage : Stage) → first_decided (stage ∷ []) ≡ None → stage.decides ≡ None
+none_decided stage none = sym (decides_alone stage.decides) ∙ none
+
+-- a run after a stage that decides no fault
+pub RunsLogs-after : {X : Type 0} (stage : Stage) (first : List Stage) (logs : List (List ℕ))
+    (P : X → List ℕ → Type 0) (old new : Option (List ℕ)) (r : Result X LogsFault)
+    → stage.decides ≡ None
+    → RunsLogs first logs P old new r → RunsLogs (stage ∷ first) logs P old new r
+RunsLogs-after stage first logs P old new (Ok made) never (none, right, written) =
+    (after_stage stage first never none, right, written)
+RunsLogs-after stage first logs P old new (Err found) never (inl (is_write, none, right, written)) =
+    inl (is_write, after_stage stage first never none, right, written)
+RunsLogs-after stage first logs P old new (Err found) never (inr (inl (at, there), kept)) =
+    inr (inl (at, inr (never, there)), kept)
+RunsLogs-after stage first logs P old new (Err found) never (inr (inr (none, there), kept)) =
+    inr (inr (after_stage stage first never none, there), kept)

@@ -27,12 +27,15 @@ abbrev pub noted_of_all : {Fact : Type 0} → (CaveView → State → List Part 
     → (CaveView → Moment → List Fact) → CaveView → List Game → List Fact
 noted_of_all first_facts facts cave games = flat_map (noted_of first_facts facts cave) games
 
--- the output is the report on the plays of the logs in the cave of the database and its bindings
-abbrev pub IsReported : {V : Type 0} → (List ℕ → CaveView → V → List Game → List ℕ)
-    → List ℕ → List ℕ → List (List ℕ) → ℕ → V → List ℕ → Type 0
-IsReported report_on database bindings logs seed view output =
+-- the output is the report on the plays of the logs in the cave of the database and its bindings,
+-- and this is found with it
+abbrev pub IsReported : {V F : Type 0} → (List ℕ → CaveView → V → List Game → List ℕ)
+    → (List ℕ → CaveView → V → List Game → F)
+    → List ℕ → List ℕ → List (List ℕ) → ℕ → V → F → List ℕ → Type 0
+IsReported report_on found_on database bindings logs seed view found output =
     (cave : CaveView) × Reads database bindings cave
     × (output ≡ report_on database cave view (games_of seed logs))
+    × (found ≡ found_on database cave view (games_of seed logs))
 
 abbrev pub at_none : PlayFault → LogsFault
 at_none found = record { fault = found; log = None }
@@ -78,10 +81,12 @@ EndsLogsBy found first logs IsOutput old new =
     × WritesPrefix IsOutput old new)
     ⊎ (IsFoundInLogs first logs found × Keeps old new)
 
--- what a run leaves: a right output, if no fault is decided, or what its fault leaves
-abbrev pub RunsLogs : List Stage → List (List ℕ) → (List ℕ → Type 0)
-    → Option (List ℕ) → Option (List ℕ) → Result (Unit {0}) LogsFault → Type 0
-RunsLogs first logs IsOutput old new (Ok done) =
+-- what a run that returns something leaves: an output that is right with that, if no fault is
+-- decided, or what its fault leaves
+abbrev pub RunsLogs : {X : Type 0} → List Stage → List (List ℕ) → (X → List ℕ → Type 0)
+    → Option (List ℕ) → Option (List ℕ) → Result X LogsFault → Type 0
+RunsLogs first logs IsOutput old new (Ok made) =
     (first_decided first ≡ None) × AreValidLogs logs
-    × ((output : List ℕ) × IsOutput output × Appends old new output)
-RunsLogs first logs IsOutput old new (Err found) = EndsLogsBy found first logs IsOutput old new
+    × ((output : List ℕ) × IsOutput made output × Appends old new output)
+RunsLogs {X} first logs IsOutput old new (Err found) =
+    EndsLogsBy found first logs (λ output. (made : X) × IsOutput made output) old new

@@ -18,21 +18,21 @@ use std::alloc::Global;
 use std::io::{Read, Write};
 
 /// Plays logs, each by itself from its first line, and writes the report on what is noted of their
-/// plays, once it is whole.
+/// plays, once it is whole. Returns what is found with the report.
 pub fn run_logs<N: PlayNotes, C: Read, B: Read, L: Read, W: Write>(
     alloc: Global,
     cave: &mut CaveReaders<C, B>,
     logs: &mut [L],
     seed: u32,
-    view: N::View,
+    view: &N::View,
     output: &mut W,
-) -> Result<(), LogsFault>
+) -> Result<N::Found, LogsFault>
     ensures runs { (database : List ℕ) × (bindings : List ℕ) × (moves : List (List ℕ))
         × Says (C.remaining cave.old.database) database
         × Says (B.remaining cave.old.bindings) bindings
         × AllZip Says (map L.remaining logs.old) moves
         × RunsLogs (first_stages database bindings seed) moves
-        (IsReported N.report_on database bindings moves seed view)
+        (IsReported N.report_on N.found_on database bindings moves seed view.now)
         (W.contents output.old) (W.contents output.new) result }
 {
     check_seed(seed)?;
@@ -40,9 +40,16 @@ pub fn run_logs<N: PlayNotes, C: Read, B: Read, L: Read, W: Write>(
     let made = report_in_cave::<N, L>(alloc, &read, logs, seed, view);
     // By a call, as in other runs, so the checker goes through the tables of a cave in one place.
     drop(read);
-    let text = made?;
-    write_output(output, &text)?;
-    Ok(())
+    let reported = made?;
+    write_output(output, &reported.text)?;
+    Ok(reported.found)
+}
+
+/// A report, and what is found with it.
+#[derive(Drop)]
+struct Reported<F: Copy> {
+    text: Vec<u8>,
+    found: F,
 }
 
 fn report_in_cave<N: PlayNotes, L: Read>(
@@ -50,13 +57,16 @@ fn report_in_cave<N: PlayNotes, L: Read>(
     read: &ReadCave,
     logs: &mut [L],
     seed: u32,
-    view: N::View,
-) -> Result<Vec<u8>, LogsFault>
+    view: &N::View,
+) -> Result<Reported<N::Found>, LogsFault>
     requires { large_seed seed ≡ None }
     ensures judged { (moves : List (List ℕ)) × AllZip Says (map L.remaining logs.old) moves
         × JudgesLogs [] moves
-        (λ text. text.items
-        ≡ N.report_on read.now.database.items read.now.cave view (games_of seed moves)) result }
+        (λ made. (made.text.items
+        ≡ N.report_on read.now.database.items read.now.cave view.now (games_of seed moves))
+        × (made.found
+        ≡ N.found_on read.now.database.items read.now.cave view.now (games_of seed moves)))
+        result }
 {
     let cave = &read.cave;
     let lexicon = Lexicon::build(alloc, cave)?;
@@ -64,6 +74,6 @@ fn report_in_cave<N: PlayNotes, L: Read>(
     let mut notes = N::none(alloc)?;
     note_logs(alloc, machine, logs, seed, &mut notes)?;
     let mut text = Vec::new(alloc);
-    notes.push_report(alloc, &read.database, cave, view, logs.len(), &mut text)?;
-    Ok(text)
+    let found = notes.push_report(alloc, &read.database, cave, view, logs.len(), &mut text)?;
+    Ok(Reported { text, found })
 }

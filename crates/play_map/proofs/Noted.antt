@@ -11,12 +11,11 @@ use Rattle.replay_edits.specs.Edit.{game_of}
 
 -- the map of the games of logs is that of the logs
 pub mapped-reported : (database bindings : List ℕ) (logs : List (List ℕ)) (seed : ℕ)
-    (part : MapPart) (output : List ℕ)
-    → IsReported (λ _ cave part games. map_of_games cave part games) database bindings logs seed
-    part
-    output
+    (part : MapPart) (found : Unit {0}) (output : List ℕ)
+    → IsReported (λ _ cave part games. map_of_games cave part games) (λ _ _ _ _. tt)
+    database bindings logs seed part found output
     → IsMapped database bindings logs seed part output
-mapped-reported database bindings logs seed part output (cave, reads, is) =
+mapped-reported database bindings logs seed part found output (cave, reads, is, _) =
     let game = λ (log : List ℕ). game_of seed (lines log) in (
       cave,
       reads,

@@ -22,7 +22,11 @@ impl PlayNotes for Stops {
 
     type View = MapPart;
 
+    type Found = ();
+
     ghost report_on = { λ _ cave part games. map_of_games cave part games };
+
+    ghost found_on = { λ _ _ _ _. tt };
 
     fn none(alloc: Global) -> Result<Stops, AllocError> {
         Ok(Stops::new(alloc))
@@ -33,11 +37,11 @@ impl PlayNotes for Stops {
         alloc: Global,
         _database: &[u8],
         cave: &Cave,
-        part: MapPart,
+        part: &MapPart,
         logs: usize,
         text: &mut Vec<u8>,
     ) -> Result<(), AllocError> {
-        push_map(alloc, cave, self.as_slice(), part, logs, text)
+        push_map(alloc, cave, self.as_slice(), *part, logs, text)
     }
 }
 
@@ -56,8 +60,8 @@ pub fn run_map<C: Read, B: Read, L: Read, W: Write>(
         × Says (B.remaining cave.old.bindings) bindings
         × AllZip Says (map L.remaining logs.old) moves
         × RunsLogs (first_stages database bindings seed) moves
-        (IsMapped database bindings moves seed part)
+        (λ _. IsMapped database bindings moves seed part)
         (W.contents output.old) (W.contents output.new) result }
 {
-    run_logs::<Stops, C, B, L, W>(alloc, cave, logs, seed, part, output)
+    run_logs::<Stops, C, B, L, W>(alloc, cave, logs, seed, &part, output)
 }

@@ -1,3 +1,4 @@
 pub mod OpeningLemmas
 pub mod PeekLemmas
 pub mod BesideLemmas
+mod CoverLemmas

@@ -80,8 +80,10 @@ names_of (Edit files log script editing aside) = Some (record (cave_names files)
   script = script_file script;
   typed = script_typed script;
 })
-names_of (Cover files logs seed view known strict) =
-    Some (record (cave_names files) { logs = map (λ s. s.now) logs.items })
+names_of (Cover files logs seed view known strict) = Some (record (cave_names files) {
+  logs = map (λ s. s.now) logs.items;
+  script = option_map (λ s. s.now) known;
+})
 names_of (Map files logs seed part) =
     Some (record (cave_names files) { logs = map (λ s. s.now) logs.items })
 names_of (Script old new output form) =

@@ -1,6 +1,6 @@
 -- The run that a line of the command line asks for.
 use Rattle.std.specs.Prelude.{◌≡◌, ℕ, List, [], Option, None, Some, option_map, unwrap_or}
-use Rattle.std.specs.Prelude.{Result, Ok, Err}
+use Rattle.std.specs.Prelude.{Result, Ok, Err, Bool, ◌&&◌, nat_lt, if◌then◌else◌}
 use Rattle.cave_play.specs.Doubted.{RunsDoubts}
 use Rattle.cave_play.specs.Input.{InputTexts}
 use Rattle.check_doubts.specs.declared.listing.DoubtFiles.{DoubtFiles}
@@ -11,11 +11,15 @@ use Rattle.cave_play.specs.EditRun.{IsEditRun}
 use Rattle.cave_play.specs.TwoLogs.{RunsEditTo, RunsScript}
 use Rattle.cave_play.specs.declared.edits.EditRun.{EditRun}
 use Rattle.cave_play.specs.declared.fault.PlayFault.{PlayFault}
+use Rattle.cave_play.specs.declared.fault.PlayFault.TheVariants as fault
 use Rattle.play_map.specs.Plays.{IsMapped}
-use Rattle.play_cover.specs.Plays.{IsCovered}
+use Rattle.play_cover.specs.Known.{known_entries}
+use Rattle.play_cover.specs.Plays.{IsCovered, cover_stages}
+use Rattle.play_cover.specs.declared.run.CoverAsked.{CoverAsked}
 use Rattle.play_command.specs.declared.aside.ReportView.{ReportView}
 use Rattle.play_command.specs.declared.editing.Editing.{Editing}
 use Rattle.play_command.specs.declared.line.Files.{Files}
+use Rattle.play_command.specs.declared.views.CoverView.{CoverView}
 use Rattle.play_command.specs.declared.line.Line.{Line}
 use Rattle.play_command.specs.declared.line.Line.TheVariants.{Check, Doubts, Play, Edit, Cover, Map}
 use Rattle.play_command.specs.declared.line.Line.TheVariants.{Script, Text}
@@ -40,6 +44,19 @@ ended_edits (Err found) = Err (Run found None)
 abbrev pub ended_over_logs : Result (Unit {0}) LogsFault → Result (Option EditRun) Failure
 ended_over_logs (Ok done) = Ok None
 ended_over_logs (Err found) = Err (Run found.fault found.log)
+
+-- how a run that reports what logs show ended: a strict one fails if something is left
+abbrev pub ended_cover : Bool → Result ℕ LogsFault → Result (Option EditRun) Failure
+ended_cover strict (Ok left) =
+    if strict && nat_lt 0 left then Err (Run (fault.Unshown left) None) else Ok None
+ended_cover strict (Err found) = Err (Run found.fault found.log)
+
+-- what is asked of coverage: the seed, what is printed, and the file of the list of what is known
+pub record IsAskedBy (seed : ℕ) (view : CoverView) (file : Option (List ℕ)) (asked : CoverAsked)
+    : Type 0 where
+  pub seed_is : asked.seed ≡ seed
+  pub view_is : asked.view ≡ view
+  pub known_is : asked.known.now ≡ unwrap_or file []
 
 -- what a run that plays at most one log leaves
 abbrev pub RunsAlone : List Stage → (List ℕ → Type 0)
@@ -68,7 +85,16 @@ RunsEdits _ texts editing report old new ended =
 abbrev pub RunsOverLogs : List Stage → List (List ℕ) → (List ℕ → Type 0)
     → Option (List ℕ) → Option (List ℕ) → Result (Option EditRun) Failure → Type 0
 RunsOverLogs first logs IsOutput old new ended = (found : Result (Unit {0}) LogsFault)
-    × (ended ≡ ended_over_logs found) × RunsLogs first logs IsOutput old new found
+    × (ended ≡ ended_over_logs found) × RunsLogs first logs (λ _. IsOutput) old new found
+
+-- what a run leaves that reports what logs show, with a list of what is known in a file
+abbrev pub RunsCover : Bool → InputTexts → List (List ℕ) → ℕ → CoverView → Option (List ℕ)
+    → Option (List ℕ) → Option (List ℕ) → Result (Option EditRun) Failure → Type 0
+RunsCover strict texts logs seed view file old new ended = (found : Result ℕ LogsFault)
+    × (ended ≡ ended_cover strict found)
+    × RunsLogs (cover_stages texts.database texts.bindings texts.script seed) logs
+    (IsCovered texts.database texts.bindings (known_entries (unwrap_or file []) texts.script) logs
+    seed view) old new found
 
 -- what the run that a line asks for leaves, over the bytes of its inputs
 abbrev pub RunsLine : Line → InputTexts → List (List ℕ)
@@ -87,8 +113,7 @@ RunsLine (Edit files log script editing aside) texts logs old new ended =
     (edited : Result EditRun PlayFault) × (ended ≡ ended_edits edited)
     × RunsEdits script texts editing aside.report old new edited
 RunsLine (Cover files log seed view known strict) texts logs old new ended =
-    RunsOverLogs (first_stages texts.database texts.bindings seed) logs
-    (IsCovered texts.database texts.bindings logs seed view) old new ended
+    RunsCover strict texts logs seed view (option_map (λ s. s.now) known) old new ended
 RunsLine (Map files log seed part) texts logs old new ended =
     RunsOverLogs (first_stages texts.database texts.bindings seed) logs
     (IsMapped texts.database texts.bindings logs seed part) old new ended

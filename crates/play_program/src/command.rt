@@ -3,17 +3,17 @@
 ghost use Rattle.std.specs.Prelude.{◌≡◌, ℕ, List, map, option_map};
 ghost use Rattle.std.specs.List.{AllZip};
 ghost use Rattle.cave_play.specs.Input.{AreTextsOf, InputTexts, Says, input_left};
-ghost use Rattle.play_program.specs.Runs.{AreListed, RunsEdits, RunsLine, ended_alone};
-ghost use Rattle.play_program.specs.Runs.{ended_edits, ended_over_logs};
+ghost use Rattle.play_program.specs.Runs.{AreListed, IsAskedBy, RunsEdits, RunsLine, ended_alone};
+ghost use Rattle.play_program.specs.Runs.{ended_cover, ended_edits, ended_over_logs};
 
 use crate::failure::Failure;
 use crate::readers::{FileInputs, Readers};
 use cave_play::{
-    EditRun, PlayFault, run_check, run_doubts, run_edit, run_edit_to, run_play, run_script,
+    EditRun, Inputs, PlayFault, run_check, run_doubts, run_edit, run_edit_to, run_play, run_script,
 };
 use check_doubts::DoubtFiles;
-use play_command::{Editing, Files, Line, ReportView, ScriptSource};
-use play_cover::run::run_cover;
+use play_command::{CoverView, Editing, Files, Line, ReportView, ScriptSource};
+use play_cover::run::{CoverAsked, run_cover};
 use play_logs::fault::LogsFault;
 use play_map::run::run_map;
 use std::alloc::Global;
@@ -46,6 +46,31 @@ fn over_logs<'a>(ended: Result<(), LogsFault>) -> Result<Option<EditRun>, Failur
     match ended {
         Ok(()) => Ok(None),
         Err(LogsFault { fault, log }) => Err(Failure::Run(fault, log)),
+    }
+}
+
+/// How a run that reports what logs show ended: a strict one fails if something is left.
+fn ended_cover<'a>(
+    strict: bool,
+    ended: Result<usize, LogsFault>,
+) -> Result<Option<EditRun>, Failure<'a>>
+    ensures { result ≡ ended_cover strict ended }
+{
+    match ended {
+        Ok(left) if strict && left > 0 => Err(Failure::Run(PlayFault::Unshown(left), None)),
+        Ok(_) => Ok(None),
+        Err(LogsFault { fault, log }) => Err(Failure::Run(fault, log)),
+    }
+}
+
+/// What is asked of the coverage of logs.
+fn cover_asked<'a>(seed: u32, view: CoverView, known: Option<&'a str>) -> CoverAsked<'a>
+    ensures { IsAskedBy seed view (option_map (λ s. s.now) known.entry) result }
+{
+    CoverAsked {
+        seed,
+        view,
+        known: known.unwrap_or(""),
     }
 }
 
@@ -118,9 +143,20 @@ pub fn run_command<'a, F: Read, L: Read, W: Write>(
             ended_edits(run_edits(alloc, script, inputs, *editing, report, output))
         }
         Line::Script { form, .. } => alone(run_script(alloc, inputs, *form, output)),
-        Line::Cover { seed, view, .. } => {
+        Line::Cover {
+            seed,
+            view,
+            known,
+            strict,
+            ..
+        } => {
+            let asked = cover_asked(*seed, *view, *known);
+            let Inputs { cave, script, .. } = inputs;
             let logs = logs.as_mut_slice();
-            over_logs(run_cover(alloc, &mut inputs.cave, logs, *seed, *view, output))
+            ended_cover(
+                *strict,
+                run_cover(alloc, cave, script, logs, &asked, output),
+            )
         }
         Line::Map { seed, part, .. } => {
             let logs = logs.as_mut_slice();

@@ -17,7 +17,7 @@ pub struct Names<'a> {
     pub log: Option<&'a str>,
     /// The logs of a run over several.
     pub logs: &'a [&'a str],
-    /// The script, the log that edits are to make, or the list of known doubts.
+    /// The script, the log that edits are to make, or the list of what is known.
     pub script: Option<&'a str>,
     /// The script, if its lines are on the command line.
     pub typed: Option<&'a [u8]>,
@@ -97,7 +97,17 @@ impl<'a> Names<'a> {
                 typed: script_typed(script),
                 ..Names::of_cave(files)
             },
-            Line::Cover { files, logs, .. } | Line::Map { files, logs, .. } => Names {
+            Line::Cover {
+                files,
+                logs,
+                known,
+                ..
+            } => Names {
+                logs: logs.as_slice(),
+                script: *known,
+                ..Names::of_cave(files)
+            },
+            Line::Map { files, logs, .. } => Names {
                 logs: logs.as_slice(),
                 ..Names::of_cave(files)
             },

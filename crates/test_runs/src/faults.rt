@@ -22,7 +22,7 @@ fn complaint_of(alloc: Global, fault: PlayFault) -> Result<String, AllocError> {
 }
 
 /// Faults, the status of each, and the line that is printed.
-const FAULTS: [(PlayFault, u8, &str); 15] = [
+const FAULTS: [(PlayFault, u8, &str); 16] = [
     (
         PlayFault::Cave(
             CaveError {
@@ -38,8 +38,9 @@ const FAULTS: [(PlayFault, u8, &str); 15] = [
     (
         PlayFault::LargeKnown,
         1,
-        "cave: a.known: the list of known doubts is larger than 1,048,576 bytes",
+        "cave: a.known: the list of what is known is larger than 1,048,576 bytes",
     ),
+    (PlayFault::Unshown(3), 1, "cave: 3 left that no log shows"),
     (PlayFault::Seed, 2, "cave: a seed is at most 2147483647"),
     (
         PlayFault::Every,

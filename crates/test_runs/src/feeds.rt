@@ -5,7 +5,7 @@ use crate::streams::{Sink, TestReader};
 use cave_play::{CaveReaders, Inputs, PlayFault, run_check, run_doubts, run_edit, run_play};
 use check_doubts::DoubtFiles;
 use play_command::{CheckView, CoverView, Editing, MapPart, PlayView};
-use play_cover::run::run_cover;
+use play_cover::run::{CoverAsked, run_cover};
 use play_logs::fault::LogsFault;
 use play_map::run::run_map;
 use std::alloc::Global;
@@ -100,7 +100,11 @@ fn cover_into<C: Read, B: Read, L: Read, W: Write>(
     view: CoverView,
     sink: &mut W,
 ) -> Result<(), LogsFault> {
-    run_cover(alloc, cave, logs, seed, view, sink)
+    let known = "";
+    let asked = CoverAsked { seed, view, known };
+    let mut none: &[u8] = b"";
+    run_cover(alloc, cave, &mut none, logs, &asked, sink)?;
+    Ok(())
 }
 
 fn map_into<C: Read, B: Read, L: Read, W: Write>(

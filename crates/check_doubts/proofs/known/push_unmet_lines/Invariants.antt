@@ -7,8 +7,8 @@ use Rattle.check_doubts.proofs.known.push_unmet_lines.Given as goal
 -- one byte
 abbrev pub invariant-loop-line : goal.invariant-loop-line
 invariant-loop-line l =
-    (l.initial.text.items ++ unmet_lines l.files l.entries 1 (lines l.known)
-    ≡ l.text.items ++ unmet_lines l.files l.entries (l.number + 1) (lines l.rest))
+    (l.initial.text.items ++ unmet_lines l.file l.words l.entries 1 (lines l.known)
+    ≡ l.text.items ++ unmet_lines l.file l.words l.entries (l.number + 1) (lines l.rest))
     × (l.number + length l.rest ≤ length l.known)
 
 abbrev pub decreases-loop-line : goal.decreases-loop-line

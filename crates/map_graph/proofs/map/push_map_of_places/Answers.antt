@@ -25,11 +25,11 @@ returns c =
     let first = c.push_graph_opening.new.text.items in
     let second = c.push_caption.new.text.items in
     let counts = c.seen_counts-counts.ensures in
-    let draw = λ mapped. nodes_and_edges cave mapped stops logs part.seen
+    let draw = λ (mapped : List ℕ). nodes_and_edges cave mapped stops logs part.seen
     (drawn_places cave stops part mapped) in
     subst (λ text. OnOk c.push_sums.result (c.push_sums.new.text.items ≡ text))
     (ap (λ k. c.extend_from_slice.new.self.items ++ sums k logs) counts
     ∙ added _ _ _ _ _ _ _ _ _ _ c.in_ok-push_graph_opening.ensures
     (c.in_ok-push_caption.ensures ∙ ap (λ k. first ++ caption k logs part) counts)
-    (c.in_ok-push_part.ensures ∙ ap (λ mapped. second ++ draw mapped) c.requires)
+    (c.in_ok-push_drawn_nodes_and_edges.ensures ∙ ap (λ mapped. second ++ draw mapped) c.requires)
     c.in_ok-extend_from_slice.ensures.items) c.push_sums.ensures

@@ -31,6 +31,8 @@ returns g c =
     let (moves, said, noted) = c.in_ok-note_logs.ensures.judged in
     let notes = c.note_logs.new.notes in
     let report_on = g.N.PlayNotes.report_on in
+    let found_on = g.N.PlayNotes.found_on in
+    let view = c.args.view.now in
     let watch = g.N.Watch in
     let played = games_of c.args.seed moves in
     let count = length c.note_logs.new.logs in
@@ -43,9 +45,10 @@ returns g c =
     let here =
     subst (λ cave. AreNotesOn watch.HasNoted watch.first_facts watch.facts cave played notes)
     c.new-machine.ensures noted.2 in
+    let pushed = c.in_ok-found.ensures played here many in
     let text =
-    c.in_ok-push_report.ensures played here many
-    ∙ ap (λ t. t ++ report_on c.deref.result.now read.cave c.args.view played)
-    c.new-text.ensures.items
-    ∙ ap (λ d. report_on d read.cave c.args.view played) c.deref.ensures.value in
-    record { judged = (moves, said, (noted.0, noted.1, text)) }
+    pushed.0
+    ∙ ap (λ t. t ++ report_on c.deref.result.now read.cave view played) c.new-text.ensures.items
+    ∙ ap (λ d. report_on d read.cave view played) c.deref.ensures.value in
+    let found = pushed.1 ∙ ap (λ d. found_on d read.cave view played) c.deref.ensures.value in
+    record { judged = (moves, said, (noted.0, noted.1, (text, found))) }

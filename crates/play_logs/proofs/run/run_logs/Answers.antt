@@ -48,13 +48,13 @@ returns-in_err-read g c =
       );
     })
 
-pub returns-in_err-text : goal.returns-in_err-text
-returns-in_err-text g c =
+pub returns-in_err-reported : goal.returns-in_err-reported
+returns-in_err-reported g c =
     let exit =
-    err_from_is_err_and c.from_residual-in_err-text.result
-    c.from_residual-in_err-text.ensures.1 in
+    err_from_is_err_and c.from_residual-in_err-reported.result
+    c.from_residual-in_err-reported.ensures.1 in
     let (database, bindings, said, others, read) = c.in_ok-read.ensures.judged in
-    let (moves, last, refused) = c.in_err-text.ensures.judged in
+    let (moves, last, refused) = c.in_err-reported.ensures.judged in
     let none =
     first_decided-after (large_seed c.args.seed) (cave_stages database bindings)
     c.in_ok-check_seed.ensures read.0 in
@@ -71,17 +71,22 @@ returns-in_err-write_output g c =
     err_from_is_err_and c.from_residual-in_err-write_output.result
     c.from_residual-in_err-write_output.ensures.1 in
     let (database, bindings, said, others, read) = c.in_ok-read.ensures.judged in
-    let (moves, last, told) = c.in_ok-text.ensures.judged in
+    let (moves, last, told) = c.in_ok-reported.ensures.judged in
     let none =
     first_decided-after (large_seed c.args.seed) (cave_stages database bindings)
     c.in_ok-check_seed.ensures read.0 in
     let made = c.in_ok-read.read in
-    let same =
-    ap (λ d. g.N.PlayNotes.report_on d made.cave c.args.view (games_of c.args.seed moves))
-    read.1.database_is in
+    let notes = g.N.PlayNotes in
+    let view = c.args.view.now in
+    let played = games_of c.args.seed moves in
+    let same = ap (λ d. notes.report_on d made.cave view played) read.1.database_is in
+    let also = ap (λ d. notes.found_on d made.cave view played) read.1.database_is in
     let output =
-    subst (IsReported g.N.PlayNotes.report_on database bindings moves c.args.seed c.args.view)
-    (sym c.deref.ensures.value) (made.cave, read.1.reads, told.2 ∙ same) in
+    subst
+    (IsReported notes.report_on notes.found_on database bindings moves c.args.seed view
+    c.in_ok-reported.reported.found)
+    (sym c.deref.ensures.value)
+    (made.cave, read.1.reads, told.2.0 ∙ same, told.2.1 ∙ also) in
     let (failed, front) = c.in_err-write_output.ensures.written in
     rw (exit.1, exit.2, failed) (record {
       runs = (
@@ -91,24 +96,29 @@ returns-in_err-write_output g c =
         said,
         others,
         last,
-        inl (refl, none, told.1, (_, output, front)),
+        inl (refl, none, told.1, (_, (_, output), front)),
       );
     })
 
 pub returns : goal.returns
 returns g c =
     let (database, bindings, said, others, read) = c.in_ok-read.ensures.judged in
-    let (moves, last, told) = c.in_ok-text.ensures.judged in
+    let (moves, last, told) = c.in_ok-reported.ensures.judged in
     let none =
     first_decided-after (large_seed c.args.seed) (cave_stages database bindings)
     c.in_ok-check_seed.ensures read.0 in
     let made = c.in_ok-read.read in
-    let same =
-    ap (λ d. g.N.PlayNotes.report_on d made.cave c.args.view (games_of c.args.seed moves))
-    read.1.database_is in
+    let notes = g.N.PlayNotes in
+    let view = c.args.view.now in
+    let played = games_of c.args.seed moves in
+    let same = ap (λ d. notes.report_on d made.cave view played) read.1.database_is in
+    let also = ap (λ d. notes.found_on d made.cave view played) read.1.database_is in
     let output =
-    subst (IsReported g.N.PlayNotes.report_on database bindings moves c.args.seed c.args.view)
-    (sym c.deref.ensures.value) (made.cave, read.1.reads, told.2 ∙ same) in
+    subst
+    (IsReported notes.report_on notes.found_on database bindings moves c.args.seed view
+    c.in_ok-reported.reported.found)
+    (sym c.deref.ensures.value)
+    (made.cave, read.1.reads, told.2.0 ∙ same, told.2.1 ∙ also) in
     record {
       runs = (
         database,

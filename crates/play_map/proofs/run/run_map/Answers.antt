@@ -16,7 +16,7 @@ returns g c =
         others,
         last,
         RunsLogs-also (first_stages database bindings c.args.seed) moves _
-            (IsMapped database bindings moves c.args.seed c.args.part) _ _ _
+            (λ _. IsMapped database bindings moves c.args.seed c.args.part) _ _ _
             (mapped-reported database bindings moves c.args.seed c.args.part) runs,
       );
     }

@@ -5,6 +5,7 @@ use Rattle.cave_play.proofs.InputLemmas.{Says-some}
 use Rattle.play_command.specs.declared.line.Line.{Line}
 use Rattle.play_logs.proofs.FaultLemmas.{AllSay-some}
 use Rattle.play_program.specs.Runs.{RunsLine}
+use Rattle.play_program.proofs.CoverLemmas.{covers_as_asked}
 use Rattle.play_program.proofs.command.run_command.Goals as goal
 
 pub returns-in-Check : goal.returns-in-Check
@@ -100,16 +101,19 @@ returns-in-Script g c =
 
 pub returns-in-Cover : goal.returns-in-Cover
 returns-in-Cover g c =
-    let (database, bindings, moves, first, second, say, runs) = c.run_cover.ensures.runs in
+    let (database, bindings, list, moves, first, second, fourth, say, runs) =
+    c.run_cover.ensures.runs in
     let inputs = c.args.readers.now.inputs in
     let (log, third) = Says-some (g.L.Read.remaining inputs.log) in
-    let (script, fourth) = Says-some (input_left g.F.Read.remaining inputs.script) in
     let texts : InputTexts = record {
       database = database;
       bindings = bindings;
       log = log;
-      script = script;
+      script = list;
     } in
+    let asked =
+    covers_as_asked c.in-Cover.seed c.in-Cover.view _ c.cover_asked-asked.result texts moves _ _ _
+    c.cover_asked-asked.ensures runs in
     record {
       runs = (
         texts,
@@ -119,8 +123,8 @@ returns-in-Cover g c =
             c.as_mut_slice-logs.ensures.value say,
         subst
             (λ (line : Line). RunsLine line texts moves (g.W.Write.contents c.args.output.now)
-            (g.W.Write.contents c.run_cover.new.output) c.over_logs.result)
-            (sym c.in-Cover.is) (c.run_cover.result, c.over_logs.ensures, runs),
+            (g.W.Write.contents c.run_cover.new.output) c.ended_cover.result)
+            (sym c.in-Cover.is) (c.run_cover.result, c.ended_cover.ensures, asked),
       );
     }
 

@@ -1,20 +1,24 @@
 use Rattle.std.proofs.Common.{◌++◌, ap, ◌∙◌}
-use Rattle.std.proofs.lemmas.Result.{on_ok_weaker}
 use Rattle.play_command.specs.declared.views.CoverView.TheVariants.{Rules}
 use Rattle.play_cover.specs.Marks.{is_marked}
-use Rattle.play_cover.specs.RowReport.{row_report}
-use Rattle.play_cover.proofs.Telling.{told_by_marks}
+use Rattle.play_cover.specs.RowReport.{row_report, rows_left}
+use Rattle.play_cover.proofs.Telling.{left_by_marks, told_by_marks}
 use Rattle.play_cover.proofs.rule_notes.RuleNotesPlayNotes.push_report.Goals as goal
 
 pub returns : goal.returns
 returns c =
     let args = c.args in
-    on_ok_weaker c.push_row_report.result
-    (λ pushed games marked many.
-    pushed
-    ∙ ap (λ ways. args.text.now.items
-    ++ row_report (is_marked args.self.now.marks) ways args.logs)
-    (c.deref.ensures.value ∙ c.in_ok-ways.ensures)
-    ∙ ap (λ report. args.text.now.items ++ report)
-    (told_by_marks Rules args.database.now args._cave.now games args.self.now.marks args.logs marked many))
-    c.push_row_report.ensures
+    let known = args.known.now in
+    let noted = args.self.now.marks in
+    let cave = args.cave.now in
+    let same = c.deref.ensures.value ∙ c.in_ok-ways.ensures in
+    λ games marked many. (
+      c.in_ok-left.ensures.told
+          ∙ ap (λ ways. args.text.now.items
+          ++ row_report (is_marked noted) cave known ways args.logs) same
+          ∙ ap (λ report. args.text.now.items ++ report)
+          (told_by_marks Rules known args.database.now cave games noted args.logs marked many),
+      c.in_ok-left.ensures.left
+          ∙ ap (λ ways. rows_left (is_marked noted) cave known ways) same
+          ∙ left_by_marks Rules known args.database.now cave games noted marked,
+    )

@@ -1,16 +1,18 @@
-//! The names of motions, objects and conditions.
+//! What is said about ways: the names of motions and objects, and conditions.
 
 ghost use Rattle.std.specs.Prelude.{◌≡◌, ◌++◌, OnOk};
 ghost use Rattle.data_rows.specs.declared.targets.Condition.TheVariants as condition;
-ghost use Rattle.map_graph.specs.Names.{condition_mark, condition_text, mark_of_text};
-ghost use Rattle.map_graph.specs.Names.{number_of_object, object_mark, word_or_number};
+ghost use Rattle.check_tables.specs.WayWords.{condition_mark, condition_text, mark_of_text};
+ghost use Rattle.check_tables.specs.WayWords.{motion_name, number_of_object, object_mark};
+ghost use Rattle.check_tables.specs.WayWords.{word_or_number};
 
 use cave_data::Cave;
+use cave_world::Motion;
 use data_rows::{Condition, WORDS_PER_CLASS};
 use std::alloc::{AllocError, Global};
 
 /// Appends a blank and the first word of a number, or the number of the motion or the object.
-#[tactic(auto, unfolding(crate::specs::Names::word_or_number))]
+#[tactic(auto, unfolding(crate::specs::WayWords::word_or_number))]
 pub fn push_word_or_number(
     alloc: Global,
     cave: &Cave,
@@ -30,6 +32,21 @@ pub fn push_word_or_number(
             text.extend_from_slice(name.as_bytes())
         }
     }
+}
+
+/// Appends the name of a motion.
+pub fn push_motion(
+    alloc: Global,
+    cave: &Cave,
+    motion: u16,
+    text: &mut Vec<u8>,
+) -> Result<(), AllocError>
+    ensures { OnOk result (text.new.items ≡ text.old.items ++ motion_name cave.now motion) }
+{
+    if motion == Motion::Any.number() {
+        return text.extend_from_slice(b" any motion");
+    }
+    push_word_or_number(alloc, cave, motion, text)
 }
 
 /// The number of the word of an object.
@@ -92,7 +109,7 @@ fn push_condition_text(
 }
 
 /// Appends the mark of a way that has a condition, or before which others have to fail.
-#[tactic(auto, unfolding(crate::specs::Names::mark_of_text))]
+#[tactic(auto, unfolding(crate::specs::WayWords::mark_of_text))]
 fn push_mark_of_text(later: bool, asked: &[u8], text: &mut Vec<u8>) -> Result<(), AllocError>
     ensures { OnOk result (text.new.items ≡ text.old.items ++ mark_of_text later asked.now) }
 {

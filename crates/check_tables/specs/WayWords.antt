@@ -1,4 +1,4 @@
--- The names of motions, objects and conditions.
+-- What is said about ways: the names of motions and objects, and conditions.
 use Rattle.std.specs.Prelude.{ℕ, ◌+◌, ◌%◌, Bool, ◌==◌, if◌then◌else◌, List, [], ◌++◌, codes}
 use Rattle.std.specs.Prelude.{length, unwrap_or}
 use Rattle.std.specs.Fmt.{decimal}
@@ -6,6 +6,7 @@ use Rattle.cave_data.specs.CaveView.{CaveView, first_word}
 use Rattle.data_rows.specs.Rows.{WORDS_PER_CLASS}
 use Rattle.data_rows.specs.declared.targets.Condition.{Condition}
 use Rattle.data_rows.specs.declared.targets.Condition.TheVariants as condition
+use Rattle.cave_world.specs.Motions.{any_motion}
 
 abbrev pub number_of_object : ℕ → ℕ
 number_of_object object = WORDS_PER_CLASS + object
@@ -15,6 +16,11 @@ number_of_object object = WORDS_PER_CLASS + object
 unfoldable pub word_or_number : CaveView → ℕ → List ℕ
 word_or_number cave number =
     codes " " ++ unwrap_or (first_word cave.words number) (decimal (number % WORDS_PER_CLASS))
+
+-- the name of a motion
+abbrev pub motion_name : CaveView → ℕ → List ℕ
+motion_name cave motion =
+    if motion == any_motion then codes " any motion" else word_or_number cave motion
 
 abbrev pub object_mark : CaveView → List ℕ → ℕ → List ℕ
 object_mark cave asked object = asked ++ word_or_number cave (number_of_object object)

@@ -2,7 +2,7 @@ use Rattle.std.proofs.Common.{◌≤◌, All, subst, sym, ◌∙◌}
 use Rattle.base_lines.specs.Numbers.{LAST_PLACE}
 use Rattle.map_ways.proofs.Rows.{mapped_within}
 use Rattle.map_graph.proofs.DrawnLemmas.{drawn_within}
-use Rattle.map_graph.proofs.map.push_part.Goals as goal
+use Rattle.map_graph.proofs.map.push_drawn_nodes_and_edges.Goals as goal
 
 pub push_nodes_and_edges-requires : goal.push_nodes_and_edges-requires
 push_nodes_and_edges-requires c =
