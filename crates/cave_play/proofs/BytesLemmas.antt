@@ -31,7 +31,7 @@ use Rattle.replay_scripts.specs.Guards.{IsScriptBy, read_guarded_from, unguarded
 use Rattle.replay_scripts.specs.Guards.{unguarded_items}
 use Rattle.replay_scripts.specs.Script.{Applied, IsScript, read_from}
 use Rattle.replay_scripts.proofs.Grammar.{script_of-only}
-use Rattle.cave_play.specs.Bytes.{EditedLogsAreAccepted, GuardedScriptsDoTheSame}
+use Rattle.cave_play.specs.Bytes.{EditedLogsAreAccepted, EndsAlike, GuardedScriptsDoTheSame}
 use Rattle.cave_play.specs.Bytes.{UndoGivesTheBytes, UndoScriptsTakeBack}
 use Rattle.cave_play.specs.Ended.{IsEndedEdit, ended_view, ends_after_items}
 use Rattle.cave_play.specs.Judge.{lines_fault, or_too_many}
@@ -61,7 +61,7 @@ unfolding is_line line_fault
 line_stands line good =
     stands (nat_lt MAX_LINE_BYTES (length line)) (list_all is_line_byte line) good
 
-text_lines : (log : List (List ℕ)) → All IsGoodLine log → All IsTextLine log
+pub text_lines : (log : List (List ℕ)) → All IsGoodLine log → All IsTextLine log
 text_lines [] good = All-nil IsTextLine
 text_lines (line ∷ log) good =
     All-cons IsTextLine line log (line_stands line (All-head IsGoodLine line log good))
@@ -111,7 +111,7 @@ edited_logs_are_accepted cave every log script edited seed played guarded free f
 
 -- ---- the script that takes edits back
 
-by_lines : (guarded : Bool) (text other : List ℕ) (items : List Applied)
+pub by_lines : (guarded : Bool) (text other : List ℕ) (items : List Applied)
     → lines text ≡ lines other → IsScriptBy guarded text items → IsScriptBy guarded other items
 by_lines false text other items same spelled = subst (λ found. IsScript 1 found items) same spelled
 by_lines true text other items same spelled =
@@ -125,7 +125,7 @@ undo_stands guarded items game text good undo =
     subst (λ t. All IsTextLine (lines t)) (sym undo.written)
     (undo_lines_stand guarded groups (spellable-all guarded items game good))
 
-lines_undone : (cave : CaveView) (every : ℕ) (log script undo : List ℕ) (seed played : ℕ)
+pub lines_undone : (cave : CaveView) (every : ℕ) (log script undo : List ℕ) (seed played : ℕ)
     (guarded : Bool) → IsGame (game_of seed (lines log))
     → (edit : IsEndedEdit asked.Undo cave every log seed guarded script played undo)
     → lines undo ≡ lines edit.text
@@ -224,7 +224,7 @@ comes_back end unended log edited_log (first ∷ more) edited undo good after th
     ∙ ap (λ is. ended_text end is [] log) (same_unended end edited_log unended edited is shut)
 
 -- how the lines of a log end after edits, if they all ended alike
-ends_stay : (end : LineEnd) (unended : Bool) (items : List Applied) (game : Game)
+pub ends_stay : (end : LineEnd) (unended : Bool) (items : List Applied) (game : Game)
     (log script : List ℕ) (each : List (List ℕ)) → All IsTextLine each
     → log ≡ ended_text end unended [] each
     → ends_after_items items game (log_ends log script)
@@ -235,11 +235,18 @@ ends_stay end unended items game log script each good alike =
     ∙ ends_after_items-alike items game
     (first_end (first_end Feed (ends_in script)) (ends_in log)) (is_unended log) (ends_in script)
 
-pub undo_gives_the_bytes : UndoGivesTheBytes
-undo_gives_the_bytes cave every log script edited undo again seed next played counted replayed guarded
-    free fits (end, unended, alike) first second seeds shut third =
+-- of any game that a session can hold
+pub bytes_undone : (cave : CaveView) (every : ℕ) (log script edited undo again : List ℕ)
+    (seed next played counted replayed : ℕ) (guarded : Bool) → IsGame (game_of seed (lines log))
+    → EndsAlike log
+    → (first : IsEndedEdit asked.Log cave every log seed guarded script played edited)
+    → IsEndedEdit asked.Undo cave every log seed guarded script counted undo
+    → next ≡ (game_after_items first.edit.items (game_of seed (lines log))).seed
+    → (is_unended log ≡ true → is_unended edited ≡ true)
+    → IsEndedEdit asked.Log cave every edited next guarded undo replayed again → again ≡ log
+bytes_undone cave every log script edited undo again seed next played counted replayed guarded good
+    (end, unended, alike) first second seeds shut third =
     let game = game_of seed (lines log) in
-    let good = IsGame-accepted log seed free fits in
     let items = first.edit.items in
     let after = game_after_items items game in
     let kept = text_lines (lines log) good.lines in
@@ -286,3 +293,9 @@ undo_gives_the_bytes cave every log script edited undo again seed next played co
     ∙ comes_back usual (is_unended log) (lines log) after.log (lines second.text) edited undo kept
     changed there edited_is undo_is none shut
     ∙ log_is
+
+pub undo_gives_the_bytes : UndoGivesTheBytes
+undo_gives_the_bytes cave every log script edited undo again seed next played counted replayed guarded
+    free fits alike first second seeds shut third =
+    bytes_undone cave every log script edited undo again seed next played counted replayed guarded
+    (IsGame-accepted log seed free fits) alike first second seeds shut third

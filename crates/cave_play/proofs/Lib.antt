@@ -1,12 +1,12 @@
-mod BytesLemmas
+pub mod BytesLemmas
 mod DoubtLemmas
 mod EndedLemmas
 mod GuardLawLemmas
 mod GuardedLemmas
 pub mod InputLemmas
 mod JudgeLemmas
-mod OneOutputLemmas
-mod RefusalLemmas
+pub mod OneOutputLemmas
+pub mod RefusalLemmas
 mod RefusedLemmas
 mod ReportLemmas
 mod RunLemmas

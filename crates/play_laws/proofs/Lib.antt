@@ -5,6 +5,12 @@ pub mod GuardedLines
 pub mod GuardedReading
 pub mod GuardedSpelling
 pub mod Holding
+pub mod JoinedScripts
+pub mod ListedDifferences
+pub mod LongerLogs
+pub mod MetGuards
+pub mod MetItems
 pub mod NeverTaken
 pub mod Period
+pub mod Redo
 pub mod WaySteps

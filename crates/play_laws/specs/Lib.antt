@@ -2,5 +2,10 @@ pub mod ApartEdits
 pub mod DrawsMade
 pub mod GuardedScripts
 pub mod Held
+pub mod JoinedScripts
+pub mod ListedDifferences
+pub mod LongerLogs
+pub mod MetGuards
 pub mod NeverTaken
+pub mod Redo
 pub mod Unreached

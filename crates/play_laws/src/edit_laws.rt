@@ -1,7 +1,14 @@
-//! Laws about edits and scripts of edits. Each is the contract of a function that does nothing.
+//! Laws about edits and scripts of edits. Each is the contract of a function that does nothing, or
+//! cites others.
 
 ghost use Rattle.play_laws.specs.ApartEdits.{ApartEditsCommute};
 ghost use Rattle.play_laws.specs.GuardedScripts.{GuardsBelongToItems};
+ghost use Rattle.play_laws.specs.JoinedScripts.{ScriptsJoin};
+ghost use Rattle.play_laws.specs.MetGuards.{MetGuardsNoOtherRun};
+ghost use Rattle.play_laws.specs.Redo.{RedoGivesTheEdits};
+
+use cave_play::laws::{no_guards_no_other_output, no_guards_no_other_script};
+use play_edits::laws::scripts_run_in_turn;
 
 /// Two edits apart from each other, each of which a log accepts, may be made in either order, the
 /// second at the place to which the first moves what it touches: both orders leave the same game.
@@ -14,3 +21,25 @@ pub fn apart_edits_commute()
 pub fn guards_belong_to_items()
     ensures { GuardsBelongToItems }
 {}
+
+/// What takes edits back is taken back itself: this does the edits again. They give the lines that
+/// they gave, and the bytes, if taking them back gave the bytes of the log.
+pub fn redo_gives_the_edits()
+    ensures { RedoGivesTheEdits }
+{}
+
+/// If all guards of a script are met, a run is the same with blank lines in their place.
+pub fn met_guards_no_other_run()
+    ensures { MetGuardsNoOtherRun }
+{
+    no_guards_no_other_script();
+    no_guards_no_other_output();
+}
+
+/// A script that has the lines of one script, and then those of another, does what the one does and
+/// then what the other does.
+pub fn scripts_join()
+    ensures { ScriptsJoin }
+{
+    scripts_run_in_turn();
+}

@@ -1,6 +1,6 @@
-//! Laws about the states that a session of a game holds, about edits of any log and scripts of
-//! edits, about ways that are never taken and classes that no score reaches, and about how many
-//! draws are counted.
+//! Laws about the states that a session of a game holds, about edits of any log, scripts of edits
+//! and what is printed of them, about ways that are never taken and classes that no score reaches,
+//! and about how many draws are counted.
 #![tactic(auto)]
 
 ghost use Rattle.std.specs.Prelude.{◌<◌};
@@ -9,8 +9,10 @@ ghost use Rattle.turn_laws.specs.ObjectLaws.{IsInOnePlace};
 ghost use Rattle.turn_laws.specs.Reachable.{IsLawful, IsReachable};
 
 pub mod class_laws;
+pub mod difference_laws;
 pub mod draw_laws;
 pub mod edit_laws;
+pub mod log_laws;
 pub mod way_laws;
 
 use cave_replay::Session;
