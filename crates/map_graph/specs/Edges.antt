@@ -106,7 +106,7 @@ abbrev pub MAX_EDGES_WITH_TEXT : ℕ
 MAX_EDGES_WITH_TEXT = 6
 
 -- there is an edge between two places, and if they are drawn it is drawn, too
-abbrev pub is_drawn_between : CaveView → List Stop → Bool → ℕ → ℕ → Bool
+unfoldable pub is_drawn_between : CaveView → List Stop → Bool → ℕ → ℕ → Bool
 is_drawn_between cave stops seen place other =
     are_joined cave place other && is_shown cave stops seen place other
 

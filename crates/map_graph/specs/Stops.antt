@@ -1,46 +1,59 @@
--- Where a player is in a state of a play, and where the player comes from.
-use Rattle.std.specs.Prelude.{ℕ, Bool, ◌==◌, ◌&&◌, ◌||◌, not, List, length}
-use Rattle.std.specs.List.{filter, list_any}
-use Rattle.cave_data.specs.CaveView.{CaveView}
-use Rattle.cave_world.specs.Sight.{forced}
-use Rattle.cave_world.specs.declared.state.Trail.{Trail}
+-- Where a player is in the states of plays, and by which ways the player goes on a line.
+use Rattle.std.specs.Prelude.{ℕ, Bool, true, false, ◌==◌, ◌&&◌, ◌||◌, not, if◌then◌else◌}
+use Rattle.std.specs.Prelude.{List, [], ◌∷◌, ◌++◌, length, Option, None, Some}
+use Rattle.std.specs.List.{filter, list_any, slice_get}
+use Rattle.data_rows.specs.Rows.{Going}
+use Rattle.cave_data.specs.CaveView.{CaveView, ways_from}
+use Rattle.cave_world.specs.declared.tables.RuleRow.{RuleRow}
+use Rattle.cave_world.specs.declared.tables.RuleRow.TheVariants.{OfPlace, OfTable}
+use Rattle.cave_world.specs.declared.tables.Table.TheVariants.{Blocking}
+use Rattle.map_ways.specs.Ways.{ends_at}
 use Rattle.map_graph.specs.declared.stops.Stop.{Stop}
+use Rattle.map_graph.specs.declared.stops.Stop.TheVariants.{InState, OnWay}
 
--- a stop of a play: the trail of a state, the place of the state before, and whether the line
--- between killed the dragon
-abbrev pub stop : ℕ → Trail → Bool → Stop
-stop before trail is_fight = record { before = before; trail = trail; is_fight = is_fight }
+-- ---- the ways of a line
 
--- the player is at the place, or a forced motion moved the player on from it on the way
+-- the way is blocked: the row that is noted next is one of blocked ways
+abbrev pub is_blocked : List RuleRow → Bool
+is_blocked (OfTable Blocking number ∷ later) = true
+is_blocked _ = false
+
+-- a travel row takes the player on its way if it applies, and if the way isn't blocked
+abbrev pub way_by_row : RuleRow → List RuleRow → List Stop
+way_by_row (OfPlace place index true) later =
+    if is_blocked later then [] else OnWay place index ∷ []
+way_by_row _ later = []
+
+-- the ways of a line, by the rows that are noted on it, in their order
+abbrev pub ways_by_rows : List RuleRow → List Stop
+ways_by_rows [] = []
+ways_by_rows (row ∷ later) = way_by_row row later ++ ways_by_rows later
+
+-- ---- what stops say
+
+abbrev pub is_row_to : ℕ → Option Going → Bool
+is_row_to place None = false
+is_row_to place (Some row) = ends_at place row
+
+-- that row of the place which has this index leads to the other place: it says no message, doesn't
+-- just put the emerald down, and has no rules of its own
+abbrev pub leads_by : CaveView → ℕ → ℕ → ℕ → Bool
+leads_by cave from index to = is_row_to to (slice_get (ways_from cave from) index)
+
+-- the player is at the place in the state, or a way that the player takes begins or ends there
 abbrev pub is_at : CaveView → ℕ → Stop → Bool
-is_at cave place stop =
-    let trail = stop.trail in
-    trail.here == place
-    || (forced cave trail.last
-    && (trail.last == place || (forced cave trail.older && trail.older == place)))
+is_at cave place (InState before here) = here == place
+is_at cave place (OnWay from index) = from == place || leads_by cave from index place
 
--- the player left the place in this turn: it is where the turn began, or one of a forced motion
-abbrev pub goes_from : CaveView → ℕ → Stop → Bool
-goes_from cave place stop = stop.before == place || forced cave place
-
--- the trail goes from one place to the other in this turn: last of all, or on the way, which goes
--- on from places of forced motion
-abbrev pub leads_by : CaveView → ℕ → ℕ → Stop → Bool
-leads_by cave from to stop =
-    let trail = stop.trail in
-    (trail.last == from && trail.here == to && goes_from cave from stop)
-    || (forced cave trail.last
-    && ((trail.older == from && trail.last == to && goes_from cave from stop)
-    || (forced cave trail.older && stop.before == from && trail.older == to)))
-
--- the player went from one place to the other in this turn; a player who killed the dragon stands
--- between its places, and took no way there
+-- the player takes a way from one place to the other
 abbrev pub comes_by : CaveView → ℕ → ℕ → Stop → Bool
-comes_by cave from to stop = not stop.is_fight && leads_by cave from to stop
+comes_by cave from to (InState before here) = false
+comes_by cave from to (OnWay place index) = place == from && leads_by cave place index to
 
 -- the player is at the place, and wasn't there as the line began
 abbrev pub arrives_at : ℕ → Stop → Bool
-arrives_at place stop = stop.trail.here == place && not (stop.before == place)
+arrives_at place (InState before here) = here == place && not (before == place)
+arrives_at place (OnWay from index) = false
 
 -- a play was at the place
 abbrev pub is_visited : CaveView → List Stop → ℕ → Bool

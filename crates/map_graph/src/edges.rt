@@ -294,6 +294,7 @@ fn is_shown(cave: &Cave, sights: Sights<'_>, from: u16, to: u16) -> bool
 }
 
 /// Whether there is an edge between two places, and if they are drawn it is drawn, too.
+#[tactic(auto, unfolding(crate::specs::Edges::is_drawn_between))]
 fn is_drawn_between(cave: &Cave, sights: Sights<'_>, place: u16, other: u16) -> bool
     ensures { let saw = sights.entry in
         result ≡ is_drawn_between cave.now saw.stops.now saw.is_seen_only place other }

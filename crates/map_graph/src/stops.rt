@@ -1,70 +1,104 @@
-//! Where a player is in a state of a play, and where the player comes from.
+//! Where a player is in the states of plays, and by which ways the player goes on a line.
 
-ghost use Rattle.std.specs.Prelude.{◌≡◌};
-ghost use Rattle.map_graph.specs.Stops.{arrives_at, comes_by, is_at, is_way_taken, is_visited};
-ghost use Rattle.map_graph.specs.Stops.{goes_from, leads_by, visits};
+ghost use Rattle.std.specs.Prelude.{◌≡◌, ◌++◌, OnOk, option_map};
+ghost use Rattle.data_rows.specs.RowViews.{going};
+ghost use Rattle.map_graph.specs.Stops.{arrives_at, comes_by, is_at, is_blocked, is_row_to};
+ghost use Rattle.map_graph.specs.Stops.{is_visited, is_way_taken, leads_by, visits, way_by_row};
+ghost use Rattle.map_graph.specs.Stops.{ways_by_rows};
 
 use cave_data::Cave;
-use cave_world::{Trail, forced};
+use cave_world::{RuleRow, Table};
+use data_rows::Row;
+use map_ways::ends_at;
+use std::alloc::AllocError;
 use world_objects::Place;
 
-/// Where a player is in a state, and in the state before.
+/// A stop of a play.
 #[derive(Clone, Copy, Debug, PartialEq, Eq)]
-pub struct Stop {
-    /// The place in the state before, and 0 at the beginning of a play.
-    pub before: Place,
-    /// Where the player is, and was before, by the state.
-    pub trail: Trail,
-    /// Whether the line between killed the dragon.
-    pub is_fight: bool,
+pub enum Stop {
+    /// In a state: where the player was in the state before, which is 0 at the beginning of a play,
+    /// and where the player is.
+    InState(Place, Place),
+    /// On the way: a place, and which of its rows, counted from 0, takes the player on from there.
+    OnWay(u16, usize),
+}
+
+/// Whether the way is blocked before these rows are noted.
+fn is_blocked(later: &[RuleRow]) -> bool
+    ensures { result ≡ is_blocked later.now }
+{
+    matches!(later, [RuleRow::OfTable(Table::Blocking, _), ..])
+}
+
+/// Appends the way of a row that is noted before others.
+fn push_way_by_row(row: RuleRow, later: &[RuleRow], stops: &mut Vec<Stop>) -> Result<(), AllocError>
+    ensures { OnOk result (stops.new.items ≡ stops.old.items ++ way_by_row row later.now) }
+{
+    match row {
+        RuleRow::OfPlace(place, index, true) if !is_blocked(later) => {
+            Ok(stops.push(Stop::OnWay(place, index))?)
+        }
+        _ => Ok(()),
+    }
+}
+
+/// Appends the ways of a line, at which these rows are noted.
+pub fn push_ways_by_rows(rows: &[RuleRow], stops: &mut Vec<Stop>) -> Result<(), AllocError>
+    ensures { OnOk result (stops.new.items ≡ stops.old.items ++ ways_by_rows rows.now) }
+{
+    let mut rest = rows;
+    while let Some((row, later)) = rest.split_first() {
+        push_way_by_row(*row, later, stops)?;
+        rest = later;
+    }
+    Ok(())
+}
+
+fn is_row_to(row: Option<&Row>, place: u16) -> bool
+    ensures { result ≡ is_row_to place (option_map (λ row. going row.now) row.entry) }
+{
+    match row {
+        Some(row) => ends_at(row, place),
+        None => false,
+    }
+}
+
+/// Whether that row of a place which has an index leads to another place.
+fn leads_by(cave: &Cave, from: u16, index: usize, to: u16) -> bool
+    ensures { result ≡ leads_by cave.now from index to }
+{
+    is_row_to(cave.travel(from).get(index), to)
 }
 
 impl Stop {
-    /// Whether the player is at a place, or a forced motion moved the player on from it on the way.
+    /// Whether the player is at a place, or takes a way that begins or ends there.
     fn is_at(&self, cave: &Cave, place: u16) -> bool
         ensures { result ≡ is_at cave.now place self.now }
     {
-        let Trail { here, last, older } = self.trail;
-        here.number() == place
-            || (forced(cave, last)
-                && (last.number() == place || (forced(cave, older) && older.number() == place)))
+        match *self {
+            Stop::InState(_, here) => here.number() == place,
+            Stop::OnWay(from, index) => from == place || leads_by(cave, from, index, place),
+        }
     }
 
-    /// Whether the player left a place in this turn: it is where the turn began, or one of a forced
-    /// motion.
-    fn goes_from(&self, cave: &Cave, place: Place) -> bool
-        ensures { result ≡ goes_from cave.now place self.now }
-    {
-        self.before == place || forced(cave, place)
-    }
-
-    /// Whether the trail goes from one place to the other in this turn: last of all, or on the way,
-    /// which goes on from places of forced motion.
-    fn leads_by(&self, cave: &Cave, from: u16, to: u16) -> bool
-        ensures { result ≡ leads_by cave.now from to self.now }
-    {
-        let Trail { here, last, older } = self.trail;
-        (last.number() == from && here.number() == to && self.goes_from(cave, last))
-            || (forced(cave, last)
-                && ((older.number() == from && last.number() == to && self.goes_from(cave, older))
-                    || (forced(cave, older)
-                        && self.before.number() == from
-                        && older.number() == to)))
-    }
-
-    /// Whether the player went from one place to the other in this turn. A player who killed the
-    /// dragon took no way.
+    /// Whether the player takes a way from one place to the other.
     fn comes_by(&self, cave: &Cave, from: u16, to: u16) -> bool
         ensures { result ≡ comes_by cave.now from to self.now }
     {
-        !self.is_fight && self.leads_by(cave, from, to)
+        match *self {
+            Stop::InState(_, _) => false,
+            Stop::OnWay(place, index) => place == from && leads_by(cave, place, index, to),
+        }
     }
 
     /// Whether the player is at a place, and wasn't there as the line began.
     fn arrives_at(&self, place: u16) -> bool
         ensures { result ≡ arrives_at place self.now }
     {
-        self.trail.here.number() == place && self.before.number() != place
+        match *self {
+            Stop::InState(before, here) => here.number() == place && before.number() != place,
+            Stop::OnWay(_, _) => false,
+        }
     }
 }
 

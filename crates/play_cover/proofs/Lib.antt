@@ -1,5 +1,6 @@
 pub mod CountedRows
 pub mod LawLemmas
+pub mod MoreLogsLemmas
 pub mod Noting
 pub mod Numbers
 pub mod Padding

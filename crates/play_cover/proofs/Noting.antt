@@ -59,24 +59,24 @@ pub Notes-all : {X : Type 0} (says : X → List Mark) (xs : List X) (place : ℕ
 Notes-all says xs place old new past noted =
     subst (λ ys. Notes (flat_map says ys) old new) (take_all place xs past) noted
 
--- one more mark was made
-pub Notes-one_more : (marks : List Mark) (place : ℕ) (d : Mark) (old between new : List (List Bool))
-    → place < length marks → Notes (take place marks) old between
-    → Notes (get_or marks place d ∷ []) between new → Notes (take (place + 1) marks) old new
-Notes-one_more marks place d old between new inside before now =
-    subst (λ marks. Notes marks old new) (sym (take_more marks place d inside))
-    (Notes-append (take place marks) (get_or marks place d ∷ []) old between new before now)
+-- one more row was marked
+pub row_more : (rows : List RuleRow) (place : ℕ) (d : RuleRow) (old between new : List (List Bool))
+    → place < length rows → Notes (map mark_of_row (take place rows)) old between
+    → Notes (mark_of_row (get_or rows place d) ∷ []) between new
+    → Notes (map mark_of_row (take (place + 1) rows)) old new
+row_more rows place d old between new inside before now =
+    subst (λ marks. Notes marks old new)
+    (sym (ap (map mark_of_row) (take_more rows place d inside)
+    ∙ map-append mark_of_row (take place rows) (get_or rows place d ∷ [])))
+    (Notes-append (map mark_of_row (take place rows)) (mark_of_row (get_or rows place d) ∷ [])
+    old between new before now)
 
--- no mark is left
-pub Notes-whole : (marks : List Mark) (place : ℕ) (old new : List (List Bool))
-    → length marks ≤ place → Notes (take place marks) old new → Notes marks old new
-Notes-whole marks place old new past noted =
-    subst (λ made. Notes made old new) (take_all place marks past) noted
-
--- the mark of one more row
-pub one_mark_more : (rows : List RuleRow) (row : RuleRow)
-    → map mark_of_row (rows ++ row ∷ []) ≡ map mark_of_row rows ++ mark_of_row row ∷ []
-one_mark_more rows row = map-append mark_of_row rows (row ∷ [])
+-- no row is left
+pub rows_noted : (rows : List RuleRow) (place : ℕ) (old new : List (List Bool))
+    → length rows ≤ place → Notes (map mark_of_row (take place rows)) old new
+    → Notes (map mark_of_row rows) old new
+rows_noted rows place old new past noted =
+    subst (λ all. Notes (map mark_of_row all) old new) (take_all rows place past) noted
 
 in_both : (p q marked : Bool) → (p ≡ true → q ≡ true → marked ≡ true)
     → marked ≡ (((p && q) || false) || marked)

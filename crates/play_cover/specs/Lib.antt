@@ -3,6 +3,7 @@ pub mod DefinedRows
 pub mod EachTable
 pub mod Known
 pub mod Marks
+pub mod MoreLogs
 pub mod Plays
 pub mod QuestionRows
 pub mod RowCounts

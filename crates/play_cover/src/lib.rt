@@ -7,6 +7,7 @@ pub mod each_table;
 pub mod known;
 pub mod laws;
 pub mod line_rows;
+pub mod listing_laws;
 pub mod marks;
 pub mod parts;
 pub mod row_report;

@@ -1,13 +1,14 @@
 //! Which rows apply in plays.
 
 use crate::known::KnownList;
-use crate::line_rows::KeptRows;
+use crate::line_rows::note_rows;
 use crate::marks::MarkSet;
 use crate::row_report::{CaveWays, push_row_report};
 use crate::rule_tables::row_mark;
 use cave_data::Cave;
 use cave_world::{RuleRow, State, Table};
 use data_bindings::way_lines;
+use play_logs::kept_rows::KeptRows;
 use play_logs::notes::PlayNotes;
 use play_machine::{Begun, SeenLine, Watch};
 use std::alloc::{AllocError, Global};
@@ -52,7 +53,7 @@ impl Watch for RuleNotes {
         _: &SeenLine<'_, ()>,
         rows: &KeptRows,
     ) -> Result<(), AllocError> {
-        rows.mark_all(alloc, &mut self.marks)
+        note_rows(alloc, rows.as_slice()?, &mut self.marks)
     }
 }
 

@@ -3,6 +3,7 @@
 #![tactic(auto)]
 
 pub mod fault;
+pub mod kept_rows;
 pub mod notes;
 mod plays;
 pub mod run;

@@ -1,44 +1,35 @@
 -- The stops of the plays of logs, and the map with what they saw.
-use Rattle.std.specs.Prelude.{◌≡◌, ℕ, Bool, true, false, ◌&&◌, not, Option, Some, List, [], ◌∷◌}
-use Rattle.std.specs.Prelude.{length}
+use Rattle.std.specs.Prelude.{◌≡◌, ℕ, List, [], ◌∷◌, length}
 use Rattle.std.specs.List.{flat_map}
 use Rattle.std.specs.Str.Lines.{lines}
 use Rattle.cave_data.specs.CaveView.{CaveView}
 use Rattle.cave_data.specs.Reads.{Reads}
 use Rattle.play_machine.specs.Moments.{Moment, noted_of}
-use Rattle.cave_world.specs.declared.ending.Question.{Question}
-use Rattle.cave_world.specs.declared.ending.Question.TheVariants as question
 use Rattle.cave_world.specs.declared.part.Part.{Part}
 use Rattle.cave_world.specs.declared.state.State.{State}
 use Rattle.replay_edits.specs.Edit.{Game, game_of}
 use Rattle.map_graph.specs.Map.{map_of_places}
-use Rattle.map_graph.specs.Stops.{stop}
+use Rattle.map_graph.specs.Stops.{ways_by_rows}
 use Rattle.play_command.specs.declared.map_part.MapPart.{MapPart}
 use Rattle.map_graph.specs.declared.stops.Stop.{Stop}
+use Rattle.map_graph.specs.declared.stops.Stop.TheVariants.{InState}
 use Rattle.std.specs.List.Sorted.{IsPermutation}
 use Rattle.cave_play.specs.Run.{AtMostOne}
 
-abbrev pub asks_of_dragon : Option Question → Bool
-asks_of_dragon (Some question.Dragon) = true
-asks_of_dragon _ = false
-
--- the line kills the dragon: it answers the question whether to fight it, and isn't a command
-abbrev pub is_fight : Moment → Bool
-is_fight moment = asks_of_dragon moment.before.question && not moment.ticked
-
--- the stop at the end of a line
-abbrev pub stop_at : Moment → Stop
-stop_at moment = stop moment.before.trail.here moment.after.trail (is_fight moment)
+-- the stops of a line: the state after it, and the ways by which the player went
+abbrev pub stops_at : Moment → List Stop
+stops_at moment =
+    InState moment.before.trail.here moment.after.trail.here ∷ ways_by_rows moment.rows
 
 -- no place is before the first state
 abbrev pub first_stop : State → Stop
-first_stop begun = stop 0 begun.trail false
+first_stop begun = InState 0 begun.trail.here
 
--- the stops of playing a game: at its first state, and at the end of each line
+-- the stops of playing a game: at its first state, and of each line
 abbrev pub stops_in : CaveView → Game → List Stop
 stops_in cave game =
     noted_of (λ cave begun (greeting : List Part). first_stop begun ∷ [])
-    (λ cave moment. stop_at moment ∷ []) cave game
+    (λ cave moment. stops_at moment) cave game
 
 -- the map of a part of a cave with what the plays of games saw of it
 abbrev pub map_of_games : CaveView → MapPart → List Game → List ℕ

@@ -1,16 +1,16 @@
 //! The stops of plays.
 
 ghost use Rattle.std.specs.Prelude.{◌≡◌, []};
-ghost use Rattle.play_map.specs.Plays.{asks_of_dragon};
 
-use cave_world::{Question, State, Unnoted};
-use map_graph::stops::Stop;
+use cave_world::State;
+use map_graph::stops::{Stop, push_ways_by_rows};
+use play_logs::kept_rows::KeptRows;
 use play_machine::{Begun, SeenLine, Watch};
 use std::alloc::{AllocError, Global};
 use std::marker::Model;
 use world_objects::Place;
 
-/// The stops of plays, at the beginning and at the end of each line.
+/// The stops of plays, at the beginning and of each line.
 #[derive(Drop)]
 pub struct Stops {
     stops: Vec<Stop>,
@@ -43,70 +43,43 @@ impl Stops {
     }
 }
 
-/// Whether a question asks if the player fights the dragon.
-fn asks_of_dragon(question: Option<Question>) -> bool
-    ensures { result ≡ asks_of_dragon question }
-{
-    matches!(question, Some(Question::Dragon))
-}
-
-/// What a stop says of the state before its line: the player's place, and whether it is asked about
-/// the dragon.
-#[derive(Clone, Copy)]
-pub struct BeforeStop {
-    pub here: Place,
-    pub is_asked: bool,
-}
-
 impl Watch for Stops {
-    ghost use Rattle.std.specs.Prelude.{◌≡◌, [], ◌∷◌, false};
+    ghost use Rattle.std.specs.Prelude.{◌≡◌, [], ◌∷◌};
     ghost use Rattle.map_graph.specs.declared.stops.Stop.{Stop};
-    ghost use Rattle.play_map.specs.Plays.{asks_of_dragon, first_stop, stop_at};
+    ghost use Rattle.play_map.specs.Plays.{first_stop, stops_at};
 
-    type Before = BeforeStop;
+    type Before = Place;
 
-    type Rows = Unnoted;
+    type Rows = KeptRows;
 
     ghost Fact = { Stop };
 
-    ghost kept = { λ state. record {
-      here = state.trail.here;
-      is_asked = asks_of_dragon state.question;
-    } };
+    ghost kept = { λ state. state.trail.here };
 
     ghost first_facts = { λ _ begun _. first_stop begun ∷ [] };
 
-    ghost facts = { λ _ moment. stop_at moment ∷ [] };
+    ghost facts = { λ _ moment. stops_at moment };
 
     ghost HasNoted = { λ stops seen. seen ≡ stops };
 
-    fn before(state: &State) -> BeforeStop {
-        BeforeStop {
-            here: state.trail.here,
-            is_asked: asks_of_dragon(state.question),
-        }
+    fn before(state: &State) -> Place {
+        state.trail.here
     }
 
     fn start(&mut self, _: Global, begun: &Begun<'_>) -> Result<(), AllocError> {
-        self.stops.push(Stop {
-            before: Place::new(0),
-            trail: begun.state.trail,
-            is_fight: false,
-        })?;
+        let stop = Stop::InState(Place::new(0), begun.state.trail.here);
+        self.stops.push(stop)?;
         Ok(())
     }
 
     fn see(
         &mut self,
         _: Global,
-        seen: &SeenLine<'_, BeforeStop>,
-        _: &Unnoted,
+        seen: &SeenLine<'_, Place>,
+        rows: &KeptRows,
     ) -> Result<(), AllocError> {
-        self.stops.push(Stop {
-            before: seen.before.here,
-            trail: seen.after.trail,
-            is_fight: seen.before.is_asked && !seen.ticked,
-        })?;
-        Ok(())
+        let stop = Stop::InState(seen.before, seen.after.trail.here);
+        self.stops.push(stop)?;
+        push_ways_by_rows(rows.as_slice()?, &mut self.stops)
     }
 }

@@ -1,0 +1,12 @@
+use Rattle.play_cover.proofs.Noting.{rows_noted, row_more}
+use Rattle.play_cover.proofs.line_rows.note_rows.Goals as goal
+
+pub loop-row-preserved : goal.loop-row-preserved
+loop-row-preserved c =
+    row_more c.args.rows.now c.loop-row.row-index _ c.args.marks.now c.loop-row.marks _
+    c.loop-row-test.true c.loop-row.invariant c.in_ok-note.ensures
+
+pub returns : goal.returns
+returns c =
+    rows_noted c.args.rows.now c.loop-row.row-index _ _ c.loop-row-test.false
+    c.loop-row.invariant
