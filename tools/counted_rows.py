@@ -1,8 +1,8 @@
-"""The files of `play_cover` that count the rows of each table in the definitions of the rules, made
-of these: a module.
+"""The files that count the rows of each table in the definitions of the rules, made of these: a
+module. The counts stand in `turn_laws`, and that the pages have as many in `play_cover`.
 
-A table counts the rows of the list that its definition notes, and one more row if a last row stands
-beside the list. One that notes the cases of a question counts the questions.
+A table has the rows of the list that its definition notes, and one more row if a last row stands
+beside the list. One that notes the cases of a question has the rows of the questions.
 """
 
 import re
@@ -10,39 +10,60 @@ import textwrap
 
 from written_words import CRATE, SPECS
 
+COUNTS = "turn_laws"
 MAX_LINE = 100
-# What a proof of the counts opens in addition to them, and its module.
+# What a proof of the counts cites in addition to them, with its module, and what of this it opens.
+OPENED = ("declared", "row_numbers")
 OWN = {
-    "declared": "EachTable",
-    "row_count": "RuleTables",
-    "rows_in": "DefinedRows",
+    "EachNumberIsARow": f"Rattle.{COUNTS}.specs.DefinedRows",
+    "declared": f"{SPECS}.EachTable",
+    "row_count": f"{SPECS}.RuleTables",
+    "row_numbers": f"Rattle.{COUNTS}.specs.DefinedRows",
+    "rows_in": f"Rattle.{COUNTS}.specs.DefinedRows",
 }
 LIST = re.compile(r"\b(?:noted|by_table) table\.(\w+) \(?(\w+)")
 WITH_LAST = re.compile(r"^\w+ d = \w+_by_table table\.(\w+) (\w+)$", re.MULTILINE)
 CASES = re.compile(r"\bnote_row table\.(\w+) \(question_row ")
 HEAD = re.compile(r"^(?:abbrev|unfoldable) pub (\w+) : ((?:ℕ → )*)List ", re.MULTILINE)
 DEFINITION = """\
--- How many rows the definition of each table has, made by `tools/rule-words --write`.
-use Rattle.std.specs.Prelude.{{ℕ, ◌+◌, length}}
+-- The rows that the definition of each table has, made by `tools/rule-words --write`.
+use Rattle.std.specs.Prelude.{{◌≡◌, ℕ, ◌+◌, List, [], ◌∷◌, ◌++◌, length, map}}
+use Rattle.std.specs.List.{{enumerate_from, range_with_len}}
 use Rattle.cave_world.specs.declared.tables.Table.{{Table}}
 use Rattle.cave_world.specs.declared.tables.Table.TheVariants as table
+use Rattle.turn_ends.specs.Questions.{{question_row}}
+use Rattle.turn_scene.specs.Rows.{{Row}}
 {imports}
 
--- the rows of its list, and a last row where one stands beside the list
-unfoldable pub rows_in : Table → ℕ
+-- the numbers by which the rows of a list are noted
+abbrev pub numbers_of : {{C F : Type 0}} → List (Row C F) → List ℕ
+numbers_of rows = map (λ numbered. numbered.0) (enumerate_from 1 rows)
+
+-- and a last row that stands beside the list
+abbrev pub numbers_with_last : {{C F : Type 0}} → List (Row C F) → List ℕ
+numbers_with_last rows = numbers_of rows ++ (length rows + 1) ∷ []
+
+-- the numbers of the rows of each table
+unfoldable pub row_numbers : Table → List ℕ
 {cases}
+
+-- how many rows a table has
+abbrev pub rows_in : Table → ℕ
+rows_in t = length (row_numbers t)
+
+-- the rows of each table have the numbers from 1 to their count
+abbrev pub EachNumberIsARow : Type 0
+EachNumberIsARow = (t : Table) → row_numbers t ≡ range_with_len 1 (rows_in t)
 """
 PROOF = """\
--- Each table has words for each of its rows, made by `tools/rule-words --write`.
-use Rattle.std.proofs.Common.{{◌≡◌, refl}}
-use Rattle.cave_world.specs.declared.tables.Table.{{Table}}
-use Rattle.cave_world.specs.declared.tables.Table.TheVariants as table
+-- {what}, made by `tools/rule-words --write`.
+{types}use Rattle.cave_world.specs.declared.tables.Table.TheVariants as table
 {imports}
 
-pub each_count : (t : Table) → row_count t ≡ rows_in t
+pub {name} : {says}
 {unfolded}
-each_count table.{first} = refl
-each_count _ = refl
+{name} table.{first} = refl
+{name} _ = refl
 """
 
 
@@ -101,17 +122,48 @@ def files(tables, texts):
         rows, more = counts[table]
         module, numbers = homes[rows]
         names[rows] = module
-        counted = f"({rows}{' 0' * numbers})" if numbers else rows
-        cases.append(f"rows_in table.{table} = length {counted}{' + 1' * more}")
-    yield f"{CRATE}/specs/DefinedRows.antt", DEFINITION.format(
+        listed = f"({rows}{' 0' * numbers})" if numbers else rows
+        of = "map question_row" if rows == "questions" else ["numbers_of", "numbers_with_last"][more]
+        cases.append(f"row_numbers table.{table} = {of} {listed}")
+    yield f"crates/{COUNTS}/specs/DefinedRows.antt", DEFINITION.format(
         imports="\n".join(use_lines(names)), cases="\n".join(cases)
     )
-    names |= {name: f"{SPECS}.{module}" for name, module in OWN.items()}
-    closed = [it for it in names if it != "row_count" and is_unfoldable(it, texts)]
-    yield f"{CRATE}/proofs/CountedRows.antt", PROOF.format(
-        imports="\n".join(use_lines({it: names[it] for it in ["row_count", *closed]})),
+    yield f"crates/{COUNTS}/proofs/NumberedRows.antt", proof(
+        "The rows of each table have the numbers from 1 to their count",
+        "each_number",
+        "EachNumberIsARow",
+        "use Rattle.std.proofs.Common.{refl}\n",
+        ["EachNumberIsARow", "row_numbers"],
+        names,
+        tables,
+        texts,
+    )
+    yield f"{CRATE}/proofs/CountedRows.antt", proof(
+        "Each table has words for each of its rows",
+        "each_count",
+        "(t : Table) → row_count t ≡ rows_in t",
+        "use Rattle.std.proofs.Common.{◌≡◌, refl}\n"
+        "use Rattle.cave_world.specs.declared.tables.Table.{Table}\n",
+        ["declared", "row_count", "row_numbers", "rows_in"],
+        names,
+        tables,
+        texts,
+    )
+
+
+def proof(what, name, says, types, own, names, tables, texts):
+    """The text of a proof that goes by each table: with what it says, by which imports, and the
+    definitions that only it cites."""
+    cited = names | {it: OWN[it] for it in own}
+    opened = [it for it in cited if is_unfoldable(it, texts)]
+    return PROOF.format(
+        what=what,
+        name=name,
+        says=says,
+        types=types,
+        imports="\n".join(use_lines({it: cited[it] for it in {*own, *opened}})),
         unfolded=textwrap.fill(
-            "unfolding " + " ".join(closed), MAX_LINE, subsequent_indent="    "
+            "unfolding " + " ".join(opened), MAX_LINE, subsequent_indent="    "
         ),
         first=tables[0],
     )
@@ -120,5 +172,5 @@ def files(tables, texts):
 def is_unfoldable(name, texts):
     """Whether a definition unfolds only if a proof says so."""
     if name in OWN:
-        return True
+        return name in OPENED
     return any(f"\nunfoldable pub {name} :" in text for text in texts.values())

@@ -14,6 +14,7 @@ CODE = """\
 //! The tables of the rules, as the pages have them, made by `tools/rule-words --write`.
 
 ghost use Rattle.std.specs.Prelude.{{◌≡◌, ◌<◌, length, map}};
+ghost use Rattle.play_cover.specs.EachTable.{{tables}};
 ghost use Rattle.play_cover.specs.RuleTables.{{row_words, table_name}};
 ghost use Rattle.play_cover.specs.RuleTables as defined;
 
@@ -44,11 +45,12 @@ macro_rules! name_and_words {{
     }};
 }}
 
-/// How many tables there are.
-pub const TABLE_COUNT: usize = {count};
-
 /// Each table, in the order of the pages.
-pub const EACH_TABLE: [Table; TABLE_COUNT] = all_tables!(variants);
+pub fn each_table() -> &'static [Table]
+    ensures {{ result.now ≡ tables }}
+{{
+    &all_tables!(variants)
+}}
 
 /// What a table is called, and when each of its rows applies, in words.
 #[tactic(auto, unfolding(crate::specs::EachTable::declared))]
@@ -124,7 +126,7 @@ def files(shown):
     """The text of each file by its path, for each page's tables, each with its name and words."""
     listed = [(table, *it) for tables in shown.values() for table, it in tables.items()]
     yield f"{CRATE}/src/each_table.rt", CODE.format(
-        count=len(listed), tables="\n".join(in_code(*it) for it in listed)
+        tables="\n".join(in_code(*it) for it in listed)
     )
     yield f"{CRATE}/specs/EachTable.antt", DEFINITION.format(
         tables=filled([*(f"table.{it} ∷" for it, *_ in listed), "[]"], "    "),

@@ -1,4 +1,4 @@
--- Each table has words for each of its rows, made by `tools/rule-words --write`.
+-- Each table has words for each of its rows, made by `tools/check/rule-words --write`.
 use Rattle.std.proofs.Common.{◌≡◌, refl}
 use Rattle.cave_world.specs.declared.tables.Table.{Table}
 use Rattle.cave_world.specs.declared.tables.Table.TheVariants as table
@@ -21,7 +21,6 @@ use Rattle.cave_verbs.specs.Reading.{bare_read_rows, read_rows}
 use Rattle.cave_verbs.specs.Taking.{bare_take_rows, take_rows}
 use Rattle.cave_verbs.specs.Throwing.{throw_rows}
 use Rattle.cave_verbs.specs.Waving.{rub_rows, wave_rows}
-use Rattle.play_cover.specs.DefinedRows.{rows_in}
 use Rattle.play_cover.specs.EachTable.{declared}
 use Rattle.play_cover.specs.RuleTables.{row_count}
 use Rattle.turn_clocks.specs.Clocks.{clock_rows}
@@ -36,6 +35,7 @@ use Rattle.turn_dwarves.specs.Pirate.{chase_rows, pirate_rows, pirate_turn_rows}
 use Rattle.turn_dwarves.specs.Waking.{apart_rows, leaving_rows, waking_rows}
 use Rattle.turn_ends.specs.Endings.{class_rows, death_rows}
 use Rattle.turn_ends.specs.Questions.{asking_rows, die_rows}
+use Rattle.turn_laws.specs.DefinedRows.{row_numbers, rows_in}
 use Rattle.turn_moves.specs.Arrival.{blocking_rows, hit_rows, place_rows}
 use Rattle.turn_moves.specs.Back.{back_rows}
 use Rattle.turn_moves.specs.Bridge.{bridge_rows, spices_rows, toll_rows}
@@ -61,6 +61,6 @@ unfolding asking_rows die_rows reply_rows gathering_rows death_rows reborn_rows 
     on_rows off_rows darkened_rows wave_rows bare_kill_rows kill_rows pour_rows bare_eat_rows
     eat_rows drink_rows rub_rows throw_rows find_rows bare_inventory_rows bear_along_rows feed_rows
     bare_fill_rows fill_rows blast_rows bare_foo_rows eggs_rows bare_read_rows read_rows break_rows
-    wake_rows declared rows_in
+    wake_rows declared row_numbers
 each_count table.Asking = refl
 each_count _ = refl

@@ -1,10 +1,10 @@
 pub mod CountedRows
+pub mod CoveredRows
 pub mod LawLemmas
 pub mod MoreLogsLemmas
 pub mod Noting
 pub mod Numbers
 pub mod Padding
-pub mod QuestionLemmas
 pub mod Reaching
 pub mod RowMarkLemmas
 pub mod Telling

@@ -1,4 +1,4 @@
--- The tables of the rules, as the pages have them, made by `tools/rule-words --write`.
+-- The tables of the rules, as the pages have them, made by `tools/check/rule-words --write`.
 use Rattle.std.specs.Prelude.{ℕ, List, [], ◌∷◌, codes}
 use Rattle.cave_world.specs.declared.tables.Table.{Table}
 use Rattle.cave_world.specs.declared.tables.Table.TheVariants as table

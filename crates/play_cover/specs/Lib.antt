@@ -1,11 +1,9 @@
 pub mod Coverage
-pub mod DefinedRows
 pub mod EachTable
 pub mod Known
 pub mod Marks
 pub mod MoreLogs
 pub mod Plays
-pub mod QuestionRows
 pub mod RowCounts
 pub mod RowMarks
 pub mod RowReport

@@ -44,16 +44,17 @@ row_sums covered present taken all logs =
     ++ (codes " rows and " ++ (decimal taken ++ (codes " of " ++ (decimal all
     ++ (codes " travel rows in " ++ (decimal logs ++ codes " logs\n")))))))))
 
-module _ (is_covered : Mark → Bool) (cave : CaveView) (known : KnownEntries) where
-  -- the entries of all rows that never applied
-  abbrev pub row_entries : List WayLine → List ℕ
-  row_entries ways = all_entries rule_rows is_covered ++ way_entries cave (missing_ways is_covered ways)
+-- the entries of all rows that never applied
+abbrev pub row_entries : (Mark → Bool) → CaveView → List WayLine → List ℕ
+row_entries is_covered cave ways =
+    all_entries rule_rows is_covered ++ way_entries cave (missing_ways is_covered ways)
 
+module _ (is_covered : Mark → Bool) (cave : CaveView) (known : KnownEntries) where
   -- which entries of the list no row is; then each table with its rows that are left, the travel
   -- rows, and the sum
   unfoldable pub row_report : List WayLine → ℕ → List ℕ
   row_report ways logs =
-      unmet_text known (row_entries ways)
+      unmet_text known (row_entries is_covered cave ways)
       ++ (groups_text rule_rows is_covered known Both ++ (travel_text is_covered cave known ways
       ++ row_sums (covered_count rule_rows is_covered) (present_count rule_rows)
       (length (ways_applied is_covered ways)) (length ways) logs))

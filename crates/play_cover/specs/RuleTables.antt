@@ -6,8 +6,9 @@ use Rattle.cave_world.specs.contracts.tables.Table.{the_type}
 use Rattle.cave_world.specs.declared.tables.Table.{Table}
 use Rattle.play_cover.specs.EachTable.{declared, tables}
 
+-- there are as many as variants that declare them
 abbrev pub TABLE_COUNT : ℕ
-TABLE_COUNT = length tables
+TABLE_COUNT = length the_type.parts
 
 -- the number of each row is below this
 abbrev pub ROW_END : ℕ
@@ -33,6 +34,6 @@ row_count t = length (row_words t)
 abbrev pub words_of_row : Table → ℕ → List ℕ
 words_of_row t number = slice_index_or (row_words t) (number - 1) []
 
--- each table stands at its number
+-- each table that is declared stands at its number, and nothing else does
 abbrev pub TablesAreInOrder : Type 0
 TablesAreInOrder = map table_number tables ≡ range_with_len 0 TABLE_COUNT

@@ -1,6 +1,7 @@
-//! The tables of the rules, as the pages have them, made by `tools/rule-words --write`.
+//! The tables of the rules, as the pages have them, made by `tools/check/rule-words --write`.
 
 ghost use Rattle.std.specs.Prelude.{◌≡◌, ◌<◌, length, map};
+ghost use Rattle.play_cover.specs.EachTable.{tables};
 ghost use Rattle.play_cover.specs.RuleTables.{row_words, table_name};
 ghost use Rattle.play_cover.specs.RuleTables as defined;
 
@@ -310,11 +311,12 @@ macro_rules! name_and_words {
     };
 }
 
-/// How many tables there are.
-pub const TABLE_COUNT: usize = 107;
-
 /// Each table, in the order of the pages.
-pub const EACH_TABLE: [Table; TABLE_COUNT] = all_tables!(variants);
+pub fn each_table() -> &'static [Table]
+    ensures { result.now ≡ tables }
+{
+    &all_tables!(variants)
+}
 
 /// What a table is called, and when each of its rows applies, in words.
 #[tactic(auto, unfolding(crate::specs::EachTable::declared))]

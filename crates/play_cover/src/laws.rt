@@ -2,8 +2,7 @@
 //! contract of a function that does nothing.
 
 ghost use Rattle.play_cover.specs.Plays.{AgainIsNothing, OneCoveredOutput, OrderIsNothing};
-ghost use Rattle.play_cover.specs.QuestionRows.{QuestionsAreInOrder};
-ghost use Rattle.play_cover.specs.RowCounts.{EachCountIsOfItsRows};
+ghost use Rattle.play_cover.specs.RowCounts.{EachCountIsOfItsRows, EachCoveredRowIsThere};
 ghost use Rattle.play_cover.specs.RowMarks.{EachRowHasItsMark};
 ghost use Rattle.play_cover.specs.RuleTables.{TablesAreInOrder};
 
@@ -27,7 +26,7 @@ pub fn each_row_has_its_mark()
     ensures { EachRowHasItsMark }
 {}
 
-/// Each table stands in the list at the place of its variant.
+/// Each table stands in the list at the place of its variant, and each variant has its table.
 pub fn tables_are_in_order()
     ensures { TablesAreInOrder }
 {}
@@ -37,7 +36,7 @@ pub fn each_count_is_of_its_rows()
     ensures { EachCountIsOfItsRows }
 {}
 
-/// Each question stands at its row, from 1 to the count of the questions.
-pub fn questions_are_in_order()
-    ensures { QuestionsAreInOrder }
+/// Each row that the play of a game is noted to apply or try is one that its table or its place has.
+pub fn each_covered_row_is_there()
+    ensures { EachCoveredRowIsThere }
 {}

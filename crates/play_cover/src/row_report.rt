@@ -6,7 +6,7 @@ ghost use Rattle.play_cover.specs.Marks.{is_marked};
 ghost use Rattle.play_cover.specs.RowReport.{row_entries, row_report, row_sums, rows_left};
 
 use crate::coverage::{CoverTotals, Detail, Groups, push_all_entries, push_groups};
-use crate::each_table::EACH_TABLE;
+use crate::each_table::each_table;
 use crate::known::KnownList;
 use crate::marks::MarkSet;
 use crate::rule_tables::{row_count, table_name, table_number, words_of_row};
@@ -29,7 +29,7 @@ impl Groups for RuleTables {
     ghost catalogue = { λ _. rule_rows };
 
     fn groups(&self) -> &[Table] {
-        &EACH_TABLE
+        each_table()
     }
 
     fn number(&self, table: Table) -> usize {

@@ -18,3 +18,11 @@ pub mod OneList
 pub mod Missing
 pub mod WordLines
 pub mod LineLemmas
+pub mod QuestionLemmas
+pub mod NumberedRows
+pub mod Notes
+pub mod NotesOfEnds
+pub mod NotesOfDwarves
+pub mod NotesOfMoves
+pub mod NotesOfVerbs
+pub mod NotesOfLines

@@ -7,3 +7,6 @@ pub mod OneList
 pub mod Missing
 pub mod Unmet
 pub mod LineLaws
+pub mod QuestionRows
+pub mod DefinedRows
+pub mod NotedRows

@@ -3,7 +3,7 @@ use Rattle.std.proofs.Common.{◌≡◌, ℕ, ◌-◌, refl}
 use Rattle.std.specs.Prelude.{Some, slice_get}
 use Rattle.cave_world.specs.declared.ending.Question.{Question}
 use Rattle.cave_world.specs.declared.ending.Question.TheVariants as question
-use Rattle.play_cover.specs.QuestionRows.{QuestionsAreInOrder, questions}
+use Rattle.turn_laws.specs.QuestionRows.{QuestionsAreInOrder, questions}
 use Rattle.turn_ends.specs.Questions.{question_row}
 
 each_question : (asked : Question)

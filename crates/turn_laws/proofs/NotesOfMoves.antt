@@ -1,0 +1,340 @@
+-- What motions, arrivals and descriptions note.
+use Rattle.std.proofs.Common.{Bool, List, [], arith, false, length, map, refl, subst, suc, sym}
+use Rattle.std.proofs.Common.{true, ℕ, ℤ}
+use Rattle.std.proofs.Common.{zero, ◌+◌, ◌∙◌, ◌∷◌, ◌<◌, ◌≡◌, ◌≤◌}
+use Rattle.std.specs.Prelude.{take as first_of, if◌then◌else◌, None, Option, Some, is_some}
+use Rattle.cave_data.specs.CaveView.{CaveView, ways_from}
+use Rattle.cave_world.specs.Travel.{Try, after_condition, after_go, after_trying_row}
+use Rattle.cave_world.specs.Travel.{count_unlisted, from_listed, holds, is_passed, lists_motion}
+use Rattle.cave_world.specs.Travel.{row_condition, row_destination, row_outcome, rows_tried_by}
+use Rattle.cave_world.specs.Travel.{rows_tried_from, travel, tries, try_of}
+use Rattle.cave_world.specs.declared.state.State.{State}
+use Rattle.cave_world.specs.declared.tables.Table.TheVariants as table
+use Rattle.cave_world.specs.declared.travel_rows.Outcome.{Outcome}
+use Rattle.cave_world.specs.declared.travel_rows.Outcome.TheVariants as outcome
+use Rattle.cave_words.specs.declared.named.Named.TheVariants as name
+use Rattle.data_rows.specs.Rows.{Going}
+use Rattle.data_rows.specs.declared.targets.Condition.{Condition}
+use Rattle.data_rows.specs.declared.targets.Condition.TheVariants.{Chance}
+use Rattle.data_rows.specs.declared.targets.Destination.{Destination}
+use Rattle.data_rows.specs.declared.targets.Destination.TheVariants.{PutsEmeraldDown}
+use Rattle.data_rows.specs.declared.targets.Special.TheVariants.{Bridge, Squeeze}
+use Rattle.turn_scene.specs.Rows.{Deed, act_of, after_all, always, by_table, deed, nothing_but}
+use Rattle.turn_scene.specs.Rows.{otherwise_row}
+use Rattle.turn_scene.specs.Scene.{Scene, after_setting_out, scene_at_place, thing, with_left}
+use Rattle.turn_scene.specs.Effects.{change, set_prop}
+use Rattle.turn_scene.specs.Tests.{here, it, old}
+use Rattle.turn_dwarves.specs.Dwarves.{encounter_dwarves}
+use Rattle.turn_moves.specs.Arrival.{after_arrival, after_description, after_forced_motions, block}
+use Rattle.turn_moves.specs.Arrival.{blocking_rows, come_on, come_to, hit_rows, meet, new}
+use Rattle.turn_moves.specs.Arrival.{over_rows, place_rows, stop_at}
+use Rattle.turn_moves.specs.Back.{back_rows, go_back, place_back, place_back_rows}
+use Rattle.turn_moves.specs.Bridge.{break_bridge, bridge_rows, cross_bridge, demand_toll}
+use Rattle.turn_moves.specs.Bridge.{pass_troll, spices_rows, toll_rows}
+use Rattle.turn_moves.specs.Description.{after_describe, bear_rows, description_rows, feel_place}
+use Rattle.turn_moves.specs.Description.{hollow_rows, see_place, stop_here, stop_rows, tell_place}
+use Rattle.turn_moves.specs.Description.{text_rows}
+use Rattle.turn_moves.specs.Dying.{after_die_at}
+use Rattle.turn_moves.specs.Journeys.{enough_rows, journey_by, journey_by_request, journey_by_rows}
+use Rattle.turn_moves.specs.Journeys.{journey_of_outcome, look_round, own_motion, refusal_rows}
+use Rattle.turn_moves.specs.Journeys.{own_motion_rows, set_forth, that_motion}
+use Rattle.turn_moves.specs.Objects.{after_all_objects, after_object, find_treasure}
+use Rattle.turn_moves.specs.Objects.{last_treasure_rows, object_rows, object_text_rows}
+use Rattle.turn_moves.specs.Objects.{with_one_less_unseen}
+use Rattle.turn_moves.specs.Squeeze.{squeeze_rows, squeeze_through}
+use Rattle.world_objects.specs.Lists.{halves_at}
+use Rattle.world_objects.specs.declared.object.Half.{Half}
+use Rattle.turn_laws.specs.DefinedRows.{row_numbers}
+use Rattle.turn_laws.proofs.Notes.{AreRows, IsNoted, Noted, Notes, ThenNoted, all_noted, noted_all}
+use Rattle.turn_laws.proofs.Notes.{noted_effects, noted_with_last, unnoted}
+use Rattle.turn_laws.proofs.NotesOfDwarves.{dwarves_noted}
+use Rattle.turn_laws.proofs.NotesOfEnds.{die_noted, looked, panic_noted}
+use Rattle.turn_laws.proofs.View.{choose}
+
+-- a try leaves the player where the player is
+drawn_here : (m : Condition) (s : State) → (after_condition m s).trail.here ≡ s.trail.here
+drawn_here (Chance percent) s = refl
+drawn_here _ s = refl
+
+gone_here : (emerald : ℕ) (d : Destination) (s : State)
+    → (after_go emerald d s).trail.here ≡ s.trail.here
+gone_here emerald PutsEmeraldDown s = refl
+gone_here emerald _ s = refl
+
+tried_here : (emerald : ℕ) (s : State) (row : Going)
+    → (after_trying_row emerald s row).trail.here ≡ s.trail.here
+unfolding after_trying_row
+tried_here emerald s row =
+    let t = after_condition (row_condition row) s in
+    let d = row_destination row in
+    choose (λ (u : State). u.trail.here ≡ s.trail.here) (holds (row_condition row) s)
+    (after_go emerald d t) t
+    (λ _. gone_here emerald d t ∙ drawn_here (row_condition row) s)
+    (λ _. drawn_here (row_condition row) s)
+
+-- the rows that are tried from a number on, if all those from there on are rows of the place
+tries_are_rows : (cave : CaveView) (emerald : ℕ) (s : State) (failed : Option ℕ) (number : ℕ)
+    (rows : List Going) → number + length rows ≤ length (ways_from cave s.trail.here)
+    → AreRows cave (map (λ t. t.row) (tries emerald s failed number rows))
+tries_are_rows cave emerald s failed number [] most = tt
+tries_are_rows cave emerald s failed number (row ∷ rows) most =
+    let t = after_trying_row emerald s row in
+    let later = tries emerald t (Some row.target) (number + 1) rows in
+    let before : number < length (ways_from cave s.trail.here) = omega (arith, most) in
+    let rest : number + 1 + length rows ≤ length (ways_from cave s.trail.here) =
+    omega (arith, most) in
+    choose (λ (all : List Try). AreRows cave (map (λ t. t.row) all)) (is_passed failed row)
+    (tries emerald s failed (number + 1) rows)
+    (try_of emerald s number row ∷ (if is_some (row_outcome s row) then [] else later))
+    (λ _. tries_are_rows cave emerald s failed (number + 1) rows rest)
+    (λ _. (
+      before,
+      choose (λ (all : List Try). AreRows cave (map (λ t. t.row) all))
+          (is_some (row_outcome s row)) [] later (λ _. tt)
+          (λ _. tries_are_rows cave emerald t (Some row.target) (number + 1) rows
+          (subst (λ there. number + 1 + length rows ≤ length (ways_from cave there))
+          (sym (tried_here emerald s row)) rest)),
+    ))
+
+-- a motion tries rows of the place from the first that lists it
+listed : (motion : ℕ) (ways : List Going)
+    → count_unlisted motion ways + length (from_listed motion ways) ≤ length ways
+listed motion [] = omega arith
+listed motion (way ∷ ways) = by (lists_motion motion way) (listed motion ways)
+  where
+    by : (b : Bool) → count_unlisted motion ways + length (from_listed motion ways) ≤ length ways
+        → (if b then 0 else count_unlisted motion ways + 1)
+        + length (if b then way ∷ ways else from_listed motion ways) ≤ length (way ∷ ways)
+    by true h = omega arith
+    by false h = omega (arith, h)
+
+motion_tries_rows : (cave : CaveView) (emerald motion : ℕ) (s : State)
+    → AreRows cave (rows_tried_from cave emerald motion s)
+unfolding rows_tried_from rows_tried_by
+motion_tries_rows cave emerald motion s =
+    let ways = ways_from cave s.trail.here in
+    tries_are_rows cave emerald s None (count_unlisted motion ways) (from_listed motion ways)
+    (listed motion ways)
+
+module _ {cave : CaveView} {N : Notes} (k : IsNoted cave N) where
+  dead_noted : (c : CaveView) (place : ℕ) (p : Scene) → N p.rows → N (after_die_at c place p).rows
+  unfolding after_die_at
+  dead_noted c place p h = die_noted k c _ h
+
+  -- ---- how a place is described
+
+  bear_noted : (c : CaveView) (p : Scene) → N p.rows
+      → N (by_table table.BearFollows bear_rows (deed c tt p)).scene.rows
+  unfolding bear_rows row_numbers
+  bear_noted c p h = noted_effects k table.BearFollows bear_rows refl c tt (search parts 20) p h
+
+  text_noted : (c : CaveView) (p : Scene) → N p.rows
+      → N (by_table table.PlaceText text_rows (deed c tt p)).scene.rows
+  unfolding text_rows row_numbers
+  text_noted c p h = noted_effects k table.PlaceText text_rows refl c tt (search parts 20) p h
+
+  hollow_noted : (c : CaveView) (p : Scene) → N p.rows
+      → N (by_table table.Hollow hollow_rows (deed c tt p)).scene.rows
+  unfolding hollow_rows row_numbers
+  hollow_noted c p h = noted_effects k table.Hollow hollow_rows refl c tt (search parts 20) p h
+
+  place_noted : (c : CaveView) (p : Scene) → N p.rows
+      → N (after_all tell_place (deed c tt p)).scene.rows
+  unfolding tell_place
+  place_noted c p h = text_noted c _ (bear_noted c p h)
+
+  darkness_noted : (c : CaveView) (p : Scene) → N p.rows
+      → N (after_all feel_place (deed c tt p)).scene.rows
+  unfolding feel_place
+  darkness_noted c p h = hollow_noted c _ (bear_noted c p h)
+
+  object_text_noted : (c : CaveView) (x : ℕ) (p : Scene) → N p.rows
+      → N (by_table table.ObjectText object_text_rows (deed c x p)).scene.rows
+  unfolding object_text_rows row_numbers
+  object_text_noted c x p h =
+      noted_effects k table.ObjectText object_text_rows refl c x (search parts 20) p h
+
+  found_noted : (v : ℤ) (c : CaveView) (x : ℕ) (p : Scene) → N p.rows
+      → N (after_all (find_treasure v) (deed c x p)).scene.rows
+  unfolding find_treasure last_treasure_rows row_numbers
+  found_noted v c x p h =
+      let d = change with_one_less_unseen (set_prop it v (deed c x p)) in
+      let e = by_table table.LastTreasure last_treasure_rows d in
+      object_text_noted c x e.scene
+      (noted_effects k table.LastTreasure last_treasure_rows refl c x (search parts 20) d.scene h)
+
+  object_noted : (c : CaveView) (x : ℕ) (p : Scene) → N p.rows → N (after_object c x p).rows
+  unfolding after_object object_rows row_numbers
+  object_noted c x p h =
+      noted_effects k table.ObjectHere object_rows refl c x
+      (search (found_noted, object_text_noted) parts 20) p h
+
+  objects_noted : (c : CaveView) (halves : List Half) (p : Scene) → N p.rows
+      → N (after_all_objects c halves p).rows
+  objects_noted c [] p h = h
+  objects_noted c (half ∷ halves) p h =
+      objects_noted c halves (after_object c _ p) (object_noted c _ p h)
+
+  sight_noted : (c : CaveView) (p : Scene) → N p.rows
+      → N (after_all see_place (deed c tt p)).scene.rows
+  unfolding see_place tell_place
+  sight_noted c p h =
+      let d : Deed (Unit {0}) = deed c tt p in
+      let q = (after_all (first_of 4 see_place) d).scene in
+      objects_noted c (halves_at q.state.trail.here q.state.objects.lists) q
+      (hollow_noted c (after_all (first_of 2 see_place) d).scene
+      (text_noted c (by_table table.BearFollows bear_rows d).scene (bear_noted c p h)))
+
+  described_noted : (c : CaveView) (p : Scene) → N p.rows → N (after_describe c p).rows
+  unfolding after_describe description_rows row_numbers
+  described_noted c p h =
+      noted_effects k table.Description description_rows refl c tt
+      (search (sight_noted, dead_noted, darkness_noted) parts 20) p h
+
+  seen_noted : (c : CaveView) (p : Scene) → N p.rows → N (stop_here (deed c tt p)).scene.rows
+  unfolding stop_here stop_rows row_numbers
+  seen_noted c p h =
+      noted_all k (Noted N) table.Stops stop_rows (nothing_but (always false)) refl c tt
+      (search (place_noted, described_noted) parts 20) (λ q g. g) p h
+
+  -- ---- how the player arrives
+
+  met_noted : (c : CaveView) (p : Scene) → N p.rows → N (meet (deed c tt p)).scene.rows
+  unfolding meet hit_rows row_numbers
+  met_noted c p h =
+      let met = encounter_dwarves c p in
+      noted_all k (Noted N) table.Hits hit_rows (nothing_but (always false)) refl c met.step
+      (search (dead_noted, described_noted) parts 20) (λ q g. g) met.scene (dwarves_noted k c p h)
+
+  come_noted : (c : CaveView) (place : ℕ) (p : Scene) → N p.rows
+      → N (come_to c place p).scene.rows
+  unfolding come_to place_rows row_numbers
+  come_noted c place p h =
+      noted_all k (Noted N) table.Arrival place_rows meet refl c tt
+      (search (die_noted k, place_noted, described_noted) parts 20) (met_noted c)
+      (scene_at_place place p) h
+
+  blocked_noted : (c : CaveView) (place : ℕ) (p : Scene) → N p.rows
+      → N (block (deed c place p)).scene.rows
+  unfolding block blocking_rows row_numbers
+  blocked_noted c place p h =
+      noted_all k (Noted N) table.Blocking blocking_rows (nothing_but new) refl c place
+      (search (panic_noted k) parts 20) (λ q g. g) p h
+
+  stop_noted : (c : CaveView) (place : ℕ) (p : Scene) → N p.rows
+      → N (stop_at c place p).scene.rows
+  unfolding stop_at over_rows
+  stop_noted c place p h =
+      unnoted N (Noted N) over_rows come_on c place ((λ q g. g), tt)
+      (λ q g. come_noted c _ _ (blocked_noted c place q g)) p h
+
+  -- ---- where motions lead
+
+  squeezed_noted : (c : CaveView) (p : Scene) → N p.rows
+      → N (squeeze_through (deed c tt p)).scene.rows
+  unfolding squeeze_through squeeze_rows row_numbers
+  squeezed_noted c p h =
+      noted_all k (Noted N) table.Squeeze squeeze_rows (nothing_but here) refl c tt
+      (search parts 20) (λ q g. g) p h
+
+  toll_noted : (c : CaveView) (p : Scene) → N p.rows → N (pass_troll (deed c tt p)).scene.rows
+  unfolding toll_rows row_numbers
+  toll_noted c p h = noted_effects k table.Toll toll_rows refl c tt (search parts 20) p h
+
+  spices_noted : (c : CaveView) (p : Scene) → N p.rows
+      → N (by_table table.SpicesLost spices_rows (deed c tt p)).scene.rows
+  unfolding spices_rows row_numbers
+  spices_noted c p h = noted_effects k table.SpicesLost spices_rows refl c tt (search parts 20) p h
+
+  broken_noted : (c : CaveView) (p : Scene) → N p.rows
+      → N (after_all break_bridge (deed c tt p)).scene.rows
+  unfolding break_bridge
+  broken_noted c p h = dead_noted c _ _ (spices_noted c _ h)
+
+  crossed_noted : (c : CaveView) (p : Scene) → N p.rows
+      → N (cross_bridge (deed c tt p)).scene.rows
+  unfolding cross_bridge bridge_rows demand_toll row_numbers
+  crossed_noted c p h =
+      noted_all k (Noted N) table.Bridge bridge_rows (nothing_but here) refl c tt (
+        (λ q g. g),
+        (
+          (λ q g. asked q g),
+          (
+            (λ q g. toll_noted c q g),
+            ((λ q g. broken_noted c _ (toll_noted c q g)), tt),
+          ),
+        ),
+      ) (λ q g. g) p h
+    where
+      asked : (q : Scene) → N q.rows → N (after_all demand_toll (deed c tt q)).scene.rows
+      asked q g = looked k _ _ q g
+
+  led_noted : (c : CaveView) (motion : ℕ) (o : Outcome) (p : Scene) → N p.rows
+      → N (journey_of_outcome c motion o p).scene.rows
+  unfolding refusal_rows row_numbers
+  led_noted c motion (outcome.Go place) p h = h
+  led_noted c motion (outcome.Special Squeeze) p h = squeezed_noted c p h
+  led_noted c motion (outcome.Special Bridge) p h = crossed_noted c p h
+  led_noted c motion (outcome.Say message) p h = h
+  led_noted c motion outcome.NoMotion p h =
+      noted_effects k table.NoMotion refusal_rows refl c motion (search parts 20) p h
+  led_noted c motion outcome.NoWay p h = h
+
+  forth_noted : (motion : ℕ) (p : Scene) → N p.rows → N (set_forth cave motion p).scene.rows
+  unfolding set_forth journey_by_rows
+  forth_noted motion p h =
+      let q = after_setting_out p in let emerald = thing cave name.Emerald in
+      led_noted cave motion (travel cave emerald motion q.state).outcome _
+      (all_noted k q.rows (rows_tried_from cave emerald motion q.state)
+      (motion_tries_rows cave emerald motion q.state) h)
+
+  forced_noted : (left : ℕ) (moved : Bool) (p : Scene) → N p.rows
+      → N (after_forced_motions left cave (act_of p moved)).rows
+  unfolding after_forced_motions
+  forced_noted zero true p h = h
+  forced_noted (suc left) true p h =
+      let j = set_forth cave 1 (with_left left p) in let s = stop_at cave j.step j.scene in
+      forced_noted left s.step s.scene
+      (stop_noted cave j.step j.scene (forth_noted 1 (with_left left p) h))
+  forced_noted zero false p h = h
+  forced_noted (suc left) false p h = h
+
+  pub arriving_noted : (place : ℕ) (p : Scene) → N p.rows → N (after_arrival cave place p).rows
+  arriving_noted place p h = forced_noted p.left _ _ (stop_noted cave place p h)
+
+  pub describing_noted : (p : Scene) → N p.rows → N (after_description cave p).rows
+  describing_noted p h = forced_noted p.left _ _ (seen_noted cave p h)
+
+  -- ---- motions that the player asks for
+
+  looking_noted : (c : CaveView) (motion : ℕ) (p : Scene) → N p.rows
+      → N (after_all look_round (deed c motion p)).scene.rows
+  unfolding look_round enough_rows row_numbers
+  looking_noted c motion p h =
+      noted_effects k table.Enough enough_rows refl c motion (search parts 20) p h
+
+  back_noted : (c : CaveView) (p : Scene) → N p.rows → N (go_back (deed c tt p)).scene.rows
+  unfolding go_back back_rows place_back row_numbers
+  back_noted c p h =
+      let wanted = place_back (deed c tt p) in
+      noted_all k (Noted N) table.Back back_rows (nothing_but (always None)) refl c wanted.step
+      (search parts 20) (λ q g. g) wanted.scene
+      (noted_with_last k (Noted N) table.BackFrom place_back_rows (otherwise_row [] old) refl c tt
+      (search parts 20) (λ q g. g) p h)
+
+  own_noted : (c : CaveView) (motion : ℕ) (p : Scene) → N p.rows
+      → N (own_motion (deed c motion p)).scene.rows
+  unfolding own_motion row_numbers
+  own_noted c motion p h =
+      noted_with_last k (ThenNoted N) table.OwnMotions own_motion_rows
+      (otherwise_row [] that_motion) refl c motion
+      (search (looking_noted, back_noted) parts 20) (λ q g. g) p h
+
+  by_noted : (o : Option ℕ) (p : Scene) → N p.rows → N (journey_by cave o p).scene.rows
+  by_noted None p h = h
+  by_noted (Some motion) p h = forth_noted motion p h
+
+  pub motion_noted : (motion : ℕ) (p : Scene) → N p.rows
+      → N (journey_by_request cave motion p).scene.rows
+  unfolding journey_by_request
+  motion_noted motion p h = by_noted _ _ (own_noted cave motion p h)

@@ -1,0 +1,19 @@
+-- Which rows of the rules lines note.
+use Rattle.std.specs.Prelude.{ℕ, ◌≤◌, ◌<◌, List, length, Contains}
+use Rattle.cave_data.specs.CaveView.{CaveView, ways_from}
+use Rattle.cave_world.specs.declared.state.State.{State}
+use Rattle.cave_world.specs.declared.tables.RuleRow.{RuleRow}
+use Rattle.cave_world.specs.declared.tables.RuleRow.TheVariants.{OfPlace, OfTable}
+use Rattle.cave_turn.specs.Turns.{rows_on_line}
+use Rattle.turn_laws.specs.DefinedRows.{rows_in}
+
+-- a table has the row, counted from 1, or a place has it, counted from 0
+abbrev pub IsRow : CaveView → RuleRow → Type 0
+IsRow cave (OfTable table number) = (1 ≤ number) × (number ≤ rows_in table)
+IsRow cave (OfPlace place index applies) = index < length (ways_from cave place)
+
+-- each row that a line notes is one that its table or its place has, in any cave and state
+abbrev pub NotedRowsAreRows : Type 0
+NotedRowsAreRows =
+    (cave : CaveView) (s : State) (line : List ℕ) (row : RuleRow)
+    → Contains (rows_on_line cave s line) row → IsRow cave row
