@@ -9,7 +9,7 @@ help: ## lists what `make` can do
 
 # Ends what needs a program that isn't there, before anything is proved for it.
 has-%:
-	@tools/command_line.py $*
+	@tools/common/command_line.py $*
 
 PREFIX ?= $(HOME)/.local
 BUILT = crates/cave/out/cave
@@ -40,7 +40,7 @@ play: $(PROGRAM) ## proves and builds the program, and plays that log with it
 $(BUILT): $(SOURCES)
 	@mkdir -p crates/cave/out
 	@echo "Proving and building. What is said goes into out/build.log."
-	@cd crates/cave && ../../tools/progress cave ../../out/build.log rt run -- $(FIRST_GAME)
+	@cd crates/cave && ../../tools/measure/progress cave ../../out/build.log rt run -- $(FIRST_GAME)
 	@touch $@
 
 # What takes a minute or two and needs no proof and no program: what nobody uses, imports from a crate that
@@ -51,49 +51,49 @@ $(BUILT): $(SOURCES)
 checks test: export SKIPPED = $(CURDIR)/out/skipped
 checks: ## checks names, imports, pages and scripts, in a minute or two, without any proof
 	@rm -f out/skipped
-	tools/check-unused
-	tools/check-homes
-	tools/check-names
-	tools/check-numbers
-	tools/check-pages
-	tools/check-clauses
-	tools/check-edits
-	tools/check-words
-	tools/check-rows
-	tools/check-version
-	tools/rule-words --check
-	tools/rooms --check
-	tools/counts --check
-	tools/check-checks
-	tools/check-help
+	tools/check/unused
+	tools/check/homes
+	tools/check/names
+	tools/check/numbers
+	tools/check/pages
+	tools/check/clauses
+	tools/check/edits
+	tools/check/words
+	tools/check/rows
+	tools/check/version
+	tools/check/rule-words --check
+	tools/check/rooms --check
+	tools/measure/counts --check
+	tools/check/checks
+	tools/check/help
 	logs/tools/check-documents
 	logs/tools/plant --check
 	logs/tools/check-runner
-	tools/check-completions
+	tools/check/completions
 
 # Those checks, and the lines that must not compile; then the gate: each proof from nothing, the
 # edits that must fail, each of which has to compile, the tests and the program; and then the suite
 # with the program that was proved, and what the suite leaves out; runs that are disturbed as they
 # write; cut caves, and refused memory; and last the second opinion.
 test: has-rt has-cc checks ## runs the gate: all proofs anew, wrong bodies, tests, suite and duel
-	tools/check-wrong-lines
+	tools/check/wrong-lines
 	@mkdir -p out
-	tools/package --manuals out
-	tools/progress all out/test.log rt ci
+	tools/install/package --manuals out
+	tools/measure/progress all out/test.log rt ci
 	@tail -n 1 out/test.log
 	@! grep 'BAD EDIT' out/test.log
-	tools/check-wrong-bodies
+	tools/check/wrong-bodies
 	logs/run $(PROGRAM)
 	logs/tools/check-large-cave $(PROGRAM)
 	logs/tools/check-coverage $(PROGRAM)
 	logs/tools/check-maps $(PROGRAM)
 	logs/tools/check-undo $(PROGRAM)
 	logs/tools/check-drafts $(PROGRAM)
-	tools/check-live $(PROGRAM)
+	tools/page/check-live $(PROGRAM)
 	logs/tools/check-script $(PROGRAM)
-	tools/prefixes --lines $(PROGRAM)
-	tools/prefixes $(PROGRAM)
-	tools/check-memory
+	tools/check/prefixes --lines $(PROGRAM)
+	tools/check/prefixes $(PROGRAM)
+	tools/check/memory
 	model/suite
 	model/duel $(PROGRAM) --count 3000 --databases 10000 --seed 1 --quiet
 	@touch out/skipped
@@ -103,7 +103,7 @@ test: has-rt has-cc checks ## runs the gate: all proofs anew, wrong bodies, test
 # What takes too long for the gate, after it: cut inputs, each allocation refused in turn, small
 # wrong bodies, the example of a new rule, and the long duel. It prints a line for each part.
 soak: $(PROGRAM) ## runs what takes longer: refused memory, small wrong bodies, a long duel
-	tools/soak
+	tools/soak/soak
 
 # Plays each log of logs/ with the program, and compares what it says with the transcript beside it;
 # and then those that the model can play with the model.
@@ -138,7 +138,7 @@ map: has-dot $(PROGRAM) ## draws the map of the shoal, by Graphviz, into docs/sh
 chart: has-gnuplot $(PROGRAM) ## draws score and lamp of the tour, by gnuplot, into docs/tour.svg
 	@mkdir -p out
 	@$(PROGRAM) $(FIRST_GAME) --print steps > out/tour.steps
-	@tools/chart out/tour.steps --output docs/tour.svg
+	@tools/page/chart out/tour.steps --output docs/tour.svg
 	@echo "docs/tour.svg is drawn."
 
 # Makes a page for a browser, docs/tour.html: the tour as it goes without the pillow, and the tour.
@@ -147,7 +147,7 @@ HOW = --bind caves/shoal.bind --seed 3
 page: has-dot $(PROGRAM) ## makes a page of two walks for a browser, docs/tour.html
 	@mkdir -p out
 	@$(PROGRAM) edit $(TOUR) logs/edit-tour.script $(HOW) --print log > out/tour-without-pillow.log
-	@tools/page caves/shoal.txt out/tour-without-pillow.log --against logs/tour.log $(HOW) \
+	@tools/page/page caves/shoal.txt out/tour-without-pillow.log --against logs/tour.log $(HOW) \
 		--program $(PROGRAM) --output docs/tour.html
 	@echo "docs/tour.html is made: open it in a browser."
 
@@ -156,20 +156,20 @@ page: has-dot $(PROGRAM) ## makes a page of two walks for a browser, docs/tour.h
 live: has-dot $(PROGRAM) ## edits a copy of that log in a browser: out/live/tour.log
 	@mkdir -p out/live
 	@test -e out/live/tour.log || cp logs/tour.log out/live
-	@tools/live caves/shoal.txt out/live/tour.log $(HOW) --program $(PROGRAM)
+	@tools/page/live caves/shoal.txt out/live/tour.log $(HOW) --program $(PROGRAM)
 
 # Takes the pictures of both pages that the pages of docs/ show, by a headless chromium.
 picture: has-chromium has-chromedriver page ## takes the pictures of pages in docs/
-	@tools/picture docs/tour.html docs/tour.png
-	@tools/live-picture $(PROGRAM) docs/live.png
+	@tools/page/picture docs/tour.html docs/tour.png
+	@tools/page/live-picture $(PROGRAM) docs/live.png
 
 # Puts the program into PREFIX, with cave-suite, cave-live, cave-page, cave-chart, manuals,
 # completions, the shipped caves and first logs.
 install: $(PROGRAM) ## puts program, tools, manuals and completions into ~/.local
-	@tools/package $(PROGRAM) $(GIVEN) --into '$(PREFIX)'
+	@tools/install/package $(PROGRAM) $(GIVEN) --into '$(PREFIX)'
 
 # Packs the same as an archive and as a Debian package, into out/package. Another program than the
 # one that is built here is PROGRAM=FILE; the packages then say that it was handed over.
 GIVEN = $(if $(filter-out $(BUILT),$(PROGRAM)),--given)
 package: has-dpkg-deb has-strip $(PROGRAM) ## packs the program as an archive and for Debian
-	@tools/package $(PROGRAM) $(GIVEN)
+	@tools/install/package $(PROGRAM) $(GIVEN)

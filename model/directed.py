@@ -225,7 +225,7 @@ def bridge_games():
 # ---- The closing cave. All treasures are seen from the start, so that the first clock runs.
 
 CLOSING = {"deep": 1, "ne": 17, "sw": 18}
-STORED = {name: 9 for name in NUMBERS if not 50 <= NUMBERS[name] <= 79}
+STORED: dict = {name: 9 for name in NUMBERS if not 50 <= NUMBERS[name] <= 79}
 STORED.update({"ROD2": 9, "DWARF": 9, "KNIFE": 0, "MIRROR": (9, 10), "GRATE": (9, 10)})
 
 

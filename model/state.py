@@ -14,7 +14,7 @@ ASKED_BY_ROLE = {"welcome": "welcome", "quit": "quit", "score quit": "score-quit
 class Game:
     """A game in a cave. `out` is what the line that is played has said so far."""
 
-    letters = {}  # what the letters of tables stand for, except x and k
+    letters: dict = {}  # what the letters of tables stand for, except x and k
 
     def __init__(self, cave, seed):
         self.cave, self.out, self.turns = cave, [], 0

@@ -12,9 +12,11 @@ from collections import Counter
 
 from database import NAMES, SECONDS
 
-applied = Counter()
+applied = Counter[str]()
 rows = {}  # for each row its text, in the order in which the tables were made
-TESTS, EFFECTS, TABLES = [], [], {}
+TESTS: list = []
+EFFECTS: list = []
+TABLES: dict = {}
 # In a phrase A is an object by its name, or by a letter (x is what a verb is for), N a number, and
 # W a word.
 PARTS = {"A": r"([A-Z][A-Z0-9]*|[a-z])", "N": r"(-?\d+)", "W": r"([a-z][\w-]+)"}
@@ -81,7 +83,7 @@ class Table:
 def tables(text, names):
     """The tables of a text by their names: a line without a bar is the name of what follows it.
     `names` has the functions of the module."""
-    found = {}
+    found, name = {}, ""
     for line in filter(str.strip, text.split("\n")):
         if "|" in line:
             found[name].append(line)

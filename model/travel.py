@@ -1,10 +1,11 @@
 """Travel, arrival and description (docs/PLAY.md)."""
 
-import dwarves  # whose rows of anger are done as the player arrives
+import dwarves
 from state import DWARVES
 from tables import TABLES, phrases, rule, tables
 
 MOST_FORCED = 20
+assert dwarves  # whose rows of anger are done as the player arrives
 
 # ---- Motions
 

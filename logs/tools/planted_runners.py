@@ -4,8 +4,11 @@ import os
 import shutil
 import subprocess
 import tempfile
+from collections.abc import Iterator
 
 from suite import TOP
+
+from common.files import text_of, write
 
 IGNORED = shutil.ignore_patterns("__pycache__")
 COMPARED = "    if said == transcript:\n"
@@ -57,21 +60,19 @@ PLANTED = {
 }
 
 
-def faults():
+def faults() -> Iterator[str]:
     """The faults that aren't there to be planted, or that the check doesn't find."""
     for name, (file, old, new, parts) in PLANTED.items():
         with tempfile.TemporaryDirectory() as top:
             shutil.copytree(f"{TOP}/tools", f"{top}/tools", ignore=IGNORED)
             shutil.copytree(f"{TOP}/logs/tools", f"{top}/logs/tools", ignore=IGNORED)
             shutil.copy(f"{TOP}/logs/run", f"{top}/logs")
-            path = os.path.join(top, "tools", "cave_suite", file)
-            with open(path, encoding="utf-8") as read:
-                text = read.read()
+            path = os.path.join(top, "tools", "install", "cave_suite", file)
+            text = text_of(path)
             if text.count(old) != 1:
                 yield f"{name}: {file} has {text.count(old)} times {old.strip()}"
                 continue
-            with open(path, "w", encoding="utf-8") as written:
-                written.write(text.replace(old, new))
+            write(path, text.replace(old, new))
             command = [f"{top}/logs/tools/check-runner", *parts.split()]
             ran = subprocess.run(command, capture_output=True, text=True)
         if ran.returncode != 1 or not ran.stdout or ran.stderr:

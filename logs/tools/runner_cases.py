@@ -8,6 +8,8 @@ import pty
 import signal
 import subprocess
 import time
+from collections.abc import Iterator
+from subprocess import PIPE
 from xml.etree import ElementTree
 
 from small_suites import REPEAT, Folder, Suite, answers, walk, without_time
@@ -79,7 +81,7 @@ PLACES = [
 SIZES = (90, 70, 50, 40, 30, 20, 10, 5, 5)
 
 
-def faults_of_ends():
+def faults_of_ends() -> Iterator[str]:
     """Runs that end wrong, or print something else, and pass."""
     for line, said in ENDS.items():
         suite = Suite({"walk.log": WALK, "walk.out": SAID}, REPEAT + line + "\n")
@@ -92,7 +94,7 @@ def faults_of_ends():
             yield f"status {status} with a transcript {how}, and is said: {told}"
 
 
-def faults_of_places():
+def faults_of_places() -> Iterator[str]:
     """Suites in folders of others that aren't found, or aren't played as they should be."""
     folder = Folder(GAMES, CAVE)
     for at, words, wanted, said in PLACES:
@@ -101,12 +103,12 @@ def faults_of_places():
             yield f"status {status} of `{words}`, called in {at}, and is said: {told}"
 
 
-def faults_of_shards():
+def faults_of_shards() -> Iterator[str]:
     """Shards that leave out a log, play one twice, or aren't even."""
     files = {f"{at}.log": "# run: play\n" + "no\n" * size for at, size in enumerate(SIZES)}
     suite = Suite(files | {f"{at}.out": "" for at in range(len(SIZES))})
     for count in 1, 2, 3, 9:
-        parts = []
+        parts = list[list[int]]()
         for at in range(1, count + 1):
             _, told = suite.run("--shard", f"{at}/{count}", "--tap")
             names = [line.split() for line in told.splitlines() if line.startswith("ok ")]
@@ -121,7 +123,7 @@ def faults_of_shards():
         yield f"a part isn't the shard: {part}"
 
 
-def faults_of_known():
+def faults_of_known() -> Iterator[str]:
     """Known failures that count as others do, and those that pass unseen."""
     known = walk(WORDS, "# xfail: the bird\n")
     wrong, right = {"a.log": known, "a.out": TWO_WRONG}, {"a.log": known, "a.out": SAID}
@@ -142,7 +144,7 @@ def faults_of_known():
             yield "the transcript of a known failure is written"
 
 
-def faults_of_same():
+def faults_of_same() -> Iterator[str]:
     """A difference of many logs that is shown for each of them."""
     files = {f"{it}.{kind}": text for it in "abc" for kind, text in (("log", WALK), ("out", SAID))}
     files |= {f"{it}.out": SAID.replace("So in.", "So inside.") for it in "ab"}
@@ -157,7 +159,7 @@ def faults_of_same():
         yield f"with --all not everything is shown: {told}"
 
 
-def faults_of_junit():
+def faults_of_junit() -> Iterator[str]:
     """What the file for a CI says wrong."""
     known = walk(WORDS, "# xfail: the <bird>\n")
     files = {"f/a.log": WALK, "f/a.out": SAID.replace("So up.", "So\x01<up>&."), "b.log": WALK}
@@ -179,12 +181,12 @@ def faults_of_junit():
     ]:
         yield f"the file for a CI has {counts} and {said}"
         return
-    why, text = cases[1][0].get("message"), cases[2][0].text
+    why, text = cases[1][0].get("message"), cases[2][0].text or ""
     if "- So\\x01<up>&.\n" not in text or why != "known to fail: the <bird>":
         yield f"the file for a CI says {why}, and {text}"
 
 
-def on_terminal(command, folder, typed):
+def on_terminal(command: list[str], folder: str, typed: str) -> tuple[int, str]:
     """The status of a command on a terminal at which this is typed, and all that it shows."""
     ours, its = pty.openpty()
     ran = subprocess.Popen(command, cwd=folder, stdin=its, stdout=its, stderr=its)
@@ -200,7 +202,7 @@ def on_terminal(command, folder, typed):
     return ran.wait(PATIENCE), shown.decode().replace("\r\n", "\n")
 
 
-def faults_of_updates():
+def faults_of_updates() -> Iterator[str]:
     """What is written without being accepted, or isn't written."""
     one_left = SAID.replace("So up.", "So upwards.")
     # What is typed, and the status and the two transcripts then.
@@ -223,29 +225,29 @@ def faults_of_updates():
                 yield f"after {typed!r} to {option} the status is {status}, and is said: {told}"
             if "Write this? y(es), n(o)" not in told or "2 logs, " not in told:
                 yield f"on a terminal isn't asked, or not said how far it is: {told}"
-    for files, words, wanted, written in (
-        ({"a.out": TWO_WRONG}, ("--update", "--yes", "logs"), 0, SAID),
-        ({}, ("--update", "--yes", "logs"), 0, SAID),
-        ({"a.out": TWO_WRONG}, ("--accept", "a"), 0, SAID),
-        ({"a.out": TWO_WRONG}, ("--update", "logs"), 2, TWO_WRONG),
-        ({"a.out": TWO_WRONG}, ("--accept",), 2, TWO_WRONG),
-        ({"a.out": TWO_WRONG}, ("--update", "--yes"), 2, TWO_WRONG),
-        ({"a.out": TWO_WRONG}, (), 1, TWO_WRONG),
+    for text, words, wanted, after in (
+        (TWO_WRONG, "--update --yes logs", 0, SAID),
+        ("", "--update --yes logs", 0, SAID),
+        (TWO_WRONG, "--accept a", 0, SAID),
+        (TWO_WRONG, "--update logs", 2, TWO_WRONG),
+        (TWO_WRONG, "--accept", 2, TWO_WRONG),
+        (TWO_WRONG, "--update --yes", 2, TWO_WRONG),
+        (TWO_WRONG, "", 1, TWO_WRONG),
     ):
-        suite = Suite({"a.log": WALK} | files, REPEAT)
-        status, told = suite.run(*words)
-        if (status, suite.read("logs/a.out")) != (wanted, written):
+        suite = Suite({"a.log": WALK} | ({"a.out": text} if text else {}), REPEAT)
+        status, told = suite.run(*words.split())
+        if (status, suite.read("logs/a.out")) != (wanted, after):
             yield f"status {status} of {words}, and is said: {told}"
     suite = Suite({"a.log": WALK + "# status: 3\n", "a.out": SAID}, REPEAT + "exit 3\n")
     if suite.run("--accept", "a")[0] != 1 or suite.read("logs/a.out") != SAID:
         yield "a run with a wrong status is accepted"
 
 
-def faults_of_stops():
+def faults_of_stops() -> Iterator[str]:
     """Runners that say something about a closed pipe or an interrupt, or go on after it."""
     folder = Folder({f"logs/{it}.out": "" for it in range(300)})
-    to = {"cwd": folder.top, "stdout": subprocess.PIPE, "stderr": subprocess.PIPE}
-    with subprocess.Popen(folder.command(), **to) as ran:
+    with subprocess.Popen(folder.command(), cwd=folder.top, stdout=PIPE, stderr=PIPE) as ran:
+        assert ran.stdout and ran.stderr
         ran.stdout.close()
         told = ran.stderr.read().decode()
     if told or ran.returncode != 141:
@@ -254,8 +256,9 @@ def faults_of_stops():
     folder = Folder(slow, "#!/bin/sh\necho > begun\nexec sleep 2\n")
     began = time.monotonic()
     # What runs in the background may ignore interrupts, and the runner then would too.
-    heard = {"preexec_fn": lambda: signal.signal(signal.SIGINT, signal.default_int_handler)}
-    with subprocess.Popen(folder.command("-j", "1"), **to | heard | {"cwd": folder.top}) as ran:
+    with subprocess.Popen(
+            folder.command("-j", "1"), cwd=folder.top, stdout=PIPE, stderr=PIPE,
+            preexec_fn=lambda: signal.signal(signal.SIGINT, signal.default_int_handler)) as ran:
         while not os.path.exists(f"{folder.top}/begun") and time.monotonic() - began < PATIENCE:
             time.sleep(0.05)
         ran.send_signal(signal.SIGINT)

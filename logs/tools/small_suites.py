@@ -21,12 +21,12 @@ done | awk '!/^#/ { print "\\n> " $0 "\\nSo " $0 "." }'
 """
 
 
-def answers(words):
+def answers(words: list[str]) -> str:
     """What that program says of the lines of a log."""
     return "".join(f"\n> {it}\nSo {it}.\n" for it in words)
 
 
-def walk(words, head=""):
+def walk(words: list[str], head: str = "") -> str:
     """A log of these lines, which that program plays."""
     return f"# cave: CAVE\n{head}" + "".join(f"{it}\n" for it in words)
 
@@ -34,7 +34,7 @@ def walk(words, head=""):
 class Folder:
     """Files in a folder of their own, beside a program `say`, if one is given."""
 
-    def __init__(self, files, program=None):
+    def __init__(self, files: dict[str, str], program: str | None = None) -> None:
         self.folder = tempfile.TemporaryDirectory()
         self.top = os.path.realpath(self.folder.name)
         for name, text in files.items():
@@ -44,22 +44,22 @@ class Folder:
             self.program = self.write("say", program)
             os.chmod(self.program, 0o755)
 
-    def write(self, name, text):
+    def write(self, name: str, text: str) -> str:
         path = f"{self.top}/{name}"
         os.makedirs(os.path.dirname(path), exist_ok=True)
         with open(path, "w", encoding="ascii", newline="") as file:
             file.write(text)
         return path
 
-    def read(self, name):
+    def read(self, name: str) -> str:
         with open(f"{self.top}/{name}", encoding="utf-8", newline="") as file:
             return file.read()
 
-    def command(self, *words):
+    def command(self, *words: str) -> list[str]:
         """The command that plays suites of this folder with its program."""
-        return [*PYTHON, f"{TOP}/tools/cave-suite", "--program", self.program, *words]
+        return [*PYTHON, f"{TOP}/tools/install/cave-suite", "--program", self.program, *words]
 
-    def run(self, *words, at="."):
+    def run(self, *words: str, at: str = ".") -> tuple[int, str]:
         """The status of a run that is called in the folder or below it, and all that it says."""
         return said_by(self.command(*words), os.path.join(self.top, at))
 
@@ -67,28 +67,28 @@ class Folder:
 class Suite(Folder):
     """A suite of files in a folder `logs`, which its own `logs/run` plays."""
 
-    def __init__(self, files, program=None):
+    def __init__(self, files: dict[str, str], program: str | None = None) -> None:
         super().__init__({f"logs/{name}": text for name, text in files.items()}, program)
         os.makedirs(f"{self.top}/logs", exist_ok=True)
         shutil.copy(f"{TOP}/logs/run", f"{self.top}/logs")
         os.symlink(f"{TOP}/tools", f"{self.top}/tools")
 
-    def run(self, *words, program=None, at=".."):
+    def run(self, *words: str, program: str | None = None, at: str = "..") -> tuple[int, str]:
         command = [*PYTHON, f"{self.top}/logs/run", program or self.program, *words]
         return said_by(command, os.path.join(f"{self.top}/logs", at))
 
 
-def said_by(command, folder):
+def said_by(command: list[str], folder: str) -> tuple[int, str]:
     ran = subprocess.run(command, cwd=folder, capture_output=True, stdin=subprocess.DEVNULL)
     return ran.returncode, (ran.stdout + ran.stderr).decode()
 
 
-def play(files, *words, program=None, at=".."):
+def play(files: dict[str, str], *words: str, program: str | None = None,
+         at: str = "..") -> tuple[int, str]:
     """Plays a suite with a program that does nothing, if no other is given."""
     suite = Suite(files)
-    words = [it.replace("@", suite.top) for it in words]
-    return suite.run(*words, program=program, at=at)
+    return suite.run(*(it.replace("@", suite.top) for it in words), program=program, at=at)
 
 
-def without_time(said):
+def without_time(said: str) -> str:
     return re.sub(r"(\d (?:failed|known to fail)), in \d+\.\d s$", r"\1", said, flags=re.MULTILINE)

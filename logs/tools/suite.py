@@ -1,9 +1,8 @@
-"""The suite of this repository: which logs it has, and how each is run.
+"""The suite of this repository, and the folder above `logs/`, for the scripts of this folder.
 
     from suite import SUITE, TOP
 
-`TOP` is the folder above `logs/`. Modules of `tools/` can be imported after this one, such as
-`cave_suite`, the runner of suites.
+Packages of `tools/` can be imported after this one, and `cave_suite`, the runner of suites.
 """
 
 import os
@@ -12,6 +11,6 @@ import sys
 TOP = os.path.dirname(os.path.dirname(os.path.dirname(os.path.abspath(__file__))))
 sys.path.append(f"{TOP}/tools")
 
-from cave_suite.suites import Suite  # of the folder that is on the path now
+from common.suite import SUITE  # of the folder that is on the path now
 
-SUITE = Suite(f"{TOP}/logs")
+__all__ = ["SUITE", "TOP"]

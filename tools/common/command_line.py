@@ -1,0 +1,99 @@
+#!/usr/bin/env python3
+"""What scripts share on the command line: the answer to `--help`, and programs that aren't there.
+
+    from common import command_line
+
+    command_line.answer_help()            at the beginning of what a script does
+    command_line.demand("rt", "git")      before it runs these programs
+    command_line.skip(2, "maps", "dot")   as it leaves out two maps if there is no `dot`
+    command_line.check(faults)            is all that a check does: it names each fault in a line
+
+As a script it says which of some programs isn't there, with status 1.
+"""
+
+import os
+import shutil
+import sys
+from collections.abc import Callable, Iterable
+from typing import NoReturn
+
+# The packages of Debian that have the programs, if they have other names.
+PACKAGES = {"cc": "gcc", "dot": "graphviz", "gnuplot": "gnuplot-nox",
+            "chromedriver": "chromium-driver", "dpkg-deb": "dpkg", "strip": "binutils",
+            "man": "man-db", "pyflakes3": "pyflakes3"}
+OLDEST = (3, 10)  # Python
+
+if sys.version_info < OLDEST:
+    sys.exit(f"{sys.argv[0]}: this is Python %d.%d, and %d.%d is needed, or a later one"
+             % (*sys.version_info[:2], *OLDEST))
+
+
+def answer_help(words: list[str] | None = None) -> None:
+    """Prints what the script says about itself, and ends it, if one of its words asks for help."""
+    if {"-h", "--help"} & {*(sys.argv[1:] if words is None else words)}:
+        print((sys.modules["__main__"].__doc__ or "").strip())
+        sys.exit()
+
+
+def the_program(*others: str) -> str:
+    """The program, which the command line has to name alone, by its whole path. It and the others
+    have to be there."""
+    answer_help()
+    if len(sys.argv) != 2:
+        sys.exit(sys.modules["__main__"].__doc__)
+    program = os.path.abspath(sys.argv[1])
+    demand(program, *others)
+    return program
+
+
+def told(faults: Iterable[str]) -> int:
+    """Prints faults, a line each, and gives the status: 1 if there is one."""
+    found = [*faults]
+    print(*found, sep="\n", end="\n" * bool(found))
+    return 1 if found else 0
+
+
+def check(faults: Callable[[], Iterable[str]]) -> NoReturn:
+    """Ends a check by naming what it finds."""
+    answer_help()
+    sys.exit(told(faults()))
+
+
+def missing(*programs: str) -> str | None:
+    """What to do about the first of some programs that isn't there, or None."""
+    lost = next((it for it in programs if not shutil.which(it)), None)
+    if lost is None:
+        return None
+    if "/" in lost:
+        return f"there is no program {lost}: `make play` builds it"
+    if lost == "rt":
+        return "there is no `rt` on the path: install the Rattle toolchain, which has it"
+    return f"there is no `{lost}`: install it, as by `apt-get install {PACKAGES.get(lost, lost)}`"
+
+
+def demand(*programs: str) -> None:
+    """Ends the script with a line on standard error if a program isn't there."""
+    if said := missing(*programs):
+        print(f"{os.path.basename(sys.argv[0])}: {said}", file=sys.stderr)
+        sys.exit(2)
+
+
+def skip(count: int, parts: str, *programs: str) -> None:
+    """Says how many parts of a check are skipped, and why. `make test` adds these up, by the file
+    that SKIPPED names."""
+    skip_for(count, parts, missing(*programs))
+
+
+def skip_for(count: int, parts: str, reason: str | None) -> None:
+    """The same, for another reason."""
+    line = f"{count} {parts} skipped: {reason}"
+    print(line)
+    if path := os.environ.get("SKIPPED"):
+        os.makedirs(os.path.dirname(path), exist_ok=True)
+        with open(path, "a", encoding="utf-8") as file:
+            print(line, file=file)
+
+
+if __name__ == "__main__":
+    answer_help()
+    sys.exit(missing(*sys.argv[1:]))

@@ -1,0 +1,62 @@
+"""The files of the repository, what crates.txt says, and what a text has.
+
+    from common.files import BUILT, TOP, crates, files, match_in, text_of, write
+"""
+
+import glob
+import os
+import re
+
+TOP = os.path.dirname(os.path.dirname(os.path.dirname(os.path.abspath(__file__))))
+BUILT = f"{TOP}/crates/cave/out/cave"
+MADE = {"out", "__pycache__"}  # folders that aren't read
+
+
+def text_of(path: str, encoding: str = "utf-8") -> str:
+    """The text of a file, whose path begins in the repository if it isn't a whole one."""
+    with open(os.path.join(TOP, path), encoding=encoding, errors="replace") as file:
+        return file.read()
+
+
+def bytes_of(path: str) -> bytes:
+    with open(os.path.join(TOP, path), "rb") as file:
+        return file.read()
+
+
+def text_if(path: str) -> str:
+    """The same, or nothing if there is no such file."""
+    return text_of(path) if os.path.exists(os.path.join(TOP, path)) else ""
+
+
+def write(path: str, content: str | bytes) -> str:
+    """Puts a text or bytes into a file, whose folder is made if there is none; the whole path."""
+    whole = os.path.join(TOP, path)
+    os.makedirs(os.path.dirname(whole), exist_ok=True)
+    with open(whole, "wb") as file:
+        file.write(content.encode() if isinstance(content, str) else content)
+    return whole
+
+
+def files(*patterns: str) -> list[str]:
+    """The files and folders of the repository that patterns mean, in their order."""
+    paths = (it for pattern in patterns for it in glob.glob(pattern, root_dir=TOP, recursive=True))
+    return sorted({it for it in paths if not MADE & {*it.split("/")}})
+
+
+def is_python(path: str) -> bool:
+    """Whether a file is a script or a module in Python."""
+    with open(os.path.join(TOP, path), "rb") as file:
+        return path.endswith(".py") or file.readline().rstrip() == b"#!/usr/bin/env python3"
+
+
+def crates() -> dict[str, list[str]]:
+    """The crates in their order, each with those that crates.txt lists for it."""
+    rows = (it.partition(":") for it in text_of("crates.txt").splitlines())
+    return {name: listed.split() for name, _, listed in rows if name[:1] not in ("", "#")}
+
+
+def match_in(pattern: str | re.Pattern[str], text: str) -> re.Match[str]:
+    """The first match of a pattern, of which there has to be one."""
+    if match := re.search(pattern, text):
+        return match
+    raise ValueError(f"nothing is like {pattern}")

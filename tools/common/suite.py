@@ -1,0 +1,14 @@
+"""The suite of this repository: which logs it has, and how each is run.
+
+    from common.suite import SUITE
+"""
+
+import sys
+
+from common.files import TOP
+
+sys.path.append(f"{TOP}/tools/install")
+
+from cave_suite.suites import Suite  # of the folder that is on the path now
+
+SUITE = Suite(f"{TOP}/logs")

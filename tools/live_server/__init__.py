@@ -1,1 +1,0 @@
-"""The server of `tools/live`: a log that is edited in a browser, and played by the program."""

@@ -1,0 +1,153 @@
+"""The run of `tools/page/live`: reads what the command line names, serves its page, and ends."""
+
+from __future__ import annotations
+
+import argparse
+import os
+import shutil
+import signal
+import sys
+import threading
+import webbrowser
+from collections.abc import Callable
+from types import FrameType
+
+from . import words
+from .answers import Server
+from .held import Log
+from .page import Drawn, foot_of, page_of
+from .plays import Game
+from .program import Given, Program, Refused
+from .saving import Home
+from .site import Site
+
+UNWRITTEN = 6
+ENDS = (signal.SIGINT, signal.SIGTERM, signal.SIGHUP)
+Draw = Callable[[str], Drawn]
+
+
+class Stop(Exception):
+    """The end of a run: what is said on standard error, and its status."""
+
+    def __init__(self, message: str, status: int) -> None:
+        super().__init__(message)
+        self.message, self.status = message, status
+
+
+def asked(about: str, arguments: list[str] | None = None) -> argparse.Namespace:
+    """What the command line says."""
+    asks = argparse.ArgumentParser(
+        description=about, formatter_class=argparse.RawDescriptionHelpFormatter)
+    asks.add_argument("cave", metavar="CAVE")
+    asks.add_argument("log", metavar="LOG")
+    asks.add_argument("--bind", metavar="FILE")
+    asks.add_argument("--seed", metavar="N", default="0")
+    asks.add_argument("--port", metavar="P", type=port, default=0)
+    asks.add_argument("--output", metavar="LOG2")
+    asks.add_argument("--program", metavar="FILE")
+    asks.add_argument("--no-browser", action="store_true")
+    return asks.parse_args(arguments)
+
+
+def port(text: str) -> int:
+    if not text.isdecimal() or len(text) > 5 or int(text) > 65_535:
+        raise argparse.ArgumentTypeError("a port is a number up to 65535")
+    return int(text)
+
+
+def program_of(named: str | None, built: str) -> str:
+    """The program that is run."""
+    found = named or (built if os.access(built, os.X_OK) else "cave")
+    path = shutil.which(found)
+    if not path:
+        raise Stop(f"there is no program {found}: `make play` builds it", 2)
+    return path
+
+
+def given(path: str) -> Given:
+    """A file, as it is when the server starts."""
+    if os.path.exists(path) and not os.path.isfile(path):
+        raise Stop(f"{path}: the file can't be read: it is no regular file", 5)
+    try:
+        with open(path, "rb") as file:
+            return Given(path, file.read())
+    except OSError as error:
+        raise Stop(f"{path}: the file can't be opened: {error.strerror}", 5) from None
+
+
+def site_of(said: argparse.Namespace, program: Program, draw: Draw) -> Site:
+    """What is served: the log, played, with the map of its cave, which is drawn once."""
+    cave, bind = given(said.cave), given(said.bind) if said.bind else None
+    game = Game(program, cave, bind)
+    with given(said.log) as opened:
+        held = game.play(opened, said.seed)
+    home = Home(said.log, held.log, said.output)
+    graph = program.said("map", cave, *game.options()).decode(errors="replace")
+    known = words.words_of(cave.content())
+    live: dict[str, object] = {
+        "file": home.to, "most": words.most_of(game.checked("maximum")),
+        "words": known, "rules": words.OF_RULES,
+        "letters": words.letters_of(game.checked("bindings")),
+        "motions": words.motions_of(graph, known)}
+    drawn = draw(graph)
+    bindings = os.path.basename(said.bind) if said.bind else "none"
+    foot = foot_of(
+        ("Played in", os.path.basename(said.cave)), ("with the bindings", bindings),
+        ("by", program.said("--version").decode(errors="replace").strip()))
+    return Site(Log(game, held, held.log), home, lambda: page_of(home.name, foot, drawn, live))
+
+
+def serve(site: Site, at: int, opens: bool) -> None:
+    """Serves a site until it is stopped."""
+    try:
+        server = Server(site, at)
+    except OSError as error:
+        raise Stop(f"port {at} can't be had: {error.strerror}", UNWRITTEN) from None
+    thread = threading.Thread(target=server.serve_forever, args=(0.1,), daemon=True)
+    thread.start()
+    print(f"{site.home.path}: {server.address}", "Ctrl-C ends it.", sep="\n", flush=True)
+    if opens:
+        threading.Thread(target=webbrowser.open, args=(server.address,), daemon=True).start()
+    site.ending.wait()
+    server.shutdown()
+    server.server_close()
+
+
+def keep(site: Site) -> None:
+    """Leaves changes that aren't saved beside the log, and says where."""
+    with site.log.lock:
+        held = site.log.held
+        if not site.log.is_unsaved:
+            return
+        try:
+            path = site.home.draft(site.log.game, held.log, held.seed)
+            print(f"The changes aren't saved. They are in {path}", file=sys.stderr)
+        except Refused as refused:
+            print(refused.message, "The script of the changes that aren't saved:", sep="\n",
+                  file=sys.stderr)
+            print(site.log.script().decode(errors="replace"), end="", file=sys.stderr)
+            raise Stop("the changes can't be kept", UNWRITTEN) from None
+
+
+def main(about: str, built: str, draw: Draw) -> int:
+    """Runs the tool: `about` is its help, `built` the program of the repository."""
+    said = asked(about)
+    ending = threading.Event()
+
+    def end(_: int, __: FrameType | None) -> None:
+        ending.set()
+
+    for it in ENDS:
+        signal.signal(it, end)
+    try:
+        site = site_of(said, Program(program_of(said.program, built)), draw)
+        site.ending = ending
+        serve(site, said.port, not said.no_browser)
+        keep(site)
+    except Refused as refused:
+        print(refused.message, file=sys.stderr)
+        return refused.status
+    except Stop as stop:
+        print(f"{os.path.basename(sys.argv[0])}: {stop.message}", file=sys.stderr)
+        return stop.status
+    return 0

@@ -1,0 +1,174 @@
+"""A server of `tools/page/live` as a module, for its tests: started on a copy of a log, and asked.
+
+    from served import Served
+    with Served(program, ["caves/shoal.txt", "logs/tour.log", "--seed", "3"]) as server:
+        status, events = server.post("change", {"number": 0, "edits": [..]})
+        server.walk.put(events)
+"""
+
+from __future__ import annotations
+
+from common.files import TOP, bytes_of, write
+
+import http.client
+import json
+import shutil
+import signal
+import subprocess
+import sys
+import tempfile
+from types import TracebackType
+from urllib.parse import urlsplit
+
+SHOAL = [f"{TOP}/caves/shoal.txt", "--bind", f"{TOP}/caves/shoal.bind"]
+TOUR, SEED = f"{TOP}/logs/tour.log", ["--seed", "3"]
+FULL, FULL_SEED = f"{TOP}/logs/shoal/full-score.log", ["--seed", "229"]
+SECONDS = 60
+Head = dict[str, object]
+
+
+class Walk:
+    """A walk as a page has it: with what events say put in."""
+
+    def __init__(self) -> None:
+        self.number, self.opening, self.lines = -1, b"", list[bytes]()
+
+    def put(self, events: list[tuple[Head, list[bytes]]]) -> None:
+        """Puts what events say into the walk, by what the manual says about them."""
+        for head, lines in events:
+            if head.get("kind") == "whole":
+                self.opening, self.lines = lines[0], lines[1:]
+            elif "from" in head:
+                self.patch(head, lines)
+            self.number = int(str(head.get("number", self.number)))
+
+    def patch(self, head: Head, lines: list[bytes]) -> None:
+        start, until, was, turns, others = (
+            int(str(head[it])) for it in ("from", "until", "was", "turns", "others"))
+        if head["opening"]:
+            self.opening, lines = lines[0], lines[1:]
+        put, changed = lines[:len(lines) - others], lines[len(lines) - others:]
+        later = [moved(it, until - was, turns) for it in self.lines[was:]]
+        self.lines = [*self.lines[:start], *put, *later]
+        for line in changed:
+            self.lines[json.loads(line)["place"]] = line
+
+    def text(self) -> bytes:
+        return b"".join(it + b"\n" for it in (self.opening, *self.lines))
+
+    def texts(self) -> list[str]:
+        """The lines of the log."""
+        return [json.loads(it)["line"] for it in self.lines]
+
+
+def moved(line: bytes, places: int, turns: int) -> bytes:
+    """A line of a walk at another place, after more turns."""
+    if not places and not turns:
+        return line
+    told = json.loads(line)
+    old = [f'"place":{told["place"]},', f',"turns":{told["turns"]},']
+    new = [f'"place":{told["place"] + places},', f',"turns":{told["turns"] + turns},']
+    for before, after in zip(old, new):
+        line = line.replace(before.encode(), after.encode(), 1)
+    return line
+
+
+def events_of(content: bytes) -> list[tuple[Head, list[bytes]]]:
+    """The events of an answer, each with its lines of a walk."""
+    rows, events = content.split(b"\n")[:-1], []
+    while rows:
+        head = json.loads(rows.pop(0))
+        events.append((head, rows[:head["lines"]]))
+        rows = rows[head["lines"]:]
+    return events
+
+
+class Served:
+    """A server that runs until the `with` ends, with a copy of its log in a folder of its own."""
+
+    def __init__(self, program: str, words: list[str], *, log: bytes | str = b"",
+                 name: str = "tour.log") -> None:
+        self.room = tempfile.TemporaryDirectory(prefix="live-")
+        self.path = f"{self.room.name}/{name}"
+        if isinstance(log, str):
+            shutil.copy(log, self.path)
+        else:
+            write(self.path, log)
+        cave, *options = words
+        self.words = [cave, self.path, *options]
+        self.command = [sys.executable, f"{TOP}/tools/page/live", *self.words, "--program", program,
+                        "--no-browser"]
+        self.walk, self.errors = Walk(), ""
+
+    def __enter__(self) -> Served:
+        self.process = subprocess.Popen(
+            self.command, stdout=subprocess.PIPE, stderr=subprocess.PIPE, text=True,
+            cwd=self.room.name)
+        assert self.process.stdout and self.process.stderr
+        told = self.process.stdout.readline()
+        if not told:
+            raise RuntimeError(f"the server says: {self.process.stderr.read()}")
+        self.address = told.strip().rpartition(": ")[2]
+        parts = urlsplit(self.address)
+        self.host, self.token = parts.netloc, parts.path.strip("/")
+        self.hear("GET", "walk")
+        return self
+
+    def __exit__(self, kind: type[BaseException] | None, wrong: BaseException | None,
+                 trace: TracebackType | None) -> None:
+        self.end()
+        self.room.cleanup()
+
+    def end(self, how: signal.Signals = signal.SIGINT) -> int:
+        """Ends the server by a signal, and gives its status."""
+        if self.process.poll() is None:
+            self.process.send_signal(how)
+        self.errors += self.process.communicate(timeout=SECONDS)[1]
+        return self.process.returncode
+
+    # ---- asking
+
+    def ask(self, method: str, name: str, content: bytes | None = None, *, token: str | None = None,
+            headers: dict[str, str] | None = None) -> tuple[int, dict[str, str], bytes]:
+        """What the server answers: its status, its headers and its content."""
+        connection = http.client.HTTPConnection(self.host, timeout=SECONDS)
+        try:
+            path = f"/{self.token if token is None else token}/{name}"
+            connection.request(method, path, content, headers or {})
+            answer = connection.getresponse()
+            return answer.status, dict(answer.getheaders()), answer.read()
+        finally:
+            connection.close()
+
+    def post(self, name: str, said: object) -> tuple[int, list[tuple[Head, list[bytes]]]]:
+        """The answer of this server to a page, as events."""
+        headers = {"Content-Type": "application/json", "Origin": f"http://{self.host}"}
+        status, _, content = self.ask("POST", name, json.dumps(said).encode(), headers=headers)
+        return status, events_of(content)
+
+    def hear(self, method: str, name: str, said: Head | None = None) -> tuple[int, Head]:
+        """The same as a page does it: the answer is put into the walk."""
+        if method == "POST":
+            status, events = self.post(name, (said or {}) | {"number": self.walk.number})
+        else:
+            status, _, content = self.ask("GET", name)
+            events = events_of(content)
+        if status == 200:
+            self.walk.put(events)
+        return status, events[-1][0] if events else {}
+
+    def change(self, *edits: Head) -> tuple[int, Head]:
+        return self.hear("POST", "change", {"edits": [*edits]})
+
+    def got(self, name: str) -> bytes:
+        """A file that the server gives."""
+        return self.ask("GET", name)[2]
+
+    def file(self) -> bytes:
+        """The log on disk."""
+        return bytes_of(self.path)
+
+
+def tour(program: str) -> Served:
+    """A server of a copy of the tour."""
+    return Served(program, [*SHOAL, *SEED], log=TOUR)
