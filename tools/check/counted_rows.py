@@ -153,7 +153,8 @@ def files(tables: Sequence[str], texts: dict[str, str]) -> Iterator[tuple[str, s
     )
 
 
-def proof(what, name, says, types, own, names, tables, texts):
+def proof(what: str, name: str, says: str, types: str, own: Sequence[str],
+          names: dict[str, str], tables: Sequence[str], texts: dict[str, str]) -> str:
     """The text of a proof that goes by each table: with what it says, by which imports, and the
     definitions that only it cites."""
     cited = names | {it: OWN[it] for it in own}

@@ -104,7 +104,7 @@ def is_clause(crate: str, function: str, label: str) -> bool:
     if any(label in [*labels, "invariant", ""] for labels in labels_of(function)):
         return True
     facts = texts(crate, "specs/**/*.antt") + texts(crate, "proofs/**/*.antt")
-    return not label and any(re.search(rf"^(?:pub )?{function} :", it, re.M) for it in facts)
+    return not label and any(re.search(rf"^ *(?:pub )?{function} :", it, re.M) for it in facts)
 
 
 def is_refused_by(crate: str, name: str, said: str, clause: tuple[str, str]) -> bool:

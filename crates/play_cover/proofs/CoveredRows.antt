@@ -70,5 +70,6 @@ each_covered_row cave game covered has =
     by : Contains (map mark_of_row (OfTable table.Questions 1 ∷ [])) covered
         ⊎ Contains (flat_map (rows_at cave) (moments_from cave 0 0 begun game.log)) covered
         → IsMarkOfARow cave covered
-    by (inl first) = of_rows cave _ (first_row cave) covered first
+    by (inl first) =
+        of_rows cave (OfTable table.Questions 1 ∷ []) (first_row cave) covered first
     by (inr more) = from_lines cave 0 0 begun game.log covered more

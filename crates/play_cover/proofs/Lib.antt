@@ -1,5 +1,6 @@
 pub mod CountedRows
 pub mod CoveredRows
+pub mod KnownStage
 pub mod LawLemmas
 pub mod MoreLogsLemmas
 pub mod Noting

@@ -76,7 +76,7 @@ pub rows_noted : (rows : List RuleRow) (place : ℕ) (old new : List (List Bool)
     → length rows ≤ place → Notes (map mark_of_row (take place rows)) old new
     → Notes (map mark_of_row rows) old new
 rows_noted rows place old new past noted =
-    subst (λ all. Notes (map mark_of_row all) old new) (take_all rows place past) noted
+    subst (λ all. Notes (map mark_of_row all) old new) (take_all place rows past) noted
 
 in_both : (p q marked : Bool) → (p ≡ true → q ≡ true → marked ≡ true)
     → marked ≡ (((p && q) || false) || marked)

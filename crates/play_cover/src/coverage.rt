@@ -333,6 +333,23 @@ pub fn push_groups<T: Groups>(
     Ok(totals)
 }
 
+/// The things of a group that aren't covered.
+#[tactic(auto, unfolding(crate::specs::Coverage::missing))]
+fn find_missing<T: Groups>(
+    alloc: Global,
+    of: &T,
+    marks: &MarkSet,
+    group: T::Group,
+) -> Result<Vec<u16>, AllocError>
+    ensures { IfOk result
+        (λ found. found.items ≡ missing (T.catalogue of.now) (is_marked marks.now) group) }
+{
+    let numbers = of.present(alloc, group)?;
+    let number = of.number(group);
+    let found = missing(alloc, marks, number, &numbers)?;
+    Ok(found)
+}
+
 /// Appends the entries of what isn't covered of a group, a line each.
 fn push_missing_entry_lines<T: Groups>(
     alloc: Global,
@@ -345,9 +362,8 @@ fn push_missing_entry_lines<T: Groups>(
         ++ entry_lines (T.catalogue of.now) [] group
         (missing (T.catalogue of.now) (is_marked marks.now) group)) }
 {
-    let numbers = of.present(alloc, group)?;
-    let missing = missing(alloc, marks, of.number(group), &numbers)?;
-    push_entries(alloc, of, "", group, &missing, text)
+    let found = find_missing(alloc, of, marks, group)?;
+    push_entries(alloc, of, "", group, &found, text)
 }
 
 /// Appends the entries of all things that aren't covered, a line each.

@@ -5,8 +5,8 @@ use Rattle.std.specs.List.{filter}
 use Rattle.play_logs.proofs.Lists.{agree_flat, agree_sum}
 use Rattle.cave_data.specs.CaveView.{CaveView}
 use Rattle.map_graph.specs.Captions.{caption}
-use Rattle.map_graph.specs.Edges.{MAX_EDGES_WITH_TEXT, drawn_edge, edge, edges, is_crowded, is_shown}
-use Rattle.map_graph.specs.Edges.{labelled_edge, plain_edge}
+use Rattle.map_graph.specs.Edges.{MAX_EDGES_WITH_TEXT, drawn_edge, edge, edges, is_crowded}
+use Rattle.map_graph.specs.Edges.{is_drawn_between, is_shown, labelled_edge, plain_edge}
 use Rattle.map_graph.specs.Map.{count_taken, drawing, ends_taken, graph_opening, labels_opening}
 use Rattle.map_graph.specs.Map.{map_of_places, nodes_and_edges, places_visited, seen_counts, sums}
 use Rattle.map_graph.specs.Parts.{drawn_places, is_one_of, places_around}
@@ -37,6 +37,7 @@ module _ (cave : CaveView) (stops others : List Stop)
 
   agree_crowded : (seen : Bool) (places : List ℕ) (place : ℕ)
       → is_crowded cave stops seen places place ≡ is_crowded cave others seen places place
+  unfolding is_drawn_between
   agree_crowded seen places place =
       ap (λ found. nat_lt MAX_EDGES_WITH_TEXT (length found))
       (agree_filter _ _ places

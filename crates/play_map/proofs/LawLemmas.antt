@@ -52,8 +52,10 @@ order_of_logs_is_nothing cave seed part logs others shuffled =
     agree_map cave (stops_in_all cave seed others) (stops_in_all cave seed logs)
     (λ place. any_in_order cave seed (is_at cave place) logs others shuffled)
     (λ from to. any_in_order cave seed (comes_by cave from to) logs others shuffled)
-    (λ place. count_in_order cave seed (arrives_at place) logs others shuffled) (length others)
-    ∙ ap (map_of_places cave (stops_in_all cave seed logs) part) (length_permutation logs others shuffled)
+    (λ place. count_in_order cave seed (arrives_at place) logs others shuffled) part
+    (length others)
+    ∙ ap (map_of_places cave (stops_in_all cave seed logs) part)
+    (length_permutation logs others shuffled)
 
 pub one_map : OneMap
 one_map database bindings logs seed part =

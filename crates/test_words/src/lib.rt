@@ -12,6 +12,8 @@ mod lexicon;
 #[cfg(test)]
 mod lines;
 #[cfg(test)]
+mod refusals;
+#[cfg(test)]
 mod scripts;
 #[cfg(test)]
 mod words;

@@ -8,6 +8,6 @@ pub returns-clause-covered : goal.returns-clause-covered
 unfolding covered
 returns-clause-covered g c =
     let numbers = c.deref.ensures.value ∙ c.in_ok-numbers.ensures.numbers in
-    c.count_covered.ensures.value
+    c.count_covered-covered.ensures.value
     ∙ (λ i. length (filter (λ n. is_marked c.args.marks.now (mark (c.number-number.ensures i) n))
     (numbers i)))

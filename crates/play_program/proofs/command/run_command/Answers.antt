@@ -149,8 +149,8 @@ returns-in-Map g c =
             c.as_mut_slice-logs-in-Map.ensures.value say,
         subst
             (λ (line : Line). RunsLine line texts moves (g.W.Write.contents c.args.output.now)
-            (g.W.Write.contents c.run_map.new.output) c.over_logs-in-Map.result)
-            (sym c.in-Map.is) (c.run_map.result, c.over_logs-in-Map.ensures, runs),
+            (g.W.Write.contents c.run_map.new.output) c.over_logs.result)
+            (sym c.in-Map.is) (c.run_map.result, c.over_logs.ensures, runs),
       );
     }
 

@@ -1,0 +1,150 @@
+//! Words of a command line that are refused.
+
+use crate::commands::{printed, shown};
+use std::test::Fail;
+
+/// Words with which something is wrong, and what the answer to them says: a status, and what is
+/// wrong.
+const REFUSALS: [(&[&str], &str); 22] = [
+    (&[], "2 DisplayHelpOnMissingArgumentOrSubcommand"),
+    (&["cave", "map", "a", "--from", "0"], "2 BadPlace(\"0\")"),
+    (
+        &["cave", "map", "a", "--from", "301"],
+        "2 BadPlace(\"301\")",
+    ),
+    (
+        &["cave", "map", "a", "--from=1", "--within", "301"],
+        "2 BadWays(\"301\")",
+    ),
+    (&["cave", "map", "a", "--within", "1"], "2 WithinAlone"),
+    (&["cave", "map", "a", "--seen"], "2 SeenAlone"),
+    (&["cave", "play", "a"], "2 MissingRequiredArgument"),
+    (&["cave", "cover", "a"], "2 MissingRequiredArgument"),
+    (&["cave", "play", "a", "b", "--seed"], "2 InvalidValue"),
+    (&["cave", "sing"], "2 NoCommand(\"sing\")"),
+    (&["cave", "help", "sing"], "2 InvalidSubcommand"),
+    (&["cave", "edit", "a", "b"], "2 NoScript"),
+    (&["cave", "edit", "a", "b", "c", "-e", "d"], "2 TwoScripts"),
+    (&["cave", "check", "a", "--seed", "7"], "2 UnknownArgument"),
+    (
+        &["cave", "check", "a", "--bind=b", "--bind=b"],
+        "2 ArgumentConflict",
+    ),
+    (
+        &["cave", "play", "a", "b", "--seed", "2147483648"],
+        "2 BadSeed(\"2147483648\")",
+    ),
+    (
+        &["cave", "play", "a", "b", "--seed", "00000000007"],
+        "2 BadSeed(\"00000000007\")",
+    ),
+    (
+        &["cave", "edit", "a", "b", "c", "--every", "0"],
+        "2 BadEvery(\"0\")",
+    ),
+    (
+        &["cave", "edit", "a", "b", "c", "--every", "10001"],
+        "2 BadEvery(\"10001\")",
+    ),
+    (
+        &["cave", "edit", "a", "b", "c", "--every", "00000000001"],
+        "2 BadEvery(\"00000000001\")",
+    ),
+    (
+        &["cave", "edit", "a", "b", "c", "--print", "Log"],
+        "2 BadView(\"Log\")",
+    ),
+    (
+        &["cave", "play", "a", "b", "--print", "log"],
+        "2 BadPlayView(\"log\")",
+    ),
+];
+
+#[test]
+fn wrong_words_are_refused(rt: HostRuntime) -> Result<(), Fail> {
+    for &(words, want) in &REFUSALS {
+        assert_eq!(rt; shown(rt.alloc(), words)?.as_str(), want);
+    }
+    Ok(())
+}
+
+/// Such words, and a part of the text that is printed for them.
+const FAULTS: [(&[&str], &str); 16] = [
+    (
+        &["cave", "sing"],
+        "error: unrecognized subcommand 'sing': wanted is check, play, edit, script, cover or map\n\n\
+        Usage: cave <COMMAND>\n\n",
+    ),
+    (
+        &["cave", "chek"],
+        "or map\n\n  tip: did you mean 'check'?\n\n",
+    ),
+    (
+        &["cave", "play", "a", "b", "-s", "-1"],
+        "error: invalid value '-1' for '--seed <N>': wanted are 1 to 10 digits",
+    ),
+    (
+        &["cave", "check"],
+        "error: the following required arguments were not provided:\n  <CAVE>",
+    ),
+    (
+        &["cave", "check", "a", "--bind"],
+        "error: a value is required for '--bind <FILE>'",
+    ),
+    (
+        &["cave", "check", "a", "--bind=b", "--bind=b"],
+        "error: the argument '--bind <FILE>' cannot be used multiple times",
+    ),
+    (
+        &["cave", "play", "a", "b", "--seed", "+7"],
+        "error: invalid value '+7' for '--seed <N>': wanted are 1 to 10 digits, from 0 to \
+        2147483647",
+    ),
+    (
+        &["cave", "map", "a", "--seed", "-12"],
+        "error: invalid value '-12' for '--seed <N>': wanted are 1 to 10 digits, from 0 to \
+        2147483647",
+    ),
+    (
+        &["cave", "check", "a", "--seed", "-1"],
+        "error: unexpected argument '--seed' found",
+    ),
+    (
+        &["cave", "play", "a", "b", "--seed", "-x"],
+        "error: unexpected argument '-x' found",
+    ),
+    (
+        &["cave", "play", "a", "b", "--seed", "-"],
+        "error: invalid value '-' for '--seed <N>': wanted are 1 to 10 digits",
+    ),
+    (
+        &["cave", "play", "--", "a", "b", "--seed", "-1"],
+        "error: unexpected argument '--seed' found",
+    ),
+    (
+        &["cave", "play", "a", "b", "-1"],
+        "error: unexpected argument '-1' found",
+    ),
+    (
+        &["cave", "edit", "a", "b", "c", "--every="],
+        "error: invalid value '' for '--every <K>': wanted are 1 to 10 digits, from 1 to 10000",
+    ),
+    (
+        &["cave", "edit", "a", "b", "c", "--print", "text"],
+        "error: invalid value 'text' for '--print <WHAT>': wanted is transcript, play, log, \
+        undo, guarded, reports, table, steps, walk, score or state\n\nFor more",
+    ),
+    (
+        &["cave", "edit", "a", "b", "c", "-p", "stpes"],
+        "steps, walk, score or state\n\n  tip: did you mean 'steps'?\n\nFor more",
+    ),
+];
+
+#[test]
+fn wrong_words_have_their_fault(rt: HostRuntime) -> Result<(), Fail> {
+    for &(words, want) in &FAULTS {
+        let text = printed(rt.alloc(), words)?;
+        assert!(rt; text.as_str().contains(want), "{text}");
+    }
+    Ok(())
+}
