@@ -2,5 +2,8 @@ pub mod Names
 pub mod Unused
 pub mod Clues
 pub mod NearKey
+pub mod TextKinds
 pub mod WayWords
+pub mod TravelWords
+pub mod WaysByPlace
 pub mod Words

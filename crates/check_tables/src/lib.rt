@@ -1,12 +1,15 @@
-//! Tables of the names, messages and words of a cave, what is said about its ways, and what is known
-//! of a fault beyond its cause.
+//! Tables of the names, messages and words of a cave, what its texts are called, what is said about
+//! its ways, and what is known of a fault beyond its cause.
 #![tactic(auto)]
 
 pub mod clue;
 pub mod names;
 mod near_key;
+pub mod text_kinds;
+pub mod travel_words;
 pub mod unused;
 pub mod way_words;
+pub mod ways_by_place;
 pub mod words;
 
 pub use clue::{Clue, clue_of};

@@ -7,7 +7,8 @@ ghost use Rattle.data_rows.specs.Role.{role_number};
 ghost use Rattle.data_rows.specs.RowViews.{going};
 ghost use Rattle.check_tables.specs.Unused.{hint_says, is_number, is_said, is_unused, role_says};
 ghost use Rattle.check_tables.specs.Unused.{row_says, some_hint_says, special_word_says};
-ghost use Rattle.check_tables.specs.Unused.{unused_header, unused_messages, unused_row, unused_table};
+ghost use Rattle.check_tables.specs.Unused.{unused_header, unused_messages, unused_row};
+ghost use Rattle.check_tables.specs.Unused.{unused_table};
 ghost use Rattle.check_tables.specs.Unused.{verb_says, way_says};
 
 use base_lines::numbers::{LAST_ACTION, LAST_HINT, LAST_MESSAGE, LAST_PLACE};

@@ -3,10 +3,11 @@ use Rattle.std.proofs.Common.{ℕ, zero, suc, All, List, Option, None, Some}
 use Rattle.std.specs.Prelude.{◌==◌, ◌||◌, not}
 use Rattle.std.proofs.lemmas.List.Elements.{All-filter}
 use Rattle.cave_data.specs.CaveView.{CaveView}
-use Rattle.map_graph.specs.Parts.{drawn_places, is_way_on, places_around, places_within}
+use Rattle.map_graph.specs.Parts.{drawn_places}
+use Rattle.map_ways.specs.Regions.{is_way_on, places_around, places_within}
 use Rattle.map_graph.specs.Stops.{is_visited}
-use Rattle.play_command.specs.declared.map_part.MapPart.{MapPart}
-use Rattle.play_command.specs.declared.map_part.Surroundings.{Surroundings}
+use Rattle.map_graph.specs.declared.parts.DrawnPart.{DrawnPart}
+use Rattle.map_ways.specs.declared.regions.Region.{Region}
 use Rattle.map_graph.specs.declared.stops.Stop.{Stop}
 
 module _ (P : ℕ → Type 0) (cave : CaveView) (mapped : List ℕ) (all : All P mapped) where
@@ -15,11 +16,11 @@ module _ (P : ℕ → Type 0) (cave : CaveView) (mapped : List ℕ) (all : All P
   within_all from (suc ways) =
       All-filter (is_way_on cave (places_within cave mapped from ways)) P mapped all
 
-  around_all : (around : Option Surroundings) → All P (places_around cave mapped around)
+  around_all : (around : Option Region) → All P (places_around cave mapped around)
   around_all None = all
   around_all (Some around) = within_all around.place around.ways
 
-  pub drawn_within : (stops : List Stop) (part : MapPart)
+  pub drawn_within : (stops : List Stop) (part : DrawnPart)
       → All P (drawn_places cave stops part mapped)
   unfolding drawn_places
   drawn_within stops part =

@@ -1,6 +1,8 @@
 -- The first words of a line, one after another, and when two titles are the same.
-use Rattle.std.proofs.Common.{◌≡◌, ℕ, zero, suc, ◌+◌, ◌-◌, ◌<◌, ◌≤◌, Bool, true, false, List, [], ◌∷◌}
-use Rattle.std.proofs.Common.{◌++◌, Option, None, Some, cond, length, refl, sym, ap, ap₂, ◌∙◌, subst}
+use Rattle.std.proofs.Common.{◌≡◌, ℕ, zero, suc, ◌+◌, ◌-◌, ◌<◌, ◌≤◌, Bool, true, false, List, []}
+use Rattle.std.proofs.Common.{◌∷◌}
+use Rattle.std.proofs.Common.{◌++◌, Option, None, Some, cond, length, refl, sym, ap, ap₂, ◌∙◌}
+use Rattle.std.proofs.Common.{subst}
 use Rattle.std.proofs.Common.{append_assoc, append-nil, arith}
 use Rattle.std.specs.Prelude.{◌==◌, ◌||◌, not, bytes_eq, nat_lt}
 use Rattle.std.proofs.lemmas.Bool.{eq-eqb, eqb-false, eqb-true, false≢true, ltb-false, ltb-true}
@@ -9,12 +11,12 @@ use Rattle.std.proofs.lemmas.Slice.Eq.{bytes_eq-Decides}
 use Rattle.base_lines.specs.Bytes.{after_prefix, is_blank, is_nonblank, prefix_while}
 use Rattle.cave_data.specs.CaveView.{CaveView}
 use Rattle.cave_words.specs.Words.{after_first_run, first_word_of, some_run}
-use Rattle.map_graph.specs.Parts.{is_one_of}
+use Rattle.map_ways.specs.Regions.{is_one_of}
 use Rattle.map_graph.specs.Titles.{MAX_TITLE_WORDS, TitlesTellApart, WORDS_SHOWN, count_shared}
-use Rattle.map_graph.proofs.Bools.{not_false, or_none}
 use Rattle.map_graph.specs.Titles.{first_words, greater_of, parts_from, title_source, word_start}
 use Rattle.map_graph.specs.Titles.{words_as_shown, words_from, words_of_line, words_telling}
 use Rattle.map_graph.specs.Titles.{words_telling_all}
+use Rattle.map_ways.proofs.Bools.{not_false, or_none}
 
 no_word : (word : List ℕ) (others : List (List ℕ)) → (length word == 0) ≡ true
     → words_from (some_run word) others ≡ []

@@ -1,9 +1,10 @@
 -- What stands above a map: how much of the cave plays saw, which part is drawn, and a legend.
-use Rattle.std.specs.Prelude.{ℕ, Bool, ◌==◌, if◌then◌else◌, List, [], ◌++◌, codes, Option, None, Some}
+use Rattle.std.specs.Prelude.{ℕ, Bool, ◌==◌, if◌then◌else◌, List, [], ◌++◌, codes, Option, None}
+use Rattle.std.specs.Prelude.{Some}
 use Rattle.std.specs.Fmt.{decimal}
 use Rattle.map_graph.specs.declared.captions.SeenCounts.{SeenCounts}
-use Rattle.play_command.specs.declared.map_part.MapPart.{MapPart}
-use Rattle.play_command.specs.declared.map_part.Surroundings.{Surroundings}
+use Rattle.map_graph.specs.declared.parts.DrawnPart.{DrawnPart}
+use Rattle.map_ways.specs.declared.regions.Region.{Region}
 
 -- how many of a cave's places and ways plays of this many logs saw
 abbrev pub seen_words : SeenCounts → ℕ → List ℕ
@@ -21,7 +22,7 @@ abbrev pub title_of_map : SeenCounts → ℕ → List ℕ
 title_of_map counts logs = if logs == 0 then count_words counts else seen_words counts logs
 
 -- which places are drawn, if not all are
-abbrev pub around_words : Option Surroundings → List ℕ
+abbrev pub around_words : Option Region → List ℕ
 around_words None = []
 around_words (Some around) =
     codes "<BR/>drawn: at most " ++ (decimal around.ways
@@ -30,7 +31,7 @@ around_words (Some around) =
 abbrev pub seen_only_words : Bool → List ℕ
 seen_only_words seen = if seen then codes "<BR/>drawn: what the logs saw" else []
 
-abbrev pub part_words : MapPart → List ℕ
+abbrev pub part_words : DrawnPart → List ℕ
 part_words part = around_words part.around ++ seen_only_words part.seen
 
 -- what lines and colours mean that show what plays saw
@@ -38,7 +39,8 @@ abbrev pub seen_legend : Bool → List ℕ
 seen_legend seen =
     codes "<TD BORDER=\"3\">a log was here</TD>"
     ++ ((if seen then []
-    else codes "<TD BORDER=\"1\" COLOR=\"gray65\"><FONT COLOR=\"gray40\">no log was here</FONT></TD>")
+    else
+    codes "<TD BORDER=\"1\" COLOR=\"gray65\"><FONT COLOR=\"gray40\">no log was here</FONT></TD>")
     ++ codes "<TD>hollow head: no log went there</TD>")
 
 abbrev pub logs_legend : ℕ → Bool → List ℕ
@@ -65,11 +67,11 @@ caption_opening =
 abbrev pub legend_opening : List ℕ
 legend_opening = codes "</FONT></TD></TR><TR><TD><TABLE BORDER=\"0\" CELLSPACING=\"6\"><TR>"
 
-abbrev pub heading : SeenCounts → ℕ → MapPart → List ℕ
+abbrev pub heading : SeenCounts → ℕ → DrawnPart → List ℕ
 heading counts logs part =
     caption_opening ++ (title_of_map counts logs ++ (part_words part ++ legend_opening))
 
 -- the line of what stands above the map
-unfoldable pub caption : SeenCounts → ℕ → MapPart → List ℕ
+unfoldable pub caption : SeenCounts → ℕ → DrawnPart → List ℕ
 caption counts logs part =
     heading counts logs part ++ ((logs_legend logs part.seen ++ cave_legend) ++ words_legend)

@@ -6,7 +6,7 @@ use Rattle.std.specs.List.{filter, flat_map}
 use Rattle.cave_data.specs.CaveView.{CaveView}
 use Rattle.map_ways.specs.Labels.{label_of}
 use Rattle.map_ways.specs.Ways.{are_joined, ends_of_edges, is_way}
-use Rattle.map_graph.specs.Parts.{is_one_of}
+use Rattle.map_ways.specs.Regions.{is_one_of}
 use Rattle.map_graph.specs.Places.{strength}
 use Rattle.map_graph.specs.Stops.{is_way_taken}
 use Rattle.map_graph.specs.declared.stops.Stop.{Stop}
@@ -89,7 +89,8 @@ plain_opening from to tail head =
 unfoldable pub plain_edge : CaveView → List Stop → ℕ → ℕ → ℕ → List ℕ
 plain_edge cave stops logs from to =
     plain_opening from to (head_back cave stops from to) (head_at cave stops from to)
-    ++ (label_of (edge_text cave from to) ++ (edge_strength cave stops logs from to ++ codes "];\n"))
+    ++ (label_of (edge_text cave from to)
+    ++ (edge_strength cave stops logs from to ++ codes "];\n"))
 
 -- the line of an edge
 abbrev pub edge : CaveView → List Stop → ℕ → Bool → ℕ → ℕ → List ℕ

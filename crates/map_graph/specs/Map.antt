@@ -10,7 +10,7 @@ use Rattle.map_graph.specs.Places.{node}
 use Rattle.map_graph.specs.Stops.{is_way_taken, is_visited}
 use Rattle.map_ways.specs.Ways.{ends_of_ways, mapped_places}
 use Rattle.map_graph.specs.declared.captions.SeenCounts.{SeenCounts}
-use Rattle.play_command.specs.declared.map_part.MapPart.{MapPart}
+use Rattle.map_graph.specs.declared.parts.DrawnPart.{DrawnPart}
 use Rattle.map_graph.specs.declared.stops.Stop.{Stop}
 use Rattle.map_ways.specs.Labels.{is_one_line}
 
@@ -75,13 +75,13 @@ nodes_and_edges cave mapped stops logs seen places =
     ++ (labels_opening ++ flat_map (edges cave stops logs seen places) places)
 
 -- the part of a map that is drawn, with what stands above it
-unfoldable pub drawing : CaveView → List ℕ → List Stop → MapPart → ℕ → List ℕ
+unfoldable pub drawing : CaveView → List ℕ → List Stop → DrawnPart → ℕ → List ℕ
 drawing cave mapped stops part logs =
     caption (seen_counts cave stops) logs part
     ++ nodes_and_edges cave mapped stops logs part.seen (drawn_places cave stops part mapped)
 
 -- the map, or a part of it, if plays of this many logs had these stops
-unfoldable pub map_of_places : CaveView → List Stop → MapPart → ℕ → List ℕ
+unfoldable pub map_of_places : CaveView → List Stop → DrawnPart → ℕ → List ℕ
 map_of_places cave stops part logs =
     graph_opening
     ++ (drawing cave (mapped_places cave) stops part logs

@@ -1,13 +1,12 @@
 -- Where a player is in the states of plays, and by which ways the player goes on a line.
-use Rattle.std.specs.Prelude.{ℕ, Bool, true, false, ◌==◌, ◌&&◌, ◌||◌, not, if◌then◌else◌}
-use Rattle.std.specs.Prelude.{List, [], ◌∷◌, ◌++◌, length, Option, None, Some}
-use Rattle.std.specs.List.{filter, list_any, slice_get}
-use Rattle.data_rows.specs.Rows.{Going}
-use Rattle.cave_data.specs.CaveView.{CaveView, ways_from}
+use Rattle.std.specs.Prelude.{ℕ, Bool, true, false, ◌==◌, ◌&&◌, ◌||◌, not, if◌then◌else◌, List, []}
+use Rattle.std.specs.Prelude.{◌∷◌, ◌++◌, length}
+use Rattle.std.specs.List.{filter, list_any}
+use Rattle.cave_data.specs.CaveView.{CaveView}
 use Rattle.cave_world.specs.declared.tables.RuleRow.{RuleRow}
 use Rattle.cave_world.specs.declared.tables.RuleRow.TheVariants.{OfPlace, OfTable}
 use Rattle.cave_world.specs.declared.tables.Table.TheVariants.{Blocking}
-use Rattle.map_ways.specs.Ways.{ends_at}
+use Rattle.map_ways.specs.Ways.{leads_by}
 use Rattle.map_graph.specs.declared.stops.Stop.{Stop}
 use Rattle.map_graph.specs.declared.stops.Stop.TheVariants.{InState, OnWay}
 
@@ -30,15 +29,6 @@ ways_by_rows [] = []
 ways_by_rows (row ∷ later) = way_by_row row later ++ ways_by_rows later
 
 -- ---- what stops say
-
-abbrev pub is_row_to : ℕ → Option Going → Bool
-is_row_to place None = false
-is_row_to place (Some row) = ends_at place row
-
--- that row of the place which has this index leads to the other place: it says no message, doesn't
--- just put the emerald down, and has no rules of its own
-abbrev pub leads_by : CaveView → ℕ → ℕ → ℕ → Bool
-leads_by cave from index to = is_row_to to (slice_get (ways_from cave from) index)
 
 -- the player is at the place in the state, or a way that the player takes begins or ends there
 abbrev pub is_at : CaveView → ℕ → Stop → Bool

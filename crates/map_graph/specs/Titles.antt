@@ -1,8 +1,9 @@
 -- The title of a place: the first words of its text, as many as tell it from other places.
-use Rattle.std.specs.Prelude.{◌≡◌, true, Bool, ℕ, zero, suc, ◌+◌, ◌%◌, ◌==◌, ◌&&◌, ◌||◌, not, nat_lt, if◌then◌else◌}
+use Rattle.std.specs.Prelude.{◌≡◌, true, Bool, ℕ, zero, suc, ◌+◌, ◌%◌, ◌==◌, ◌&&◌, ◌||◌, not}
+use Rattle.std.specs.Prelude.{nat_lt, if◌then◌else◌}
 use Rattle.std.specs.Prelude.{List, [], ◌∷◌, ◌++◌, Option, None, Some, unwrap_or, length, bytes_eq}
 use Rattle.std.specs.FinMap as map
-use Rattle.map_graph.specs.Parts.{is_one_of}
+use Rattle.map_ways.specs.Regions.{is_one_of}
 use Rattle.data_bindings.specs.Listing.{first_line}
 use Rattle.cave_data.specs.CaveView.{CaveView}
 use Rattle.cave_words.specs.Words.{after_first_run, first_word_of}

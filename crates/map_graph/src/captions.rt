@@ -6,7 +6,8 @@ ghost use Rattle.map_graph.specs.Captions.{count_words, heading, legend_opening,
 ghost use Rattle.map_graph.specs.Captions.{part_words, seen_legend, seen_only_words, seen_words};
 ghost use Rattle.map_graph.specs.Captions.{title_of_map, words_legend};
 
-use play_command::{MapPart, Surroundings};
+use crate::parts::DrawnPart;
+use map_ways::Region;
 use std::alloc::{AllocError, Global};
 
 /// How many places and ways there are, and how many of them plays saw.
@@ -64,12 +65,12 @@ fn push_title_of_map(
 /// Appends which places are drawn, if not all are.
 fn push_around_words(
     alloc: Global,
-    around: Option<Surroundings>,
+    around: Option<Region>,
     text: &mut Vec<u8>,
 ) -> Result<(), AllocError>
     ensures { OnOk result (text.new.items ≡ text.old.items ++ around_words around) }
 {
-    let Some(Surroundings { place, ways }) = around else {
+    let Some(Region { place, ways }) = around else {
         return Ok(());
     };
     let words = format!(in alloc; "<BR/>drawn: at most {ways} ways from place {place}")?;
@@ -86,7 +87,7 @@ fn seen_only_words(seen: bool) -> &'static str
     }
 }
 
-fn push_part_words(alloc: Global, part: MapPart, text: &mut Vec<u8>) -> Result<(), AllocError>
+fn push_part_words(alloc: Global, part: DrawnPart, text: &mut Vec<u8>) -> Result<(), AllocError>
     ensures { OnOk result (text.new.items ≡ text.old.items ++ part_words part) }
 {
     push_around_words(alloc, part.around, text)?;
@@ -157,7 +158,7 @@ fn push_heading(
     alloc: Global,
     counts: SeenCounts,
     logs: usize,
-    part: MapPart,
+    part: DrawnPart,
     text: &mut Vec<u8>,
 ) -> Result<(), AllocError>
     ensures { OnOk result (text.new.items
@@ -175,7 +176,7 @@ pub fn push_caption(
     alloc: Global,
     counts: SeenCounts,
     logs: usize,
-    part: MapPart,
+    part: DrawnPart,
     text: &mut Vec<u8>,
 ) -> Result<(), AllocError>
     ensures { OnOk result (text.new.items ≡ text.old.items ++ caption counts logs part) }

@@ -11,12 +11,11 @@ ghost use Rattle.map_graph.specs.Edges.{labelled_edge, part_from_label, part_to_
 ghost use Rattle.map_graph.specs.Edges.{plain_opening};
 
 use crate::nodes::strength;
-use crate::parts::is_one_of;
 use crate::sights::Sights;
 use crate::stops::{Stop, is_way_taken};
 use crate::way_texts::push_way;
 use cave_data::Cave;
-use map_ways::{are_joined, ends_of_edges, is_way, push_label};
+use map_ways::{are_joined, ends_of_edges, is_one_of, is_way, push_label};
 use std::alloc::{AllocError, Global};
 
 /// The most edges of a place at which texts leave room for the places.

@@ -1,7 +1,6 @@
 //! Laws about the graph. Each is the contract of a function that does nothing.
 
 ghost use Rattle.map_graph.specs.Map.{EdgesAreLines, NodesAreLines};
-ghost use Rattle.map_graph.specs.Parts.{RegionIsWalked};
 ghost use Rattle.map_graph.specs.Titles.{TitlesTellApart};
 
 /// Each node is one line of the map.
@@ -17,9 +16,4 @@ pub fn edges_are_lines()
 /// Two places have one title only if the first lines of their texts have the same words.
 pub fn titles_tell_apart()
     ensures { TitlesTellApart }
-{}
-
-/// A place is within some ways of another exactly if a walk of at most as many ways leads there.
-pub fn region_is_walked()
-    ensures { RegionIsWalked }
 {}

@@ -14,13 +14,12 @@ ghost use Rattle.map_ways.specs.Ways.{ends_of_ways, mapped_places};
 use crate::captions::{SeenCounts, push_caption, push_seen_words};
 use crate::edges::push_edges;
 use crate::nodes::push_node;
-use crate::parts::drawn_places;
+use crate::parts::{DrawnPart, drawn_places};
 use crate::sights::Sights;
 use crate::stops::{Stop, is_visited, is_way_taken};
 use base_lines::numbers::LAST_PLACE;
 use cave_data::Cave;
 use map_ways::{count_ends_of_ways, is_way, mapped_places};
-use play_command::MapPart;
 use std::alloc::{AllocError, Global};
 
 /// Appends how the graph begins.
@@ -169,7 +168,7 @@ fn push_drawn_nodes_and_edges(
     cave: &Cave,
     mapped: &[u16],
     stops: &[Stop],
-    drawn: (MapPart, usize),
+    drawn: (DrawnPart, usize),
     text: &mut Vec<u8>,
 ) -> Result<(), AllocError>
     requires { mapped.now ≡ mapped_places cave.now }
@@ -194,7 +193,7 @@ fn push_map_of_places(
     cave: &Cave,
     mapped: &[u16],
     stops: &[Stop],
-    drawn: (MapPart, usize),
+    drawn: (DrawnPart, usize),
     text: &mut Vec<u8>,
 ) -> Result<(), AllocError>
     requires { mapped.now ≡ mapped_places cave.now }
@@ -214,7 +213,7 @@ pub fn push_map(
     alloc: Global,
     cave: &Cave,
     stops: &[Stop],
-    part: MapPart,
+    part: DrawnPart,
     logs: usize,
     text: &mut Vec<u8>,
 ) -> Result<(), AllocError>

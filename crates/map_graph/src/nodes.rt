@@ -38,7 +38,8 @@ fn begins_at(cave: &Cave, place: u16, object: u16) -> bool
 #[tactic(auto, using(map_ways::proofs::Rows::in_range), unfolding(crate::specs::Places::objects_beginning))]
 fn objects_beginning(alloc: Global, cave: &Cave, place: u16) -> Result<Vec<u16>, AllocError>
     ensures value { IfOk result (λ objects. objects.items ≡ objects_beginning cave.now place) }
-    ensures within { IfOk result (λ objects. All (λ object. object ≤ defined.LAST_OBJECT) objects.items) }
+    ensures within { IfOk result (λ objects.
+        All (λ object. object ≤ defined.LAST_OBJECT) objects.items) }
 {
     (1..LAST_OBJECT + 1)
         .filter(|object| begins_at(cave, place, *object))
@@ -291,9 +292,8 @@ pub fn push_node(
     text: &mut Vec<u8>,
 ) -> Result<(), AllocError>
     requires { place ≤ LAST_PLACE }
-    ensures { OnOk result
-        (text.new.items
-        ≡ text.old.items ++ node cave.now mapped.now sights.entry.stops.now sights.entry.logs place) }
+    ensures { OnOk result (text.new.items ≡ text.old.items
+        ++ node cave.now mapped.now sights.entry.stops.now sights.entry.logs place) }
 {
     push_node_opening(alloc, place, text)?;
     push_node_label(alloc, cave, mapped, sights.stops, place, text)?;

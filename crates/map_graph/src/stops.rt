@@ -1,15 +1,12 @@
 //! Where a player is in the states of plays, and by which ways the player goes on a line.
 
-ghost use Rattle.std.specs.Prelude.{◌≡◌, ◌++◌, OnOk, option_map};
-ghost use Rattle.data_rows.specs.RowViews.{going};
-ghost use Rattle.map_graph.specs.Stops.{arrives_at, comes_by, is_at, is_blocked, is_row_to};
-ghost use Rattle.map_graph.specs.Stops.{is_visited, is_way_taken, leads_by, visits, way_by_row};
-ghost use Rattle.map_graph.specs.Stops.{ways_by_rows};
+ghost use Rattle.std.specs.Prelude.{◌≡◌, ◌++◌, OnOk};
+ghost use Rattle.map_graph.specs.Stops.{arrives_at, comes_by, is_at, is_blocked, is_visited};
+ghost use Rattle.map_graph.specs.Stops.{is_way_taken, visits, way_by_row, ways_by_rows};
 
 use cave_data::Cave;
 use cave_world::{RuleRow, Table};
-use data_rows::Row;
-use map_ways::ends_at;
+use map_ways::leads_by;
 use std::alloc::AllocError;
 use world_objects::Place;
 
@@ -52,22 +49,6 @@ pub fn push_ways_by_rows(rows: &[RuleRow], stops: &mut Vec<Stop>) -> Result<(), 
         rest = later;
     }
     Ok(())
-}
-
-fn is_row_to(row: Option<&Row>, place: u16) -> bool
-    ensures { result ≡ is_row_to place (option_map (λ row. going row.now) row.entry) }
-{
-    match row {
-        Some(row) => ends_at(row, place),
-        None => false,
-    }
-}
-
-/// Whether that row of a place which has an index leads to another place.
-fn leads_by(cave: &Cave, from: u16, index: usize, to: u16) -> bool
-    ensures { result ≡ leads_by cave.now from index to }
-{
-    is_row_to(cave.travel(from).get(index), to)
 }
 
 impl Stop {

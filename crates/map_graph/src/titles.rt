@@ -1,7 +1,8 @@
 //! The title of a place: the first words of its text, as many as tell it from other places.
 
 ghost use Rattle.std.specs.Prelude.{◌≡◌, ◌≤◌, ◌++◌, OnOk};
-ghost use Rattle.map_graph.specs.Titles.{count_shared, first_words, greater_of, or_other, parts_from};
+ghost use Rattle.map_graph.specs.Titles.{count_shared, first_words, greater_of, or_other};
+ghost use Rattle.map_graph.specs.Titles.{parts_from};
 ghost use Rattle.map_graph.specs.Titles.{text_for_title, title, title_source, word_start};
 ghost use Rattle.map_graph.specs.Titles.{words_as_shown, words_of_line, words_telling};
 ghost use Rattle.map_graph.specs.Titles.{words_telling_all};

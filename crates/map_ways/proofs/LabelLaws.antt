@@ -109,7 +109,8 @@ leads_by_stream cave motion from to s at leads =
           (
             All-nil IsDraw,
             ap (λ all. (result_of_last (record { state = s; outcome = NoMotion }) all).outcome)
-                (by_stream (emerald_of cave) s None (count_unlisted motion ways) (from_listed motion ways))
+                (by_stream (emerald_of cave) s None (count_unlisted motion ways)
+                (from_listed motion ways))
                 ∙ leads,
           ),
         ),

@@ -275,7 +275,8 @@ module _ (emerald : ℕ) (s : State) (place : ℕ) where
       ≡ led_on o draws (after_trying_row emerald (with_draw draw t) row) number row rows
   led_first draw draws t failed row rows tried o is number before =
       ap (λ b. led_by b (draw ∷ draws) t failed number row rows before) tried
-      ∙ ap (λ p. led_on p draws (after_trying_row emerald (with_draw draw t) row) number row rows) is
+      ∙ ap (λ p. led_on p draws (after_trying_row emerald (with_draw draw t) row) number row rows)
+      is
 
   step_on : (draw : ℕ) (t : State) (failed : Option ℕ) (row : Going) (rows : List Going)
       → IsDraw draw → is_passed failed row ≡ false → row_outcome (with_draw draw t) row ≡ None

@@ -25,3 +25,5 @@ pub mod Begun
 pub mod Bytes
 pub mod LabelLemmas
 pub mod LineLemmas
+pub mod Bools
+pub mod RegionLemmas

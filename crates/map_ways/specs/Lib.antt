@@ -2,6 +2,7 @@ pub mod Conditions
 pub mod Leads
 pub mod Falls
 pub mod Ways
+pub mod Regions
 pub mod Laws
 pub mod Labels
 pub mod LabelTexts

@@ -1,7 +1,7 @@
 -- Places of a cave, and the ways between them.
 use Rattle.std.specs.Prelude.{ℕ, Bool, true, false, ◌==◌, ◌&&◌, ◌||◌, nat_le, is_some}
-use Rattle.std.specs.Prelude.{List, [], ◌∷◌, ◌++◌, length}
-use Rattle.std.specs.List.{filter, list_any, range_with_len}
+use Rattle.std.specs.Prelude.{List, [], ◌∷◌, ◌++◌, length, Option, None, Some}
+use Rattle.std.specs.List.{filter, list_any, range_with_len, slice_get}
 use Rattle.std.specs.FinMap as map
 use Rattle.data_rows.specs.Rows.{Going}
 use Rattle.data_rows.specs.Targets.{leads_to_place}
@@ -31,6 +31,15 @@ lead_to emerald place before (row ∷ rows) =
 -- it
 abbrev pub is_way : CaveView → ℕ → ℕ → Bool
 is_way cave from to = lead_to (emerald_of cave) to [] (ways_from cave from)
+
+abbrev pub is_row_to : ℕ → Option Going → Bool
+is_row_to place None = false
+is_row_to place (Some row) = ends_at place row
+
+-- that row of the place which has this index leads to the other place: it says no message, doesn't
+-- just put the emerald down, and has no rules of its own
+abbrev pub leads_by : CaveView → ℕ → ℕ → ℕ → Bool
+leads_by cave from index to = is_row_to to (slice_get (ways_from cave from) index)
 
 -- a way leads from one of the two places to the other
 abbrev pub are_joined : CaveView → ℕ → ℕ → Bool

@@ -3,6 +3,7 @@
 ghost use Rattle.map_ways.specs.Laws.{AppliedRowsAreWays, EachPlaceHasOneNode};
 ghost use Rattle.map_ways.specs.Laws.{EachWayHasOneEdge, EndsAreNodes};
 ghost use Rattle.map_ways.specs.Laws.{LabelsNameWhatLeads, WaysAreWhatLeads, WhatLeadsIsNamed};
+ghost use Rattle.map_ways.specs.Regions.{RegionIsWalked};
 
 /// Each place that has a text, or a way, is exactly once among the places of the map, and no other
 /// is.
@@ -40,4 +41,9 @@ pub fn ways_are_what_leads()
 /// place.
 pub fn applied_rows_are_ways()
     ensures { AppliedRowsAreWays }
+{}
+
+/// A place is within some ways of another exactly if a walk of at most as many ways leads there.
+pub fn region_is_walked()
+    ensures { RegionIsWalked }
 {}

@@ -1,13 +1,13 @@
 //! Places of a cave, and the ways between them.
 
-ghost use Rattle.std.specs.Prelude.{◌≡◌, ◌≤◌, All, IfOk, [], length, map};
+ghost use Rattle.std.specs.Prelude.{◌≡◌, ◌≤◌, All, IfOk, [], length, map, option_map};
 ghost use Rattle.std.specs.List.{filter};
 ghost use Rattle.base_lines.specs.Numbers as defined;
 ghost use Rattle.data_rows.specs.RowViews.{going};
 ghost use Rattle.map_ways.specs.Leads.{emerald_of};
 ghost use Rattle.map_ways.specs.Ways.{are_joined, begins_edge, count_nowhere, ends_at};
-ghost use Rattle.map_ways.specs.Ways.{ends_of_edges, ends_of_ways, has_way, is_mapped, is_way};
-ghost use Rattle.map_ways.specs.Ways.{lead_to, leads_nowhere, mapped_places};
+ghost use Rattle.map_ways.specs.Ways.{ends_of_edges, ends_of_ways, has_way, is_mapped, is_row_to};
+ghost use Rattle.map_ways.specs.Ways.{is_way, lead_to, leads_by, leads_nowhere, mapped_places};
 
 use crate::falls::is_reached;
 use base_lines::numbers::LAST_PLACE;
@@ -39,6 +39,22 @@ fn lead_to(cave: &Cave, rows: &[Row], place: u16) -> bool
         }
     }
     false
+}
+
+fn is_row_to(row: Option<&Row>, place: u16) -> bool
+    ensures { result ≡ is_row_to place (option_map (λ row. going row.now) row.entry) }
+{
+    match row {
+        Some(row) => ends_at(row, place),
+        None => false,
+    }
+}
+
+/// Whether that row of a place which has an index leads to another place.
+pub fn leads_by(cave: &Cave, from: u16, index: usize, to: u16) -> bool
+    ensures { result ≡ leads_by cave.now from index to }
+{
+    is_row_to(cave.travel(from).get(index), to)
 }
 
 /// Whether a way leads from one of two places to the other.

@@ -23,7 +23,8 @@ of_rows : (cave : CaveView) (rows : List RuleRow)
     → ((row : RuleRow) → Contains rows row → IsRow cave row) → (covered : Mark)
     → Contains (map mark_of_row rows) covered → IsMarkOfARow cave covered
 of_rows cave [] each covered (at, less, is) = absurd (omega (arith, less))
-of_rows cave (row ∷ rows) each covered (zero, less, is) = (row, each row (zero, omega arith, refl), is)
+of_rows cave (row ∷ rows) each covered (zero, less, is) =
+    (row, each row (zero, omega arith, refl), is)
 of_rows cave (row ∷ rows) each covered (suc at, less, is) =
     of_rows cave rows (λ other (i, small, same). each other (suc i, omega (arith, small), same))
     covered (at, omega (arith, less), is)

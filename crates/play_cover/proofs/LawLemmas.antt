@@ -18,7 +18,8 @@ abbrev covers : CoverView → CaveView → ℕ → Mark → List ℕ → Bool
 covers view cave seed mark log = is_among mark (covered_in_log view cave seed log)
 
 among_all : (view : CoverView) (cave : CaveView) (seed : ℕ) (logs : List (List ℕ)) (mark : Mark)
-    → is_among mark (covered_in_all view cave seed logs) ≡ list_any (covers view cave seed mark) logs
+    → is_among mark (covered_in_all view cave seed logs)
+    ≡ list_any (covers view cave seed mark) logs
 among_all view cave seed logs mark = any_flat (is_same mark) (covered_in_log view cave seed) logs
 
 pub order_is_nothing : OrderIsNothing

@@ -1,10 +1,8 @@
 pub mod CountedRows
 pub mod CoveredRows
-pub mod KnownStage
 pub mod LawLemmas
 pub mod MoreLogsLemmas
 pub mod Noting
-pub mod Numbers
 pub mod Padding
 pub mod Reaching
 pub mod RowMarkLemmas

@@ -13,7 +13,7 @@ use Rattle.play_cover.specs.RowReport.{rule_rows}
 use Rattle.play_cover.specs.TravelRows.{ways_missing}
 use Rattle.play_cover.specs.TextReport.{cave_texts}
 use Rattle.play_cover.specs.declared.marks.Mark.{Mark}
-use Rattle.play_cover.specs.declared.text.TextKind.{TextKind}
+use Rattle.check_tables.specs.declared.text_kinds.TextKind.{TextKind}
 
 -- the first list is the second with none, some or all of its things left out
 pub data IsPartOf {A : Type 0} : List A → List A → Type 0 where

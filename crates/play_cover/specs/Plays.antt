@@ -84,7 +84,8 @@ covered_in_all view cave seed logs = flat_map (covered_in_log view cave seed) lo
 module _ (known : KnownEntries) (database : List ℕ) (cave : CaveView) (seed : ℕ) where
   abbrev pub report_of_logs : CoverView → List (List ℕ) → ℕ → List ℕ
   report_of_logs view logs count =
-      report_by view known database cave (λ mark. is_among mark (covered_in_all view cave seed logs))
+      report_by view known database cave
+      (λ mark. is_among mark (covered_in_all view cave seed logs))
       count
 
   abbrev pub cover_text : CoverView → List (List ℕ) → List ℕ
@@ -116,7 +117,8 @@ OrderIsNothing =
     (known : KnownEntries) (database : List ℕ) (cave : CaveView) (seed : ℕ) (view : CoverView)
     (logs others : List (List ℕ))
     → IsPermutation logs others
-    → cover_text known database cave seed view others ≡ cover_text known database cave seed view logs
+    → cover_text known database cave seed view others
+    ≡ cover_text known database cave seed view logs
 
 -- a log that is given once more changes nothing in it except the number of logs
 abbrev pub AgainIsNothing : Type 0
@@ -133,4 +135,5 @@ abbrev pub OneCoveredOutput : Type 0
 OneCoveredOutput =
     (database bindings : List ℕ) (known : KnownEntries) (logs : List (List ℕ)) (seed : ℕ)
     (view : CoverView)
-    → AtMostOne (λ output. (left : ℕ) × IsCovered database bindings known logs seed view left output)
+    → AtMostOne
+    (λ output. (left : ℕ) × IsCovered database bindings known logs seed view left output)

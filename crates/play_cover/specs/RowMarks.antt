@@ -24,4 +24,5 @@ IsSameRow _ _ = ⊥
 
 -- rows with the same mark are the same row
 abbrev pub EachRowHasItsMark : Type 0
-EachRowHasItsMark = (one other : RuleRow) → mark_of_row one ≡ mark_of_row other → IsSameRow one other
+EachRowHasItsMark =
+    (one other : RuleRow) → mark_of_row one ≡ mark_of_row other → IsSameRow one other

@@ -11,7 +11,8 @@ use Rattle.play_cover.specs.EachTable.{tables}
 use Rattle.play_cover.specs.Known.{KnownEntries, unmet_text}
 use Rattle.play_cover.specs.RuleTables.{row_count, table_name, table_number}
 use Rattle.play_cover.specs.RuleTables.{words_of_row}
-use Rattle.play_cover.specs.TravelRows.{left_ways, missing_ways, travel_text, way_entries}
+use Rattle.check_tables.specs.TravelWords.{way_entries}
+use Rattle.play_cover.specs.TravelRows.{left_ways, missing_ways, travel_text}
 use Rattle.play_cover.specs.TravelRows.{ways_applied}
 use Rattle.play_cover.specs.declared.coverage.Detail.TheVariants.{Both}
 use Rattle.play_cover.specs.declared.marks.Mark.{Mark}

@@ -1,73 +1,24 @@
 -- The report on the texts of a cave, some of which were said.
-use Rattle.std.specs.Prelude.{ℕ, ◌/◌, ◌%◌, Bool, List, [], ◌∷◌, ◌++◌, codes, slice_index_or}
-use Rattle.std.specs.Prelude.{Option, None, Some, option_map}
+use Rattle.std.specs.Prelude.{ℕ, Bool, List, [], ◌++◌, codes}
 use Rattle.std.specs.Fmt.{decimal}
 use Rattle.std.specs.List.{filter, range_with_len}
-use Rattle.std.specs.FinMap as map
-use Rattle.cave_data.specs.CaveView.{CaveView, Rated, class_of, look_of, name_of}
-use Rattle.data_bindings.specs.Listing.{first_line}
-use Rattle.data_rows.specs.Role.{ROLE_NAMES}
+use Rattle.cave_data.specs.CaveView.{CaveView}
 use Rattle.play_command.specs.declared.views.TextView.{TextView}
 use Rattle.play_command.specs.declared.views.TextView.TheVariants as asked
 use Rattle.play_cover.specs.Coverage.{Catalogue, all_entries, covered_count, groups_text}
 use Rattle.play_cover.specs.Coverage.{left_count, present_count}
 use Rattle.play_cover.specs.Known.{KnownEntries, unmet_text}
-use Rattle.play_cover.specs.Texts.{PROPS_PER_OBJECT, end_of_numbers, has_text, kind_number}
+use Rattle.check_tables.specs.TextKinds.{first_line_shown, heading_of_kind, kind_number, kinds}
+use Rattle.check_tables.specs.TextKinds.{name_of_text, text_at, word_of_kind}
+use Rattle.play_cover.specs.Texts.{end_of_numbers, has_text}
 use Rattle.play_cover.specs.declared.coverage.Detail.{Detail}
 use Rattle.play_cover.specs.declared.coverage.Detail.TheVariants as detail
 use Rattle.play_cover.specs.declared.marks.Mark.{Mark}
-use Rattle.play_cover.specs.declared.text.TextKind.{TextKind}
-use Rattle.play_cover.specs.declared.text.TextKind.TheVariants as kind
-
--- the kinds in the order of the sections
-abbrev pub kinds : List TextKind
-kinds = kind.Long ∷ kind.Short ∷ kind.Look ∷ kind.Name ∷ kind.Message ∷ kind.Role ∷ kind.Class ∷ []
-
-abbrev pub heading_of_kind : TextKind → List ℕ
-heading_of_kind kind.Long = codes "long texts"
-heading_of_kind kind.Short = codes "short texts"
-heading_of_kind kind.Look = codes "object texts"
-heading_of_kind kind.Name = codes "inventory texts"
-heading_of_kind kind.Message = codes "messages"
-heading_of_kind kind.Role = codes "roles"
-heading_of_kind kind.Class = codes "classes"
-
--- the name for one text of a kind
-abbrev pub word_of_kind : TextKind → List ℕ
-word_of_kind kind.Long = codes "long text"
-word_of_kind kind.Short = codes "short text"
-word_of_kind kind.Look = codes "object text"
-word_of_kind kind.Name = codes "inventory text"
-word_of_kind kind.Message = codes "message"
-word_of_kind kind.Role = codes "role"
-word_of_kind kind.Class = codes "class"
-
--- how a text of a kind is named
-abbrev pub name_of_text : TextKind → ℕ → List ℕ
-name_of_text kind.Look number = decimal (number / PROPS_PER_OBJECT)
-    ++ (codes ":" ++ decimal (number % PROPS_PER_OBJECT))
-name_of_text kind.Role number = slice_index_or ROLE_NAMES number []
-name_of_text _ number = decimal number
+use Rattle.check_tables.specs.declared.text_kinds.TextKind.{TextKind}
 
 -- the texts of a kind that the cave has, in ascending order
 unfoldable pub texts_of_kind : CaveView → TextKind → List ℕ
 texts_of_kind cave kind = filter (has_text cave kind) (range_with_len 0 end_of_numbers)
-
--- the text of a number; a role has none, since its message is a text of its own
-abbrev pub text_at : CaveView → TextKind → ℕ → Option (List ℕ)
-text_at cave kind.Long number = map.get cave.long number
-text_at cave kind.Short number = map.get cave.short number
-text_at cave kind.Look number = look_of cave (number / PROPS_PER_OBJECT) (number % PROPS_PER_OBJECT)
-text_at cave kind.Name number = name_of cave number
-text_at cave kind.Message number = map.get cave.messages number
-text_at cave kind.Role number = None
-text_at cave kind.Class number = option_map (λ (rated : Rated). rated.text)
-    (class_of cave number)
-
--- what follows the name of a text: its first line, if there is one
-abbrev pub first_line_shown : Option (List ℕ) → List ℕ
-first_line_shown None = []
-first_line_shown (Some text) = codes ": " ++ first_line text
 
 -- the entry of a text that was never said
 abbrev pub text_entry : CaveView → TextKind → ℕ → List ℕ

@@ -9,28 +9,15 @@ use Rattle.turn_ends.specs.Score.{max_score_of}
 use Rattle.data_rows.specs.Role.{ROLE_NAMES, role_number}
 use Rattle.cave_world.specs.declared.part.Part.{Part}
 use Rattle.cave_world.specs.declared.part.Part.TheVariants as part
-use Rattle.play_cover.specs.declared.text.TextKind.{TextKind}
-use Rattle.play_cover.specs.declared.text.TextKind.TheVariants as kind
+use Rattle.check_tables.specs.declared.text_kinds.TextKind.{TextKind}
+use Rattle.check_tables.specs.declared.text_kinds.TextKind.TheVariants as kind
+use Rattle.check_tables.specs.TextKinds.{PROPS_PER_OBJECT, kind_number}
 use Rattle.play_cover.specs.Marks.{mark}
 use Rattle.play_cover.specs.declared.marks.Mark.{Mark}
 
 -- the numbers of texts are below this
 abbrev pub end_of_numbers : ℕ
 end_of_numbers = 10000
-
--- the number of a look is that of its object times this, and its prop
-abbrev pub PROPS_PER_OBJECT : ℕ
-PROPS_PER_OBJECT = 100
-
--- its place among the kinds, from 0
-abbrev pub kind_number : TextKind → ℕ
-kind_number kind.Long = 0
-kind_number kind.Short = 1
-kind_number kind.Look = 2
-kind_number kind.Name = 3
-kind_number kind.Message = 4
-kind_number kind.Role = 5
-kind_number kind.Class = 6
 
 -- the mark of a text
 abbrev pub text : TextKind → ℕ → Mark

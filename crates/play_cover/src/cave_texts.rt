@@ -3,9 +3,9 @@
 ghost use Rattle.std.specs.Prelude.{◌≡◌, IfOk};
 ghost use Rattle.play_cover.specs.Texts.{has_text, is_class_reached};
 
-use crate::text::{PROPS_PER_OBJECT, TextKind};
 use cave_data::Cave;
 use cave_words::Lexicon;
+use check_tables::text_kinds::{PROPS_PER_OBJECT, TextKind};
 use data_rows::role::ROLE_NAMES;
 use std::alloc::{AllocError, Global};
 use std::marker::Model;

@@ -2,8 +2,10 @@
 
 ghost use Rattle.std.specs.Prelude.{◌≡◌, ◌≤◌, codes, [], ◌++◌, ◌^◌, length, IfOk, OnOk};
 ghost use Rattle.play_cover.specs.Coverage.{Catalogue, all_entries, covered, covered_count};
-ghost use Rattle.play_cover.specs.Coverage.{detail_text, entry_lines, groups_text, left, left_count};
-ghost use Rattle.play_cover.specs.Coverage.{line_with, missing, names, never, present_count, left_of};
+ghost use Rattle.play_cover.specs.Coverage.{detail_text, entry_lines, groups_text, left};
+ghost use Rattle.play_cover.specs.Coverage.{left_count};
+ghost use Rattle.play_cover.specs.Coverage.{line_with, missing, names, never, present_count};
+ghost use Rattle.play_cover.specs.Coverage.{left_of};
 ghost use Rattle.std.specs.List.{filter};
 ghost use Rattle.std.specs.Prelude.{not};
 ghost use Rattle.play_cover.specs.Known.{is_known};

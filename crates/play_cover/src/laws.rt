@@ -36,7 +36,8 @@ pub fn each_count_is_of_its_rows()
     ensures { EachCountIsOfItsRows }
 {}
 
-/// Each row that the play of a game is noted to apply or try is one that its table or its place has.
+/// Each row that the play of a game is noted to apply or try is one that its table or its place
+/// has.
 pub fn each_covered_row_is_there()
     ensures { EachCoveredRowIsThere }
 {}

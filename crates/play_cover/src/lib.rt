@@ -18,4 +18,3 @@ pub mod said;
 pub mod text;
 pub mod text_report;
 pub mod travel_report;
-mod travel_words;

@@ -66,7 +66,8 @@ impl MarkSet {
     #[tactic(auto, using(crate::proofs::Padding::with_empty))]
     fn open_group(&mut self, alloc: Global, group: usize) -> Result<(), AllocError>
         ensures room { OnOk result (group < length self.new) }
-        ensures kept { OnOk result ((mark : Mark) → is_marked self.new mark ≡ is_marked self.old mark) }
+        ensures kept { OnOk result
+            ((mark : Mark) → is_marked self.new mark ≡ is_marked self.old mark) }
     {
         while self.groups.len() <= group {
             self.groups.push(Vec::new(alloc))?;

@@ -9,9 +9,10 @@ ghost use Rattle.play_cover.specs.Texts.{class_said, look_said, message_said, te
 ghost use Rattle.play_cover.specs.Texts.{said_by_part, said_by_all};
 
 use crate::marks::MarkSet;
-use crate::text::{PROPS_PER_OBJECT, TextKind, text_mark};
+use crate::text::text_mark;
 use cave_data::Cave;
 use cave_world::Part;
+use check_tables::text_kinds::{PROPS_PER_OBJECT, TextKind};
 use data_rows::Role;
 use std::alloc::{AllocError, Global};
 use world_objects::Object;

@@ -11,9 +11,9 @@ use crate::known::KnownList;
 use crate::marks::MarkSet;
 use crate::rule_tables::{row_count, table_name, table_number, words_of_row};
 use crate::travel_report::{count_applied_ways, missing_ways, push_travel};
-use crate::travel_words::push_way_entries;
 use cave_data::Cave;
 use cave_world::Table;
+use check_tables::travel_words::push_way_entries;
 use data_bindings::WayLine;
 use std::alloc::{AllocError, Global};
 
@@ -40,7 +40,7 @@ impl Groups for RuleTables {
         table_name(table)
     }
 
-    #[tactic(auto, using(crate::proofs::Numbers::numbers_more))]
+    #[tactic(auto, using(check_tables::proofs::Numbers::numbers_more))]
     fn present(&self, alloc: Global, table: Table) -> Result<Vec<u16>, AllocError> {
         let mut numbers = Vec::new(alloc);
         for before in 0..row_count(table) {

@@ -42,8 +42,8 @@ fn read_known<K: Read>(alloc: Global, file: &str, known: &mut K) -> Result<Known
 }
 
 /// Plays logs, each by itself from its first line, and writes how many of the cave's texts they
-/// say, and which ones they never say, or the same about the rows of the rules. What a list knows is
-/// left out. Returns how much is left.
+/// say, and which ones they never say, or the same about the rows of the rules. What a list knows
+/// is left out. Returns how much is left.
 pub fn run_cover<C: Read, B: Read, K: Read, L: Read, W: Write>(
     alloc: Global,
     cave: &mut CaveReaders<C, B>,

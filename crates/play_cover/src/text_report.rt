@@ -1,21 +1,21 @@
 //! The report on the texts of a cave, some of which were said.
 
-ghost use Rattle.std.specs.Prelude.{◌≡◌, [], ◌++◌, map, IfOk, OnOk, option_map, slice_index_or};
+ghost use Rattle.std.specs.Prelude.{◌≡◌, ◌++◌, IfOk, OnOk};
 ghost use Rattle.play_cover.specs.Coverage.{all_entries};
 ghost use Rattle.play_cover.specs.Known.{unmet_text};
 ghost use Rattle.play_cover.specs.Marks.{is_marked};
-ghost use Rattle.play_cover.specs.TextReport.{cave_texts, detail_of, first_line_shown};
-ghost use Rattle.play_cover.specs.TextReport.{heading_of_kind};
-ghost use Rattle.play_cover.specs.TextReport.{text_at, text_report, text_sums, texts_left};
-ghost use Rattle.play_cover.specs.TextReport.{word_of_kind};
+ghost use Rattle.play_cover.specs.TextReport.{cave_texts, detail_of, text_report, text_sums};
+ghost use Rattle.play_cover.specs.TextReport.{texts_left};
 
 use crate::cave_texts::CaveTexts;
 use crate::coverage::{Detail, Groups, push_all_entries, push_groups};
 use crate::known::KnownList;
 use crate::marks::MarkSet;
-use crate::text::{KINDS, NUMBERS, PROPS_PER_OBJECT, TextKind};
-use cave_data::Cave;
-use data_bindings::first_line;
+use crate::text::NUMBERS;
+use check_tables::text_kinds::{
+    KINDS, PROPS_PER_OBJECT, TextKind, heading_of_kind, name_at, push_first_line, text_at,
+    word_of_kind,
+};
 use data_rows::role::ROLE_NAMES;
 use play_command::TextView;
 use std::alloc::{AllocError, Global};
@@ -25,77 +25,6 @@ use std::alloc::{AllocError, Global};
 pub struct TextsAsked {
     pub view: TextView,
     pub known: KnownList,
-}
-
-/// How the line of a kind begins.
-fn heading(kind: TextKind) -> &'static str
-    ensures { result.now ≡ heading_of_kind kind }
-{
-    match kind {
-        TextKind::Long => "long texts",
-        TextKind::Short => "short texts",
-        TextKind::Look => "object texts",
-        TextKind::Name => "inventory texts",
-        TextKind::Message => "messages",
-        TextKind::Role => "roles",
-        TextKind::Class => "classes",
-    }
-}
-
-/// The name for one text of a kind.
-fn word(kind: TextKind) -> &'static str
-    ensures { result.now ≡ word_of_kind kind }
-{
-    match kind {
-        TextKind::Long => "long text",
-        TextKind::Short => "short text",
-        TextKind::Look => "object text",
-        TextKind::Name => "inventory text",
-        TextKind::Message => "message",
-        TextKind::Role => "role",
-        TextKind::Class => "class",
-    }
-}
-
-fn text_at(cave: &Cave, kind: TextKind, number: u16) -> Option<&[u8]>
-    ensures { option_map (λ text. text.now) result ≡ text_at cave.now kind number }
-{
-    match kind {
-        TextKind::Long => cave.long(number),
-        TextKind::Short => cave.short(number),
-        TextKind::Look => cave.look(number / PROPS_PER_OBJECT, number % PROPS_PER_OBJECT),
-        TextKind::Name => cave.name(number),
-        TextKind::Message => cave.message(number),
-        TextKind::Role => None,
-        TextKind::Class => match cave.class_of(u32::from(number)) {
-            Some(rating) => Some(rating.text),
-            None => None,
-        },
-    }
-}
-
-/// Appends the first line of a text, if there is one.
-fn push_first_line(found: Option<&[u8]>, text: &mut Vec<u8>) -> Result<(), AllocError>
-    ensures { OnOk result (text.new.items
-        ≡ text.old.items ++ first_line_shown (option_map (λ found. found.now) found.entry)) }
-{
-    match found {
-        Some(found) => {
-            text.extend_from_slice(b": ")?;
-            text.extend_from_slice(first_line(found))
-        }
-        None => Ok(()),
-    }
-}
-
-/// The name at a place of a table.
-fn name_at<'a>(names: &[&'a str], number: u16) -> &'a str
-    ensures { result.now ≡ slice_index_or (map (λ name. name.now) names.now) number [] }
-{
-    match names.get(number as usize) {
-        Some(name) => *name,
-        None => "",
-    }
 }
 
 impl<'a> Groups for CaveTexts<'a> {
@@ -114,7 +43,7 @@ impl<'a> Groups for CaveTexts<'a> {
     }
 
     fn heading(&self, kind: TextKind) -> &'static str {
-        heading(kind)
+        heading_of_kind(kind)
     }
 
     #[tactic(auto, unfolding(crate::specs::TextReport::texts_of_kind))]
@@ -156,7 +85,7 @@ impl<'a> Groups for CaveTexts<'a> {
         number: u16,
         text: &mut Vec<u8>,
     ) -> Result<(), AllocError> {
-        text.extend_from_slice(word(kind).as_bytes())?;
+        text.extend_from_slice(word_of_kind(kind).as_bytes())?;
         self.push_name(alloc, kind, number, text)?;
         push_first_line(text_at(self.cave(), kind, number), text)
     }

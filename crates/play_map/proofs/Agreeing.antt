@@ -9,10 +9,11 @@ use Rattle.map_graph.specs.Edges.{MAX_EDGES_WITH_TEXT, drawn_edge, edge, edges, 
 use Rattle.map_graph.specs.Edges.{is_drawn_between, is_shown, labelled_edge, plain_edge}
 use Rattle.map_graph.specs.Map.{count_taken, drawing, ends_taken, graph_opening, labels_opening}
 use Rattle.map_graph.specs.Map.{map_of_places, nodes_and_edges, places_visited, seen_counts, sums}
-use Rattle.map_graph.specs.Parts.{drawn_places, is_one_of, places_around}
+use Rattle.map_ways.specs.Regions.{is_one_of, places_around}
+use Rattle.map_graph.specs.Parts.{drawn_places}
 use Rattle.map_graph.specs.Places.{node, node_text, stay_text}
 use Rattle.map_graph.specs.Stops.{is_way_taken, is_visited, visits}
-use Rattle.play_command.specs.declared.map_part.MapPart.{MapPart}
+use Rattle.map_graph.specs.declared.parts.DrawnPart.{DrawnPart}
 use Rattle.map_graph.specs.declared.stops.Stop.{Stop}
 use Rattle.map_ways.specs.Ways.{are_joined, ends_of_edges, ends_of_ways, mapped_places}
 
@@ -88,7 +89,7 @@ module _ (cave : CaveView) (stops others : List Stop)
   unfolding seen_counts
   agree_counts = rw (agree_visited, agree_count) refl
 
-  agree_places : (part : MapPart) (mapped : List ℕ)
+  agree_places : (part : DrawnPart) (mapped : List ℕ)
       → drawn_places cave stops part mapped ≡ drawn_places cave others part mapped
   unfolding drawn_places
   agree_places part mapped =
@@ -105,7 +106,7 @@ module _ (cave : CaveView) (stops others : List Stop)
       (agree_flat (edges cave stops logs seen places) (edges cave others logs seen places) places
       (agree_edges logs seen places))
 
-  agree_drawing : (mapped : List ℕ) (part : MapPart) (logs : ℕ)
+  agree_drawing : (mapped : List ℕ) (part : DrawnPart) (logs : ℕ)
       → drawing cave mapped stops part logs ≡ drawing cave mapped others part logs
   unfolding drawing
   agree_drawing mapped part logs =
@@ -113,7 +114,7 @@ module _ (cave : CaveView) (stops others : List Stop)
       (ap (nodes_and_edges cave mapped stops logs part.seen) (agree_places part mapped)
       ∙ agree_parts mapped logs part.seen (drawn_places cave others part mapped))
 
-  pub agree_map : (part : MapPart) (logs : ℕ)
+  pub agree_map : (part : DrawnPart) (logs : ℕ)
       → map_of_places cave stops part logs ≡ map_of_places cave others part logs
   unfolding map_of_places
   agree_map part logs =

@@ -10,6 +10,7 @@ use Rattle.std.proofs.lemmas.List.Sorted.{sum_by-IsPermutation}
 use Rattle.play_logs.proofs.Lists.{any_flat}
 use Rattle.cave_data.specs.CaveView.{CaveView}
 use Rattle.cave_data.proofs.ReadLemmas.{same_cave}
+use Rattle.play_map.specs.Parts.{drawn_part}
 use Rattle.play_map.specs.Plays.{OneMap, OrderOfLogsIsNothing, map_text, stops_in_all, stops_in_log}
 use Rattle.map_graph.specs.Map.{map_of_places}
 use Rattle.map_graph.specs.Stops.{arrives_at, comes_by, is_at}
@@ -52,9 +53,9 @@ order_of_logs_is_nothing cave seed part logs others shuffled =
     agree_map cave (stops_in_all cave seed others) (stops_in_all cave seed logs)
     (λ place. any_in_order cave seed (is_at cave place) logs others shuffled)
     (λ from to. any_in_order cave seed (comes_by cave from to) logs others shuffled)
-    (λ place. count_in_order cave seed (arrives_at place) logs others shuffled) part
-    (length others)
-    ∙ ap (map_of_places cave (stops_in_all cave seed logs) part)
+    (λ place. count_in_order cave seed (arrives_at place) logs others shuffled)
+    (drawn_part part) (length others)
+    ∙ ap (map_of_places cave (stops_in_all cave seed logs) (drawn_part part))
     (length_permutation logs others shuffled)
 
 pub one_map : OneMap

@@ -6,6 +6,7 @@ use Rattle.std.proofs.lemmas.List.Folds.{flat_map-map}
 use Rattle.play_logs.specs.Faults.{IsReported, games_of}
 use Rattle.map_graph.specs.Map.{map_of_places}
 use Rattle.play_command.specs.declared.map_part.MapPart.{MapPart}
+use Rattle.play_map.specs.Parts.{drawn_part}
 use Rattle.play_map.specs.Plays.{IsMapped, map_of_games, stops_in, stops_in_all}
 use Rattle.replay_edits.specs.Edit.{game_of}
 
@@ -20,7 +21,8 @@ mapped-reported database bindings logs seed part found output (cave, reads, is, 
       cave,
       reads,
       is
-          ∙ ap (λ stops. map_of_places cave stops part (length (games_of seed logs)))
+          ∙ ap (λ stops. map_of_places cave stops (drawn_part part) (length (games_of seed logs)))
           (flat_map-map (stops_in cave) game logs)
-          ∙ ap (map_of_places cave (stops_in_all cave seed logs) part) (length-map logs game),
+          ∙ ap (map_of_places cave (stops_in_all cave seed logs) (drawn_part part))
+          (length-map logs game),
     )

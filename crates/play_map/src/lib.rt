@@ -2,5 +2,6 @@
 #![tactic(auto)]
 
 pub mod laws;
+mod part;
 pub mod plays;
 pub mod run;

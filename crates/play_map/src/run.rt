@@ -6,6 +6,7 @@ ghost use Rattle.play_logs.specs.Faults.{RunsLogs, first_stages};
 ghost use Rattle.play_map.specs.Plays.{IsMapped};
 ghost use Rattle.cave_play.specs.Input.{Says};
 
+use crate::part::drawn_part;
 use crate::plays::Stops;
 use cave_data::Cave;
 use cave_play::CaveReaders;
@@ -41,7 +42,7 @@ impl PlayNotes for Stops {
         logs: usize,
         text: &mut Vec<u8>,
     ) -> Result<(), AllocError> {
-        push_map(alloc, cave, self.as_slice(), *part, logs, text)
+        push_map(alloc, cave, self.as_slice(), drawn_part(*part), logs, text)
     }
 }
 

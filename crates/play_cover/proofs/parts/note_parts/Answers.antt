@@ -4,7 +4,8 @@ use Rattle.play_cover.proofs.parts.note_parts.Goals as goal
 
 pub loop-part-preserved : goal.loop-part-preserved
 loop-part-preserved c =
-    Notes-more (said_by_part c.args.cave.now) c.args.parts.now c.loop-part.part-index c.part-item.result
+    Notes-more (said_by_part c.args.cave.now) c.args.parts.now c.loop-part.part-index
+    c.part-item.result
     _ _ _ c.loop-part-test.true c.part-item.is c.loop-part.invariant c.in_ok-note_part.ensures
 
 pub returns : goal.returns

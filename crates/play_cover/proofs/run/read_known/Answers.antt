@@ -1,7 +1,7 @@
 use Rattle.std.proofs.Common.{[], ◌∷◌, ap, ◌∙◌}
 use Rattle.std.proofs.lemmas.Result.{err_from_is_err_and}
 use Rattle.cave_play.specs.Stages.{known_stage}
-use Rattle.play_cover.proofs.KnownStage.{IsFoundIn-known, first_decided-known}
+use Rattle.cave_play.proofs.JudgeLemmas.{IsFoundIn-known, first_decided-known}
 use Rattle.cave_play.proofs.StageLemmas.{IsFoundIn-memory}
 use Rattle.play_cover.specs.Known.{known_entries}
 use Rattle.play_cover.proofs.run.read_known.Goals as goal

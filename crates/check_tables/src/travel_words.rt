@@ -4,12 +4,12 @@ ghost use Rattle.std.specs.Prelude.{◌≡◌, ◌++◌, OnOk, option_map};
 ghost use Rattle.std.specs.List.{flat_map, slice_get};
 ghost use Rattle.cave_data.specs.CaveView.{ways_from};
 ghost use Rattle.data_rows.specs.RowViews.{going};
+ghost use Rattle.check_tables.specs.TravelWords.{end_words, row_words, way_entries, way_words};
+ghost use Rattle.check_tables.specs.TravelWords.{words_of_way};
 ghost use Rattle.check_tables.specs.WayWords.{motion_name};
-ghost use Rattle.play_cover.specs.TravelRows.{end_words, row_words, way_entries, way_words};
-ghost use Rattle.play_cover.specs.TravelRows.{words_of_way};
 
+use crate::way_words::{push_condition_mark, push_motion};
 use cave_data::Cave;
-use check_tables::way_words::{push_condition_mark, push_motion};
 use data_bindings::WayLine;
 use data_rows::{Destination, Row, Special};
 use std::alloc::{AllocError, Global};
@@ -98,7 +98,7 @@ fn push_words_of_way(
 }
 
 /// Appends the words of the row at a line of the database.
-pub(crate) fn push_way_words(
+pub fn push_way_words(
     alloc: Global,
     cave: &Cave,
     way: &WayLine,
@@ -111,7 +111,7 @@ pub(crate) fn push_way_words(
 }
 
 /// Appends the entries of rows, a line each.
-pub(crate) fn push_way_entries(
+pub fn push_way_entries(
     alloc: Global,
     cave: &Cave,
     ways: &[WayLine],

@@ -1,6 +1,6 @@
 use Rattle.std.proofs.Common.{◌≡◌, ◌++◌, take}
-use Rattle.play_cover.specs.TravelRows.{way_entries}
-use Rattle.play_cover.proofs.travel_words.push_way_entries.Given as goal
+use Rattle.check_tables.specs.TravelWords.{way_entries}
+use Rattle.check_tables.proofs.travel_words.push_way_entries.Given as goal
 
 abbrev pub invariant-loop-way : goal.invariant-loop-way
 invariant-loop-way l =

@@ -1,14 +1,15 @@
 -- The places within some ways of a place are those to which walks of at most as many ways lead.
-use Rattle.std.proofs.Common.{◌≡◌, ◌≤◌, ℕ, zero, suc, Bool, true, false, cond, List, [], ◌∷◌, length}
+use Rattle.std.proofs.Common.{◌≡◌, ◌≤◌, ℕ, zero, suc, Bool, true, false, cond, List, [], ◌∷◌}
+use Rattle.std.proofs.Common.{length}
 use Rattle.std.proofs.Common.{refl, sym, ap, ◌∙◌, arith}
 use Rattle.std.specs.Prelude.{◌==◌, ◌&&◌, ◌||◌}
 use Rattle.std.specs.List.{filter, list_any}
 use Rattle.std.proofs.lemmas.Bool.{eq-eqb, eqb-true, false≢true}
 use Rattle.cave_data.specs.CaveView.{CaveView}
 use Rattle.map_ways.specs.Ways.{is_way}
-use Rattle.map_graph.specs.Parts.{RegionIsWalked, is_led_to, is_one_of, is_walk, is_way_on}
-use Rattle.map_graph.specs.Parts.{places_within}
-use Rattle.map_graph.proofs.Bools.{and_both, both_and, or_left, or_right}
+use Rattle.map_ways.specs.Regions.{RegionIsWalked, is_led_to, is_one_of, is_walk, is_way_on}
+use Rattle.map_ways.specs.Regions.{places_within}
+use Rattle.map_ways.proofs.Bools.{and_both, both_and, or_left, or_right}
 
 none_and : (b : Bool) → (b && false) ≡ false
 none_and true = refl
@@ -92,9 +93,10 @@ module _ (cave : CaveView) (mapped : List ℕ) (from : ℕ) where
             last ∷ passed,
             (
               omega (arith, few),
-              both_and (is_one_of mapped to) (is_way cave last to && is_walk cave mapped from passed last)
-                  known
-                  (both_and (is_way cave last to) (is_walk cave mapped from passed last) leads walk),
+              both_and (is_one_of mapped to)
+                  (is_way cave last to && is_walk cave mapped from passed last) known
+                  (both_and (is_way cave last to) (is_walk cave mapped from passed last) leads
+                  walk),
             ),
           )
 

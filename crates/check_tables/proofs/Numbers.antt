@@ -1,5 +1,6 @@
 -- The numbers from 1 on.
-use Rattle.std.proofs.Common.{◌≡◌, ℕ, zero, suc, ◌+◌, List, [], ◌∷◌, ◌++◌, append-nil, ap, ◌∙◌, arith}
+use Rattle.std.proofs.Common.{◌≡◌, ℕ, zero, suc, ◌+◌, List, [], ◌∷◌, ◌++◌, append-nil, ap, ◌∙◌}
+use Rattle.std.proofs.Common.{arith}
 use Rattle.std.proofs.lemmas.List.Concat.{flat_map-append}
 use Rattle.std.specs.List.{flat_map, range_with_len}
 
@@ -10,7 +11,8 @@ range_more a (suc n) =
     let longer : suc n + 1 ≡ suc (n + 1) = omega arith in
     let last : a + 1 + n ≡ a + suc n = omega arith in
     ap (range_with_len a) longer
-    ∙ ap (λ rest. a ∷ rest) (range_more (a + 1) n ∙ ap (λ k. range_with_len (a + 1) n ++ k ∷ []) last)
+    ∙ ap (λ rest. a ∷ rest)
+    (range_more (a + 1) n ∙ ap (λ k. range_with_len (a + 1) n ++ k ∷ []) last)
 
 pub numbers_more : (n : ℕ) → range_with_len 1 (n + 1) ≡ range_with_len 1 n ++ (n + 1) ∷ []
 numbers_more n =

@@ -1,7 +1,7 @@
 use Rattle.std.proofs.Common.{◌≡◌, ◌++◌, take}
 use Rattle.std.specs.List.{flat_map}
 use Rattle.check_tables.specs.WayWords.{motion_name}
-use Rattle.play_cover.proofs.travel_words.push_motions.Given as goal
+use Rattle.check_tables.proofs.travel_words.push_motions.Given as goal
 
 abbrev pub invariant-loop-motion : goal.invariant-loop-motion
 invariant-loop-motion l =

@@ -1,6 +1,6 @@
 use Rattle.std.proofs.Common.{◌≡◌, ap, ◌∙◌, arith}
-use Rattle.map_graph.specs.Parts.{places_within}
-use Rattle.map_graph.proofs.parts.places_within.Goals as goal
+use Rattle.map_ways.specs.Regions.{places_within}
+use Rattle.map_ways.proofs.regions.places_within.Goals as goal
 
 pub returns : goal.returns
 returns c =

@@ -1,5 +1,0 @@
-use Rattle.map_graph.proofs.RegionLemmas.{region_is_walked}
-use Rattle.map_graph.proofs.laws.region_is_walked.Goals as goal
-
-pub returns : goal.returns
-returns c = region_is_walked
