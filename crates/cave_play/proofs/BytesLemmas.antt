@@ -295,7 +295,7 @@ bytes_undone cave every log script edited undo again seed next played counted re
     ∙ log_is
 
 pub undo_gives_the_bytes : UndoGivesTheBytes
-undo_gives_the_bytes cave every log script edited undo again seed next played counted replayed guarded
-    free fits alike first second seeds shut third =
+undo_gives_the_bytes cave every log script edited undo again seed next played counted replayed
+    guarded free fits alike first second seeds shut third =
     bytes_undone cave every log script edited undo again seed next played counted replayed guarded
     (IsGame-accepted log seed free fits) alike first second seeds shut third

@@ -14,7 +14,8 @@ pub AreLeftIn-read : (files : DoubtFiles) (database bindings known text : List �
 AreLeftIn-read files database bindings known text read found are same left =
     let cave = read.cave in
     let of_database =
-    subst (λ d. AreLeft files text (doubts cave d read.bindings.items) found) are.database_is left in
+    subst (λ d. AreLeft files text (doubts cave d read.bindings.items) found) are.database_is
+    left in
     let of_both =
     subst (λ b. AreLeft files text (doubts cave database b) found) are.bindings_are of_database in (
       cave,

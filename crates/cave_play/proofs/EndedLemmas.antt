@@ -23,8 +23,8 @@ pub ends_after_items-more : (items : List Item) (place : ℕ) (item : Item) (gam
     → after ≡ ends_left (applied_item item) refusal ends
     → ends_after_items (map applied_item (drop place items)) game ends ≡ whole
     → ends_after_items (map applied_item (drop (place + 1) items)) next after ≡ whole
-ends_after_items-more items place item game next refusal ends after whole inside is step refused grown
-    so_far =
+ends_after_items-more items place item game next refusal ends after whole inside is step refused
+    grown so_far =
     let left = map applied_item (drop (place + 1) items) in
     let here = applied_item item in
     ap (λ (g : Game). ends_after_items left g after) step

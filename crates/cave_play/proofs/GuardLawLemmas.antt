@@ -1,6 +1,7 @@
 -- If no line of a script is a guard, it is read alike whether or not lines may be guards; if all
 -- guards are met, it edits alike.
-use Rattle.std.proofs.Common.{◌≡◌, ℕ, ◌+◌, Bool, true, false, List, [], ◌∷◌, All, None, Option, Ok, Err}
+use Rattle.std.proofs.Common.{◌≡◌, ℕ, ◌+◌, Bool, true, false, List, [], ◌∷◌, All, None, Option, Ok}
+use Rattle.std.proofs.Common.{Err}
 use Rattle.std.proofs.Common.{sym, ap, subst, ◌∙◌, refl}
 use Rattle.std.specs.Prelude.{Result}
 use Rattle.std.specs.Str.Lines.{lines}
@@ -113,8 +114,8 @@ met_alike (item ∷ items) game (here, later) =
     ∙ ap (game_after_items (unguarded_items items)) same
 
 pub met_guards_no_other_log : MetGuardsNoOtherLog
-met_guards_no_other_log cave every log script blanked one other seed played again free fits blank edit
-    met second =
+met_guards_no_other_log cave every log script blanked one other seed played again free fits blank
+    edit met second =
     let game = game_of seed (lines log) in
     let good = IsGame-accepted log seed free fits in
     let spelled : IsScriptBy false blanked (unguarded_items edit.edit.items) =

@@ -101,7 +101,8 @@ caves_are_judged_whole database bindings =
 inputs_fault-read : (database bindings : List ℕ) (cave : CaveView) → Reads database bindings cave
     → inputs_fault database bindings ≡ None
 inputs_fault-read database bindings cave reads =
-    ap (option_map (cave_refusal database bindings)) ((right_exactly database bindings).0 reads.right)
+    ap (option_map (cave_refusal database bindings))
+    ((right_exactly database bindings).0 reads.right)
 
 pub cave_stages-read : (database bindings : List ℕ) (cave : CaveView) → Reads database bindings cave
     → first_decided (cave_stages database bindings) ≡ None

@@ -4,7 +4,7 @@ mod EndedLemmas
 mod GuardLawLemmas
 mod GuardedLemmas
 pub mod InputLemmas
-mod JudgeLemmas
+pub mod JudgeLemmas
 pub mod OneOutputLemmas
 pub mod RefusalLemmas
 mod RefusedLemmas

@@ -58,7 +58,8 @@ one_view : (view : EditView) (cave : CaveView) (game : Game) (guarded : Bool) (i
 one_view Transcript cave game guarded items near far one other free is same = is ∙ sym same
 one_view Play cave game guarded items near far one other free is same = is ∙ sym same
 one_view Log cave game guarded items near far one other free is same = is.written ∙ sym same.written
-one_view Undo cave game guarded items near far one other free is same = is.written ∙ sym same.written
+one_view Undo cave game guarded items near far one other free is same =
+    is.written ∙ sym same.written
 one_view Guarded cave game guarded items near far one other free is same =
     is.written ∙ sym same.written
 one_view Reports cave game guarded items near far one other free is same = absurd free

@@ -16,7 +16,8 @@ use Rattle.replay_scripts.specs.Guards.{script_by}
 use Rattle.replay_scripts.specs.Script.{Applied}
 use Rattle.replay_scripts.specs.declared.fault.ScriptRefusal.{ScriptRefusal}
 use Rattle.replay_scripts.specs.declared.fault.ScriptRefusal.TheVariants.{Malformed, Memory}
-use Rattle.cave_play.specs.Judge.{cave_refusal, lines_fault, or_too_many, large_seed, every_fault, too_large}
+use Rattle.cave_play.specs.Judge.{cave_refusal, lines_fault, or_too_many, large_seed, every_fault}
+use Rattle.cave_play.specs.Judge.{too_large}
 use Rattle.cave_play.specs.Judge.{input_size_fault, log_fault, script_fault, first_malformed}
 use Rattle.cave_play.proofs.StageLemmas.{first_is_found}
 use Rattle.cave_play.specs.Laws.{IsDecided}
@@ -111,7 +112,8 @@ unwritten_by_cave : (database bindings : List ℕ) (later : List Stage)
 unwritten_by_cave database bindings later not_later =
     unwritten_by_both _ _ (unwritten_by_size input.Cave database)
     (unwritten_by_both _ _ (unwritten_by_size input.Bindings bindings)
-    (unwritten_by_both _ _ (unwritten_by_inputs database bindings (cave_fault database bindings)) not_later))
+    (unwritten_by_both _ _ (unwritten_by_inputs database bindings (cave_fault database bindings))
+    not_later))
 
 pub unwritten_by_check : (database bindings : List ℕ)
     → first_decided (cave_stages database bindings) ≡ Some fault.Write → ⊥

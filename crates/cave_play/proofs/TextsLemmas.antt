@@ -9,7 +9,8 @@ use Rattle.cave_play.proofs.InputLemmas.{Says-some}
 pub AreTextsOf-some : {C B L S : Type 0} (left_database : C → Option (List ℕ))
     (left_bindings : B → Option (List ℕ)) (left_log : L → Option (List ℕ))
     (left_script : S → Option (List ℕ)) (inputs : Inputs C B L S)
-    → (texts : InputTexts) × AreTextsOf left_database left_bindings left_log left_script inputs texts
+    → (texts : InputTexts)
+    × AreTextsOf left_database left_bindings left_log left_script inputs texts
 AreTextsOf-some left_database left_bindings left_log left_script inputs =
     let (database, one) = Says-some (left_database inputs.cave.database) in
     let (bindings, two) = Says-some (left_bindings inputs.cave.bindings) in

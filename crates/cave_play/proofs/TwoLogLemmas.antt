@@ -205,6 +205,7 @@ differences_make_the_log form script game new items good is spelled =
     let made : game_after_items is.items game ≡ game_of game.seed new =
     ap₂ game_of
     (ap (λ (g : Game). g.seed) there.0
-    ∙ seed_kept (changes_of_items is.items) game (length game.log) (length new) is.rising) there.1 in
+    ∙ seed_kept (changes_of_items is.items) game (length game.log) (length new) is.rising)
+    there.1 in
     subst (λ some. game_after_items some game ≡ game_of game.seed new)
     (same_items form.guarded script items is.items is.reads spelled) made

@@ -1,5 +1,6 @@
 -- The lines of a script that takes edits back have only bytes that a line may have.
-use Rattle.std.proofs.Common.{◌≡◌, ℕ, ◌≤◌, Bool, true, false, List, [], ◌∷◌, ◌++◌, codes, All, None, Some}
+use Rattle.std.proofs.Common.{◌≡◌, ℕ, ◌≤◌, Bool, true, false, List, [], ◌∷◌, ◌++◌, codes, All, None}
+use Rattle.std.proofs.Common.{Some}
 use Rattle.std.proofs.Common.{Option, ap, sym, subst, ◌∙◌, refl}
 use Rattle.std.specs.List.{flat_map, list_all}
 use Rattle.std.specs.Str.Lines.{lines}

@@ -69,12 +69,12 @@ pub told-whole : (view : EditView) (cave : CaveView) (every : ℕ) (items : List
     → LogReadsBack view (game_after_items items game).log
     → backs ≡ reverse (kept_for view (backs_of guarded items game)) → IsGame game
     → IsViewOf view cave game guarded items outcomes whole
-told-whole Transcript cave every items game guarded opened outcomes played counted backs text whole came
-    told plays counts ends back kept good =
+told-whole Transcript cave every items game guarded opened outcomes played counted backs text whole
+    came told plays counts ends back kept good =
     ends ∙ ap (λ t. t ++ play_text cave (game_after_items items game))
     (told ∙ told-reports cave every items game opened outcomes came)
-told-whole Play cave every items game guarded opened outcomes played counted backs text whole came told
-    plays counts ends back kept good =
+told-whole Play cave every items game guarded opened outcomes played counted backs text whole came
+    told plays counts ends back kept good =
     ends ∙ ap (λ t. t ++ play_text cave (game_after_items items game))
     (told ∙ told-nothing (text_of_item Play cave) (λ _ _ _. refl) items game outcomes)
 told-whole Steps cave every items game guarded opened outcomes played counted backs text whole came
@@ -89,26 +89,26 @@ told-whole Score cave every items game guarded opened outcomes played counted ba
     told plays counts ends back kept good =
     ends ∙ ap (λ t. t ++ score_text cave (game_after_items items game))
     (told ∙ told-nothing (text_of_item Score cave) (λ _ _ _. refl) items game outcomes)
-told-whole FinalState cave every items game guarded opened outcomes played counted backs text whole came
-    told plays counts ends back kept good =
+told-whole FinalState cave every items game guarded opened outcomes played counted backs text whole
+    came told plays counts ends back kept good =
     ends ∙ ap (λ t. t ++ final_state_text cave (game_after_items items game))
     (told ∙ told-nothing (text_of_item FinalState cave) (λ _ _ _. refl) items game outcomes)
-told-whole Log cave every items game guarded opened outcomes played counted backs text whole came told
-    plays counts ends back kept good =
+told-whole Log cave every items game guarded opened outcomes played counted backs text whole came
+    told plays counts ends back kept good =
     let log = (game_after_items items game).log in
     let nothing = told-nothing (text_of_item Log cave) (λ _ _ _. refl) items game outcomes in
     let written = ends ∙ ap (λ t. t ++ log_text log) (told ∙ nothing) in
     record { written = written; reads_back = ap lines written ∙ back }
-told-whole Reports cave every items game guarded opened outcomes played counted backs text whole came
-    told plays counts ends back kept good =
+told-whole Reports cave every items game guarded opened outcomes played counted backs text whole
+    came told plays counts ends back kept good =
     ends ∙ ap (λ t. t ++ totals_line played counted) told
     ∙ ap (λ t. text_of_items (text_of_item Reports cave) items game outcomes ++ t)
     (ap (λ p. totals_line p counted) plays
     ∙ ap (totals_line (sum_by played_in outcomes)) counts)
 told-whole Table cave every items game guarded opened outcomes played counted backs text whole came
     told plays counts ends back kept good = ends ∙ append-nil text ∙ told
-told-whole Guarded cave every items game guarded opened outcomes played counted backs text whole came
-    told plays counts ends back kept good =
+told-whole Guarded cave every items game guarded opened outcomes played counted backs text whole
+    came told plays counts ends back kept good =
     guarded-whole items game whole good
     (ends ∙ append-nil text ∙ told ∙ told-guarded cave every items game opened outcomes came)
 told-whole Undo cave every items game guarded opened outcomes played counted backs text whole came

@@ -31,17 +31,10 @@ ends_after_items (item ∷ items) game ends =
 -- What is printed of the text that a view made. A line of a log has its own end. A line of the
 -- script has the usual one.
 abbrev pub ended_view : EditView → EndsOfLog → List ℕ → List ℕ
-ended_view asked.Transcript ends text = text
-ended_view asked.Play ends text = text
 ended_view asked.Log ends text = ended_text ends.usual ends.unended ends.each (lines text)
 ended_view asked.Undo ends text = ended_text ends.usual false [] (lines text)
 ended_view asked.Guarded ends text = ended_text ends.usual false [] (lines text)
-ended_view asked.Reports ends text = text
-ended_view asked.Table ends text = text
-ended_view asked.Steps ends text = text
-ended_view asked.Walk ends text = text
-ended_view asked.Score ends text = text
-ended_view asked.FinalState ends text = text
+ended_view _ ends text = text
 
 -- the script edits the game, whose lines end like this before it, and like that after it
 abbrev pub IsEndedEditOf : EditView → CaveView → ℕ → Game → Bool → List ℕ → EndsOfLog → ℕ

@@ -20,17 +20,8 @@ HasNoGuard script = All (λ line. expected_in line ≡ None) (lines script)
 
 -- the view has no guards, or has them whether or not the run is guarded
 abbrev pub PrintsNoGuards : EditView → Type 0
-PrintsNoGuards asked.Transcript = ⊤
-PrintsNoGuards asked.Play = ⊤
-PrintsNoGuards asked.Log = ⊤
 PrintsNoGuards asked.Undo = ⊥
-PrintsNoGuards asked.Guarded = ⊤
-PrintsNoGuards asked.Reports = ⊤
-PrintsNoGuards asked.Table = ⊤
-PrintsNoGuards asked.Steps = ⊤
-PrintsNoGuards asked.Walk = ⊤
-PrintsNoGuards asked.Score = ⊤
-PrintsNoGuards asked.FinalState = ⊤
+PrintsNoGuards _ = ⊤
 
 -- a script without guards gives the same items, or the same refusal
 abbrev pub NoGuardsNoOtherScript : Type 0

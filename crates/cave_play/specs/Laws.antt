@@ -35,17 +35,9 @@ OnePlayedOutput =
 
 -- the view doesn't depend on checkpoints
 abbrev pub KnowsNoCheckpoints : EditView → Type 0
-KnowsNoCheckpoints asked.Transcript = ⊤
-KnowsNoCheckpoints asked.Play = ⊤
-KnowsNoCheckpoints asked.Log = ⊤
-KnowsNoCheckpoints asked.Undo = ⊤
-KnowsNoCheckpoints asked.Guarded = ⊤
 KnowsNoCheckpoints asked.Reports = ⊥
 KnowsNoCheckpoints asked.Table = ⊥
-KnowsNoCheckpoints asked.Steps = ⊤
-KnowsNoCheckpoints asked.Walk = ⊤
-KnowsNoCheckpoints asked.Score = ⊤
-KnowsNoCheckpoints asked.FinalState = ⊤
+KnowsNoCheckpoints _ = ⊤
 
 -- an edit, which has a log, a script and a seed, has at most one output of the transcript, with
 -- reports or without, of the edited log, of what takes it back, of the script with guards, of its

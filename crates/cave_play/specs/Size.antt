@@ -25,14 +25,7 @@ size_fault asked.Undo bytes =
     if nat_lt MAX_INPUT_BYTES bytes then Some fault.LargeScript else None
 size_fault asked.Guarded bytes =
     if nat_lt MAX_INPUT_BYTES bytes then Some fault.LargeScript else None
-size_fault asked.Transcript bytes = None
-size_fault asked.Play bytes = None
-size_fault asked.Reports bytes = None
-size_fault asked.Table bytes = None
-size_fault asked.Steps bytes = None
-size_fault asked.Walk bytes = None
-size_fault asked.Score bytes = None
-size_fault asked.FinalState bytes = None
+size_fault _ bytes = None
 
 -- the log, or the script that takes items back or has them with guards, that is printed of a game
 abbrev pub text_to_read : EditView → Bool → List Applied → Game → List ℕ

@@ -24,8 +24,7 @@ pub(crate) fn ended_view(
     match view {
         EditView::Log => ended_text(alloc, ends.usual, ends.unended, &ends.each, &text),
         EditView::Undo | EditView::Guarded => { ended_text(alloc, ends.usual, false, &[], &text) }
-        EditView::Transcript | EditView::Play | EditView::Reports | EditView::Table => Ok(text),
-        EditView::Steps | EditView::Walk | EditView::Score | EditView::FinalState => Ok(text),
+        _ => Ok(text),
     }
 }
 

@@ -28,11 +28,13 @@ pub use edits::EditRun;
 pub use fault::{Complaint, Input, LogFault, PlayFault, ScriptFault, Unopened};
 pub use inputs::{CaveReaders, InputReader, Inputs};
 pub use play_command::{
-    CheckView, CommandFault, CoverView, EditView, Editing, Files, Line, PlayView, ScriptSource,
-    TextView, command_line,
+    CheckView, CommandFault, CoverView, EditView, Editing, Files, Line, PlayView, ReportView,
+    ScriptSource, TextView, command_line,
 };
 pub use play_edits::{EditDetail, ExpectedLine, KeptLine, Refusal};
-pub use play_machine::{CaveMachine, Piece};
+pub use play_machine::{
+    CaveMachine, Piece, push_final_state, push_play, push_score, push_steps, push_walk,
+};
 pub use play_state_text::{Counts, push_state};
 pub use replay_difference::script::ScriptForm;
 pub use replay_edits::{Edit, EditFault, LineText};

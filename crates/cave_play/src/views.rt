@@ -48,13 +48,6 @@ fn push_maximum(alloc: Global, cave: &Cave, text: &mut Vec<u8>) -> Result<(), Al
 {
     let lexicon = Lexicon::build(alloc, cave)?;
     let most = max_score(&Rules::of(cave, &lexicon));
-    push_cave_line(alloc, text, most)
-}
-
-/// Appends the line that says that a database is a cave.
-fn push_cave_line(alloc: Global, text: &mut Vec<u8>, most: u32) -> Result<(), AllocError>
-    ensures { OnOk result (text.new.items ≡ text.old.items ++ cave_line most) }
-{
     let line = format!(in alloc; "cave ok, maximum {most}\n")?;
     text.extend_from_slice(line.as_bytes())
 }

@@ -1,10 +1,10 @@
--- The word after the first option of a seed, and others, by the first word of a list.
+-- The word after the first option of a seed, by the first word of a list.
 use Rattle.std.proofs.Common.{◌≡◌, ◌∙◌, ℕ, arith, Bool, true, false, List, [], ◌∷◌, length, map}
-use Rattle.std.proofs.Common.{None, Some, refl, sym, subst, ap}
+use Rattle.std.proofs.Common.{None, refl, subst, ap}
 use Rattle.std.specs.Prelude.{bytes_eq, codes, if◌then◌else◌}
-use Rattle.play_command.specs.BelowZero.{first_argument, if_below_zero, is_seed_option}
+use Rattle.play_command.specs.BelowZero.{if_below_zero, is_seed_option}
 use Rattle.play_command.specs.BelowZero.{seed_below_zero, seed_of_command, takes_seed, word_of_seed}
-use Rattle.play_command.specs.Stray.{if_stray, stray_command}
+use Rattle.base_slips.specs.Stray.{first_argument}
 
 by_first : (word : List ℕ) (words : List (List ℕ)) (files seed : Bool)
     → bytes_eq word (codes "--") ≡ files → is_seed_option word ≡ seed
@@ -51,17 +51,6 @@ in_rest {A = A} text words first rest word is text_is files seed =
     (subst (λ (it : List ℕ). bytes_eq it (codes "--") ≡ false) text_is files)
     (subst (λ (it : List ℕ). is_seed_option it ≡ false) text_is seed)
 
-pub first_none : {A : Type 0} (text : A → List ℕ) (words : List A) → length words ≡ 0
-    → first_argument (map text words) ≡ None
-first_none text [] none = refl
-first_none text (word ∷ words) none = absurd (omega arith)
-
-pub first_some : {A : Type 0} (text : A → List ℕ) (words : List A) (first : A) (rest : List A)
-    (word : List ℕ) → words ≡ first ∷ rest → word ≡ text first
-    → first_argument (map text words) ≡ Some word
-first_some {A = A} text words first rest word is text_is =
-    ap (λ (it : List A). first_argument (map text it)) is ∙ ap Some (sym text_is)
-
 by_command : (command : List ℕ) (words : List (List ℕ)) (takes : Bool) → takes_seed command ≡ takes
     → seed_of_command (command ∷ words)
     ≡ (if takes then if_below_zero (word_of_seed words) else None)
@@ -104,23 +93,6 @@ pub program_rest : {A : Type 0} (text : A → List ℕ) (words : List A) (first 
 unfolding seed_below_zero
 program_rest {A = A} text words first rest is =
     ap (λ (it : List A). seed_below_zero (map text it)) is
-
-pub stray_none : {A : Type 0} (text : A → List ℕ) (words : List A) → length words ≡ 0
-    → stray_command (map text words) ≡ None
-unfolding stray_command
-stray_none text [] none = refl
-stray_none text (word ∷ words) none = absurd (omega arith)
-
-pub stray_rest : {A : Type 0} (text : A → List ℕ) (words : List A) (first : A) (rest : List A)
-    → words ≡ first ∷ rest
-    → stray_command (map text words) ≡ if_stray (first_argument (map text rest))
-unfolding stray_command
-stray_rest {A = A} text words first rest is =
-    ap (λ (it : List A). stray_command (map text it)) is
-
-pub ruleset strays = (stray_none, stray_rest)
-
-pub ruleset first_words = (first_none, first_some)
 
 pub ruleset words_of_seed = (in_none, in_files, in_next, in_rest)
 

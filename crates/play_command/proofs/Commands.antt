@@ -12,14 +12,16 @@ use Rattle.clap.specs.declared.error.kind.ErrorKind.TheVariants.{InvalidSubcomma
 use Rattle.clap.specs.declared.parser.matches.ArgMatches.{ArgMatches}
 use Rattle.clap.proofs.OnLiterals.{clap_on_literals}
 use Rattle.play_command.specs.App.{cave_app}
-use Rattle.play_command.specs.Line.{HasNoSeedBelowZero, HasNoStrayCommand, IsAsked, IsRun, IsRunMet, IsRefusal}
+use Rattle.play_command.specs.Line.{HasNoSeedBelowZero, HasNoStrayCommand, IsAsked, IsRun, IsRunMet}
+use Rattle.play_command.specs.Line.{IsRefusal}
 use Rattle.play_command.specs.Line.{IsRefused, IsRequest, IsUnmade, IsWrong, MetCommand, IsParse}
 use Rattle.play_command.specs.declared.fault.CommandFault.{CommandFault}
 use Rattle.play_command.specs.declared.fault.CommandFault.TheVariants.{Usage, Incomplete, BadSeed}
 use Rattle.play_command.specs.declared.fault.CommandFault.TheVariants.{BadEvery, BadView, Memory}
 use Rattle.play_command.specs.declared.fault.CommandFault.TheVariants.{BadPlayView, BadCheckView}
 use Rattle.play_command.specs.declared.fault.CommandFault.TheVariants.{BadCoverView, NoCommand}
-use Rattle.play_command.specs.declared.fault.CommandFault.TheVariants.{NoScript, TwoScripts, BadReport, ReportAlone}
+use Rattle.play_command.specs.declared.fault.CommandFault.TheVariants.{NoScript, TwoScripts}
+use Rattle.play_command.specs.declared.fault.CommandFault.TheVariants.{BadReport, ReportAlone}
 use Rattle.play_command.specs.declared.fault.CommandFault.TheVariants.{BadPlace, BadWays, SeenAlone}
 use Rattle.play_command.specs.declared.fault.CommandFault.TheVariants.{WithinAlone}
 use Rattle.play_command.specs.declared.line.Line.{Line}

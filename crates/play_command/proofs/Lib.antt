@@ -1,4 +1,3 @@
 pub mod Values
 pub mod Commands
 pub mod BelowZeroLemmas
-pub mod NameLemmas

@@ -2,7 +2,7 @@
 use Rattle.std.specs.Prelude.{◌≡◌, ◌&&◌, ℕ, Bool, true, false, not, List, bytes_eq, codes}
 use Rattle.std.specs.Prelude.{if◌then◌else◌, Option, Some, None, is_some}
 use Rattle.clap.specs.Words.{Row, first_of}
-use Rattle.play_command.specs.Found.{is_set}
+use Rattle.play_command.specs.Found.{IsUnread, is_set}
 use Rattle.play_command.specs.declared.aside.Aside.{Aside}
 use Rattle.play_command.specs.declared.aside.ReportView.{ReportView}
 use Rattle.play_command.specs.declared.aside.ReportView.TheVariants as report
@@ -50,7 +50,7 @@ pub record IsAside (rows : List Row) (view : EditView) (aside : Aside) : Type 0 
 -- what was found for a report names none, or the output doesn't go into a file
 abbrev pub IsBadReport : List Row → CommandFault → Type 0
 IsBadReport rows (fault_is.BadReport name) =
-    (first_of (codes "report") rows ≡ Some name.now) × (report_named name.now ≡ None)
+    IsUnread (codes "report") report_named rows name.now
 IsBadReport rows fault_is.ReportAlone =
     (is_some (first_of (codes "report") rows) ≡ true) × (first_of (codes "output") rows ≡ None)
 IsBadReport rows _ = ⊥

@@ -3,6 +3,7 @@ use Rattle.std.specs.Prelude.{◌==◌, ◌&&◌, ◌||◌, ℕ, Bool, false, na
 use Rattle.std.specs.Prelude.{Option, None, Some, bytes_eq, codes, if◌then◌else◌}
 use Rattle.std.specs.List.{list_all}
 use Rattle.base_lines.specs.Bytes.{is_digit}
+use Rattle.base_slips.specs.Stray.{first_argument}
 
 -- a hyphen, which is byte 45, and then digits
 abbrev pub is_below_zero : List ℕ → Bool
@@ -13,11 +14,6 @@ is_below_zero (byte ∷ digits) = byte == 45 && nat_lt 0 (length digits) && list
 abbrev pub takes_seed : List ℕ → Bool
 takes_seed command = bytes_eq command (codes "play") || bytes_eq command (codes "edit")
     || bytes_eq command (codes "cover") || bytes_eq command (codes "map")
-
--- the first word, if there is one
-abbrev pub first_argument : List (List ℕ) → Option (List ℕ)
-first_argument [] = None
-first_argument (word ∷ words) = Some word
 
 -- the option of a seed
 abbrev pub is_seed_option : List ℕ → Bool

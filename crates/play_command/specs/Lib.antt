@@ -4,8 +4,6 @@ pub mod BelowZero
 pub mod Found
 pub mod Line
 pub mod MapPart
-pub mod Meant
 pub mod Number
 pub mod Source
-pub mod Stray
 pub mod Views

@@ -21,12 +21,12 @@ use Rattle.play_command.specs.declared.line.Line.TheVariants.{Script, Text}
 use Rattle.play_command.specs.App.{cave_app}
 use Rattle.play_command.specs.Aside.{IsAside, IsBadReport}
 use Rattle.play_command.specs.MapPart.{IsBadPart, IsMapPart}
-use Rattle.play_command.specs.Number.{IsNumberGiven, number_in_range}
-use Rattle.play_command.specs.Found.{is_set}
+use Rattle.play_command.specs.Number.{number_in_range}
+use Rattle.play_command.specs.Found.{IsGiven, IsUnread, is_set}
 use Rattle.play_command.specs.Source.{IsBadScript, IsScriptSource}
-use Rattle.play_command.specs.Views.{edit_view_named, check_view_named, cover_view_named}
-use Rattle.play_command.specs.Stray.{stray_command}
+use Rattle.play_command.specs.Views.{check_view_named, cover_view_named, edit_view_named}
 use Rattle.play_command.specs.Views.{play_view_named}
+use Rattle.base_slips.specs.Stray.{stray_command}
 use Rattle.play_command.specs.declared.views.CheckView.{CheckView}
 use Rattle.play_command.specs.declared.views.CheckView.TheVariants.{Maximum}
 use Rattle.play_command.specs.declared.views.CoverView.{CoverView}
@@ -64,19 +64,15 @@ pub record IsFiles (rows : List Row) (files : Files) : Type 0 where
 
 -- a seed is what was found for it, or 0
 abbrev pub IsSeed : List Row → ℕ → Type 0
-IsSeed rows seed = IsNumberGiven 0 MAX_SEED 0 (first_of (codes "seed") rows) seed
+IsSeed rows seed = IsGiven (codes "seed") (number_in_range 0 MAX_SEED) 0 rows seed
 
 -- a distance of checkpoints is what was found for it, or 50
 abbrev pub IsEveryGiven : List Row → ℕ → Type 0
-IsEveryGiven rows every = IsNumberGiven 1 MAX_EVERY 50 (first_of (codes "every") rows) every
+IsEveryGiven rows every = IsGiven (codes "every") (number_in_range 1 MAX_EVERY) 50 rows every
 
--- what a check prints, if this was found for it, or otherwise the greatest score
-abbrev pub IsCheckViewGiven : Option (List ℕ) → CheckView → Type 0
-IsCheckViewGiven None view = view ≡ Maximum
-IsCheckViewGiven (Some name) view = check_view_named name ≡ Some view
-
+-- what a check prints is what was found for it, or the greatest score
 abbrev pub IsCheckView : List Row → CheckView → Type 0
-IsCheckView rows view = IsCheckViewGiven (first_of (codes "print") rows) view
+IsCheckView rows view = IsGiven (codes "print") check_view_named Maximum rows view
 
 -- what is printed of texts if nothing is asked for: each that is left, if the run is strict or
 -- something is known, and otherwise how many there are
@@ -85,31 +81,16 @@ usual_cover_view rows =
     if is_set (codes "strict") rows || is_some (first_of (codes "known") rows) then Said Texts
     else Said Counts
 
--- what is printed of texts, if this was found for it
-abbrev pub IsCoverViewGiven : Option (List ℕ) → List Row → CoverView → Type 0
-IsCoverViewGiven None rows view = view ≡ usual_cover_view rows
-IsCoverViewGiven (Some name) rows view = cover_view_named name ≡ Some view
-
 abbrev pub IsCoverView : List Row → CoverView → Type 0
-IsCoverView rows view = IsCoverViewGiven (first_of (codes "print") rows) rows view
+IsCoverView rows view =
+    IsGiven (codes "print") cover_view_named (usual_cover_view rows) rows view
 
--- what an edit prints, if this was found for it, or otherwise the transcript
-abbrev pub IsEditViewGiven : Option (List ℕ) → EditView → Type 0
-IsEditViewGiven None view = view ≡ Transcript
-IsEditViewGiven (Some name) view = edit_view_named name ≡ Some view
-
--- what an edit prints is what was found for it, or the transcript
+-- what an edit or a play prints is what was found for it, or the transcript
 abbrev pub IsView : List Row → EditView → Type 0
-IsView rows view = IsEditViewGiven (first_of (codes "print") rows) view
+IsView rows view = IsGiven (codes "print") edit_view_named Transcript rows view
 
--- what a play prints, if this was found for it, or otherwise the transcript
-abbrev pub IsPlayViewGiven : Option (List ℕ) → PlayView → Type 0
-IsPlayViewGiven None view = view ≡ play.Transcript
-IsPlayViewGiven (Some name) view = play_view_named name ≡ Some view
-
--- what a play prints is what was found for it, or the transcript
 abbrev pub IsPlayView : List Row → PlayView → Type 0
-IsPlayView rows view = IsPlayViewGiven (first_of (codes "print") rows) view
+IsPlayView rows view = IsGiven (codes "print") play_view_named play.Transcript rows view
 
 -- an edit is what was found for its options
 pub record IsEditing (rows : List Row) (editing : Editing) : Type 0 where
@@ -193,52 +174,28 @@ abbrev pub is_complete : MetCommand → Bool
 is_complete None = false
 is_complete (Some found) = has_files found.0 found.1
 
--- what was found for the seed isn't a seed
+-- what was found for the seed isn't a seed, or for the distance of checkpoints isn't one
 abbrev pub IsBadSeed : List Row → CommandFault → Type 0
-IsBadSeed rows (fault_is.BadSeed text) = (first_of (codes "seed") rows ≡ Some text.now)
-    × (number_in_range 0 MAX_SEED text.now ≡ None)
+IsBadSeed rows (fault_is.BadSeed text) =
+    IsUnread (codes "seed") (number_in_range 0 MAX_SEED) rows text.now
 IsBadSeed rows _ = ⊥
 
--- what was found for the distance of checkpoints isn't one
 abbrev pub IsBadEvery : List Row → CommandFault → Type 0
-IsBadEvery rows (fault_is.BadEvery text) = (first_of (codes "every") rows ≡ Some text.now)
-    × (number_in_range 1 MAX_EVERY text.now ≡ None)
+IsBadEvery rows (fault_is.BadEvery text) =
+    IsUnread (codes "every") (number_in_range 1 MAX_EVERY) rows text.now
 IsBadEvery rows _ = ⊥
-
--- what was found for what an edit prints names nothing that it may print
-abbrev pub IsBadView : List Row → CommandFault → Type 0
-IsBadView rows (fault_is.BadView name) = (first_of (codes "print") rows ≡ Some name.now)
-    × (edit_view_named name.now ≡ None)
-IsBadView rows _ = ⊥
-
--- what was found for what a check prints names nothing that it may print
-abbrev pub IsBadCheckView : List Row → CommandFault → Type 0
-IsBadCheckView rows (fault_is.BadCheckView name) = (first_of (codes "print") rows ≡ Some name.now)
-    × (check_view_named name.now ≡ None) × (are_doubts_asked rows ≡ false)
-IsBadCheckView rows _ = ⊥
-
--- and the same for what is printed of texts
-abbrev pub IsBadCoverView : List Row → CommandFault → Type 0
-IsBadCoverView rows (fault_is.BadCoverView name) = (first_of (codes "print") rows ≡ Some name.now)
-    × (cover_view_named name.now ≡ None)
-IsBadCoverView rows _ = ⊥
-
--- what was found for what a play prints names nothing that it may print
-abbrev pub IsBadPlayView : List Row → CommandFault → Type 0
-IsBadPlayView rows (fault_is.BadPlayView name) = (first_of (codes "print") rows ≡ Some name.now)
-    × (play_view_named name.now ≡ None)
-IsBadPlayView rows _ = ⊥
 
 -- what is wrong with the options of a command, each of which prints its own views
 abbrev pub IsBadOption : List ℕ → List Row → CommandFault → Type 0
 IsBadOption name rows (fault_is.BadView given) =
-    (name ≡ codes "edit") × IsBadView rows (fault_is.BadView given)
+    (name ≡ codes "edit") × IsUnread (codes "print") edit_view_named rows given.now
 IsBadOption name rows (fault_is.BadCheckView given) =
-    (name ≡ codes "check") × IsBadCheckView rows (fault_is.BadCheckView given)
+    (name ≡ codes "check") × IsUnread (codes "print") check_view_named rows given.now
+    × (are_doubts_asked rows ≡ false)
 IsBadOption name rows (fault_is.BadPlayView given) =
-    (name ≡ codes "play") × IsBadPlayView rows (fault_is.BadPlayView given)
+    (name ≡ codes "play") × IsUnread (codes "print") play_view_named rows given.now
 IsBadOption name rows (fault_is.BadCoverView given) =
-    (name ≡ codes "cover") × IsBadCoverView rows (fault_is.BadCoverView given)
+    (name ≡ codes "cover") × IsUnread (codes "print") cover_view_named rows given.now
 IsBadOption name rows fault_is.NoScript =
     (name ≡ codes "edit") × IsBadScript rows fault_is.NoScript
 IsBadOption name rows fault_is.TwoScripts =

@@ -1,8 +1,8 @@
 -- Which part of a cave a map draws, by what the parser found.
 use Rattle.std.specs.Prelude.{◌≡◌, ℕ, List, Option, Some, None, codes, true, is_some}
 use Rattle.clap.specs.Words.{Row, all_of, first_of}
-use Rattle.play_command.specs.Found.{is_set}
-use Rattle.play_command.specs.Number.{IsNumberGiven, number_in_range}
+use Rattle.play_command.specs.Found.{IsGiven, IsUnread, is_set}
+use Rattle.play_command.specs.Number.{number_in_range}
 use Rattle.play_command.specs.declared.fault.CommandFault.{CommandFault}
 use Rattle.play_command.specs.declared.fault.CommandFault.TheVariants as fault_is
 use Rattle.play_command.specs.declared.map_part.MapPart.{MapPart}
@@ -10,7 +10,7 @@ use Rattle.play_command.specs.declared.map_part.Surroundings.{Surroundings}
 
 -- ways from a place are from 0 to 300, and 2 if none are given
 abbrev pub AreWaysGiven : List Row → ℕ → Type 0
-AreWaysGiven rows ways = IsNumberGiven 0 300 2 (first_of (codes "within") rows) ways
+AreWaysGiven rows ways = IsGiven (codes "within") (number_in_range 0 300) 2 rows ways
 
 -- what is drawn around the place that was found, which is from 1 to 300, if one was
 abbrev pub IsAroundBy : Option (List ℕ) → List Row → Option Surroundings → Type 0
@@ -32,10 +32,10 @@ pub record IsMapPart (rows : List Row) (part : MapPart) : Type 0 where
 -- what was found for the part names no place or no number of ways, or there are ways from no place,
 -- or no logs of which only what they saw is drawn
 abbrev pub IsBadPart : List Row → CommandFault → Type 0
-IsBadPart rows (fault_is.BadPlace text) = (first_of (codes "from") rows ≡ Some text.now)
-    × (number_in_range 1 300 text.now ≡ None)
-IsBadPart rows (fault_is.BadWays text) = (first_of (codes "within") rows ≡ Some text.now)
-    × (number_in_range 0 300 text.now ≡ None)
+IsBadPart rows (fault_is.BadPlace text) =
+    IsUnread (codes "from") (number_in_range 1 300) rows text.now
+IsBadPart rows (fault_is.BadWays text) =
+    IsUnread (codes "within") (number_in_range 0 300) rows text.now
 IsBadPart rows fault_is.WithinAlone =
     (is_some (first_of (codes "within") rows) ≡ true) × (first_of (codes "from") rows ≡ None)
 IsBadPart rows fault_is.SeenAlone =

@@ -1,5 +1,5 @@
 -- Numbers of the command line.
-use Rattle.std.specs.Prelude.{◌≡◌, ◌&&◌, ℕ, Bool, List, Option, Some, None, nat_lt, nat_le, length}
+use Rattle.std.specs.Prelude.{◌&&◌, ℕ, Bool, List, Option, Some, None, nat_lt, nat_le, length}
 use Rattle.std.specs.Prelude.{if◌then◌else◌}
 use Rattle.std.specs.List.{list_all}
 use Rattle.base_lines.specs.Bytes.{is_digit, number_of}
@@ -15,8 +15,3 @@ unfoldable pub number_in_range : ℕ → ℕ → List ℕ → Option ℕ
 number_in_range least most text =
     if is_option_number text && nat_le least (number_of text) && nat_le (number_of text) most
     then Some (number_of text) else None
-
--- the value of an option of a number, or its default if the option isn't given
-abbrev pub IsNumberGiven : ℕ → ℕ → ℕ → Option (List ℕ) → ℕ → Type 0
-IsNumberGiven least most absent None number = number ≡ absent
-IsNumberGiven least most absent (Some text) number = number_in_range least most text ≡ Some number

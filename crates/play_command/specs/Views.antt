@@ -1,5 +1,5 @@
 -- What runs may print.
-use Rattle.std.specs.Prelude.{ℕ, List, [], ◌∷◌, bytes_eq, codes, if◌then◌else◌, Option, Some, None}
+use Rattle.std.specs.Prelude.{ℕ, List, bytes_eq, codes, if◌then◌else◌, Option, Some, None}
 use Rattle.play_command.specs.declared.views.CheckView.{CheckView}
 use Rattle.play_command.specs.declared.views.CheckView.TheVariants.{Maximum, Bindings, Names}
 use Rattle.play_command.specs.declared.views.CheckView.TheVariants.{Unused, Words}
@@ -10,13 +10,6 @@ use Rattle.play_command.specs.declared.views.PlayView.{PlayView}
 use Rattle.play_command.specs.declared.views.PlayView.TheVariants as played
 use Rattle.play_command.specs.declared.editing.EditView.{EditView}
 use Rattle.play_command.specs.declared.editing.EditView.TheVariants as asked
-
--- the item of a name, if the items are in the order of their names
-abbrev pub named_in : {T : Type 0} → List (List ℕ) → List T → List ℕ → Option T
-named_in [] items name = None
-named_in (known ∷ names) [] name = None
-named_in (known ∷ names) (item ∷ items) name =
-    if bytes_eq name known then Some item else named_in names items name
 
 abbrev pub edit_view_named : List ℕ → Option EditView
 edit_view_named name =

@@ -1,25 +1,16 @@
 //! The commands, as the parser knows them.
 
-ghost use Rattle.std.specs.Prelude.{◌≡◌, IfOk, false};
+ghost use Rattle.std.specs.Prelude.{◌≡◌, IfOk};
 ghost use Rattle.clap.specs.Words.{App, app_of, with_subcommand};
-ghost use Rattle.clap.specs.declared.builder.command.Command.TheViews.{out-Command};
-ghost use Rattle.play_command.specs.App.{IsLocal, cave_app, check_and_play_command, check_app};
-ghost use Rattle.play_command.specs.App.{check_play_and_edit_command, cover_app, edit_app, map_app};
-ghost use Rattle.play_command.specs.App.{check_play_edit_and_script_command};
-ghost use Rattle.play_command.specs.App.{plain_command, play_app, script_app, with_check_options};
-ghost use Rattle.play_command.specs.App.{with_cover_options, with_difference, with_edit_options};
-ghost use Rattle.play_command.specs.App.{with_game};
-ghost use Rattle.play_command.specs.App.{with_logs, with_options, with_output, with_part};
-ghost use Rattle.play_command.specs.App.{with_refusals, with_script};
+ghost use Rattle.play_command.specs.App.{IsLocal, cave_app, check_app, check_play_and_edit_command};
+ghost use Rattle.play_command.specs.App.{cover_app, edit_app, map_app, plain_command, play_app};
+ghost use Rattle.play_command.specs.App.{check_play_edit_and_script_command, script_app};
 
 use crate::arguments::{
-    bind_argument, cave_argument, check_print_argument, check_strict_argument,
-    cover_known_argument, cover_print_argument, cover_strict_argument, edit_print_argument,
-    every_argument, from_argument, group_argument, guarded_argument, known_argument,
-    lines_argument, log_argument, logs_argument, new_argument, old_argument, output_argument,
-    play_print_argument, quiet_argument, report_argument, script_argument, seed_argument,
-    seen_argument, some_logs_argument, strict_argument, to_argument, with_guards_argument,
-    within_argument,
+    Argument, BIND, CAVE, CHECK_KNOWN, CHECK_PRINT, CHECK_STRICT, COVER_KNOWN, COVER_PRINT,
+    COVER_STRICT, EDIT_PRINT, EVERY, FROM, GROUP, GUARDED, LINES, LOG, LOGS, NEW, OLD, OUTPUT,
+    PLAY_PRINT, QUIET, REPORT, SCRIPT, SEED, SEEN, SOME_LOGS, STRICT, TO, WITH_GUARDS, WITHIN,
+    with_rules,
 };
 use clap::Command;
 use std::alloc::{AllocError, Global};
@@ -81,118 +72,38 @@ An edit that is refused is reported by a number, or ends the run under --strict:
   7  an empty group: nothing is between begin and end
   8  another line: under --guarded, a line `expect N TEXT` found another one or none";
 
+/// The arguments of each command, in the order of its help.
+const CHECK: [Argument; 6] = [CAVE, BIND, CHECK_PRINT, CHECK_STRICT, CHECK_KNOWN, OUTPUT];
+
+const PLAY: [Argument; 6] = [CAVE, LOG, BIND, SEED, PLAY_PRINT, OUTPUT];
+
+const EDIT: [Argument; 14] = [
+    CAVE, LOG, SCRIPT, LINES, TO, BIND, SEED, EVERY, EDIT_PRINT, STRICT, GUARDED, QUIET, REPORT,
+    OUTPUT,
+];
+
+const TWO_LOGS: [Argument; 5] = [OLD, NEW, WITH_GUARDS, GROUP, OUTPUT];
+
+const COVER: [Argument; 8] = [
+    CAVE,
+    LOGS,
+    BIND,
+    SEED,
+    COVER_PRINT,
+    COVER_STRICT,
+    COVER_KNOWN,
+    OUTPUT,
+];
+
+const MAP: [Argument; 8] = [CAVE, SOME_LOGS, BIND, SEED, SEEN, FROM, WITHIN, OUTPUT];
+
 fn check_command<'a>(alloc: Global) -> Result<Command<'a>, AllocError>
     ensures { IfOk result (IsLocal check_app) }
 {
     let command = Command::new(alloc, "check")
         .about("Reads a cave and says whether it is one that can be played")
         .after_help("Example: cave check caves/b.txt --bind caves/b.bind");
-    let command = with_check_options(alloc, command.arg(cave_argument(alloc))?)?;
-    with_output(alloc, command)
-}
-
-/// Adds the options of a check: the bindings, what is printed, whether the run fails if a doubt is
-/// left, and the doubts that are known.
-fn with_check_options<'a>(alloc: Global, command: Command<'a>) -> Result<Command<'a>, AllocError>
-    requires { (out-Command command).has_globals ≡ false }
-    ensures { IfOk result (IsLocal (with_check_options (app_of command.entry))) }
-{
-    command
-        .arg(bind_argument(alloc))?
-        .arg(check_print_argument(alloc))?
-        .arg(check_strict_argument(alloc))?
-        .arg(known_argument(alloc))
-}
-
-/// Adds the option of a file for the output.
-fn with_output<'a>(alloc: Global, command: Command<'a>) -> Result<Command<'a>, AllocError>
-    requires { (out-Command command).has_globals ≡ false }
-    ensures { IfOk result (IsLocal (with_output (app_of command.entry))) }
-{
-    command.arg(output_argument(alloc))
-}
-
-/// Adds the files of a game: the cave and the log.
-fn with_game<'a>(alloc: Global, command: Command<'a>) -> Result<Command<'a>, AllocError>
-    requires { (out-Command command).has_globals ≡ false }
-    ensures { IfOk result (IsLocal (with_game (app_of command.entry))) }
-{
-    command.arg(cave_argument(alloc))?.arg(log_argument(alloc))
-}
-
-/// Adds the options of a game: the bindings and the seed.
-fn with_options<'a>(alloc: Global, command: Command<'a>) -> Result<Command<'a>, AllocError>
-    requires { (out-Command command).has_globals ≡ false }
-    ensures { IfOk result (IsLocal (with_options (app_of command.entry))) }
-{
-    command.arg(bind_argument(alloc))?.arg(seed_argument(alloc))
-}
-
-/// Adds the files of several games: the cave and the logs.
-fn with_logs<'a>(alloc: Global, command: Command<'a>) -> Result<Command<'a>, AllocError>
-    requires { (out-Command command).has_globals ≡ false }
-    ensures { IfOk result (IsLocal (with_logs (app_of command.entry))) }
-{
-    command.arg(cave_argument(alloc))?.arg(logs_argument(alloc))
-}
-
-/// Adds the options of the coverage of logs: those of a game, what is printed, whether the run fails
-/// if something is left, and what is known.
-fn with_cover_options<'a>(alloc: Global, command: Command<'a>) -> Result<Command<'a>, AllocError>
-    requires { (out-Command command).has_globals ≡ false }
-    ensures { IfOk result (IsLocal (with_cover_options (app_of command.entry))) }
-{
-    with_options(alloc, command)?
-        .arg(cover_print_argument(alloc))?
-        .arg(cover_strict_argument(alloc))?
-        .arg(cover_known_argument(alloc))
-}
-
-/// Adds what edits are read from: the file of a script, its lines on the command line, or a log.
-fn with_script<'a>(alloc: Global, command: Command<'a>) -> Result<Command<'a>, AllocError>
-    requires { (out-Command command).has_globals ≡ false }
-    ensures { IfOk result (IsLocal (with_script (app_of command.entry))) }
-{
-    command
-        .arg(script_argument(alloc))?
-        .arg(lines_argument(alloc))?
-        .arg(to_argument(alloc))
-}
-
-/// Adds two logs, and how the script of their difference is written.
-fn with_difference<'a>(alloc: Global, command: Command<'a>) -> Result<Command<'a>, AllocError>
-    requires { (out-Command command).has_globals ≡ false }
-    ensures { IfOk result (IsLocal (with_difference (app_of command.entry))) }
-{
-    command
-        .arg(old_argument(alloc))?
-        .arg(new_argument(alloc))?
-        .arg(with_guards_argument(alloc))?
-        .arg(group_argument(alloc))
-}
-
-/// Adds what becomes of refused edits: whether one ends the run, whether the script may have guards,
-/// and whether nothing is said of any.
-fn with_refusals<'a>(alloc: Global, command: Command<'a>) -> Result<Command<'a>, AllocError>
-    requires { (out-Command command).has_globals ≡ false }
-    ensures { IfOk result (IsLocal (with_refusals (app_of command.entry))) }
-{
-    command
-        .arg(strict_argument(alloc))?
-        .arg(guarded_argument(alloc))?
-        .arg(quiet_argument(alloc))
-}
-
-/// Adds the options that only an edit has: the distance of checkpoints, what is printed, what
-/// becomes of refused edits, and what is printed beside the output.
-fn with_edit_options<'a>(alloc: Global, command: Command<'a>) -> Result<Command<'a>, AllocError>
-    requires { (out-Command command).has_globals ≡ false }
-    ensures { IfOk result (IsLocal (with_edit_options (app_of command.entry))) }
-{
-    let command = command
-        .arg(every_argument(alloc))?
-        .arg(edit_print_argument(alloc))?;
-    with_refusals(alloc, command)?.arg(report_argument(alloc))
+    with_rules(alloc, command, &CHECK)
 }
 
 fn play_command<'a>(alloc: Global) -> Result<Command<'a>, AllocError>
@@ -204,8 +115,7 @@ fn play_command<'a>(alloc: Global) -> Result<Command<'a>, AllocError>
              did, the score or the state",
         )
         .after_help(PLAY_EXAMPLE);
-    let command = with_options(alloc, with_game(alloc, command)?)?;
-    with_output(alloc, command.arg(play_print_argument(alloc))?)
+    with_rules(alloc, command, &PLAY)
 }
 
 fn edit_command<'a>(alloc: Global) -> Result<Command<'a>, AllocError>
@@ -217,9 +127,7 @@ fn edit_command<'a>(alloc: Global) -> Result<Command<'a>, AllocError>
              what each line did, the score or the state",
         )
         .after_help(EDIT_EXAMPLE);
-    let command = with_script(alloc, with_game(alloc, command)?)?;
-    let command = with_edit_options(alloc, with_options(alloc, command)?)?;
-    with_output(alloc, command)
+    with_rules(alloc, command, &EDIT)
 }
 
 fn script_command<'a>(alloc: Global) -> Result<Command<'a>, AllocError>
@@ -228,8 +136,7 @@ fn script_command<'a>(alloc: Global) -> Result<Command<'a>, AllocError>
     let command = Command::new(alloc, "script")
         .about("Prints the edits that make one log of another, as a script for `edit`")
         .after_help(SCRIPT_EXAMPLE);
-    let command = with_difference(alloc, command)?;
-    with_output(alloc, command)
+    with_rules(alloc, command, &TWO_LOGS)
 }
 
 fn cover_command<'a>(alloc: Global) -> Result<Command<'a>, AllocError>
@@ -238,19 +145,7 @@ fn cover_command<'a>(alloc: Global) -> Result<Command<'a>, AllocError>
     let command = Command::new(alloc, "cover")
         .about("Plays logs and prints which texts of the cave none of them shows")
         .after_help("Example: cave cover caves/a.txt logs/first.log logs/road.log");
-    let command = with_cover_options(alloc, with_logs(alloc, command)?)?;
-    with_output(alloc, command)
-}
-
-/// Adds which part of a cave a map draws.
-fn with_part<'a>(alloc: Global, command: Command<'a>) -> Result<Command<'a>, AllocError>
-    requires { (out-Command command).has_globals ≡ false }
-    ensures { IfOk result (IsLocal (with_part (app_of command.entry))) }
-{
-    command
-        .arg(seen_argument(alloc))?
-        .arg(from_argument(alloc))?
-        .arg(within_argument(alloc))
+    with_rules(alloc, command, &COVER)
 }
 
 fn map_command<'a>(alloc: Global) -> Result<Command<'a>, AllocError>
@@ -259,11 +154,7 @@ fn map_command<'a>(alloc: Global) -> Result<Command<'a>, AllocError>
     let command = Command::new(alloc, "map")
         .about("Prints the cave as a graph for Graphviz, with what logs saw of it")
         .after_help(MAP_EXAMPLE);
-    let command = command
-        .arg(cave_argument(alloc))?
-        .arg(some_logs_argument(alloc))?;
-    let command = with_part(alloc, with_options(alloc, command)?)?;
-    with_output(alloc, command)
+    with_rules(alloc, command, &MAP)
 }
 
 /// The program's command, with its subcommands.
@@ -275,8 +166,7 @@ pub fn cave_app<'a>(alloc: Global) -> Result<Command<'a>, AllocError>
     with_subcommand(command, map_command(alloc))
 }
 
-/// The program's command with the four subcommands that check a cave, play a log, edit one and
-/// compare two.
+/// The program's command with the subcommands that check a cave, play, edit and compare logs.
 fn check_play_edit_and_script_command<'a>(alloc: Global) -> Result<Command<'a>, AllocError>
     ensures { IfOk result (λ command. app_of command ≡ check_play_edit_and_script_command) }
 {
@@ -288,16 +178,9 @@ fn check_play_edit_and_script_command<'a>(alloc: Global) -> Result<Command<'a>, 
 fn check_play_and_edit_command<'a>(alloc: Global) -> Result<Command<'a>, AllocError>
     ensures { IfOk result (λ command. app_of command ≡ check_play_and_edit_command) }
 {
-    let command = check_and_play_command(alloc)?;
-    with_subcommand(command, edit_command(alloc))
-}
-
-/// The program's command with the two subcommands that check a cave and play a log.
-fn check_and_play_command<'a>(alloc: Global) -> Result<Command<'a>, AllocError>
-    ensures { IfOk result (λ command. app_of command ≡ check_and_play_command) }
-{
     let command = with_subcommand(plain_command(alloc), check_command(alloc))?;
-    with_subcommand(command, play_command(alloc))
+    let command = with_subcommand(command, play_command(alloc))?;
+    with_subcommand(command, edit_command(alloc))
 }
 
 /// Adds a subcommand, if there was memory for it.

@@ -1,368 +1,226 @@
 //! The arguments of the commands.
 
-ghost use Rattle.std.specs.Prelude.{◌≡◌, false};
-ghost use Rattle.clap.specs.Words.{rule_of};
-ghost use Rattle.play_command.specs.App.{bind_argument, cave_argument, every_argument};
-ghost use Rattle.play_command.specs.App.{known_argument, lines_argument, log_argument};
-ghost use Rattle.play_command.specs.App.{logs_argument};
-ghost use Rattle.play_command.specs.App.{output_argument};
-ghost use Rattle.play_command.specs.App.{print_argument, script_argument, seed_argument};
-ghost use Rattle.play_command.specs.App.{group_argument, guarded_argument, new_argument};
-ghost use Rattle.play_command.specs.App.{old_argument, quiet_argument, some_logs_argument};
-ghost use Rattle.play_command.specs.App.{report_argument, strict_argument};
-ghost use Rattle.play_command.specs.App.{from_argument, seen_argument, to_argument};
-ghost use Rattle.play_command.specs.App.{within_argument};
+ghost use Rattle.std.specs.Prelude.{◌≡◌, IfOk, false, map};
+ghost use Rattle.clap.specs.Words.{app_of, rule_of, with_rule};
+ghost use Rattle.clap.specs.declared.builder.command.Command.TheViews.{out-Command};
+ghost use Rattle.play_command.specs.App.{IsLocal, plain_argument, rule_given, with_letter};
+ghost use Rattle.play_command.specs.App.{with_rules};
 
-use clap::{Arg, ArgAction};
-use std::alloc::Global;
+use clap::{Arg, ArgAction, Command};
+use std::alloc::{AllocError, Global};
 
-pub(crate) fn cave_argument<'a>(alloc: Global) -> Arg<'a>
-    ensures rule { rule_of result ≡ cave_argument }
-    ensures local { result.global ≡ false }
-{
-    Arg::new(alloc, "cave")
-        .required(true)
-        .value_name("CAVE")
-        .help("The database of the cave")
+/// How an argument is given: as a file by its place, as an option with a value, or as one without.
+#[derive(Clone, Copy)]
+pub(crate) enum Form {
+    NeededFile,
+    NeededFiles,
+    /// A file that may be left out.
+    File,
+    Files,
+    Value,
+    /// A value each time that the option is given.
+    Values,
+    /// A value, which is `reports` if it is left out.
+    Report,
+    Flag,
 }
 
-pub(crate) fn log_argument<'a>(alloc: Global) -> Arg<'a>
-    ensures rule { rule_of result ≡ log_argument }
-    ensures local { result.global ≡ false }
-{
-    Arg::new(alloc, "log")
-        .required(true)
-        .value_name("LOG")
-        .help("The log of the game: what the player says, line by line")
+/// An argument of a command.
+#[derive(Clone, Copy)]
+pub(crate) struct Argument {
+    /// What a run asks for it by. It is also the long name of an option.
+    id: &'static str,
+    form: Form,
+    /// The short name of an option.
+    letter: Option<char>,
+    /// What help calls the value.
+    value: &'static str,
+    help: &'static str,
 }
 
-pub(crate) fn logs_argument<'a>(alloc: Global) -> Arg<'a>
-    ensures rule { rule_of result ≡ logs_argument }
-    ensures local { result.global ≡ false }
+fn with_letter<'a>(arg: Arg<'a>, letter: Option<char>) -> Arg<'a>
+    ensures rule { rule_of result ≡ with_letter letter (rule_of arg.entry) }
+    ensures local { result.global ≡ arg.entry.global }
 {
-    Arg::new(alloc, "log")
-        .required(true)
-        .action(ArgAction::Append)
-        .value_name("LOG")
-        .help("The logs, each of which is played by itself from its first line")
+    match letter {
+        Some(letter) => arg.short(letter),
+        None => arg,
+    }
 }
 
-pub(crate) fn some_logs_argument<'a>(alloc: Global) -> Arg<'a>
-    ensures rule { rule_of result ≡ some_logs_argument }
+/// An argument that is given so, without its letter.
+fn plain_argument<'a>(alloc: Global, argument: &Argument) -> Arg<'a>
+    ensures rule { rule_of result ≡ plain_argument argument.now.form argument.now.id.now }
     ensures local { result.global ≡ false }
 {
-    Arg::new(alloc, "log")
-        .action(ArgAction::Append)
-        .value_name("LOG")
-        .help("Logs, each of which is played by itself: what they saw is drawn strong")
+    let (id, value) = (argument.id, argument.value);
+    let arg = Arg::new(alloc, id).help(argument.help);
+    match argument.form {
+        Form::NeededFile => arg.required(true).value_name(value),
+        Form::NeededFiles => arg
+            .required(true)
+            .action(ArgAction::Append)
+            .value_name(value),
+        Form::File => arg.value_name(value),
+        Form::Files => arg.action(ArgAction::Append).value_name(value),
+        Form::Value => arg.long(id).value_name(value),
+        Form::Values => arg.long(id).action(ArgAction::Append).value_name(value),
+        Form::Report => arg
+            .long(id)
+            .value_name(value)
+            .num_args(0..=1)
+            .default_missing_value("reports"),
+        Form::Flag => arg.long(id).action(ArgAction::SetTrue),
+    }
 }
 
-pub(crate) fn script_argument<'a>(alloc: Global) -> Arg<'a>
-    ensures rule { rule_of result ≡ script_argument }
-    ensures local { result.global ≡ false }
+/// Adds an argument to a command.
+fn with_rule<'a>(
+    alloc: Global,
+    command: Command<'a>,
+    argument: &Argument,
+) -> Result<Command<'a>, AllocError>
+    requires { (out-Command command).has_globals ≡ false }
+    ensures { IfOk result
+        (IsLocal (with_rule (app_of command.entry) (rule_given argument.now))) }
 {
-    Arg::new(alloc, "script").value_name("SCRIPT").help(
-        "The edits of the log: lines `insert N TEXT`, `delete N`, `replace N TEXT`, \
-         `seed N`, and groups from `begin` to `end`",
-    )
+    let arg = with_letter(plain_argument(alloc, argument), argument.letter);
+    command.arg(arg)
 }
 
-pub(crate) fn lines_argument<'a>(alloc: Global) -> Arg<'a>
-    ensures rule { rule_of result ≡ lines_argument }
-    ensures local { result.global ≡ false }
+/// Adds arguments to a command.
+pub(crate) fn with_rules<'a>(
+    alloc: Global,
+    command: Command<'a>,
+    arguments: &[Argument],
+) -> Result<Command<'a>, AllocError>
+    requires { (out-Command command).has_globals ≡ false }
+    ensures { IfOk result
+        (IsLocal (with_rules (app_of command.entry) (map rule_given arguments.now))) }
 {
-    Arg::new(alloc, "edit")
-        .short('e')
-        .long("edit")
-        .action(ArgAction::Append)
-        .value_name("EDIT")
-        .help(
-            "A line of the script, as 'replace 17 drop vase'; given several times, the lines \
-             stand in the place of SCRIPT in that order",
-        )
+    let mut made = command;
+    let mut rest = arguments;
+    while let Some((argument, more)) = rest.split_first() {
+        made = with_rule(alloc, made, argument)?;
+        rest = more;
+    }
+    Ok(made)
 }
 
-pub(crate) fn to_argument<'a>(alloc: Global) -> Arg<'a>
-    ensures rule { rule_of result ≡ to_argument }
-    ensures local { result.global ≡ false }
-{
-    Arg::new(alloc, "to").long("to").value_name("FILE").help(
-        "The log that LOG becomes, in the place of SCRIPT: the edits are those that \
-         `cave script LOG FILE` prints",
-    )
+/// An argument by how it is given, its name, its letter if it has one, what help calls its value,
+/// and what help says.
+macro_rules! argument {
+    ($form:ident $id:literal $value:literal $help:literal) => {
+        Argument { id: $id, form: Form::$form, letter: None, value: $value, help: $help }
+    };
+    ($form:ident $id:literal $letter:literal $value:literal $help:literal) => {
+        Argument { id: $id, form: Form::$form, letter: Some($letter), value: $value, help: $help }
+    };
 }
 
-pub(crate) fn old_argument<'a>(alloc: Global) -> Arg<'a>
-    ensures rule { rule_of result ≡ old_argument }
-    ensures local { result.global ≡ false }
-{
-    Arg::new(alloc, "old")
-        .required(true)
-        .value_name("OLD")
-        .help("The log before the edits")
-}
+pub(crate) const CAVE: Argument = argument! { NeededFile "cave" "CAVE" "The database of the cave" };
 
-pub(crate) fn new_argument<'a>(alloc: Global) -> Arg<'a>
-    ensures rule { rule_of result ≡ new_argument }
-    ensures local { result.global ≡ false }
-{
-    Arg::new(alloc, "new")
-        .required(true)
-        .value_name("NEW")
-        .help("The log after them")
-}
+pub(crate) const LOG: Argument = argument! { NeededFile "log" "LOG"
+    "The log of the game: what the player says, line by line" };
 
-pub(crate) fn bind_argument<'a>(alloc: Global) -> Arg<'a>
-    ensures rule { rule_of result ≡ bind_argument }
-    ensures local { result.global ≡ false }
-{
-    Arg::new(alloc, "bind")
-        .short('b')
-        .long("bind")
-        .value_name("FILE")
-        .help("The bindings of messages and places to what the rules call them")
-}
+pub(crate) const LOGS: Argument = argument! { NeededFiles "log" "LOG"
+    "The logs, each of which is played by itself from its first line" };
 
-pub(crate) fn seed_argument<'a>(alloc: Global) -> Arg<'a>
-    ensures rule { rule_of result ≡ seed_argument }
-    ensures local { result.global ≡ false }
-{
-    Arg::new(alloc, "seed")
-        .short('s')
-        .long("seed")
-        .value_name("N")
-        .help("Where the random numbers begin, from 0 to 2147483647 [default: 0]")
-}
+pub(crate) const SOME_LOGS: Argument = argument! { Files "log" "LOG"
+    "Logs, each of which is played by itself: what they saw is drawn strong" };
 
-pub(crate) fn every_argument<'a>(alloc: Global) -> Arg<'a>
-    ensures rule { rule_of result ≡ every_argument }
-    ensures local { result.global ≡ false }
-{
-    Arg::new(alloc, "every").long("every").value_name("K").help(
-        "The most lines between two checkpoints, from 1 to 10000: the fewer, the less an \
-         edit replays and the more is kept [default: 50]",
-    )
-}
+pub(crate) const SCRIPT: Argument = argument! { File "script" "SCRIPT"
+    "The edits of the log: lines `insert N TEXT`, `delete N`, `replace N TEXT`, `seed N`, and \
+     groups from `begin` to `end`" };
 
-pub(crate) fn output_argument<'a>(alloc: Global) -> Arg<'a>
-    ensures rule { rule_of result ≡ output_argument }
-    ensures local { result.global ≡ false }
-{
-    Arg::new(alloc, "output")
-        .short('o')
-        .long("output")
-        .value_name("FILE")
-        .help(
-            "The file that the output goes into, whole or not at all, in the place of standard \
-             output; it may be one of the files that are read",
-        )
-}
+pub(crate) const LINES: Argument = argument! { Values "edit" 'e' "EDIT"
+    "A line of the script, as 'replace 17 drop vase'; given several times, the lines stand in the \
+     place of SCRIPT in that order" };
 
-pub(crate) fn edit_print_argument<'a>(alloc: Global) -> Arg<'a>
-    ensures rule { rule_of result ≡ print_argument }
-    ensures local { result.global ≡ false }
-{
-    Arg::new(alloc, "print")
-        .short('p')
-        .long("print")
-        .value_name("WHAT")
-        .help(
-            "What is printed: `transcript`, the reports and what the game says, `play`, what it \
-             says alone, `log`, the edited log without its seed, `undo`, the script that takes the \
-             edits back, `guarded`, the accepted edits with guards, `reports`, what each edit \
-             replayed and what came of it, `table`, the same as a table, `steps`, what each line \
-             of the edited log did, `walk`, the same as JSON, `score`, where the score comes \
-             from, or `state`, the final state [default: transcript]",
-        )
-}
+pub(crate) const TO: Argument = argument! { Value "to" "FILE"
+    "The log that LOG becomes, in the place of SCRIPT: the edits are those that \
+     `cave script LOG FILE` prints" };
 
-pub(crate) fn play_print_argument<'a>(alloc: Global) -> Arg<'a>
-    ensures rule { rule_of result ≡ print_argument }
-    ensures local { result.global ≡ false }
-{
-    Arg::new(alloc, "print")
-        .short('p')
-        .long("print")
-        .value_name("WHAT")
-        .help(
-            "What is printed: `transcript`, what the game says, `steps`, what each line did, \
-             `walk`, the same as JSON, `score`, where the score comes from, or `state`, the \
-             final state [default: transcript]",
-        )
-}
+pub(crate) const OLD: Argument = argument! { NeededFile "old" "OLD" "The log before the edits" };
 
-pub(crate) fn check_print_argument<'a>(alloc: Global) -> Arg<'a>
-    ensures rule { rule_of result ≡ print_argument }
-    ensures local { result.global ≡ false }
-{
-    Arg::new(alloc, "print")
-        .short('p')
-        .long("print")
-        .value_name("WHAT")
-        .help(
-            "What is printed: `maximum`, the greatest score, `bindings`, each key of the bindings \
-             with its number and the first line of the text there, `names`, the object of each \
-             name that rules know, `unused`, the messages that nothing says, `words`, the words by \
-             what they mean, or `doubts`, what is doubtful of the cave [default: maximum]",
-        )
-}
+pub(crate) const NEW: Argument = argument! { NeededFile "new" "NEW" "The log after them" };
 
-pub(crate) fn cover_print_argument<'a>(alloc: Global) -> Arg<'a>
-    ensures rule { rule_of result ≡ print_argument }
-    ensures local { result.global ≡ false }
-{
-    Arg::new(alloc, "print")
-        .short('p')
-        .long("print")
-        .value_name("WHAT")
-        .help(
-            "What is printed: `counts`, how many texts are said and the names of the others, \
-             `texts`, each that is never said with its first line, or `rules`, how many rows of \
-             each table of the rules apply and the numbers of the others [default: counts]",
-        )
-}
+pub(crate) const BIND: Argument = argument! { Value "bind" 'b' "FILE"
+    "The bindings of messages and places to what the rules call them" };
 
-pub(crate) fn check_strict_argument<'a>(alloc: Global) -> Arg<'a>
-    ensures rule { rule_of result ≡ strict_argument }
-    ensures local { result.global ≡ false }
-{
-    Arg::new(alloc, "strict")
-        .long("strict")
-        .action(ArgAction::SetTrue)
-        .help("Prints `doubts`; where one is left, ends with status 1, and writes no file")
-}
+pub(crate) const SEED: Argument = argument! { Value "seed" 's' "N"
+    "Where the random numbers begin, from 0 to 2147483647 [default: 0]" };
 
-pub(crate) fn known_argument<'a>(alloc: Global) -> Arg<'a>
-    ensures rule { rule_of result ≡ known_argument }
-    ensures local { result.global ≡ false }
-{
-    Arg::new(alloc, "known")
-        .long("known")
-        .value_name("FILE")
-        .help(
-            "Prints `doubts` except those that stand in this file: lines of that list, without the \
-         number of the line",
-        )
-}
+pub(crate) const EVERY: Argument = argument! { Value "every" "K"
+    "The most lines between two checkpoints, from 1 to 10000: the fewer, the less an edit replays \
+     and the more is kept [default: 50]" };
 
-pub(crate) fn cover_strict_argument<'a>(alloc: Global) -> Arg<'a>
-    ensures rule { rule_of result ≡ strict_argument }
-    ensures local { result.global ≡ false }
-{
-    Arg::new(alloc, "strict")
-        .long("strict")
-        .action(ArgAction::SetTrue)
-        .help(
-            "Prints `texts`; where something is left that no log shows, ends with status 1, and \
-             writes no file",
-        )
-}
+pub(crate) const OUTPUT: Argument = argument! { Value "output" 'o' "FILE"
+    "The file that the output goes into, whole or not at all, in the place of standard output; it \
+     may be one of the files that are read" };
 
-pub(crate) fn cover_known_argument<'a>(alloc: Global) -> Arg<'a>
-    ensures rule { rule_of result ≡ known_argument }
-    ensures local { result.global ≡ false }
-{
-    Arg::new(alloc, "known")
-        .long("known")
-        .value_name("FILE")
-        .help("Prints `texts` except those that are known never to be shown: lines of this file")
-}
+pub(crate) const EDIT_PRINT: Argument = argument! { Value "print" 'p' "WHAT"
+    "What is printed: `transcript`, the reports and what the game says, `play`, what it says \
+     alone, `log`, the edited log without its seed, `undo`, the script that takes the edits back, \
+     `guarded`, the accepted edits with guards, `reports`, what each edit replayed and what came \
+     of it, `table`, the same as a table, `steps`, what each line of the edited log did, `walk`, \
+     the same as JSON, `score`, where the score comes from, or `state`, the final state [default: \
+     transcript]" };
 
-pub(crate) fn strict_argument<'a>(alloc: Global) -> Arg<'a>
-    ensures rule { rule_of result ≡ strict_argument }
-    ensures local { result.global ≡ false }
-{
-    Arg::new(alloc, "strict")
-        .long("strict")
-        .action(ArgAction::SetTrue)
-        .help("Where an edit is refused, ends with status 4, and prints and writes only its line")
-}
+pub(crate) const PLAY_PRINT: Argument = argument! { Value "print" 'p' "WHAT"
+    "What is printed: `transcript`, what the game says, `steps`, what each line did, `walk`, the \
+     same as JSON, `score`, where the score comes from, or `state`, the final state [default: \
+     transcript]" };
 
-pub(crate) fn guarded_argument<'a>(alloc: Global) -> Arg<'a>
-    ensures rule { rule_of result ≡ guarded_argument }
-    ensures local { result.global ≡ false }
-{
-    Arg::new(alloc, "guarded")
-        .long("guarded")
-        .action(ArgAction::SetTrue)
-        .help(
-            "Lets SCRIPT have lines `expect N TEXT`: the edit or group after one is refused where \
-             the log has no line N then, or another one",
-        )
-}
+pub(crate) const CHECK_PRINT: Argument = argument! { Value "print" 'p' "WHAT"
+    "What is printed: `maximum`, the greatest score, `bindings`, each key of the bindings with its \
+     number and the first line of the text there, `names`, the object of each name that rules \
+     know, `unused`, the messages that nothing says, `words`, the words by what they mean, or \
+     `doubts`, what is doubtful of the cave [default: maximum]" };
 
-pub(crate) fn with_guards_argument<'a>(alloc: Global) -> Arg<'a>
-    ensures rule { rule_of result ≡ guarded_argument }
-    ensures local { result.global ≡ false }
-{
-    Arg::new(alloc, "guarded")
-        .long("guarded")
-        .action(ArgAction::SetTrue)
-        .help("Puts a line `expect N TEXT` before each edit at whose place there is a line")
-}
+pub(crate) const COVER_PRINT: Argument = argument! { Value "print" 'p' "WHAT"
+    "What is printed: `counts`, how many texts are said and the names of the others, `texts`, each \
+     that is never said with its first line, or `rules`, how many rows of each table of the rules \
+     apply and the numbers of the others [default: counts]" };
 
-pub(crate) fn quiet_argument<'a>(alloc: Global) -> Arg<'a>
-    ensures rule { rule_of result ≡ quiet_argument }
-    ensures local { result.global ≡ false }
-{
-    Arg::new(alloc, "quiet")
-        .short('q')
-        .long("quiet")
-        .action(ArgAction::SetTrue)
-        .help("Says nothing of edits that are refused, unless what is printed says it")
-}
+pub(crate) const CHECK_STRICT: Argument = argument! { Flag "strict" ""
+    "Prints `doubts`; where one is left, ends with status 1, and writes no file" };
 
-pub(crate) fn report_argument<'a>(alloc: Global) -> Arg<'a>
-    ensures rule { rule_of result ≡ report_argument }
-    ensures local { result.global ≡ false }
-{
-    Arg::new(alloc, "report")
-        .long("report")
-        .value_name("WHAT")
-        .num_args(0..=1)
-        .default_missing_value("reports")
-        .help(
-            "With --output, prints to standard output what came of the edits: `reports`, which it \
-             is alone, or `table`, as --print prints them",
-        )
-}
+pub(crate) const CHECK_KNOWN: Argument = argument! { Value "known" "FILE"
+    "Prints `doubts` except those that stand in this file: lines of that list, without the number \
+     of the line" };
 
-pub(crate) fn group_argument<'a>(alloc: Global) -> Arg<'a>
-    ensures rule { rule_of result ≡ group_argument }
-    ensures local { result.global ≡ false }
-{
-    Arg::new(alloc, "group")
-        .long("group")
-        .action(ArgAction::SetTrue)
-        .help("Makes the edits one group, which is accepted or refused as a whole")
-}
+pub(crate) const COVER_STRICT: Argument = argument! { Flag "strict" ""
+    "Prints `texts`; where something is left that no log shows, ends with status 1, and writes no \
+     file" };
 
-pub(crate) fn seen_argument<'a>(alloc: Global) -> Arg<'a>
-    ensures rule { rule_of result ≡ seen_argument }
-    ensures local { result.global ≡ false }
-{
-    Arg::new(alloc, "seen")
-        .long("seen")
-        .action(ArgAction::SetTrue)
-        .help("Draws only what the logs saw")
-}
+pub(crate) const COVER_KNOWN: Argument = argument! { Value "known" "FILE"
+    "Prints `texts` except those that are known never to be shown: lines of this file" };
 
-pub(crate) fn from_argument<'a>(alloc: Global) -> Arg<'a>
-    ensures rule { rule_of result ≡ from_argument }
-    ensures local { result.global ≡ false }
-{
-    Arg::new(alloc, "from")
-        .long("from")
-        .value_name("PLACE")
-        .help("Draws only the places around this one, which is a number from 1 to 300")
-}
+pub(crate) const STRICT: Argument = argument! { Flag "strict" ""
+    "Where an edit is refused, ends with status 4, and prints and writes only its line" };
 
-pub(crate) fn within_argument<'a>(alloc: Global) -> Arg<'a>
-    ensures rule { rule_of result ≡ within_argument }
-    ensures local { result.global ≡ false }
-{
-    Arg::new(alloc, "within")
-        .long("within")
-        .value_name("N")
-        .help("With --from, the most ways from PLACE, from 0 to 300 [default: 2]")
-}
+pub(crate) const GUARDED: Argument = argument! { Flag "guarded" ""
+    "Lets SCRIPT have lines `expect N TEXT`: the edit or group after one is refused where the log \
+     has no line N then, or another one" };
+
+pub(crate) const WITH_GUARDS: Argument = argument! { Flag "guarded" ""
+    "Puts a line `expect N TEXT` before each edit at whose place there is a line" };
+
+pub(crate) const QUIET: Argument = argument! { Flag "quiet" 'q' ""
+    "Says nothing of edits that are refused, unless what is printed says it" };
+
+pub(crate) const REPORT: Argument = argument! { Report "report" "WHAT"
+    "With --output, prints to standard output what came of the edits: `reports`, which it is \
+     alone, or `table`, as --print prints them" };
+
+pub(crate) const GROUP: Argument = argument! { Flag "group" ""
+    "Makes the edits one group, which is accepted or refused as a whole" };
+
+pub(crate) const SEEN: Argument = argument! { Flag "seen" "" "Draws only what the logs saw" };
+
+pub(crate) const FROM: Argument = argument! { Value "from" "PLACE"
+    "Draws only the places around this one, which is a number from 1 to 300" };
+
+pub(crate) const WITHIN: Argument = argument! { Value "within" "N"
+    "With --from, the most ways from PLACE, from 0 to 300 [default: 2]" };

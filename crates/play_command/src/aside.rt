@@ -5,10 +5,10 @@ ghost use Rattle.play_command.specs.Aside.{IsAside, IsBadReport, IsReport, edit_
 ghost use Rattle.play_command.specs.Aside.{has_reports, report_named, says_refusals};
 ghost use Rattle.play_command.specs.Found.{rows_in};
 
-use crate::by_name::named;
 use crate::editing::EditView;
 use crate::fault::CommandFault;
 use crate::found::{is_set, value_in};
+use base_slips::named;
 use clap::ArgMatches;
 
 /// A report on the items of a script that may be printed beside the output.

@@ -1,11 +1,13 @@
 //! A seed below zero, which the parser takes for an option that it doesn't know.
 
 ghost use Rattle.std.specs.Prelude.{◌≡◌, map, option_map};
-ghost use Rattle.play_command.specs.BelowZero.{first_argument, if_below_zero, is_below_zero};
+ghost use Rattle.base_slips.specs.Stray.{first_argument};
+ghost use Rattle.play_command.specs.BelowZero.{if_below_zero, is_below_zero};
 ghost use Rattle.play_command.specs.BelowZero.{is_seed_option, seed_below_zero, seed_of_command};
 ghost use Rattle.play_command.specs.BelowZero.{takes_seed, word_of_seed};
 
 use crate::number::is_all_digits;
+use base_slips::first_argument;
 use std::convert::AsStr;
 
 fn is_below_zero(text: &[u8]) -> bool
@@ -28,16 +30,6 @@ fn takes_seed(command: &str) -> bool
     ensures { result ≡ takes_seed command.now }
 {
     command == "play" || command == "edit" || command == "cover" || command == "map"
-}
-
-#[tactic(auto, using(crate::proofs::BelowZeroLemmas::first_words))]
-pub(crate) fn first_argument<'a, S: AsStr>(words: &'a [S]) -> Option<&'a str>
-    ensures { option_map (λ text. text.now) result ≡ first_argument (map S.text words.now) }
-{
-    match words.split_first() {
-        Some((word, _)) => Some(word.as_str()),
-        None => None,
-    }
 }
 
 /// The word after the first option of a seed.

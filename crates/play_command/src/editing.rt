@@ -1,7 +1,7 @@
 ghost use Rattle.std.specs.Prelude.{◌≡◌};
 ghost use Rattle.play_command.specs.Views.{edit_view_named};
 
-use crate::by_name::named;
+use base_slips::named;
 
 /// What an edit of a log prints.
 #[derive(Clone, Copy, Debug, PartialEq, Eq)]

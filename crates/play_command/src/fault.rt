@@ -5,7 +5,7 @@ ghost use Rattle.play_command.specs.declared.fault.CommandFault.TheVariants.{Mem
 use crate::aside::REPORT_VIEWS;
 use crate::editing::EDIT_VIEWS;
 use crate::views::{CHECK_VIEWS, COVER_VIEWS, PLAY_VIEWS};
-use crate::wanted::{Wanted, WantedCommand};
+use base_slips::{Wanted, WantedCommand};
 use clap::Error as ParseError;
 use std::alloc::{AllocError, AllocFailed};
 use thiserror::Error;

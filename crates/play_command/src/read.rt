@@ -7,13 +7,11 @@ ghost use Rattle.clap.specs.declared.error.kind.ErrorKind.TheVariants.{InvalidSu
 ghost use Rattle.clap.specs.declared.error.kind.ErrorKind.TheVariants.{UnknownArgument};
 ghost use Rattle.play_command.specs.App.{cave_app};
 ghost use Rattle.play_command.specs.Found.{rows_in};
-ghost use Rattle.play_command.specs.Line.{IsParse, IsAsked, IsBadCheckView, IsBadCoverView};
-ghost use Rattle.play_command.specs.Line.{IsBadEvery, IsBadOption, IsBadSeed, IsBadView};
+ghost use Rattle.play_command.specs.Line.{IsParse, IsAsked, IsBadEvery, IsBadOption, IsBadSeed};
 ghost use Rattle.play_command.specs.Line.{IsCheckView, IsCoverView, IsEditing, IsEveryGiven};
-ghost use Rattle.play_command.specs.Line.{IsFiles, IsRun, IsRunMet, IsRunOf, IsRefusal, IsRefused};
-ghost use Rattle.play_command.specs.Line.{IsRequest, IsSeed, IsUnmade, IsView};
-ghost use Rattle.play_command.specs.Line.{IsBadPlayView, IsPlayView, are_doubts_asked};
-ghost use Rattle.play_command.specs.Line.{usual_cover_view};
+ghost use Rattle.play_command.specs.Line.{IsFiles, IsPlayView, IsRun, IsRunMet, IsRunOf, IsView};
+ghost use Rattle.play_command.specs.Line.{IsRefusal, IsRefused, IsRequest, IsSeed, IsUnmade};
+ghost use Rattle.play_command.specs.Line.{are_doubts_asked, usual_cover_view};
 
 use crate::app::cave_app;
 use crate::aside::aside_in;
@@ -25,9 +23,9 @@ use crate::line::{Files, Line};
 use crate::map_part::part_in;
 use crate::number::number_in;
 use crate::script_source::script_in;
-use crate::stray::stray_command;
 use crate::views::{CheckView, CoverView, PlayView, TextView};
 use base_lines::limits::{MAX_EVERY, MAX_SEED, USUAL_EVERY};
+use base_slips::stray_command;
 use clap::error::ErrorKind;
 use clap::{ArgMatches, Error};
 use replay_difference::script::ScriptForm;
@@ -36,12 +34,6 @@ use std::convert::AsStr;
 
 /// The seed if none is given.
 const USUAL_SEED: u32 = 0;
-
-/// What an edit prints if nothing is asked for.
-const USUAL_EDIT_VIEW: EditView = EditView::Transcript;
-
-/// What a play prints if nothing is asked for.
-const USUAL_PLAY_VIEW: PlayView = PlayView::Transcript;
 
 /// What the words of a command line ask for. The first word is the program's name.
 pub fn command_line<'a, S: AsStr>(
@@ -319,20 +311,21 @@ fn every_in<'a>(found: &ArgMatches<'a>) -> Result<u32, CommandFault<'a>>
 }
 
 fn edit_view_in<'a>(found: &ArgMatches<'a>) -> Result<EditView, CommandFault<'a>>
-    ensures { MatchResult result (IsView (rows_in found.now)) (IsBadView (rows_in found.now)) }
+    ensures { MatchResult result (IsView (rows_in found.now))
+        (IsBadOption (codes "edit") (rows_in found.now)) }
 {
     match value_in(found, "print") {
-        None => Ok(USUAL_EDIT_VIEW),
+        None => Ok(EditView::Transcript),
         Some(name) => EditView::named(name).ok_or(CommandFault::BadView(name)),
     }
 }
 
 fn play_view_in<'a>(found: &ArgMatches<'a>) -> Result<PlayView, CommandFault<'a>>
     ensures { MatchResult result (IsPlayView (rows_in found.now))
-        (IsBadPlayView (rows_in found.now)) }
+        (IsBadOption (codes "play") (rows_in found.now)) }
 {
     match value_in(found, "print") {
-        None => Ok(USUAL_PLAY_VIEW),
+        None => Ok(PlayView::Transcript),
         Some(name) => PlayView::named(name).ok_or(CommandFault::BadPlayView(name)),
     }
 }
@@ -340,7 +333,7 @@ fn play_view_in<'a>(found: &ArgMatches<'a>) -> Result<PlayView, CommandFault<'a>
 fn check_view_in<'a>(found: &ArgMatches<'a>) -> Result<CheckView, CommandFault<'a>>
     requires { are_doubts_asked (rows_in found.now) ≡ false }
     ensures { MatchResult result (IsCheckView (rows_in found.now))
-        (IsBadCheckView (rows_in found.now)) }
+        (IsBadOption (codes "check") (rows_in found.now)) }
 {
     match value_in(found, "print") {
         None => Ok(CheckView::Maximum),
@@ -361,7 +354,7 @@ fn usual_cover_view(found: &ArgMatches<'_>) -> CoverView
 /// What is printed of the texts that logs say.
 fn cover_view_in<'a>(found: &ArgMatches<'a>) -> Result<CoverView, CommandFault<'a>>
     ensures { MatchResult result (IsCoverView (rows_in found.now))
-        (IsBadCoverView (rows_in found.now)) }
+        (IsBadOption (codes "cover") (rows_in found.now)) }
 {
     match value_in(found, "print") {
         None => Ok(usual_cover_view(found)),

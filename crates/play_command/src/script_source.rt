@@ -1,7 +1,6 @@
 //! What the edits of a log are read from, by what the parser found.
 
-ghost use Rattle.std.specs.Prelude.{◌≡◌, ◌⊎◌, IfOk, MatchResult, map, string_bytes};
-ghost use Rattle.replay_scripts.specs.ScriptText.{text_of_lines};
+ghost use Rattle.std.specs.Prelude.{◌≡◌, ◌⊎◌, MatchResult};
 ghost use Rattle.play_command.specs.Found.{rows_in};
 ghost use Rattle.play_command.specs.Source.{IsBadScript, IsScriptSource};
 
@@ -9,7 +8,8 @@ use crate::fault::CommandFault;
 use crate::found::{value_in, values_in};
 use crate::line::ScriptSource;
 use clap::ArgMatches;
-use std::alloc::{AllocError, Global};
+use replay_scripts::text_of_lines;
+use std::alloc::Global;
 
 /// What the edits of a log are read from.
 pub(crate) fn script_in<'a>(
@@ -32,17 +32,4 @@ pub(crate) fn script_in<'a>(
             Err(CommandFault::TwoScripts)
         }
     }
-}
-
-/// The text that has these lines.
-fn text_of_lines(alloc: Global, lines: &[&str]) -> Result<String, AllocError>
-    ensures { IfOk result (λ text.
-        string_bytes text ≡ text_of_lines (map (λ line. line.now) lines.now)) }
-{
-    let mut text = String::new(alloc);
-    for line in lines {
-        text.push_str(line)?;
-        text.push_str("\n")?;
-    }
-    Ok(text)
 }

@@ -3,7 +3,7 @@
 ghost use Rattle.std.specs.Prelude.{◌≡◌};
 ghost use Rattle.play_command.specs.Views.{check_view_named, cover_view_named, play_view_named};
 
-use crate::by_name::named;
+use base_slips::named;
 
 /// What a check of a cave prints.
 #[derive(Clone, Copy, Debug, PartialEq, Eq)]

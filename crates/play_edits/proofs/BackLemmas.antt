@@ -63,12 +63,14 @@ kept-nothing asked.Score = refl
 kept-nothing asked.FinalState = refl
 
 -- what is kept so far and of the remaining items is the whole, and still is after one more item
-pub kept-more : (view : EditView) (guarded : Bool) (items : List Item) (place : ℕ) (item : Item) (game next : Game)
-    (backs more whole : List (List Back)) → place < length items → item ≡ get_or items place item
+pub kept-more : (view : EditView) (guarded : Bool) (items : List Item) (place : ℕ) (item : Item)
+    (game next : Game) (backs more whole : List (List Back)) → place < length items
+    → item ≡ get_or items place item
     → next ≡ game_after_item (applied_item item) game
     → more ≡ backs ++ kept_for view (back_of guarded (applied_item item) game)
     → backs ++ kept_for view (backs_of guarded (map applied_item (drop place items)) game) ≡ whole
-    → more ++ kept_for view (backs_of guarded (map applied_item (drop (place + 1) items)) next) ≡ whole
+    → more ++ kept_for view (backs_of guarded (map applied_item (drop (place + 1) items)) next)
+    ≡ whole
 kept-more view guarded items place item game next backs more whole inside is after grown so_far =
     let left = map applied_item (drop (place + 1) items) in
     let here = back_of guarded (applied_item item) game in

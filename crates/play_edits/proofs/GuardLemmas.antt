@@ -182,7 +182,8 @@ first_at (change ∷ changes) log number found is =
         here : (k : ℕ) → found.at ≡ number
             → is_none (fault_of_all (take k (change ∷ changes)) log number)
             ≡ nat_le (number + k) found.at
-        here zero at = let yes : nat_le (number + 0) found.at ≡ true = grind (arith, nat_tests, at) in
+        here zero at =
+            let yes : nat_le (number + 0) found.at ≡ true = grind (arith, nat_tests, at) in
             sym yes
         here (suc k) at =
             let no : nat_le (number + suc k) found.at ≡ false = grind (arith, nat_tests, at) in

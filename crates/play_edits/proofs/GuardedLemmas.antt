@@ -1,5 +1,6 @@
 -- What is written of items with guards is their script, and a script can say it.
-use Rattle.std.proofs.Common.{◌≡◌, ℕ, ◌-◌, ◌^◌, true, List, [], ◌∷◌, ◌++◌, Option, None, Some, Ok, Err, All}
+use Rattle.std.proofs.Common.{◌≡◌, ℕ, ◌-◌, ◌^◌, true, List, [], ◌∷◌, ◌++◌, Option, None, Some, Ok}
+use Rattle.std.proofs.Common.{Err, All}
 use Rattle.std.proofs.Common.{sym, ap, subst, ◌∙◌, refl, append-nil}
 use Rattle.std.proofs.lemmas.Grind.{flat_map-append}
 use Rattle.std.proofs.lemmas.List.Elements.{All-append, All-cons, All-nil}
@@ -71,8 +72,8 @@ text_if_done-made cave every item game checkpoints (Ok done) text changes log sa
     ∙ ap (λ now. fault_of_all item.changes now 0) held ∙ free)
     ∙ ap (λ some. group_text (with_guards some log)) same
     ∙ ap (λ now. group_text (with_guards item.changes now)) held
-text_if_done-made cave every item game checkpoints (Err refusal) text changes log same held is made =
-    refl
+text_if_done-made cave every item game checkpoints (Err refusal) text changes log same held is
+    made = refl
 
 -- ---- what a script can say
 

@@ -1,6 +1,7 @@
 -- The place nearest to another at which a log has a text.
 use Rattle.std.proofs.Common.{◌≡◌, ℕ, ◌+◌, ◌<◌, ◌≤◌, Bool, true, false, List, [], ◌∷◌, ◌++◌, length}
-use Rattle.std.proofs.Common.{Option, None, Some, refl, sym, ap, subst, ◌∙◌, arith, inl, inr, zero, suc}
+use Rattle.std.proofs.Common.{Option, None, Some, refl, sym, ap, subst, ◌∙◌, arith, inl, inr, zero}
+use Rattle.std.proofs.Common.{suc}
 use Rattle.std.proofs.Common.{append_assoc, append-nil}
 use Rattle.std.specs.Prelude.{◌⊎◌, bytes_eq, if◌then◌else◌, nat_lt, slice_get}
 use Rattle.std.proofs.lemmas.List.{length-append}
@@ -116,7 +117,8 @@ module _ (place : ℕ) (text : List ℕ) (log : List (List ℕ)) where
     where
       by_test : (closer : Bool)
           → nat_lt (distance (length log) place) (distance found place) ≡ closer
-          → IsNearest place text (log ++ text ∷ []) (if closer then Some (length log) else Some found)
+          → IsNearest place text (log ++ text ∷ [])
+          (if closer then Some (length log) else Some found)
       by_test true test = nearer_line found is (grind (arith, nat_tests, test))
       by_test false test = farther_line found is (grind (arith, nat_tests, test))
 
@@ -133,7 +135,8 @@ module _ (place : ℕ) (text : List ℕ) (log : List (List ℕ)) where
           (sym reads) (this_line found is)
       by_test false test =
           another_text line (λ reads.
-          let both : true ≡ false = sym ((bytes_eq-Decides line text).1 reads) ∙ test in cc) found is
+          let both : true ≡ false = sym ((bytes_eq-Decides line text).1 reads) ∙ test in cc) found
+          is
 
 -- ---- the whole log
 
@@ -147,8 +150,9 @@ nearest_after place text log (line ∷ lines) at found counted is =
     ap (λ n. n + 1) counted ∙ sym (length-append log (line ∷ [])) in
     subst (λ l. IsNearest place text l (nearest_from place text at found (line ∷ lines)))
     (append_assoc log (line ∷ []) lines)
-    (nearest_after place text (log ++ line ∷ []) lines (at + 1) (found_with place text found at line)
-    more (subst (λ n. IsNearest place text (log ++ line ∷ []) (found_with place text found n line))
+    (nearest_after place text (log ++ line ∷ []) lines (at + 1)
+    (found_with place text found at line) more
+    (subst (λ n. IsNearest place text (log ++ line ∷ []) (found_with place text found n line))
     (sym counted) (one_more_line place text log line found is)))
 
 pub the_nearest : (place : ℕ) (text : List ℕ) (log : List (List ℕ))

@@ -5,11 +5,12 @@ use Rattle.std.specs.List.{sum_by}
 use Rattle.cave_data.specs.CaveView.{CaveView}
 use Rattle.cave_replay.specs.declared.report.Done.{Done}
 use Rattle.cave_world.specs.declared.ending.Ending.{Ending}
-use Rattle.cave_world.specs.declared.ending.Ending.TheVariants as ending_is
 use Rattle.replay_edits.specs.Edit.{Game}
 use Rattle.replay_edits.specs.declared.fault.EditFault.{EditFault}
 use Rattle.replay_edits.specs.declared.fault.EditFault.TheVariants as cause
 use Rattle.replay_scripts.specs.Script.{Applied}
+use Rattle.play_tables.specs.ItemRow.{met_column}
+use Rattle.play_tables.specs.Step.{ending_column}
 use Rattle.play_edits.specs.Items.{game_after_item}
 use Rattle.play_edits.specs.Outcome.{ItemOutcome, lines_in, played_in, standing_of}
 use Rattle.play_edits.specs.Refusal.{refusal_line, refusal_number, shown_kept_line}
@@ -74,22 +75,10 @@ refusal_detail (Edit at fault detail) = edit_detail_text detail
 refusal_detail (NoLine at lines expected) = lines_text lines ++ expected_text expected
 refusal_detail (OtherLine at line expected) = shown_kept_line line ++ expected_text expected
 
--- the place at which a replay met the old play, if it did
-abbrev pub met_text : Option ℕ → List ℕ
-met_text None = codes "none"
-met_text (Some place) = decimal place
-
--- how a game has ended
-abbrev pub ending_words : Ending → List ℕ
-ending_words ending_is.Quit = codes ", ended: quit"
-ending_words ending_is.Killed = codes ", ended: killed"
-ending_words ending_is.Klutz = codes ", ended: klutz"
-ending_words ending_is.WrongWay = codes ", ended: wrong way"
-ending_words ending_is.Success = codes ", ended: success"
-
+-- how a game has ended, if it has
 abbrev pub ending_text : Option Ending → List ℕ
 ending_text None = []
-ending_text (Some ending) = ending_words ending
+ending_text (Some ending) = codes ", ended: " ++ ending_column (Some ending)
 
 -- where a game is after its last line: its score, the greatest one, its turns, the player's place,
 -- and how it has ended
@@ -110,7 +99,7 @@ refusal_text refusal =
 abbrev pub replay_text : Applied → Done → List ℕ
 replay_text item done =
     codes "line " ++ (decimal item.line ++ (codes ": ok, from " ++ (decimal done.from
-    ++ (codes ", met " ++ (met_text done.met ++ (codes ", played " ++ (decimal done.played
+    ++ (codes ", met " ++ (met_column done.met ++ (codes ", played " ++ (decimal done.played
     ++ (codes " of " ++ decimal done.lines))))))))
 
 -- what is written of an item: what it replayed, and where the game is then; or why it was refused

@@ -38,45 +38,21 @@ pub record Applies (item : Applied) (old new : SessionView CaveMachine Piece Sta
 
 -- what is written before all items, by what is asked for
 abbrev pub text_at_start : EditView → List ℕ
-text_at_start asked.Transcript = []
-text_at_start asked.Play = []
-text_at_start asked.Log = []
-text_at_start asked.Undo = []
-text_at_start asked.Guarded = []
-text_at_start asked.Reports = []
 text_at_start asked.Table = item_head_row
-text_at_start asked.Steps = []
-text_at_start asked.Walk = []
-text_at_start asked.Score = []
-text_at_start asked.FinalState = []
+text_at_start _ = []
 
 -- what is written of an item that is applied to a game, by what is asked for
 abbrev pub text_of_item : EditView → CaveView → Applied → Game → ItemOutcome → List ℕ
 text_of_item asked.Transcript cave item game outcome = item_report_by item (refusal_in outcome)
-text_of_item asked.Play cave item game outcome = []
-text_of_item asked.Log cave item game outcome = []
-text_of_item asked.Undo cave item game outcome = []
 text_of_item asked.Guarded cave item game outcome = guarded_item item game.log outcome
 text_of_item asked.Reports cave item game outcome = account cave item game outcome
 text_of_item asked.Table cave item game outcome = table_row cave item game outcome
-text_of_item asked.Steps cave item game outcome = []
-text_of_item asked.Walk cave item game outcome = []
-text_of_item asked.Score cave item game outcome = []
-text_of_item asked.FinalState cave item game outcome = []
+text_of_item _ cave item game outcome = []
 
 -- what is kept of changes that take items back, by what is asked for
 abbrev pub kept_for : EditView → List (List Back) → List (List Back)
-kept_for asked.Transcript backs = []
-kept_for asked.Play backs = []
-kept_for asked.Log backs = []
 kept_for asked.Undo backs = backs
-kept_for asked.Guarded backs = []
-kept_for asked.Reports backs = []
-kept_for asked.Table backs = []
-kept_for asked.Steps backs = []
-kept_for asked.Walk backs = []
-kept_for asked.Score backs = []
-kept_for asked.FinalState backs = []
+kept_for _ backs = []
 
 -- items were applied to what a session held: the text grew by what is written of each, and the
 -- totals are theirs
@@ -107,14 +83,5 @@ text_at_end asked.FinalState cave game played lines backs = final_state_text cav
 
 -- the written log reads back
 abbrev pub LogReadsBack : EditView → List (List ℕ) → Type 0
-LogReadsBack asked.Transcript log = ⊤
-LogReadsBack asked.Play log = ⊤
 LogReadsBack asked.Log log = lines (log_text log) ≡ log
-LogReadsBack asked.Undo log = ⊤
-LogReadsBack asked.Guarded log = ⊤
-LogReadsBack asked.Reports log = ⊤
-LogReadsBack asked.Table log = ⊤
-LogReadsBack asked.Steps log = ⊤
-LogReadsBack asked.Walk log = ⊤
-LogReadsBack asked.Score log = ⊤
-LogReadsBack asked.FinalState log = ⊤
+LogReadsBack _ log = ⊤

@@ -59,22 +59,9 @@ pub(crate) fn apply_item(
             push_account(alloc, text, session, item, &outcome)?;
             Ok(outcome)
         }
-        EditView::Table => {
-            let outcome = apply_with_table_row(alloc, session, item, text)?;
-            Ok(outcome)
-        }
-        EditView::Guarded => {
-            let outcome = apply_guarded_item(alloc, session, item, text)?;
-            Ok(outcome)
-        }
-        EditView::Play | EditView::Log | EditView::Undo => {
-            let outcome = edit(alloc, session, item)?;
-            Ok(outcome)
-        }
-        EditView::Steps | EditView::Walk | EditView::Score | EditView::FinalState => {
-            let outcome = edit(alloc, session, item)?;
-            Ok(outcome)
-        }
+        EditView::Table => apply_with_table_row(alloc, session, item, text),
+        EditView::Guarded => apply_guarded_item(alloc, session, item, text),
+        _ => edit(alloc, session, item),
     }
 }
 
@@ -179,8 +166,6 @@ pub fn keep_back(
             }
             Err(_) => Ok(()),
         },
-        EditView::Transcript | EditView::Play | EditView::Log | EditView::Guarded => Ok(()),
-        EditView::Reports | EditView::Table | EditView::Steps | EditView::Walk => Ok(()),
-        EditView::Score | EditView::FinalState => Ok(()),
+        _ => Ok(()),
     }
 }

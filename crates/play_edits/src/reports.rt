@@ -3,13 +3,13 @@
 ghost use Rattle.std.specs.Prelude.{◌≡◌, ◌++◌, IfOk, OnOk, string_bytes};
 ghost use Rattle.replay_scripts.specs.Views.{applied_item};
 ghost use Rattle.replay_scripts.specs.ScriptText.{groups_in};
-ghost use Rattle.play_edits.specs.Accounts.{account_by, ending_text, ending_words, met_text};
-ghost use Rattle.play_edits.specs.Accounts.{edit_detail_text, expected_text, flaw_text, lines_text};
-ghost use Rattle.play_edits.specs.Accounts.{expected_words, place_text};
-ghost use Rattle.play_edits.specs.Accounts.{refusal_detail, refusal_text, replay_text};
+ghost use Rattle.play_edits.specs.Accounts.{account_by, edit_detail_text, ending_text};
+ghost use Rattle.play_edits.specs.Accounts.{expected_text, expected_words, flaw_text, lines_text};
+ghost use Rattle.play_edits.specs.Accounts.{place_text, refusal_detail, refusal_text, replay_text};
 ghost use Rattle.play_edits.specs.Accounts.{standing_text, totals_line};
 ghost use Rattle.play_edits.specs.Edits.{LogReadsBack, text_at_end, text_at_start};
 ghost use Rattle.play_edits.specs.Items.{item_report_by};
+ghost use Rattle.play_tables.specs.ItemRow.{met_column};
 ghost use Rattle.play_edits.specs.Outcome.{refusal_in, standing_of};
 
 use crate::outcome::{Standing, Totals, standing_of};
@@ -19,6 +19,7 @@ use cave_replay::{Done, Session};
 use cave_world::Ending;
 use play_command::EditView;
 use play_machine::{CaveMachine, push_final_state, push_play, push_score, push_steps, push_walk};
+use play_tables::columns::ending_column;
 use play_tables::push_item_head_row;
 use replay_scripts::{BackEdit, Item, push_script};
 use std::alloc::{AllocError, Global};
@@ -29,9 +30,7 @@ pub fn push_start(view: EditView, text: &mut Vec<u8>) -> Result<(), AllocError>
 {
     match view {
         EditView::Table => push_item_head_row(text),
-        EditView::Transcript | EditView::Play | EditView::Log | EditView::Undo => Ok(()),
-        EditView::Guarded | EditView::Reports | EditView::Steps | EditView::Walk => Ok(()),
-        EditView::Score | EditView::FinalState => Ok(()),
+        _ => Ok(()),
     }
 }
 
@@ -102,8 +101,8 @@ pub(crate) fn push_report(
 }
 
 /// The place at which a replay met the old play, as it is written.
-fn met_text(alloc: Global, met: Option<u32>) -> Result<String, AllocError>
-    ensures { IfOk result (λ told. string_bytes told ≡ met_text met) }
+fn met_column(alloc: Global, met: Option<u32>) -> Result<String, AllocError>
+    ensures { IfOk result (λ told. string_bytes told ≡ met_column met) }
 {
     match met {
         None => String::from_str(alloc, "none"),
@@ -111,25 +110,16 @@ fn met_text(alloc: Global, met: Option<u32>) -> Result<String, AllocError>
     }
 }
 
-/// How a game has ended, in a few words.
-fn ending_words(ending: Ending) -> &'static str
-    ensures { result.now ≡ ending_words ending }
+/// How a game has ended, if it has.
+fn ending_text(alloc: Global, ending: Option<Ending>) -> Result<String, AllocError>
+    ensures { IfOk result (λ told. string_bytes told ≡ ending_text ending) }
 {
     match ending {
-        Ending::Quit => ", ended: quit",
-        Ending::Killed => ", ended: killed",
-        Ending::Klutz => ", ended: klutz",
-        Ending::WrongWay => ", ended: wrong way",
-        Ending::Success => ", ended: success",
-    }
-}
-
-fn ending_text(ending: Option<Ending>) -> &'static str
-    ensures { result.now ≡ ending_text ending }
-{
-    match ending {
-        None => "",
-        Some(ending) => ending_words(ending),
+        None => Ok(String::new(alloc)),
+        Some(_) => {
+            let word = ending_column(ending);
+            format!(in alloc; ", ended: {word}")
+        }
     }
 }
 
@@ -144,7 +134,7 @@ fn standing_text(alloc: Global, standing: Standing) -> Result<String, AllocError
         place,
         ending,
     } = standing;
-    let ended = ending_text(ending);
+    let ended = ending_text(alloc, ending)?;
     format!(in alloc; ", score {score} of {most}, turns {turns}, at {place}{ended}")
 }
 
@@ -182,7 +172,7 @@ fn push_replay(
         ++ replay_text (applied_item item.now) done.now) }
 {
     let (line, from, played, lines) = (item.line, done.from, done.played, done.lines);
-    let met = met_text(alloc, done.met)?;
+    let met = met_column(alloc, done.met)?;
     let told = format!(in alloc;
         "line {line}: ok, from {from}, met {met}, played {played} of {lines}"
     )?;

@@ -1,6 +1,7 @@
 -- How far several logs are read.
 use Rattle.std.proofs.Common.{◌≡◌, ℕ, ◌+◌, ◌<◌, ◌≤◌, List, [], ◌∷◌, ◌++◌, length, map, take, drop}
-use Rattle.std.proofs.Common.{append-nil, set, get_or, Option, None, inr, refl, sym, ap, ◌∙◌, subst, arith}
+use Rattle.std.proofs.Common.{append-nil, set, get_or, Option, None, inr, refl, sym, ap, ◌∙◌, subst}
+use Rattle.std.proofs.Common.{arith}
 use Rattle.std.specs.List.{AllZip}
 use Rattle.std.specs.Str.Lines.{lines}
 use Rattle.std.proofs.lemmas.Grind.{drop_more_same}
@@ -40,7 +41,8 @@ module _ {Fact N : Type 0} (HasNoted : List Fact → N → Type 0)
       sym (flat_map-append (noted_of first facts cave) games (game ∷ [])
       ∙ ap (λ more. noted_of_all first facts cave games ++ more)
       (append-nil (noted_of first facts cave game))) in
-      subst (λ facts. HasNoted facts new) noted_more (more (noted_of_all first facts cave games) noted)
+      subst (λ facts. HasNoted facts new) noted_more
+      (more (noted_of_all first facts cave games) noted)
 
 -- the logs that readers had were read, none of them has a fault, and their plays were noted
 pub record HasRead {N : Type 0} (known : List (Option (List ℕ)))

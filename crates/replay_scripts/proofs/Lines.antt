@@ -135,7 +135,8 @@ abbrev replace_in : List ℕ → Option Change
 replace_in line = with_text replaces (number_after_word (codes "replace") line) (reseed_in line)
 
 abbrev delete_in : List ℕ → Option Change
-delete_in line = change_without_text deletes (number_after_word (codes "delete") line) (replace_in line)
+delete_in line =
+    change_without_text deletes (number_after_word (codes "delete") line) (replace_in line)
 
 Spells-from_reseed : (line : List ℕ) (change : Change) → reseed_in line ≡ Some change
     → Spells line change
@@ -159,7 +160,8 @@ Spells-from_replace line change is =
 Spells-from_delete : (line : List ℕ) (change : Change) → delete_in line ≡ Some change
     → Spells line change
 Spells-from_delete line change is =
-    elim (alone_gives deletes (number_after_word (codes "delete") line) (replace_in line) change is) [
+    elim (alone_gives deletes (number_after_word (codes "delete") line) (replace_in line) change
+    is) [
       | inl here ↦ Spells-change_without_text deletes (codes "delete") line change
           (λ number rest numbered blank. (rest, numbered, blank)) here
       | inr later ↦ Spells-from_replace line change later
@@ -169,7 +171,8 @@ Spells-from_edit_of : (line : List ℕ) (change : Change) → edit_of line ≡ S
     → Spells line change
 unfolding edit_of
 Spells-from_edit_of line change is =
-    elim (with_text_gives inserts (number_after_word (codes "insert") line) (delete_in line) change is) [
+    elim (with_text_gives inserts (number_after_word (codes "insert") line) (delete_in line) change
+    is) [
       | inl here ↦ Spells-of_text inserts (codes "insert") line change
           (λ number rest text numbered of. (rest, numbered, of)) here
       | inr later ↦ Spells-from_delete line change later

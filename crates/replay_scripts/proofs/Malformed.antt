@@ -84,7 +84,8 @@ module _ (number : ℕ) (piece : List (List ℕ)) (grow : (whole : List (List �
   behind whole at NoneGuarded is = is
 
 -- after one line that is skipped or spells a change
-module _ (number : ℕ) (line : List ℕ) (grow : (whole : List (List ℕ)) → AreWholeItems (number + 1) whole
+module _ (number : ℕ) (line : List ℕ)
+    (grow : (whole : List (List ℕ)) → AreWholeItems (number + 1) whole
     → AreWholeItems number (line ∷ whole)) where
   after_line : (whole : List (List ℕ)) (at : ℕ) (flaw : ScriptFlaw)
       → IsMalformedAt (number + 1) whole at flaw → IsMalformedAt number (line ∷ whole) at flaw
@@ -96,7 +97,8 @@ skip_grows number line skipped whole is =
     record { items = is.items; is_script = skips skipped is.is_script }
 
 edit_grows : (number : ℕ) (line : List ℕ) (change : Change) → IsKind line (edit change)
-    → (whole : List (List ℕ)) → AreWholeItems (number + 1) whole → AreWholeItems number (line ∷ whole)
+    → (whole : List (List ℕ)) → AreWholeItems (number + 1) whole
+    → AreWholeItems number (line ∷ whole)
 edit_grows number line change spelled whole is =
     record { items = single number change ∷ is.items; is_script = spells spelled is.is_script }
 
@@ -222,7 +224,8 @@ module _ (number : ℕ) (first : List ℕ) (begins : IsWord (codes "begin") firs
 
   group_grows : (inner : List (List ℕ)) (last : List ℕ) → IsInner (number + 1) inner
       → IsWord (codes "end") last
-      → (whole : List (List ℕ)) → AreWholeItems (number + length (first ∷ (inner ++ last ∷ []))) whole
+      → (whole : List (List ℕ))
+      → AreWholeItems (number + length (first ∷ (inner ++ last ∷ []))) whole
       → AreWholeItems number ((first ∷ (inner ++ last ∷ [])) ++ whole)
   group_grows inner last is ends whole more =
       let here : number + length (first ∷ (inner ++ last ∷ [])) ≡ number + 2 + length inner =

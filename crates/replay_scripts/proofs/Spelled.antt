@@ -26,9 +26,11 @@ use Rattle.replay_scripts.specs.ScriptText.{guards_at}
 use Rattle.replay_scripts.specs.ScriptText.{guards_from, line_after, lines_from, number_after}
 use Rattle.replay_scripts.specs.ScriptText.{number_in, script_text, spelled_item, spelled_items}
 use Rattle.replay_scripts.proofs.Texts.{IsTextLine, lines-text, text-groups}
-use Rattle.replay_scripts.proofs.SpelledLines.{guard_line, line_spells, line_stands, numbered, text_stands}
+use Rattle.replay_scripts.proofs.SpelledLines.{guard_line, line_spells, line_stands, numbered}
+use Rattle.replay_scripts.proofs.SpelledLines.{text_stands}
 
--- what the lines, numbered from `number` on, give after what was read, by whether some may be guards
+-- what the lines, numbered from `number` on, give after what was read, by whether some may be
+-- guards
 abbrev read_by : Bool → ℕ → List (List ℕ) → List Applied → Option Applied → List Expectation
     → Result (List Applied) ScriptRefusal
 read_by false number whole items group guards = read_from number whole items group guards

@@ -1,5 +1,5 @@
 -- What is wrong with a line of a script that isn't an edit: the first of these that holds.
-use Rattle.std.specs.Prelude.{ℕ, ◌+◌, Bool, false, ◌&&◌, ◌||◌, ◌==◌, nat_lt, bytes_eq, List, []}
+use Rattle.std.specs.Prelude.{ℕ, ◌+◌, Bool, false, not, ◌&&◌, ◌||◌, ◌==◌, nat_lt, bytes_eq, List, []}
 use Rattle.std.specs.Prelude.{◌∷◌, length, drop, Option, None, Some, codes, if◌then◌else◌}
 use Rattle.std.specs.Option.{option_and_then}
 use Rattle.base_lines.specs.Bytes.{after_prefix, is_all_blank, is_blank, is_digit, is_nonblank}
@@ -11,7 +11,7 @@ use Rattle.replay_scripts.specs.declared.edit_flaw.EditFlaw.TheVariants.{ByteOrd
 use Rattle.replay_scripts.specs.declared.edit_flaw.EditFlaw.TheVariants.{NearWord, NoWord, NoNumber}
 use Rattle.replay_scripts.specs.declared.edit_flaw.EditFlaw.TheVariants.{TwoBlanks, Signed, Range}
 use Rattle.replay_scripts.specs.declared.edit_flaw.EditFlaw.TheVariants.{LongNumber, NoDigit, Guard}
-use Rattle.replay_scripts.specs.declared.edit_flaw.EditFlaw.TheVariants.{MoreText}
+use Rattle.replay_scripts.specs.declared.edit_flaw.EditFlaw.TheVariants.{MoreText, NoBlank}
 use Rattle.replay_scripts.specs.declared.edit_flaw.ScriptWord.{ScriptWord}
 use Rattle.replay_scripts.specs.declared.edit_flaw.ScriptWord.TheVariants as word
 
@@ -33,6 +33,13 @@ script_word_named text =
     else (if bytes_eq text (codes "begin") then Some word.Begin
     else (if bytes_eq text (codes "end") then Some word.End
     else (if bytes_eq text (codes "expect") then Some word.Expect else None))))))
+
+abbrev pub is_no_digit : ℕ → Bool
+is_no_digit byte = not (is_digit byte)
+
+-- the word of scripts that stands before the first digit of a text, if one does
+abbrev pub joined_script_word : List ℕ → Option ScriptWord
+joined_script_word text = script_word_named (prefix_while is_no_digit text)
 
 -- the only word of scripts that a text is near to, if just one is
 abbrev pub near_script_word : List ℕ → Option ScriptWord
@@ -81,14 +88,24 @@ flaw_after_word word.Begin rest = MoreText word.Begin
 flaw_after_word word.End rest = MoreText word.End
 flaw_after_word named rest = flaw_before_number named rest
 
-abbrev pub flaw_by_word : Option ScriptWord → Option ScriptWord → List ℕ → EditFlaw
-flaw_by_word (Some named) near rest = flaw_after_word named rest
-flaw_by_word None (Some near) rest = NearWord near
-flaw_by_word None None rest = NoWord
+-- a word that a digit follows, with no blank between them
+abbrev pub flaw_of_joined : ScriptWord → EditFlaw
+flaw_of_joined word.Begin = MoreText word.Begin
+flaw_of_joined word.End = MoreText word.End
+flaw_of_joined named = NoBlank named
+
+-- the line begins with a word, with one that a digit follows, with one slip in a word, or with none
+abbrev pub flaw_by_word : Option ScriptWord → Option ScriptWord → Option ScriptWord → List ℕ
+    → EditFlaw
+flaw_by_word (Some named) joined near rest = flaw_after_word named rest
+flaw_by_word None (Some joined) near rest = flaw_of_joined joined
+flaw_by_word None None (Some near) rest = NearWord near
+flaw_by_word None None None rest = NoWord
 
 -- the first word of the line, and what follows it
 abbrev pub flaw_of_word : List ℕ → List ℕ → EditFlaw
-flaw_of_word text rest = flaw_by_word (script_word_named text) (near_script_word text) rest
+flaw_of_word text rest =
+    flaw_by_word (script_word_named text) (joined_script_word text) (near_script_word text) rest
 
 unfoldable pub edit_flaw_of : List ℕ → EditFlaw
 edit_flaw_of line =

@@ -1,10 +1,12 @@
 //! What is wrong with a line of a script that isn't an edit.
 
 ghost use Rattle.std.specs.Prelude.{◌≡◌, ◌≤◌, drop, length};
+ghost use Rattle.std.specs.List.{prefix_len};
 ghost use Rattle.replay_scripts.specs.EditFlaw.{begins_blank, edit_flaw_of, flaw_after_digits};
 ghost use Rattle.replay_scripts.specs.EditFlaw.{flaw_after_number, flaw_after_word};
-ghost use Rattle.replay_scripts.specs.EditFlaw.{flaw_before_number, flaw_of_word, is_sign};
-ghost use Rattle.replay_scripts.specs.EditFlaw.{number_flaw, near_script_word};
+ghost use Rattle.replay_scripts.specs.EditFlaw.{flaw_before_number, flaw_of_joined, flaw_of_word};
+ghost use Rattle.replay_scripts.specs.EditFlaw.{is_no_digit, is_sign, joined_script_word};
+ghost use Rattle.replay_scripts.specs.EditFlaw.{near_script_word, number_flaw};
 ghost use Rattle.replay_scripts.specs.EditFlaw.{script_word_named, script_word_text};
 
 use base_lines::bytes::{is_all_blank, is_blank, split_digits, split_word};
@@ -29,6 +31,14 @@ const SCRIPT_WORDS: [&str; 7] = [
     "insert", "delete", "replace", "seed", "begin", "end", "expect",
 ];
 
+fn count_before_digits(text: &[u8]) -> usize
+    ensures { result ≡ prefix_len is_no_digit text.now }
+{
+    text.iter()
+        .take_while(|byte| !byte.is_ascii_digit())
+        .count()
+}
+
 impl ScriptWord {
     /// The word of this text, if it is one.
     fn named(text: &[u8]) -> Option<ScriptWord>
@@ -51,6 +61,15 @@ impl ScriptWord {
         } else {
             None
         }
+    }
+
+    /// The word that stands before the first digit of this text, if one does.
+    #[tactic(auto, using(base_lines::proofs::Prefixes::prefixes))]
+    fn joined(text: &[u8]) -> Option<ScriptWord>
+        ensures { result ≡ joined_script_word text.now }
+    {
+        let (before, _) = text.split_at(count_before_digits(text));
+        ScriptWord::named(before)
     }
 
     /// The only word that this text is near to, if just one is.
@@ -103,6 +122,8 @@ pub enum EditFlaw {
     ByteOrderMark,
     /// It begins with a blank.
     Indented,
+    /// It begins with a word that a digit follows, where a blank should be.
+    NoBlank(ScriptWord),
     /// It begins with none of the words, and exactly one is near.
     NearWord(ScriptWord),
     /// It begins with none of the words.
@@ -135,6 +156,9 @@ impl fmt::Display for EditFlaw {
                 )
             }
             EditFlaw::Indented => write!(f, "the line begins with a blank: its word comes first"),
+            EditFlaw::NoBlank(word) => {
+                write!(f, "a blank is missing after the word: expected {word}")
+            }
             EditFlaw::NearWord(word) => write!(f, "unknown word: did you mean {word}?"),
             EditFlaw::NoWord => write!(
                 f,
@@ -250,12 +274,25 @@ fn flaw_after_word(word: ScriptWord, rest: &[u8]) -> EditFlaw
     }
 }
 
+/// What is wrong with a line of this word, which a digit follows without a blank between them.
+fn flaw_of_joined(word: ScriptWord) -> EditFlaw
+    ensures { result ≡ flaw_of_joined word }
+{
+    match word {
+        ScriptWord::Begin | ScriptWord::End => EditFlaw::MoreText(word),
+        _ => EditFlaw::NoBlank(word),
+    }
+}
+
 /// What is wrong with a line that begins with this word, without a blank before it.
 fn flaw_of_word(word: &[u8], rest: &[u8]) -> EditFlaw
     ensures { result ≡ flaw_of_word word.now rest.now }
 {
-    match (ScriptWord::named(word), ScriptWord::near(word)) {
-        (Some(named), _) => flaw_after_word(named, rest),
+    if let Some(named) = ScriptWord::named(word) {
+        return flaw_after_word(named, rest);
+    }
+    match (ScriptWord::joined(word), ScriptWord::near(word)) {
+        (Some(joined), _) => flaw_of_joined(joined),
         (None, Some(near)) => EditFlaw::NearWord(near),
         (None, None) => EditFlaw::NoWord,
     }

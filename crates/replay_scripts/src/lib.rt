@@ -14,4 +14,4 @@ pub use edit_flaw::{EditFlaw, ScriptWord};
 pub use fault::{ScriptFlaw, ScriptRefusal};
 pub use guard::Guard;
 pub use script::{Item, Script};
-pub use script_text::{BackEdit, push_script};
+pub use script_text::{BackEdit, push_script, text_of_lines};

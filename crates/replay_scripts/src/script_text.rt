@@ -1,6 +1,7 @@
 //! The text of a script that takes edits back.
 
-ghost use Rattle.std.specs.Prelude.{◌≡◌, ◌∷◌, ◌++◌, [], OnOk, codes, option_map};
+ghost use Rattle.std.specs.Prelude.{◌≡◌, ◌∷◌, ◌++◌, [], IfOk, OnOk, codes, map, option_map};
+ghost use Rattle.std.specs.Prelude.{string_bytes};
 ghost use Rattle.std.specs.List.{flat_map};
 ghost use Rattle.replay_edits.specs.Edit.{change_of};
 ghost use Rattle.replay_scripts.specs.ScriptText.{back_in, back_lines, backs_in, change_line};
@@ -131,4 +132,17 @@ pub fn push_script(
         push_group(alloc, text, backs)?;
     }
     Ok(())
+}
+
+/// The text that has these lines.
+pub fn text_of_lines(alloc: Global, lines: &[&str]) -> Result<String, AllocError>
+    ensures { IfOk result (λ text.
+        string_bytes text ≡ text_of_lines (map (λ line. line.now) lines.now)) }
+{
+    let mut text = String::new(alloc);
+    for line in lines {
+        text.push_str(line)?;
+        text.push_str("\n")?;
+    }
+    Ok(text)
 }

@@ -1,4 +1,5 @@
-use Rattle.std.proofs.Common.{◌≡◌, ◌++◌, List, None, Option, Some, append-nil, ◌∙◌, ap, refl, map, subst, sym, arith}
+use Rattle.std.proofs.Common.{◌≡◌, ◌++◌, List, None, Option, Some, append-nil, ◌∙◌, ap, refl, map}
+use Rattle.std.proofs.Common.{subst, sym, arith}
 use Rattle.std.specs.Prelude.{◌⊎◌}
 use Rattle.std.proofs.lemmas.Result.{err_from_is_err_and}
 use Rattle.cave_play.specs.Strict.{first_strict_fault}
@@ -77,8 +78,8 @@ loop-item-preserved c =
           _ _ _ _ _ _ _ _ _ _ _ _ c.loop-item-test.true c.item-item.is before.cave before.every
           applies c.in_ok-outcome.ensures.told c.with-totals.ensures.played
           c.with-totals.ensures.lines before.completes;
-      kept = kept-more c.args.editing.view c.args.editing.guarded items place c.item-item.result _ _ _ _ _
-          c.loop-item-test.true c.item-item.is applies.holds.game_is kept before.kept;
+      kept = kept-more c.args.editing.view c.args.editing.guarded items place c.item-item.result _ _
+          _ _ _ c.loop-item-test.true c.item-item.is applies.holds.game_is kept before.kept;
       ends = ends_after_items-more items place c.item-item.result old.game _ _ _ _ _
           c.loop-item-test.true c.item-item.is applies.holds.game_is
           (item_refusal-outcome old.machine.rules.cave.now old.every
@@ -125,11 +126,13 @@ pub returns-clause-kept : goal.returns-clause-kept
 returns-clause-kept c =
     let last = c.loop-item in
     let whole =
-    kept-whole c.args.editing.view c.args.editing.guarded c.deref-item-items.result.now last.item-index _ _ _
+    kept-whole c.args.editing.view c.args.editing.guarded c.deref-item-items.result.now
+    last.item-index _ _ _
     (omega (arith, c.loop-item-test.false)) last.invariant.kept in
     subst (λ (items : List Item). groups_in last.kept.backs.items
     ≡ groups_in c.args.kept.now.backs.items
-    ++ kept_for c.args.editing.view (backs_of c.args.editing.guarded (map applied_item items) c.args.session.now.game))
+    ++ kept_for c.args.editing.view
+    (backs_of c.args.editing.guarded (map applied_item items) c.args.session.now.game))
     c.deref-item-items.ensures.value whole
 
 pub returns-clause-ends : goal.returns-clause-ends

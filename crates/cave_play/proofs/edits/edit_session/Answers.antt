@@ -125,7 +125,8 @@ returns g c =
     ∙ ap (λ t. t ++ text_of_items (text_of_item view cave) items old.game applied.outcomes)
     started in
     let backs = groups_in c.reverse.new.self.items in
-    let kept : groups_in c.apply.new.kept.backs.items ≡ kept_for view (backs_of guarded items old.game) =
+    let kept : groups_in c.apply.new.kept.backs.items
+    ≡ kept_for view (backs_of guarded items old.game) =
     c.in_ok-totals.ensures.kept
     ∙ ap (λ some. groups_in some ++ kept_for view (backs_of guarded items old.game))
     c.new-backs.ensures.items in
@@ -143,8 +144,8 @@ returns g c =
     let back =
     subst (λ (now : Game). LogReadsBack view now.log) same c.in_ok-push_end.ensures.reads_back in
     let whole =
-    told-whole view cave old.every items old.game guarded old.checkpoints applied.outcomes totals.played
-    totals.lines backs c.apply.new.text.items c.push_end.new.text.items
+    told-whole view cave old.every items old.game guarded old.checkpoints applied.outcomes
+    totals.played totals.lines backs c.apply.new.text.items c.push_end.new.text.items
     applied.came told applied.played_is applied.lines_are ends back turned
     c.requires.game in
     let none =

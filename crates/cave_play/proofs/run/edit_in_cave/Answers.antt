@@ -30,7 +30,8 @@ strict_of editing moves edits =
     strict_stage editing.strict (game_of editing.seed (lines moves)) editing.guarded edits
 
 -- what edits made is right for a cave, a distance of checkpoints, a game and the bytes of its log
-abbrev right_in : Option ReportView → Editing → List ℕ → CaveView → ℕ → Game → List ℕ → Edited → Type 0
+abbrev right_in : Option ReportView → Editing → List ℕ → CaveView → ℕ → Game → List ℕ → Edited
+    → Type 0
 right_in report editing edits cave every game log edited =
     IsMadeOf editing.view report cave every game editing.guarded edits (log_ends log edits) edited
 
@@ -130,7 +131,8 @@ returns g c =
     let editing = c.args.editing in
     let cave = c.new-machine.result.rules.cave.now in
     let game = game_of editing.seed (lines moves) in
-    let right = λ (cave : CaveView). right_in c.args.report editing edits cave editing.every game moves in
+    let right = λ (cave : CaveView). right_in c.args.report editing edits cave editing.every game
+    moves in
     let held = c.in_ok-session.session in
     let made =
     log_judged (λ log. HoldsGame cave (game_of editing.seed log)) moves c.deref.result.now held
@@ -141,11 +143,14 @@ returns g c =
     let held_right = right_in c.args.report editing edits held_cave held.every held.game log in
     let gives =
     λ (edited : Edited) (is : held_right edited).
-    subst (λ bytes. right_in c.args.report editing edits cave editing.every game bytes edited) log_is
-    (subst (λ now. right_in c.args.report editing edits cave editing.every now log edited) made.1.game_is
+    subst (λ bytes. right_in c.args.report editing edits cave editing.every game bytes edited)
+    log_is
+    (subst (λ now. right_in c.args.report editing edits cave editing.every now log edited)
+    made.1.game_is
     (subst (λ every. right_in c.args.report editing edits cave every held.game log edited)
     c.in_ok-session.ensures.every
-    (subst (λ (k : CaveView). right_in c.args.report editing edits k held.every held.game log edited)
+    (subst
+    (λ (k : CaveView). right_in c.args.report editing edits k held.every held.game log edited)
     made.1.cave_is is))) in
     let strict = strict_of editing moves edits in
     let staged =

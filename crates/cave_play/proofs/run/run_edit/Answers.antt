@@ -55,7 +55,8 @@ returns-in_err-check_seed g c =
         texts,
         said,
         EndsBy-unwritten
-            _ (edit_stages texts.database texts.bindings texts.log texts.script c.args.editing) _ _ _
+            _ (edit_stages texts.database texts.bindings texts.log texts.script c.args.editing) _ _
+            _
             (unwritten_by_edit texts.database texts.bindings texts.log texts.script
             c.args.editing) (inl (inr c.in_err-check_seed.ensures)) (Keeps-refl _),
       );
@@ -75,7 +76,8 @@ returns-in_err-check_every g c =
         texts,
         said,
         EndsBy-unwritten
-            _ (edit_stages texts.database texts.bindings texts.log texts.script c.args.editing) _ _ _
+            _ (edit_stages texts.database texts.bindings texts.log texts.script c.args.editing) _ _
+            _
             (unwritten_by_edit texts.database texts.bindings texts.log texts.script
             c.args.editing)
             (inr (c.in_ok-check_seed.ensures, inl (inr c.in_err-check_every.ensures)))
@@ -156,15 +158,16 @@ printed_of : (database bindings log script : List ℕ) (editing : Editing) (cave
     editing.guarded script (log_ends log script) played text ends
     → output ≡ ended_view editing.view ends text
     → IsEdited database bindings log script editing played output
-printed_of database bindings log script editing cave played text output ends reads (edit, after) is = (
-  cave,
-  reads,
-  record {
-    text = text;
-    edit = edit;
-    printed = is ∙ ap (λ now. ended_view editing.view now text) after;
-  },
-)
+printed_of database bindings log script editing cave played text output ends reads (edit, after)
+    is = (
+      cave,
+      reads,
+      record {
+        text = text;
+        edit = edit;
+        printed = is ∙ ap (λ now. ended_view editing.view now text) after;
+      },
+    )
 
 -- and what its size decides
 size_of : (database bindings log script : List ℕ) (editing : Editing) (played : ℕ)

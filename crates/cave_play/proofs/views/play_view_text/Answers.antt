@@ -17,7 +17,8 @@ returns-in_ok-push_play_end-in-Transcript g c =
     let game = game_of c.args.seed (lines moves) in
     let end = c.in_ok-end-in-Transcript.end in
     let last = last_line (score_of cave end.state) (max_score_of cave) end.turns in
-    let text = c.in_ok-push_play_end-in-Transcript.ensures ∙ ap (λ t. t ++ last) (played.1.0 [] c.new-text.ensures.items)
+    let text = c.in_ok-push_play_end-in-Transcript.ensures
+    ∙ ap (λ t. t ++ last) (played.1.0 [] c.new-text.ensures.items)
     ∙ play_text-watched cave game end played.1.1
     ∙ ap (λ view. play_view_text view cave game) (sym c.in-Transcript.is) in
     record { judged = (moves, said, (played.0, text)) }

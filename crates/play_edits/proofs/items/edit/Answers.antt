@@ -9,7 +9,8 @@ returns-in-Some c =
     let item = applied_item c.args.item.now in
     let game = c.args.session.now.game in
     let refused =
-    item_refusal-unmet item game.log c.in-Some.refusal (sym c.in_ok-refusal.ensures ∙ c.in-Some.is) in
+    item_refusal-unmet item game.log c.in-Some.refusal
+    (sym c.in_ok-refusal.ensures ∙ c.in-Some.is) in
     record {
       applies = record {
         came = refused;

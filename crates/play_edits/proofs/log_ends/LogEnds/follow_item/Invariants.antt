@@ -9,8 +9,8 @@ abbrev pub invariant-loop-edit : goal.invariant-loop-edit
 invariant-loop-edit l =
     let item = applied_item l.item in
     record {
-      ends : ends_after_changes l.initial.self.usual l.initial.self.script.items item l.at (changes_of l.edits)
-          l.self.each.items
+      ends : ends_after_changes l.initial.self.usual l.initial.self.script.items item l.at
+          (changes_of l.edits) l.self.each.items
           ≡ ends_after_changes l.initial.self.usual l.initial.self.script.items item 0 item.changes
           l.initial.self.each.items;
       counted : l.at + length l.edits ≡ length l.item.edits.items;

@@ -1,6 +1,6 @@
 use Rattle.std.proofs.Common.{◌≡◌, map, string_bytes, take}
 use Rattle.replay_scripts.specs.ScriptText.{text_of_lines}
-use Rattle.play_command.proofs.script_source.text_of_lines.Given as goal
+use Rattle.replay_scripts.proofs.script_text.text_of_lines.Given as goal
 
 abbrev pub invariant-loop-line : goal.invariant-loop-line
 invariant-loop-line l =
