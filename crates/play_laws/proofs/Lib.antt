@@ -14,3 +14,4 @@ pub mod NeverTaken
 pub mod Period
 pub mod Redo
 pub mod WaySteps
+pub mod UnusedMessages

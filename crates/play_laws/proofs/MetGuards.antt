@@ -202,8 +202,8 @@ module _ (no_other_script : NoGuardsNoOtherScript) (no_other : NoGuardsNoOtherOu
     (read : script_by true script ≡ Ok items)
     (met : AreMet items (game_of editing.seed (lines log))) where
   edited_so : (view : EditView) (played : ℕ) (output : List ℕ) → PrintsItSo view guarded
-      → IsEdited database bindings log script (record editing { view = view; guarded = true }) played
-      output
+      → IsEdited database bindings log script (record editing { view = view; guarded = true })
+      played output
       ↔ IsEdited database bindings log blanked
       (record editing { view = view; guarded = guarded }) played output
   edited_so view played output free =
@@ -223,8 +223,8 @@ module _ (no_other_script : NoGuardsNoOtherScript) (no_other : NoGuardsNoOtherOu
       edited_so (edit_view_of view) played text (report_free view guarded)
 
 pub met_guards_no_other_run : NoGuardsNoOtherScript → NoGuardsNoOtherOutput → MetGuardsNoOtherRun
-met_guards_no_other_run no_other_script no_other database bindings log script blanked editing guarded
-    report run output items blank read met free =
+met_guards_no_other_run no_other_script no_other database bindings log script blanked editing
+    guarded report run output items blank read met free =
     let edited = edited_so no_other_script no_other database bindings log script blanked editing
     guarded items blank read met editing.view run.played output free in
     let side = side_so no_other_script no_other database bindings log script blanked editing guarded

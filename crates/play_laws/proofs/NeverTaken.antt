@@ -19,7 +19,8 @@ use Rattle.cave_world.specs.Travel.{Try, after_trying_row}
 use Rattle.cave_world.specs.Travel.{count_unlisted, from_listed, holds, lists_motion}
 use Rattle.cave_world.specs.Travel.{row_condition, row_outcome}
 use Rattle.cave_world.specs.Travel.{rows_tried_by, rows_tried_from, tries, tries_by_rows, try_of}
-use Rattle.play_laws.specs.NeverTaken.{NeverTakenIsNeverTried}
+use Rattle.turn_laws.proofs.NotesOfLines.{noted_rows_are_rows}
+use Rattle.play_laws.specs.NeverTaken.{NeverTakenIsNeverNoted, NeverTakenIsNeverTried}
 use Rattle.check_doubts.specs.Ways.{begins_journey, comes_to, ends_journey, failed_after}
 use Rattle.check_doubts.specs.Ways.{failed_from, is_never_taken_after, is_never_taken_at}
 use Rattle.check_doubts.specs.Ways.{is_other}
@@ -229,7 +230,7 @@ module _ (emerald : ℕ) where
           (number + 1) ways (tries emerald s None n (from_listed motion ways))) later
           (on unlisted))
 
--- ---- the law
+-- ---- the laws
 
 pub never_tried : NeverTakenIsNeverTried
 unfolding rows_tried_from rows_tried_by
@@ -246,3 +247,9 @@ never_tried cave place before never emerald motion s (applies, tries_it) =
     let at : index ≡ later = omega (arith, index_same same) in
     never_comes ways later (subst (λ n. is_never_taken_at n ways ≡ true) at
     (subst (λ p. is_never_taken_at index (ways_from cave p) ≡ true) here never)) comes
+
+pub never_noted : NeverTakenIsNeverNoted
+never_noted cave place before never s line applies noted =
+    let (_, (motion, t, has)) =
+    noted_rows_are_rows cave s line (OfPlace place (way_index place before) applies) noted in
+    never_tried cave place before never _ motion t (applies, has)

@@ -9,3 +9,4 @@ pub mod MetGuards
 pub mod NeverTaken
 pub mod Redo
 pub mod Unreached
+pub mod UnusedMessages

@@ -23,6 +23,10 @@ pub mod NumberedRows
 pub mod Notes
 pub mod NotesOfEnds
 pub mod NotesOfDwarves
+pub mod SaidByWays
 pub mod NotesOfMoves
+pub mod SaidWords
 pub mod NotesOfVerbs
+pub mod NotesOfClocks
+pub mod NotesOfCommands
 pub mod NotesOfLines

@@ -1,14 +1,18 @@
--- What motions, arrivals and descriptions note.
+-- What motions, arrivals and descriptions say and note.
 use Rattle.std.proofs.Common.{Bool, List, [], arith, false, length, map, refl, subst, suc, sym}
 use Rattle.std.proofs.Common.{true, ℕ, ℤ}
 use Rattle.std.proofs.Common.{zero, ◌+◌, ◌∙◌, ◌∷◌, ◌<◌, ◌≡◌, ◌≤◌}
-use Rattle.std.specs.Prelude.{take as first_of, if◌then◌else◌, None, Option, Some, is_some}
+use Rattle.std.specs.Prelude.{take as first_of, if◌then◌else◌, Contains, None, Option, Some}
+use Rattle.std.specs.Prelude.{is_some}
 use Rattle.cave_data.specs.CaveView.{CaveView, ways_from}
 use Rattle.cave_world.specs.Travel.{Try, after_condition, after_go, after_trying_row}
 use Rattle.cave_world.specs.Travel.{count_unlisted, from_listed, holds, is_passed, lists_motion}
 use Rattle.cave_world.specs.Travel.{row_condition, row_destination, row_outcome, rows_tried_by}
 use Rattle.cave_world.specs.Travel.{rows_tried_from, travel, tries, try_of}
 use Rattle.cave_world.specs.declared.state.State.{State}
+use Rattle.cave_world.specs.declared.part.Part.TheVariants as part
+use Rattle.cave_world.specs.declared.tables.RuleRow.{RuleRow}
+use Rattle.cave_world.specs.declared.tables.RuleRow.TheVariants.{OfPlace, OfTable}
 use Rattle.cave_world.specs.declared.tables.Table.TheVariants as table
 use Rattle.cave_world.specs.declared.travel_rows.Outcome.{Outcome}
 use Rattle.cave_world.specs.declared.travel_rows.Outcome.TheVariants as outcome
@@ -45,10 +49,12 @@ use Rattle.turn_moves.specs.Squeeze.{squeeze_rows, squeeze_through}
 use Rattle.world_objects.specs.Lists.{halves_at}
 use Rattle.world_objects.specs.declared.object.Half.{Half}
 use Rattle.turn_laws.specs.DefinedRows.{row_numbers}
-use Rattle.turn_laws.proofs.Notes.{AreRows, IsNoted, Noted, Notes, ThenNoted, all_noted, noted_all}
-use Rattle.turn_laws.proofs.Notes.{noted_effects, noted_with_last, unnoted}
+use Rattle.turn_laws.specs.NotedRows.{IsRow, IsTried}
+use Rattle.turn_laws.proofs.Notes.{AreRows, IsNoted, Meets, Noted, Notes, ThenNoted, all_noted}
+use Rattle.turn_laws.proofs.Notes.{noted_all, noted_effects, noted_with_last, said, told, unnoted}
 use Rattle.turn_laws.proofs.NotesOfDwarves.{dwarves_noted}
 use Rattle.turn_laws.proofs.NotesOfEnds.{die_noted, looked, panic_noted}
+use Rattle.turn_laws.proofs.SaidByWays.{MaySayAt, motion_leads}
 use Rattle.turn_laws.proofs.View.{choose}
 
 -- a try leaves the player where the player is
@@ -72,26 +78,35 @@ tried_here emerald s row =
     (λ _. gone_here emerald d t ∙ drawn_here (row_condition row) s)
     (λ _. drawn_here (row_condition row) s)
 
+-- a place has the row
+abbrev IsWay : CaveView → RuleRow → Type 0
+IsWay cave (OfTable t n) = ⊥
+IsWay cave (OfPlace place index applies) = index < length (ways_from cave place)
+
+abbrev AreWays : CaveView → List RuleRow → Type 0
+AreWays cave [] = Unit {0}
+AreWays cave (row ∷ rows) = IsWay cave row × AreWays cave rows
+
 -- the rows that are tried from a number on, if all those from there on are rows of the place
-tries_are_rows : (cave : CaveView) (emerald : ℕ) (s : State) (failed : Option ℕ) (number : ℕ)
+tries_are_ways : (cave : CaveView) (emerald : ℕ) (s : State) (failed : Option ℕ) (number : ℕ)
     (rows : List Going) → number + length rows ≤ length (ways_from cave s.trail.here)
-    → AreRows cave (map (λ t. t.row) (tries emerald s failed number rows))
-tries_are_rows cave emerald s failed number [] most = tt
-tries_are_rows cave emerald s failed number (row ∷ rows) most =
+    → AreWays cave (map (λ t. t.row) (tries emerald s failed number rows))
+tries_are_ways cave emerald s failed number [] most = tt
+tries_are_ways cave emerald s failed number (row ∷ rows) most =
     let t = after_trying_row emerald s row in
     let later = tries emerald t (Some row.target) (number + 1) rows in
     let before : number < length (ways_from cave s.trail.here) = omega (arith, most) in
     let rest : number + 1 + length rows ≤ length (ways_from cave s.trail.here) =
     omega (arith, most) in
-    choose (λ (all : List Try). AreRows cave (map (λ t. t.row) all)) (is_passed failed row)
+    choose (λ (all : List Try). AreWays cave (map (λ t. t.row) all)) (is_passed failed row)
     (tries emerald s failed (number + 1) rows)
     (try_of emerald s number row ∷ (if is_some (row_outcome s row) then [] else later))
-    (λ _. tries_are_rows cave emerald s failed (number + 1) rows rest)
+    (λ _. tries_are_ways cave emerald s failed (number + 1) rows rest)
     (λ _. (
       before,
-      choose (λ (all : List Try). AreRows cave (map (λ t. t.row) all))
+      choose (λ (all : List Try). AreWays cave (map (λ t. t.row) all))
           (is_some (row_outcome s row)) [] later (λ _. tt)
-          (λ _. tries_are_rows cave emerald t (Some row.target) (number + 1) rows
+          (λ _. tries_are_ways cave emerald t (Some row.target) (number + 1) rows
           (subst (λ there. number + 1 + length rows ≤ length (ways_from cave there))
           (sym (tried_here emerald s row)) rest)),
     ))
@@ -108,54 +123,75 @@ listed motion (way ∷ ways) = by (lists_motion motion way) (listed motion ways)
     by true h = omega arith
     by false h = omega (arith, h)
 
-motion_tries_rows : (cave : CaveView) (emerald motion : ℕ) (s : State)
-    → AreRows cave (rows_tried_from cave emerald motion s)
+motion_tries_ways : (cave : CaveView) (emerald motion : ℕ) (s : State)
+    → AreWays cave (rows_tried_from cave emerald motion s)
 unfolding rows_tried_from rows_tried_by
-motion_tries_rows cave emerald motion s =
+motion_tries_ways cave emerald motion s =
     let ways = ways_from cave s.trail.here in
-    tries_are_rows cave emerald s None (count_unlisted motion ways) (from_listed motion ways)
+    tries_are_ways cave emerald s None (count_unlisted motion ways) (from_listed motion ways)
     (listed motion ways)
 
+tried_row : (cave : CaveView) (row : RuleRow) → IsWay cave row → IsTried cave row
+    → IsRow cave row
+tried_row cave (OfTable t n) way tried = absurd way
+tried_row cave (OfPlace place index applies) way tried = (way, tried)
+
+tried_rows : (cave : CaveView) (rows : List RuleRow) → AreWays cave rows
+    → ((row : RuleRow) → Contains rows row → IsTried cave row) → AreRows cave rows
+tried_rows cave [] ways tried = tt
+tried_rows cave (row ∷ rows) (way, ways) tried = (
+  tried_row cave row way (tried row (0, omega arith, refl)),
+  tried_rows cave rows ways
+      (λ other (i, less, is). tried other (suc i, omega (arith, less), is)),
+)
+
+motion_tries_rows : (cave : CaveView) (motion : ℕ) (s : State)
+    → AreRows cave (rows_tried_from cave (thing cave name.Emerald) motion s)
+motion_tries_rows cave motion s =
+    tried_rows cave (rows_tried_from cave (thing cave name.Emerald) motion s)
+    (motion_tries_ways cave (thing cave name.Emerald) motion s)
+    (λ row has. (motion, s, has))
+
 module _ {cave : CaveView} {N : Notes} (k : IsNoted cave N) where
-  dead_noted : (c : CaveView) (place : ℕ) (p : Scene) → N p.rows → N (after_die_at c place p).rows
+  dead_noted : (c : CaveView) (place : ℕ) (p : Scene) → Meets N p → Meets N (after_die_at c place p)
   unfolding after_die_at
   dead_noted c place p h = die_noted k c _ h
 
   -- ---- how a place is described
 
-  bear_noted : (c : CaveView) (p : Scene) → N p.rows
-      → N (by_table table.BearFollows bear_rows (deed c tt p)).scene.rows
+  bear_noted : (c : CaveView) (p : Scene) → Meets N p
+      → Meets N (by_table table.BearFollows bear_rows (deed c tt p)).scene
   unfolding bear_rows row_numbers
-  bear_noted c p h = noted_effects k table.BearFollows bear_rows refl c tt (search parts 20) p h
+  bear_noted c p h = noted_effects k table.BearFollows bear_rows refl c tt (search (told k) parts 20) p h
 
-  text_noted : (c : CaveView) (p : Scene) → N p.rows
-      → N (by_table table.PlaceText text_rows (deed c tt p)).scene.rows
+  text_noted : (c : CaveView) (p : Scene) → Meets N p
+      → Meets N (by_table table.PlaceText text_rows (deed c tt p)).scene
   unfolding text_rows row_numbers
-  text_noted c p h = noted_effects k table.PlaceText text_rows refl c tt (search parts 20) p h
+  text_noted c p h = noted_effects k table.PlaceText text_rows refl c tt (search (told k) parts 20) p h
 
-  hollow_noted : (c : CaveView) (p : Scene) → N p.rows
-      → N (by_table table.Hollow hollow_rows (deed c tt p)).scene.rows
+  hollow_noted : (c : CaveView) (p : Scene) → Meets N p
+      → Meets N (by_table table.Hollow hollow_rows (deed c tt p)).scene
   unfolding hollow_rows row_numbers
-  hollow_noted c p h = noted_effects k table.Hollow hollow_rows refl c tt (search parts 20) p h
+  hollow_noted c p h = noted_effects k table.Hollow hollow_rows refl c tt (search (told k) parts 20) p h
 
-  place_noted : (c : CaveView) (p : Scene) → N p.rows
-      → N (after_all tell_place (deed c tt p)).scene.rows
+  place_noted : (c : CaveView) (p : Scene) → Meets N p
+      → Meets N (after_all tell_place (deed c tt p)).scene
   unfolding tell_place
   place_noted c p h = text_noted c _ (bear_noted c p h)
 
-  darkness_noted : (c : CaveView) (p : Scene) → N p.rows
-      → N (after_all feel_place (deed c tt p)).scene.rows
+  darkness_noted : (c : CaveView) (p : Scene) → Meets N p
+      → Meets N (after_all feel_place (deed c tt p)).scene
   unfolding feel_place
-  darkness_noted c p h = hollow_noted c _ (bear_noted c p h)
+  darkness_noted c p h = hollow_noted c _ (said k _ _ _ (bear_noted c p h))
 
-  object_text_noted : (c : CaveView) (x : ℕ) (p : Scene) → N p.rows
-      → N (by_table table.ObjectText object_text_rows (deed c x p)).scene.rows
+  object_text_noted : (c : CaveView) (x : ℕ) (p : Scene) → Meets N p
+      → Meets N (by_table table.ObjectText object_text_rows (deed c x p)).scene
   unfolding object_text_rows row_numbers
   object_text_noted c x p h =
-      noted_effects k table.ObjectText object_text_rows refl c x (search parts 20) p h
+      noted_effects k table.ObjectText object_text_rows refl c x (search (told k) parts 20) p h
 
-  found_noted : (v : ℤ) (c : CaveView) (x : ℕ) (p : Scene) → N p.rows
-      → N (after_all (find_treasure v) (deed c x p)).scene.rows
+  found_noted : (v : ℤ) (c : CaveView) (x : ℕ) (p : Scene) → Meets N p
+      → Meets N (after_all (find_treasure v) (deed c x p)).scene
   unfolding find_treasure last_treasure_rows row_numbers
   found_noted v c x p h =
       let d = change with_one_less_unseen (set_prop it v (deed c x p)) in
@@ -163,20 +199,20 @@ module _ {cave : CaveView} {N : Notes} (k : IsNoted cave N) where
       object_text_noted c x e.scene
       (noted_effects k table.LastTreasure last_treasure_rows refl c x (search parts 20) d.scene h)
 
-  object_noted : (c : CaveView) (x : ℕ) (p : Scene) → N p.rows → N (after_object c x p).rows
+  object_noted : (c : CaveView) (x : ℕ) (p : Scene) → Meets N p → Meets N (after_object c x p)
   unfolding after_object object_rows row_numbers
   object_noted c x p h =
       noted_effects k table.ObjectHere object_rows refl c x
       (search (found_noted, object_text_noted) parts 20) p h
 
-  objects_noted : (c : CaveView) (halves : List Half) (p : Scene) → N p.rows
-      → N (after_all_objects c halves p).rows
+  objects_noted : (c : CaveView) (halves : List Half) (p : Scene) → Meets N p
+      → Meets N (after_all_objects c halves p)
   objects_noted c [] p h = h
   objects_noted c (half ∷ halves) p h =
       objects_noted c halves (after_object c _ p) (object_noted c _ p h)
 
-  sight_noted : (c : CaveView) (p : Scene) → N p.rows
-      → N (after_all see_place (deed c tt p)).scene.rows
+  sight_noted : (c : CaveView) (p : Scene) → Meets N p
+      → Meets N (after_all see_place (deed c tt p)).scene
   unfolding see_place tell_place
   sight_noted c p h =
       let d : Deed (Unit {0}) = deed c tt p in
@@ -185,13 +221,13 @@ module _ {cave : CaveView} {N : Notes} (k : IsNoted cave N) where
       (hollow_noted c (after_all (first_of 2 see_place) d).scene
       (text_noted c (by_table table.BearFollows bear_rows d).scene (bear_noted c p h)))
 
-  described_noted : (c : CaveView) (p : Scene) → N p.rows → N (after_describe c p).rows
+  described_noted : (c : CaveView) (p : Scene) → Meets N p → Meets N (after_describe c p)
   unfolding after_describe description_rows row_numbers
   described_noted c p h =
       noted_effects k table.Description description_rows refl c tt
-      (search (sight_noted, dead_noted, darkness_noted) parts 20) p h
+      (search (told k, sight_noted, dead_noted, darkness_noted) parts 20) p h
 
-  seen_noted : (c : CaveView) (p : Scene) → N p.rows → N (stop_here (deed c tt p)).scene.rows
+  seen_noted : (c : CaveView) (p : Scene) → Meets N p → Meets N (stop_here (deed c tt p)).scene
   unfolding stop_here stop_rows row_numbers
   seen_noted c p h =
       noted_all k (Noted N) table.Stops stop_rows (nothing_but (always false)) refl c tt
@@ -199,30 +235,30 @@ module _ {cave : CaveView} {N : Notes} (k : IsNoted cave N) where
 
   -- ---- how the player arrives
 
-  met_noted : (c : CaveView) (p : Scene) → N p.rows → N (meet (deed c tt p)).scene.rows
+  met_noted : (c : CaveView) (p : Scene) → Meets N p → Meets N (meet (deed c tt p)).scene
   unfolding meet hit_rows row_numbers
   met_noted c p h =
       let met = encounter_dwarves c p in
       noted_all k (Noted N) table.Hits hit_rows (nothing_but (always false)) refl c met.step
       (search (dead_noted, described_noted) parts 20) (λ q g. g) met.scene (dwarves_noted k c p h)
 
-  come_noted : (c : CaveView) (place : ℕ) (p : Scene) → N p.rows
-      → N (come_to c place p).scene.rows
+  come_noted : (c : CaveView) (place : ℕ) (p : Scene) → Meets N p
+      → Meets N (come_to c place p).scene
   unfolding come_to place_rows row_numbers
   come_noted c place p h =
       noted_all k (Noted N) table.Arrival place_rows meet refl c tt
       (search (die_noted k, place_noted, described_noted) parts 20) (met_noted c)
       (scene_at_place place p) h
 
-  blocked_noted : (c : CaveView) (place : ℕ) (p : Scene) → N p.rows
-      → N (block (deed c place p)).scene.rows
+  blocked_noted : (c : CaveView) (place : ℕ) (p : Scene) → Meets N p
+      → Meets N (block (deed c place p)).scene
   unfolding block blocking_rows row_numbers
   blocked_noted c place p h =
       noted_all k (Noted N) table.Blocking blocking_rows (nothing_but new) refl c place
-      (search (panic_noted k) parts 20) (λ q g. g) p h
+      (search (told k, panic_noted k) parts 20) (λ q g. g) p h
 
-  stop_noted : (c : CaveView) (place : ℕ) (p : Scene) → N p.rows
-      → N (stop_at c place p).scene.rows
+  stop_noted : (c : CaveView) (place : ℕ) (p : Scene) → Meets N p
+      → Meets N (stop_at c place p).scene
   unfolding stop_at over_rows
   stop_noted c place p h =
       unnoted N (Noted N) over_rows come_on c place ((λ q g. g), tt)
@@ -230,33 +266,33 @@ module _ {cave : CaveView} {N : Notes} (k : IsNoted cave N) where
 
   -- ---- where motions lead
 
-  squeezed_noted : (c : CaveView) (p : Scene) → N p.rows
-      → N (squeeze_through (deed c tt p)).scene.rows
+  squeezed_noted : (c : CaveView) (p : Scene) → Meets N p
+      → Meets N (squeeze_through (deed c tt p)).scene
   unfolding squeeze_through squeeze_rows row_numbers
   squeezed_noted c p h =
       noted_all k (Noted N) table.Squeeze squeeze_rows (nothing_but here) refl c tt
-      (search parts 20) (λ q g. g) p h
+      (search (told k) parts 20) (λ q g. g) p h
 
-  toll_noted : (c : CaveView) (p : Scene) → N p.rows → N (pass_troll (deed c tt p)).scene.rows
+  toll_noted : (c : CaveView) (p : Scene) → Meets N p → Meets N (pass_troll (deed c tt p)).scene
   unfolding toll_rows row_numbers
   toll_noted c p h = noted_effects k table.Toll toll_rows refl c tt (search parts 20) p h
 
-  spices_noted : (c : CaveView) (p : Scene) → N p.rows
-      → N (by_table table.SpicesLost spices_rows (deed c tt p)).scene.rows
+  spices_noted : (c : CaveView) (p : Scene) → Meets N p
+      → Meets N (by_table table.SpicesLost spices_rows (deed c tt p)).scene
   unfolding spices_rows row_numbers
   spices_noted c p h = noted_effects k table.SpicesLost spices_rows refl c tt (search parts 20) p h
 
-  broken_noted : (c : CaveView) (p : Scene) → N p.rows
-      → N (after_all break_bridge (deed c tt p)).scene.rows
+  broken_noted : (c : CaveView) (p : Scene) → Meets N p
+      → Meets N (after_all break_bridge (deed c tt p)).scene
   unfolding break_bridge
-  broken_noted c p h = dead_noted c _ _ (spices_noted c _ h)
+  broken_noted c p h = dead_noted c _ _ (spices_noted c _ (said k _ _ _ h))
 
-  crossed_noted : (c : CaveView) (p : Scene) → N p.rows
-      → N (cross_bridge (deed c tt p)).scene.rows
+  crossed_noted : (c : CaveView) (p : Scene) → Meets N p
+      → Meets N (cross_bridge (deed c tt p)).scene
   unfolding cross_bridge bridge_rows demand_toll row_numbers
   crossed_noted c p h =
       noted_all k (Noted N) table.Bridge bridge_rows (nothing_but here) refl c tt (
-        (λ q g. g),
+        (λ q g. said k _ _ _ g),
         (
           (λ q g. asked q g),
           (
@@ -266,32 +302,34 @@ module _ {cave : CaveView} {N : Notes} (k : IsNoted cave N) where
         ),
       ) (λ q g. g) p h
     where
-      asked : (q : Scene) → N q.rows → N (after_all demand_toll (deed c tt q)).scene.rows
+      asked : (q : Scene) → Meets N q → Meets N (after_all demand_toll (deed c tt q)).scene
       asked q g = looked k _ _ q g
 
-  led_noted : (c : CaveView) (motion : ℕ) (o : Outcome) (p : Scene) → N p.rows
-      → N (journey_of_outcome c motion o p).scene.rows
+  led_noted : (c : CaveView) (motion : ℕ) (o : Outcome) → MaySayAt cave o → (p : Scene)
+      → Meets N p → Meets N (journey_of_outcome c motion o p).scene
   unfolding refusal_rows row_numbers
-  led_noted c motion (outcome.Go place) p h = h
-  led_noted c motion (outcome.Special Squeeze) p h = squeezed_noted c p h
-  led_noted c motion (outcome.Special Bridge) p h = crossed_noted c p h
-  led_noted c motion (outcome.Say message) p h = h
-  led_noted c motion outcome.NoMotion p h =
-      noted_effects k table.NoMotion refusal_rows refl c motion (search parts 20) p h
-  led_noted c motion outcome.NoWay p h = h
+  led_noted c motion (outcome.Go place) may p h = h
+  led_noted c motion (outcome.Special Squeeze) may p h = squeezed_noted c p h
+  led_noted c motion (outcome.Special Bridge) may p h = crossed_noted c p h
+  led_noted c motion (outcome.Say message) may p h =
+      told k p.parts p.rows (part.Message message) may h
+  led_noted c motion outcome.NoMotion may p h =
+      noted_effects k table.NoMotion refusal_rows refl c motion (search (told k) parts 20) p h
+  led_noted c motion outcome.NoWay may p h = said k p.parts p.rows _ h
 
-  forth_noted : (motion : ℕ) (p : Scene) → N p.rows → N (set_forth cave motion p).scene.rows
+  forth_noted : (motion : ℕ) (p : Scene) → Meets N p → Meets N (set_forth cave motion p).scene
   unfolding set_forth journey_by_rows
   forth_noted motion p h =
       let q = after_setting_out p in let emerald = thing cave name.Emerald in
-      led_noted cave motion (travel cave emerald motion q.state).outcome _
-      (all_noted k q.rows (rows_tried_from cave emerald motion q.state)
-      (motion_tries_rows cave emerald motion q.state) h)
+      led_noted cave motion (travel cave emerald motion q.state).outcome
+      (motion_leads cave emerald motion q.state) _
+      (all_noted k q.parts q.rows (rows_tried_from cave emerald motion q.state)
+      (motion_tries_rows cave motion q.state) h)
 
-  forced_noted : (left : ℕ) (moved : Bool) (p : Scene) → N p.rows
-      → N (after_forced_motions left cave (act_of p moved)).rows
+  forced_noted : (left : ℕ) (moved : Bool) (p : Scene) → Meets N p
+      → Meets N (after_forced_motions left cave (act_of p moved))
   unfolding after_forced_motions
-  forced_noted zero true p h = h
+  forced_noted zero true p h = said k p.parts p.rows _ h
   forced_noted (suc left) true p h =
       let j = set_forth cave 1 (with_left left p) in let s = stop_at cave j.step j.scene in
       forced_noted left s.step s.scene
@@ -299,42 +337,42 @@ module _ {cave : CaveView} {N : Notes} (k : IsNoted cave N) where
   forced_noted zero false p h = h
   forced_noted (suc left) false p h = h
 
-  pub arriving_noted : (place : ℕ) (p : Scene) → N p.rows → N (after_arrival cave place p).rows
+  pub arriving_noted : (place : ℕ) (p : Scene) → Meets N p → Meets N (after_arrival cave place p)
   arriving_noted place p h = forced_noted p.left _ _ (stop_noted cave place p h)
 
-  pub describing_noted : (p : Scene) → N p.rows → N (after_description cave p).rows
+  pub describing_noted : (p : Scene) → Meets N p → Meets N (after_description cave p)
   describing_noted p h = forced_noted p.left _ _ (seen_noted cave p h)
 
   -- ---- motions that the player asks for
 
-  looking_noted : (c : CaveView) (motion : ℕ) (p : Scene) → N p.rows
-      → N (after_all look_round (deed c motion p)).scene.rows
+  looking_noted : (c : CaveView) (motion : ℕ) (p : Scene) → Meets N p
+      → Meets N (after_all look_round (deed c motion p)).scene
   unfolding look_round enough_rows row_numbers
   looking_noted c motion p h =
-      noted_effects k table.Enough enough_rows refl c motion (search parts 20) p h
+      noted_effects k table.Enough enough_rows refl c motion (search (told k) parts 20) p h
 
-  back_noted : (c : CaveView) (p : Scene) → N p.rows → N (go_back (deed c tt p)).scene.rows
+  back_noted : (c : CaveView) (p : Scene) → Meets N p → Meets N (go_back (deed c tt p)).scene
   unfolding go_back back_rows place_back row_numbers
   back_noted c p h =
       let wanted = place_back (deed c tt p) in
       noted_all k (Noted N) table.Back back_rows (nothing_but (always None)) refl c wanted.step
-      (search parts 20) (λ q g. g) wanted.scene
+      (search (told k) parts 20) (λ q g. g) wanted.scene
       (noted_with_last k (Noted N) table.BackFrom place_back_rows (otherwise_row [] old) refl c tt
       (search parts 20) (λ q g. g) p h)
 
-  own_noted : (c : CaveView) (motion : ℕ) (p : Scene) → N p.rows
-      → N (own_motion (deed c motion p)).scene.rows
+  own_noted : (c : CaveView) (motion : ℕ) (p : Scene) → Meets N p
+      → Meets N (own_motion (deed c motion p)).scene
   unfolding own_motion row_numbers
   own_noted c motion p h =
       noted_with_last k (ThenNoted N) table.OwnMotions own_motion_rows
       (otherwise_row [] that_motion) refl c motion
-      (search (looking_noted, back_noted) parts 20) (λ q g. g) p h
+      (search (told k, looking_noted, back_noted) parts 20) (λ q g. g) p h
 
-  by_noted : (o : Option ℕ) (p : Scene) → N p.rows → N (journey_by cave o p).scene.rows
+  by_noted : (o : Option ℕ) (p : Scene) → Meets N p → Meets N (journey_by cave o p).scene
   by_noted None p h = h
   by_noted (Some motion) p h = forth_noted motion p h
 
-  pub motion_noted : (motion : ℕ) (p : Scene) → N p.rows
-      → N (journey_by_request cave motion p).scene.rows
+  pub motion_noted : (motion : ℕ) (p : Scene) → Meets N p
+      → Meets N (journey_by_request cave motion p).scene
   unfolding journey_by_request
   motion_noted motion p h = by_noted _ _ (own_noted cave motion p h)

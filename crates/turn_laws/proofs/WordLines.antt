@@ -66,11 +66,11 @@ input_has_a_word cave line input =
     (subst (IsLogLine line) input (IsLogLine-log_line line))))
 
 -- the row of a word that is found passes the test, and is in range
-abbrev Fits : (WordEntry → Bool) → Option WordEntry → Type 0
+abbrev pub Fits : (WordEntry → Bool) → Option WordEntry → Type 0
 Fits test None = Unit {0}
 Fits test (Some entry) = IsWordNumber entry.number × (test entry ≡ true)
 
-found_within : {position : Position} {ls : List (List ℕ)} {rows : List Entry}
+pub found_within : {position : Position} {ls : List (List ℕ)} {rows : List Entry}
     (test : WordEntry → Bool) → HasRows position ls rows
     → Fits test (find test (filter_map word_entry_of rows))
 found_within test (blank_line blank rest) = found_within test rest

@@ -10,3 +10,4 @@ pub mod LineLaws
 pub mod QuestionRows
 pub mod DefinedRows
 pub mod NotedRows
+pub mod SaidParts

@@ -1,14 +1,21 @@
-//! Laws about the rows of the rules that lines note. Each is the contract of a function that does
-//! nothing.
+//! Laws about the rows of the rules that lines note, and the messages that lines say. Each is the
+//! contract of a function that does nothing.
 
 ghost use Rattle.turn_laws.specs.DefinedRows.{EachNumberIsARow};
 ghost use Rattle.turn_laws.specs.NotedRows.{NotedRowsAreRows};
 ghost use Rattle.turn_laws.specs.QuestionRows.{QuestionsAreInOrder};
+ghost use Rattle.turn_laws.specs.SaidParts.{SaidMessagesAreOfTheCave};
 
 /// Each row that a line notes has a number from 1 to the count of its table, or is one of the ways
-/// of its place.
+/// of its place, and by `travel` a motion tries it there in some state.
 pub fn noted_rows_are_rows()
     ensures { NotedRowsAreRows }
+{}
+
+/// Each message that a line says by its number is one that a way of the cave has, an action, a
+/// special word or a hint.
+pub fn said_messages_are_of_the_cave()
+    ensures { SaidMessagesAreOfTheCave }
 {}
 
 /// The rows of each table have the numbers from 1 to their count.
