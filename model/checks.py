@@ -132,6 +132,9 @@ def row_doubts(cave, section, row, before):
         index = sum(other[0] == place for other in before)
         if not list(tried(cave.travel[place]))[index]:
             yield "no player takes this way: an earlier one is always taken"
+        for role in ["alcove", "plover"] * (end == 301):
+            if cave.place(role) is None:
+                yield f"the way leads to 301, which needs place.{role}, which is unbound"
     elif section == 4:
         if is_hidden(cave, row[0], row[1]):
             yield "an earlier row of this word hides it"
@@ -144,9 +147,10 @@ def row_doubts(cave, section, row, before):
     elif section == 7:
         if 50 <= row[0] <= 79 and (row[0], None) not in cave.object_texts:
             yield f"treasure {row[0]} has no inventory text"
-        start = cave.homes[row[0]][0]
-        if 50 <= row[0] <= 79 and start and not has_text(cave, start):
-            yield f"treasure {row[0]} begins at place {start}, which has no text"
+        it, start = row[0], cave.homes[row[0]][0]
+        if start and not has_text(cave, start) and (50 <= it <= 79 or is_tool(cave, it)):
+            named = f"treasure {it}" if 50 <= it <= 79 else f"object {it}, which players need,"
+            yield f"{named} begins at place {start}, which has no text"
     elif section == 8:
         yield from message_doubts(cave, [(f"action {row[0]} says", row[1])])
         if all(it[:2] != (2, row[0]) for it in cave.words):
@@ -166,11 +170,15 @@ def row_doubts(cave, section, row, before):
             if hint >= 4 and not message:
                 yield f"hint {hint} {does} no message"
 
+def is_tool(cave, it):
+    """Whether players need an object that no rule brings."""
+    tools = TOOLS if any(map(cave.place, DWARVES)) else [*TOOLS, "AXE"]
+    return it in [object_of(cave, name) for name in tools]
+
 def object_doubts(cave, it):
     """What an object lacks of what rules ask."""
     first, second = cave.homes.get(it, (0, 0))
-    tools = TOOLS if any(map(cave.place, DWARVES)) else [*TOOLS, "AXE"]
-    if it in [object_of(cave, name) for name in tools] and first <= 0 and second <= 0:
+    if is_tool(cave, it) and first <= 0 and second <= 0:
         yield f"no place holds object {it}, which players need"
     for name in NEEDERS:
         if object_of(cave, name) == it:
@@ -187,7 +195,9 @@ def line_doubts(cave, section, line, row):
         rest = line[FIELD.search(line).end():]
         if rest.startswith("  "):
             yield "no tab is before this text, and it begins with blanks"
-        elif rest[1:].startswith(">$<") and len(rest) > 4:
+        elif rest.startswith(" \t"):
+            yield "a blank is before this text's tab, which is printed"
+        elif rest[1:].lstrip(" \t").startswith(">$<") and len(rest) > 4:
             yield "this is printed, since more than >$< is there"
     elif section == 9 and row[0] >= 4 and row[1] and row[0] not in cave.hints:
         yield f"hint {row[0]} has places here, but no row in section 11"
@@ -202,6 +212,8 @@ def binding_doubts(cave, key, number):
         yield from message_doubts(cave, [(f"{key} is", number)])
         if cave.messages.get(number) == SILENT:
             yield f"{key} is message {number}, whose text prints nothing"
+        if key == "msg.hollow" and cave.place("y2") is None:
+            yield f"{key} is said at place.y2, which is unbound"
     elif key.startswith("place.") and not has_text(cave, number):
         yield f"{key} is place {number}, which has no text"
 

@@ -5,11 +5,14 @@ use Rattle.std.specs.List.{flat_map, list_any}
 use Rattle.std.specs.Str.Lines.{lines}
 use Rattle.cave_data.specs.CaveView.{CaveView}
 use Rattle.data_rows.specs.Grammar.{position_after_line}
+use Rattle.data_rows.specs.Rows.{Going}
+use Rattle.data_rows.specs.declared.place_role.PlaceRole.TheVariants as role
 use Rattle.data_rows.specs.declared.position.Position.{Position}
 use Rattle.data_rows.specs.declared.position.Position.TheVariants.{Outside}
 use Rattle.check_doubts.specs.BoundRows.{bound_flaw, bound_rows}
 use Rattle.check_doubts.specs.Flaws.{first_flaw, second_flaw}
-use Rattle.check_doubts.specs.Needs.{need_flaw, needs}
+use Rattle.check_doubts.specs.Needs.{need_flaw, needs, passage_flaw, voice_flaw}
+use Rattle.check_doubts.specs.Ways.{way_of_row}
 use Rattle.check_doubts.specs.Written.{written_flaw_at}
 use Rattle.data_bindings.specs.Marks.{is_name, marked_rows}
 use Rattle.data_bindings.specs.declared.mark.RowMark.{RowMark}
@@ -33,22 +36,30 @@ with_doubt line (Some flaw) doubts =
 
 module _ (cave : CaveView) where
   -- what an object lacks of what rules ask
-  abbrev pub doubts_of_needs : ℕ → ℕ → List Doubt
-  doubts_of_needs line object =
+  abbrev pub doubts_of_object : ℕ → ℕ → List Doubt
+  doubts_of_object line object =
       flat_map (λ need. doubt_of Database line (need_flaw cave object need)) needs
 
-  -- this is doubted at the first line of the object's inventory text
-  abbrev pub doubts_of_object : List MarkedRow → ℕ → RowMark → List Doubt
-  doubts_of_object before line (mark.Name object) =
-      if list_any (is_name object) before then [] else doubts_of_needs line object
-  doubts_of_object before line _ = []
+  -- which ends the narrow passage lacks to which a way may lead
+  abbrev pub doubts_of_passage : ℕ → Option Going → List Doubt
+  doubts_of_passage line way =
+      doubt_of Database line (passage_flaw cave role.Alcove way)
+      ++ doubt_of Database line (passage_flaw cave role.Plover way)
+
+  -- what an object lacks is doubted at the first line of its inventory text
+  abbrev pub doubts_of_needs : List MarkedRow → ℕ → RowMark → List Doubt
+  doubts_of_needs before line (mark.Name object) =
+      if list_any (is_name object) before then [] else doubts_of_object line object
+  doubts_of_needs before line (mark.Way place) =
+      doubts_of_passage line (way_of_row cave place before)
+  doubts_of_needs before line _ = []
 
   -- what is doubtful about a row, after the rows before it
   abbrev pub doubts_of_row : List MarkedRow → MarkedRow → List Doubt
   doubts_of_row before row =
       doubt_of Database row.line (first_flaw cave before row.mark)
       ++ (doubt_of Database row.line (second_flaw cave before row.mark)
-      ++ doubts_of_object before row.line row.mark)
+      ++ doubts_of_needs before row.line row.mark)
 
   abbrev pub doubts_from : List MarkedRow → List MarkedRow → List Doubt
   doubts_from before [] = []
@@ -64,7 +75,9 @@ module _ (cave : CaveView) where
       (doubts_of_lines (suc number) (position_after_line position line) lines)
 
   abbrev pub doubts_of_binding : BoundRow → List Doubt
-  doubts_of_binding row = doubt_of Bindings row.line (bound_flaw cave row)
+  doubts_of_binding row =
+      doubt_of Bindings row.line (bound_flaw cave row)
+      ++ doubt_of Bindings row.line (voice_flaw cave row.binding.key)
 
   -- what is doubtful about the database and the bindings
   unfoldable pub doubts : List ℕ → List ℕ → List Doubt

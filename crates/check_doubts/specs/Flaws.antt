@@ -1,12 +1,12 @@
 -- What is doubtful about a row of a database, after the rows before it.
-use Rattle.std.specs.Prelude.{Bool, ◌==◌, not, if◌then◌else◌, List, Option, Some, None}
+use Rattle.std.specs.Prelude.{Bool, if◌then◌else◌, List, Option, Some, None}
 use Rattle.cave_data.specs.CaveView.{CaveView}
 use Rattle.check_doubts.specs.Classes.{class_flaw, is_taken}
 use Rattle.check_doubts.specs.Hints.{gift_flaw, is_wordless, question_flaw}
 use Rattle.check_doubts.specs.Messages.{lacks_text}
-use Rattle.check_doubts.specs.Needs.{is_missing}
+use Rattle.check_doubts.specs.Needs.{is_missing, start_flaw}
 use Rattle.check_doubts.specs.Places.{is_unreached_long, is_unreached_short}
-use Rattle.check_doubts.specs.Treasures.{is_nameless, is_nowhere, textless_start}
+use Rattle.check_doubts.specs.Treasures.{is_nameless, is_nowhere}
 use Rattle.check_doubts.specs.Ways.{is_never_taken, way_flaw, way_of_row}
 use Rattle.check_doubts.specs.Words.{is_hidden, word_of_row}
 use Rattle.check_doubts.specs.declared.flaw.CaveFlaw.{CaveFlaw}
@@ -40,9 +40,7 @@ module _ (cave : CaveView) (before : List MarkedRow) where
       flaw_if (is_never_taken cave place before) flaw.NeverTaken
   second_flaw (mark.Name object) =
       flaw_if (is_missing cave object before) (flaw.Unplaced object)
-  second_flaw (mark.Placement object) =
-      let start = textless_start cave object in
-      flaw_if (not (start == 0)) (flaw.BeginsTextless object start)
+  second_flaw (mark.Placement object) = start_flaw cave object
   second_flaw (mark.Default action message) =
       flaw_if (is_wordless cave action) (flaw.Wordless action)
   second_flaw (mark.Class bound) = class_flaw cave bound before

@@ -34,6 +34,9 @@ words (flaw.Nameless object) =
     codes "treasure " ++ (decimal object ++ codes " has no inventory text")
 words (flaw.BeginsTextless object place) =
     codes "treasure " ++ (decimal object ++ (codes " begins at place " ++ textless place))
+words (flaw.NeededTextless object place) =
+    codes "object " ++ (decimal object
+    ++ (codes ", which players need, begins at place " ++ textless place))
 words (flaw.Unplaced object) =
     codes "no place holds object " ++ (decimal object ++ codes ", which players need")
 words (flaw.PropTextless object prop) =
@@ -42,6 +45,9 @@ words (flaw.PropTextless object prop) =
 words (flaw.PlaceUnbound role object) =
     codes "rules about object " ++ (decimal object
     ++ (codes " need place." ++ (place_role_name role ++ codes ", which is unbound")))
+words (flaw.EndUnbound role) =
+    codes "the way leads to 301, which needs place." ++ (place_role_name role
+    ++ codes ", which is unbound")
 words (flaw.SaysTextless action message) =
     codes "action " ++ (decimal action ++ (codes " says message " ++ textless message))
 words (flaw.Wordless action) = codes "no word means action " ++ decimal action
@@ -57,12 +63,16 @@ words (flaw.GivesNothing hint) = codes "hint " ++ (decimal hint ++ codes " gives
 words (flaw.Rowless hint) =
     codes "hint " ++ (decimal hint ++ codes " has places here, but no row in section 11")
 words flaw.TextOfBlanks = codes "no tab is before this text, and it begins with blanks"
+words flaw.TabPrinted = codes "a blank is before this text's tab, which is printed"
 words flaw.NotSilent = codes "this is printed, since more than >$< is there"
 words (flaw.RoleTextless role message) =
     codes "msg." ++ (role_name role ++ (codes " is message " ++ textless message))
 words (flaw.RoleSilent role message) =
     codes "msg." ++ (role_name role
     ++ (codes " is message " ++ (decimal message ++ codes ", whose text prints nothing")))
+words (flaw.SaidNowhere role place) =
+    codes "msg." ++ (role_name role
+    ++ (codes " is said at place." ++ (place_role_name place ++ codes ", which is unbound")))
 words (flaw.PlaceTextless role place) =
     codes "place." ++ (place_role_name role ++ (codes " is place " ++ textless place))
 

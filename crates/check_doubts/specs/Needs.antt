@@ -1,18 +1,30 @@
 -- What rules ask of the objects that they name: a place where it is at first, texts for its props,
--- and places of the bindings.
-use Rattle.std.specs.Prelude.{ℕ, Bool, ◌&&◌, ◌||◌, not, is_some, if◌then◌else◌, List, [], ◌∷◌}
+-- and places of the bindings. A way through the narrow passage and a message need such places, too.
+use Rattle.std.specs.Prelude.{ℕ, Bool, true, false, ◌==◌, ◌&&◌, ◌||◌, not, is_some, if◌then◌else◌}
+use Rattle.std.specs.Prelude.{List, [], ◌∷◌}
 use Rattle.std.specs.Prelude.{Option, Some, None}
 use Rattle.std.specs.FinMap as map
 use Rattle.std.specs.List.{list_any}
-use Rattle.cave_data.specs.CaveView.{CaveView, look_of}
+use Rattle.cave_data.specs.CaveView.{CaveView, look_of, placement_of}
 use Rattle.cave_words.specs.Named.{object_named}
 use Rattle.cave_words.specs.declared.named.Named.{Named}
 use Rattle.cave_words.specs.declared.named.Named.TheVariants as name
 use Rattle.data_rows.specs.PlaceRole.{place_number}
+use Rattle.data_rows.specs.Role.{role_number}
+use Rattle.data_rows.specs.Rows.{Going}
+use Rattle.data_rows.specs.declared.binding.Key.{Key}
+use Rattle.data_rows.specs.declared.binding.Key.TheVariants.{RoleKey}
 use Rattle.data_rows.specs.declared.place_role.PlaceRole.{PlaceRole}
 use Rattle.data_rows.specs.declared.place_role.PlaceRole.TheVariants as role
+use Rattle.data_rows.specs.declared.role.Role.TheVariants.{Hollow}
+use Rattle.data_rows.specs.declared.targets.Destination.{Destination}
+use Rattle.data_rows.specs.declared.targets.Destination.TheVariants as destination
+use Rattle.data_rows.specs.declared.targets.Special.TheVariants.{Squeeze}
+use Rattle.cave_world.specs.Travel.{row_destination}
+use Rattle.turn_scene.specs.Treasures.{is_treasure}
 use Rattle.check_tables.specs.Unused.{is_number}
 use Rattle.check_doubts.specs.Treasures.{is_placed}
+use Rattle.check_doubts.specs.Ways.{is_textless_end}
 use Rattle.check_doubts.specs.declared.flaw.CaveFlaw.{CaveFlaw}
 use Rattle.check_doubts.specs.declared.flaw.CaveFlaw.TheVariants as flaw
 use Rattle.check_doubts.specs.declared.needs.Need.{Need}
@@ -41,6 +53,19 @@ needs =
     ∷ Prop name.Vase 2
     ∷ Role name.Pearl role.Culdesac
     ∷ Prop name.Chain 2 ∷ []
+
+abbrev pub is_squeeze : Destination → Bool
+is_squeeze (destination.Special Squeeze) = true
+is_squeeze _ = false
+
+-- a player gets by the way from the one end of the narrow passage to the other
+abbrev pub is_squeezed : Option Going → Bool
+is_squeezed None = false
+is_squeezed (Some way) = is_squeeze (row_destination way)
+
+abbrev pub begins_at : ℕ → ℕ → CaveFlaw
+begins_at object place = if is_treasure object then flaw.BeginsTextless object place
+    else flaw.NeededTextless object place
 
 module _ (cave : CaveView) where
   abbrev pub is_bound : PlaceRole → Bool
@@ -72,3 +97,21 @@ module _ (cave : CaveView) where
   abbrev pub is_missing : ℕ → List MarkedRow → Bool
   is_missing object before =
       is_tool object && not (list_any (is_name object) before) && not (is_placed cave object)
+
+  -- the first place of a treasure, or of such an object, has no text
+  abbrev pub start_flaw : ℕ → Option CaveFlaw
+  start_flaw object =
+      let start = (placement_of cave object).first in
+      if (is_treasure object || is_tool object) && is_textless_end cave start
+      then Some (begins_at object start) else None
+
+  -- such a way needs the place of an end
+  abbrev pub passage_flaw : PlaceRole → Option Going → Option CaveFlaw
+  passage_flaw role way = if is_squeezed way && not (is_bound role)
+      then Some (flaw.EndUnbound (place_number role)) else None
+
+  -- the hollow voice is heard at one place only
+  abbrev pub voice_flaw : Key → Option CaveFlaw
+  voice_flaw (RoleKey said) = if said == role_number Hollow && not (is_bound role.Y2)
+      then Some (flaw.SaidNowhere said (place_number role.Y2)) else None
+  voice_flaw _ = None

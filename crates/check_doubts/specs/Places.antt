@@ -1,5 +1,6 @@
 -- Places to which no way leads.
-use Rattle.std.specs.Prelude.{ℕ, ◌+◌, ◌*◌, Bool, false, ◌==◌, ◌&&◌, ◌||◌, not, is_some, pos, Option, None}
+use Rattle.std.specs.Prelude.{ℕ, ◌+◌, ◌*◌, Bool, false, ◌==◌, ◌&&◌, ◌||◌, not, is_some, pos, Option}
+use Rattle.std.specs.Prelude.{None}
 use Rattle.std.specs.Prelude.{◌+ℤ◌, int_lt}
 use Rattle.std.specs.Prelude.{Some, List}
 use Rattle.std.specs.FinMap as map

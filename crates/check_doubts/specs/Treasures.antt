@@ -1,12 +1,10 @@
--- Treasures that no place holds or one without a text, and treasures without an inventory text.
+-- Treasures that no place holds, and treasures without an inventory text.
 use Rattle.std.specs.Prelude.{ℕ, pos, Bool, ◌&&◌, ◌||◌, not, nat_lt, int_lt, List}
-use Rattle.std.specs.Prelude.{if◌then◌else◌}
 use Rattle.std.specs.List.{list_any}
 use Rattle.check_tables.specs.Unused.{is_number}
 use Rattle.cave_data.specs.CaveView.{CaveView, placement_of}
 use Rattle.cave_words.specs.Named.{object_named}
 use Rattle.cave_words.specs.declared.named.Named.TheVariants as name
-use Rattle.check_doubts.specs.Ways.{is_textless_end}
 use Rattle.turn_scene.specs.Treasures.{is_known, is_treasure}
 use Rattle.data_bindings.specs.Marks.{is_name}
 use Rattle.data_bindings.specs.declared.mark.MarkedRow.{MarkedRow}
@@ -28,12 +26,6 @@ module _ (cave : CaveView) (object : ℕ) where
   is_nowhere before =
       is_treasure object && not (list_any (is_name object) before) && not is_placed
       && not is_put_by_rules
-
-  -- the first place of a treasure, if this has no text, or 0
-  abbrev pub textless_start : ℕ
-  textless_start =
-      if is_treasure object && is_textless_end cave (placement_of cave object).first
-      then (placement_of cave object).first else 0
 
   abbrev pub is_nameless : Bool
   is_nameless = is_treasure object && not (is_known cave object)

@@ -1,5 +1,5 @@
--- Lines of a database that aren't written as they should be: blanks stand where a tab should, a
--- text that is meant to be silent goes on, and a hint has places and no row of its own.
+-- Lines of a database that aren't written as they should be: blanks stand where a tab should or
+-- before it, a text that is meant to be silent has more, and a hint has places and no row of its own.
 use Rattle.std.specs.Prelude.{ℕ, Bool, ◌&&◌, not, nat_eq, nat_lt, is_some, codes}
 use Rattle.std.specs.Prelude.{if◌then◌else◌, List, length, drop, Option, Some, None}
 use Rattle.std.specs.Result.{result_ok}
@@ -22,14 +22,20 @@ use Rattle.check_doubts.specs.declared.flaw.CaveFlaw.TheVariants as flaw
 abbrev pub begins_blank : List ℕ → Bool
 begins_blank after_number = starts_with nat_eq after_number (codes "  ")
 
--- the text behind one blank or tab begins as a silent one, and goes on
-abbrev pub goes_on : List ℕ → Bool
-goes_on after_number =
-    nat_lt 4 (length after_number) && starts_with nat_eq (drop 1 after_number) (codes ">$<")
+-- a blank is after the number, and a tab behind it
+abbrev pub begins_tab : List ℕ → Bool
+begins_tab after_number = starts_with nat_eq after_number (codes " \t")
+
+-- the text behind one blank or tab is a silent one with more: with blanks before it, or it goes on
+abbrev pub has_more : List ℕ → Bool
+has_more after_number =
+    nat_lt 4 (length after_number)
+    && starts_with nat_eq (after_blanks (drop 1 after_number)) (codes ">$<")
 
 abbrev pub text_flaw : List ℕ → Option CaveFlaw
 text_flaw after_number = if begins_blank after_number then Some flaw.TextOfBlanks
-    else (if goes_on after_number then Some flaw.NotSilent else None)
+    else (if begins_tab after_number then Some flaw.TabPrinted
+    else (if has_more after_number then Some flaw.NotSilent else None))
 
 -- the row of a text is its number, which is its first field, and the text
 abbrev pub row_flaw : List ℕ → Option CaveFlaw

@@ -5,20 +5,23 @@ ghost use Rattle.std.specs.List.{flat_map};
 ghost use Rattle.std.specs.Str.Lines.{lines};
 ghost use Rattle.turn_scene.specs.Scene.{cave_of};
 ghost use Rattle.check_doubts.specs.Doubts.{doubt_of, doubts, doubts_from, doubts_of_binding};
-ghost use Rattle.check_doubts.specs.Doubts.{doubts_of_lines, doubts_of_object, doubts_of_row};
+ghost use Rattle.check_doubts.specs.Doubts.{doubts_of_lines, doubts_of_needs, doubts_of_passage};
+ghost use Rattle.check_doubts.specs.Doubts.{doubts_of_row};
+ghost use Rattle.check_doubts.specs.Ways.{way_of_row};
 ghost use Rattle.check_doubts.specs.Needs.{need_flaw};
 
 use crate::bound::{BoundRow, bound_flaw, bound_rows};
 use crate::flaw::{CaveFlaw, Doubt, Source};
-use crate::needs::{Need, each_need, need_flaw};
+use crate::needs::{Need, each_need, need_flaw, passage_flaw, voice_flaw};
 use crate::row_flaws::{first_flaw, second_flaw};
+use crate::ways::way_of_row;
 use crate::written::{position_after_line, written_flaw_at};
 use base_lines::split_line;
 use cave_data::Cave;
 use cave_words::Lexicon;
 use data_bindings::mark::any_name;
 use data_bindings::{MarkedRow, RowMark, marked_rows};
-use data_rows::Position;
+use data_rows::{PlaceRole, Position};
 use std::alloc::{AllocError, Global};
 use turn_scene::Rules;
 
@@ -41,7 +44,7 @@ fn push_doubt(
 }
 
 /// Adds what an object lacks of what rules ask.
-fn push_needs_doubts(
+fn push_object_doubts(
     rules: &Rules<'_>,
     line: usize,
     object: u16,
@@ -60,20 +63,48 @@ fn push_needs_doubts(
     Ok(())
 }
 
-/// Adds what an object lacks, at the first line of its inventory text.
-fn push_object_doubts(
+/// Adds which ends the narrow passage lacks, if the way of a row may lead there.
+fn push_passage_doubts(
+    cave: &Cave,
+    place: u16,
+    before: &[MarkedRow],
+    line: usize,
+    doubts: &mut Vec<Doubt>,
+) -> Result<(), AllocError>
+    ensures { OnOk result (doubts.new.items ≡ doubts.old.items
+        ++ doubts_of_passage cave.now line (way_of_row cave.now place before.now)) }
+{
+    let way = way_of_row(cave, place, before);
+    let (first, last) = (PlaceRole::Alcove, PlaceRole::Plover);
+    push_doubt(
+        Source::Database,
+        line,
+        passage_flaw(cave, first, way),
+        doubts,
+    )?;
+    push_doubt(
+        Source::Database,
+        line,
+        passage_flaw(cave, last, way),
+        doubts,
+    )
+}
+
+/// Adds what an object lacks, at the first line of its inventory text, or the passage of a way.
+fn push_needs_doubts(
     rules: &Rules<'_>,
     before: &[MarkedRow],
     row: &MarkedRow,
     doubts: &mut Vec<Doubt>,
 ) -> Result<(), AllocError>
     ensures { OnOk result (doubts.new.items ≡ doubts.old.items
-        ++ doubts_of_object (cave_of rules.now) before.now row.now.line row.now.mark) }
+        ++ doubts_of_needs (cave_of rules.now) before.now row.now.line row.now.mark) }
 {
     match row.mark {
         RowMark::Name(object) if !any_name(before, object) => {
-            push_needs_doubts(rules, row.line, object, each_need(), doubts)
+            push_object_doubts(rules, row.line, object, each_need(), doubts)
         }
+        RowMark::Way(place) => push_passage_doubts(rules.cave, place, before, row.line, doubts),
         _ => Ok(()),
     }
 }
@@ -100,7 +131,7 @@ fn push_row_doubts(
         second_flaw(rules, before, row.mark),
         doubts,
     )?;
-    push_object_doubts(rules, before, row, doubts)
+    push_needs_doubts(rules, before, row, doubts)
 }
 
 /// Adds what is doubtful about the first rows of a database.
@@ -146,6 +177,24 @@ fn push_lines_doubts(
     Ok(())
 }
 
+/// Adds what is doubtful about a binding.
+fn push_binding_doubts(
+    cave: &Cave,
+    row: &BoundRow,
+    doubts: &mut Vec<Doubt>,
+) -> Result<(), AllocError>
+    ensures { OnOk result
+        (doubts.new.items ≡ doubts.old.items ++ doubts_of_binding cave.now row.now) }
+{
+    push_doubt(Source::Bindings, row.line, bound_flaw(cave, row), doubts)?;
+    push_doubt(
+        Source::Bindings,
+        row.line,
+        voice_flaw(cave, row.binding.key),
+        doubts,
+    )
+}
+
 /// Adds what is doubtful about these bindings.
 fn push_bindings_doubts(
     cave: &Cave,
@@ -156,7 +205,7 @@ fn push_bindings_doubts(
         ≡ doubts.old.items ++ flat_map (doubts_of_binding cave.now) rows.now) }
 {
     for row in rows {
-        push_doubt(Source::Bindings, row.line, bound_flaw(cave, row), doubts)?;
+        push_binding_doubts(cave, row, doubts)?;
     }
     Ok(())
 }

@@ -27,12 +27,16 @@ pub enum CaveFlaw {
     Nameless(u16),
     /// The treasure begins at a place that has no text.
     BeginsTextless(u16, u16),
+    /// An object that players need begins at a place that has no text.
+    NeededTextless(u16, u16),
     /// No place holds an object that players need.
     Unplaced(u16),
     /// The object has no text for a prop that rules set.
     PropTextless(u16, u16),
     /// The role of a place that rules about the object need is unbound.
     PlaceUnbound(u16, u16),
+    /// The role of a place at an end of the narrow passage is unbound.
+    EndUnbound(u16),
     /// The action says a message that has no text.
     SaysTextless(u16, u16),
     /// No word means the action.
@@ -55,12 +59,16 @@ pub enum CaveFlaw {
     Rowless(u16),
     /// The text begins with blanks, and no tab is before it.
     TextOfBlanks,
-    /// The text goes on after `>$<`.
+    /// A blank is before the tab that should be before the text.
+    TabPrinted,
+    /// The text has more than `>$<`.
     NotSilent,
     /// The role of a message is bound to one that has no text.
     RoleTextless(u16, u16),
     /// The role of a message is bound to one whose text prints nothing.
     RoleSilent(u16, u16),
+    /// The message of the role is said at a place whose role is unbound.
+    SaidNowhere(u16, u16),
     /// The role of a place is bound to one that has no text.
     PlaceTextless(u16, u16),
 }
@@ -108,6 +116,12 @@ impl fmt::Display for CaveFlaw {
                     "treasure {object} begins at place {place}, which has no text"
                 )
             }
+            CaveFlaw::NeededTextless(object, place) => {
+                write!(
+                    f,
+                    "object {object}, which players need, begins at place {place}, which has no text"
+                )
+            }
             CaveFlaw::Unplaced(object) => {
                 write!(f, "no place holds object {object}, which players need")
             }
@@ -122,6 +136,13 @@ impl fmt::Display for CaveFlaw {
                 write!(
                     f,
                     "rules about object {object} need place.{name}, which is unbound"
+                )
+            }
+            CaveFlaw::EndUnbound(role) => {
+                let name = name_at(&PLACE_NAMES, role);
+                write!(
+                    f,
+                    "the way leads to 301, which needs place.{name}, which is unbound"
                 )
             }
             CaveFlaw::SaysTextless(action, message) => {
@@ -151,6 +172,9 @@ impl fmt::Display for CaveFlaw {
             CaveFlaw::TextOfBlanks => {
                 write!(f, "no tab is before this text, and it begins with blanks")
             }
+            CaveFlaw::TabPrinted => {
+                write!(f, "a blank is before this text's tab, which is printed")
+            }
             CaveFlaw::NotSilent => write!(f, "this is printed, since more than >$< is there"),
             CaveFlaw::RoleTextless(role, message) => {
                 let name = name_at(&ROLE_NAMES, role);
@@ -162,6 +186,11 @@ impl fmt::Display for CaveFlaw {
                     f,
                     "msg.{name} is message {message}, whose text prints nothing"
                 )
+            }
+            CaveFlaw::SaidNowhere(role, place) => {
+                let name = name_at(&ROLE_NAMES, role);
+                let place = name_at(&PLACE_NAMES, place);
+                write!(f, "msg.{name} is said at place.{place}, which is unbound")
             }
             CaveFlaw::PlaceTextless(role, place) => {
                 let name = name_at(&PLACE_NAMES, role);

@@ -1,18 +1,22 @@
-//! What rules ask of the objects that they name.
+//! What rules ask of the objects that they name, of the narrow passage and of the hollow voice.
 
-ghost use Rattle.std.specs.Prelude.{◌≡◌};
+ghost use Rattle.std.specs.Prelude.{◌≡◌, option_map};
 ghost use Rattle.cave_words.specs.Lexicon.{IsLexiconOf};
 ghost use Rattle.check_doubts.specs.Needs.{has_dwarf, is_bound, is_missing, is_of, is_tool};
-ghost use Rattle.check_doubts.specs.Needs.{need_flaw, needs};
+ghost use Rattle.check_doubts.specs.Needs.{begins_at, is_squeeze, is_squeezed, need_flaw, needs};
+ghost use Rattle.check_doubts.specs.Needs.{passage_flaw, start_flaw, voice_flaw};
+ghost use Rattle.data_rows.specs.RowViews.{going};
 
 use crate::flaw::CaveFlaw;
-use crate::treasures::is_placed;
+use crate::treasures::{is_placed, is_treasure};
+use crate::ways::is_textless_end;
 use cave_data::Cave;
 use cave_words::{Lexicon, Named};
 use check_tables::is_number;
 use data_bindings::MarkedRow;
 use data_bindings::mark::any_name;
-use data_rows::PlaceRole;
+use data_rows::binding::Key;
+use data_rows::{Destination, PlaceRole, Role, Row, Special};
 
 /// What rules ask of an object.
 #[derive(Clone, Copy, Debug)]
@@ -126,4 +130,68 @@ pub(crate) fn is_missing(cave: &Cave, lexicon: &Lexicon, object: u16, before: &[
     ensures { result ≡ is_missing cave.now object before.now }
 {
     is_tool(cave, lexicon, object) && !any_name(before, object) && !is_placed(cave, object)
+}
+
+/// A treasure, or an object that players need, begins at a place without a text.
+fn begins_at(object: u16, place: u16) -> CaveFlaw
+    ensures { result ≡ begins_at object place }
+{
+    if is_treasure(object) {
+        CaveFlaw::BeginsTextless(object, place)
+    } else {
+        CaveFlaw::NeededTextless(object, place)
+    }
+}
+
+/// What is doubtful about the first place of an object.
+pub(crate) fn start_flaw(cave: &Cave, lexicon: &Lexicon, object: u16) -> Option<CaveFlaw>
+    requires { IsLexiconOf cave.now lexicon.now }
+    ensures { result ≡ start_flaw cave.now object }
+{
+    let (first, _) = cave.placement(object);
+    let is_needed = is_treasure(object) || is_tool(cave, lexicon, object);
+    if is_needed && is_textless_end(cave, first) {
+        Some(begins_at(object, first))
+    } else {
+        None
+    }
+}
+
+fn is_squeeze(destination: Destination) -> bool
+    ensures { result ≡ is_squeeze destination }
+{
+    matches!(destination, Destination::Special(Special::Squeeze))
+}
+
+/// Whether a player gets by a way from the one end of the narrow passage to the other.
+fn is_squeezed(way: Option<&Row>) -> bool
+    ensures { result ≡ is_squeezed (option_map (λ row. going row.now) way.entry) }
+{
+    match way {
+        Some(row) => is_squeeze(row.destination()),
+        None => false,
+    }
+}
+
+/// What is doubtful about an end of the narrow passage, to which a way may lead.
+pub(crate) fn passage_flaw(cave: &Cave, role: PlaceRole, way: Option<&Row>) -> Option<CaveFlaw>
+    ensures { result ≡ passage_flaw cave.now role (option_map (λ row. going row.now) way.entry) }
+{
+    if is_squeezed(way) && !is_bound(cave, role) {
+        Some(CaveFlaw::EndUnbound(role.number()))
+    } else {
+        None
+    }
+}
+
+/// What is doubtful about where the message of a role is said.
+pub(crate) fn voice_flaw(cave: &Cave, key: Key) -> Option<CaveFlaw>
+    ensures { result ≡ voice_flaw cave.now key }
+{
+    match key {
+        Key::RoleKey(role) if role == Role::Hollow.number() && !is_bound(cave, PlaceRole::Y2) => {
+            Some(CaveFlaw::SaidNowhere(role, PlaceRole::Y2.number()))
+        }
+        _ => None,
+    }
 }

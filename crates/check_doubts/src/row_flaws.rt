@@ -8,9 +8,9 @@ use crate::classes::{class_flaw, is_taken};
 use crate::flaw::CaveFlaw;
 use crate::hints::{gift_flaw, is_wordless, question_flaw};
 use crate::messages::lacks_text;
-use crate::needs::is_missing;
+use crate::needs::{is_missing, start_flaw};
 use crate::places::{is_unreached_long, is_unreached_short};
-use crate::treasures::{is_nameless, is_nowhere, textless_start};
+use crate::treasures::{is_nameless, is_nowhere};
 use crate::ways::{is_never_taken, way_flaw, way_of_row};
 use crate::words::is_hidden;
 use data_bindings::{MarkedRow, RowMark};
@@ -82,10 +82,7 @@ pub(crate) fn second_flaw(
                 CaveFlaw::Unplaced(object),
             )
         }
-        RowMark::Placement(object) => {
-            let start = textless_start(cave, object);
-            flaw_if(start != 0, CaveFlaw::BeginsTextless(object, start))
-        }
+        RowMark::Placement(object) => start_flaw(cave, lexicon, object),
         RowMark::Default(action, _) => {
             flaw_if(is_wordless(cave, action), CaveFlaw::Wordless(action))
         }

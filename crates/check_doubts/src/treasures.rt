@@ -1,12 +1,11 @@
-//! Treasures that no place holds or one without a text, and treasures without an inventory text.
+//! Treasures that no place holds, and treasures without an inventory text.
 
 ghost use Rattle.std.specs.Prelude.{◌≡◌};
 ghost use Rattle.cave_words.specs.Lexicon.{IsLexiconOf};
 ghost use Rattle.turn_scene.specs.Treasures.{is_treasure};
 ghost use Rattle.check_doubts.specs.Treasures.{is_nameless, is_nowhere, is_placed};
-ghost use Rattle.check_doubts.specs.Treasures.{is_put_by_rules, textless_start};
+ghost use Rattle.check_doubts.specs.Treasures.{is_put_by_rules};
 
-use crate::ways::is_textless_end;
 use cave_data::Cave;
 use cave_words::{Lexicon, Named};
 use check_tables::is_number;
@@ -14,7 +13,7 @@ use data_bindings::MarkedRow;
 use data_bindings::mark::any_name;
 use turn_scene::treasures::{FIRST_TREASURE, LAST_TREASURE};
 
-fn is_treasure(object: u16) -> bool
+pub(crate) fn is_treasure(object: u16) -> bool
     ensures { result ≡ is_treasure object }
 {
     u16::from(FIRST_TREASURE) <= object && object <= u16::from(LAST_TREASURE)
@@ -46,18 +45,6 @@ pub(crate) fn is_nowhere(cave: &Cave, lexicon: &Lexicon, object: u16, before: &[
         && !any_name(before, object)
         && !is_placed(cave, object)
         && !is_put_by_rules(cave, lexicon, object)
-}
-
-/// The first place of a treasure, if this has no text, or 0.
-pub(crate) fn textless_start(cave: &Cave, object: u16) -> u16
-    ensures { result ≡ textless_start cave.now object }
-{
-    let (first, _) = cave.placement(object);
-    if is_treasure(object) && is_textless_end(cave, first) {
-        first
-    } else {
-        0
-    }
 }
 
 /// Whether an object is a treasure without an inventory text.

@@ -2,8 +2,9 @@
 
 ghost use Rattle.std.specs.Prelude.{◌≡◌};
 ghost use Rattle.data_rows.specs.Grammar.{position_after_line};
-ghost use Rattle.check_doubts.specs.Written.{begins_blank, condition_flaw, goes_on, is_rowless};
-ghost use Rattle.check_doubts.specs.Written.{row_flaw, text_flaw, written_flaw, written_flaw_at};
+ghost use Rattle.check_doubts.specs.Written.{begins_blank, begins_tab, condition_flaw, has_more};
+ghost use Rattle.check_doubts.specs.Written.{is_rowless, row_flaw, text_flaw, written_flaw};
+ghost use Rattle.check_doubts.specs.Written.{written_flaw_at};
 
 use crate::flaw::CaveFlaw;
 use crate::hints::is_placed_hint;
@@ -20,11 +21,18 @@ fn begins_blank(after_number: &[u8]) -> bool
     after_number.starts_with(b"  ")
 }
 
-/// Whether the text behind a number begins as a silent one, and goes on.
-fn goes_on(after_number: &[u8]) -> bool
-    ensures { result ≡ goes_on after_number.now }
+/// Whether a blank is after a number, and a tab behind it.
+fn begins_tab(after_number: &[u8]) -> bool
+    ensures { result ≡ begins_tab after_number.now }
 {
-    4 < after_number.len() && after_number[1..].starts_with(b">$<")
+    after_number.starts_with(b" \t")
+}
+
+/// Whether the text behind a number is a silent one with more.
+fn has_more(after_number: &[u8]) -> bool
+    ensures { result ≡ has_more after_number.now }
+{
+    4 < after_number.len() && skip_blanks(&after_number[1..]).starts_with(b">$<")
 }
 
 /// What is doubtful about how a text is written.
@@ -34,7 +42,10 @@ fn text_flaw(after_number: &[u8]) -> Option<CaveFlaw>
     if begins_blank(after_number) {
         return Some(CaveFlaw::TextOfBlanks);
     }
-    if goes_on(after_number) {
+    if begins_tab(after_number) {
+        return Some(CaveFlaw::TabPrinted);
+    }
+    if has_more(after_number) {
         return Some(CaveFlaw::NotSilent);
     }
     None
