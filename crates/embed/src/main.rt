@@ -1,11 +1,13 @@
-//! A program with the engine inside: it plays lines one by one, does a verb that no line says, and
-//! edits a log and takes the edit back.
+//! A program with the engine inside: it plays lines one by one, does a verb that no line says, edits a
+//! log and takes the edit back, and edits it by a script.
 #![tactic(auto)]
 
 mod boathouse;
+mod runs;
 mod telling;
 
 use crate::boathouse::{BINDINGS, DATABASE, LOG};
+use crate::runs::{tell_coverage, tell_reports};
 use crate::telling::{tell, tell_state};
 use anyhow::Result;
 use cave_data::Cave;
@@ -15,6 +17,7 @@ use cave_turn::{Rules, Unnoted, max_score, score, start, turn};
 use cave_verbs::{Command, Scene, Verb, act};
 use cave_words::{Lexicon, Meter, Steps, check_line};
 use cave_world::{Object, Out, Place, State};
+use std::env;
 
 /// Plays lines from the start, each by one call, and prints what is said. Returns the last state.
 fn play(rt: &HostRuntime, rules: &Rules<'_>, lines: &[&[u8]]) -> Result<State> {
@@ -76,9 +79,18 @@ fn play_and_edit(rt: &HostRuntime, rules: &Rules<'_>, machine: CaveMachine<'_>) 
     told
 }
 
-fn main(rt: HostRuntime) -> Result<()> {
+/// Reads the cave, plays in it, and edits a log.
+fn play_in_cave(rt: &HostRuntime) -> Result<()> {
     let cave = Cave::read(rt.alloc(), DATABASE, BINDINGS)?;
     let lexicon = Lexicon::build(rt.alloc(), &cave)?;
     let rules = Rules::of(&cave, &lexicon);
-    play_and_edit(&rt, &rules, CaveMachine::new(&cave, &lexicon))
+    play_and_edit(rt, &rules, CaveMachine::new(&cave, &lexicon))
+}
+
+fn main(rt: HostRuntime) -> Result<()> {
+    play_in_cave(&rt)?;
+    for script in env::args(&rt)?.skip(1) {
+        tell_reports(&rt, script.as_str())?;
+    }
+    tell_coverage(&rt)
 }

@@ -8,13 +8,18 @@ use cave_turn::{render, start};
 use cave_world::{Out, Part};
 use std::str;
 
+/// Prints a text.
+pub fn print_text(rt: &HostRuntime, text: &[u8]) -> Result<()> {
+    let text = str::from_utf8(text)?;
+    print!(rt; "{text}")?;
+    Ok(())
+}
+
 /// Prints parts, at a number of turns.
 pub fn tell(rt: &HostRuntime, cave: &Cave, parts: &[Part], turns: u32) -> Result<()> {
     let mut text = Vec::new(rt.alloc());
     render(cave, parts, turns, &mut text)?;
-    let text = str::from_utf8(&text)?;
-    print!(rt; "{text}")?;
-    Ok(())
+    print_text(rt, &text)
 }
 
 /// Prints the state that the log of a session leads to, one fact a line.

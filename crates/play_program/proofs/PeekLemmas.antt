@@ -1,6 +1,7 @@
 -- What was looked at of a log, and what is still to be read of it.
 use Rattle.std.proofs.Common.{◌≡◌, ℕ, ◌≤◌, Bool, false, List, [], ◌++◌, length, take, None, Some}
-use Rattle.std.proofs.Common.{Option, true, nat_lt, refl, sym, ap, ◌∙◌, arith, append-nil, take_all, length-take-le}
+use Rattle.std.proofs.Common.{Option, true, nat_lt, refl, sym, ap, ◌∙◌, arith, append-nil, take_all}
+use Rattle.std.proofs.Common.{length-take-le}
 use Rattle.std.proofs.lemmas.Bool.Decides.{nat_tests}
 use Rattle.std.proofs.Math.Seq.{take-append_seam}
 use Rattle.std.specs.Fmt.{option_append}
@@ -51,7 +52,8 @@ log_seen known new buffer count failed size within is =
     log_peeked known new (length buffer) (take count buffer) failed short is in (
       log,
       said,
-      λ asked name. by_failed asked name failed log (λ went. ap (λ n. take n log) (sym size) ∙ first went),
+      λ asked name.
+          by_failed asked name failed log (λ went. ap (λ n. take n log) (sym size) ∙ first went),
     )
   where
     by_failed : (asked : Line) (name : Option (List ℕ)) (fails : Bool) (log : List ℕ)
@@ -59,4 +61,5 @@ log_seen known new buffer count failed size within is =
         → calls_unless_failed fails asked name (take count buffer)
         ≡ calls_for_log fails asked name log
     by_failed asked name true log first = refl
-    by_failed asked name false log first = ap (calls_unless_failed false asked name) (sym (first refl))
+    by_failed asked name false log first =
+        ap (calls_unless_failed false asked name) (sym (first refl))

@@ -18,8 +18,13 @@ pub mod system;
 pub mod target;
 pub mod whole;
 
+pub use cave_play::{CaveReaders, PlayFault};
 pub use message::Message;
 pub use output::Output;
+pub use play_command::{CoverView, MapPart, Surroundings, TextView};
+pub use play_cover::run::{CoverAsked, run_cover};
+pub use play_logs::fault::LogsFault;
+pub use play_map::run::run_map;
 pub use program::run_program;
 pub use system::System;
 pub use target::Target;

@@ -24,7 +24,7 @@ returns-in-None g c =
           subst
           (λ (names : Option FileNames). EndsNamed names (g.S.System.bytes_of system)
           c.args.asked.now (g.S.System.calls system) (g.S.System.calls c.print.new.system)
-          (g.W.Write.contents c.args.output.now.writer) (g.W.Write.contents c.print.new.output.writer)
-          c.print.result)
+          (g.W.Write.contents c.args.output.now.writer)
+          (g.W.Write.contents c.print.new.output.writer) c.print.result)
           c.in-None.ensures c.print.ensures.ends;
     }
