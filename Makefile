@@ -89,7 +89,7 @@ test: has-rt has-cc checks ## runs the gate: all proofs anew, wrong bodies, test
 	logs/tools/check-maps $(PROGRAM)
 	logs/tools/check-undo $(PROGRAM)
 	logs/tools/check-drafts $(PROGRAM)
-	tools/page/check-live $(PROGRAM)
+	tools/page/test server $(PROGRAM)
 	logs/tools/check-script $(PROGRAM)
 	tools/check/prefixes --lines $(PROGRAM)
 	tools/check/prefixes $(PROGRAM)
@@ -160,8 +160,7 @@ live: has-dot $(PROGRAM) ## edits a copy of that log in a browser: out/live/tour
 
 # Takes the pictures of both pages that the pages of docs/ show, by a headless chromium.
 picture: has-chromium has-chromedriver page ## takes the pictures of pages in docs/
-	@tools/page/picture docs/tour.html docs/tour.png
-	@tools/page/live-picture $(PROGRAM) docs/live.png
+	@tools/page/pictures $(PROGRAM)
 
 # Puts the program into PREFIX, with cave-suite, cave-live, cave-page, cave-chart, manuals,
 # completions, the shipped caves and first logs.

@@ -44,7 +44,9 @@ PLANTED = {
         "updates.py", '(taken if said == "y" else left).append(hunk)', "taken.append(hunk)",
         "updates"),
     "a known failure is written": (
-        "main.py", "or log.xfail is not None or", "or", "known"),
+        "main.py", 'is_known and log.has(".out")', "False", "known"),
+    "a known failure has no first transcript": (
+        "main.py", 'is_known and log.has(".out")', "is_known", "known"),
     "a known failure passes": (
         "main.py", "return Result(log, [sentence(said)], found.seconds)",
         "return Result(log, [], found.seconds)", "known"),

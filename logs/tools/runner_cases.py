@@ -135,13 +135,14 @@ def faults_of_known() -> Iterator[str]:
          "0 passed, 1 failed\n"),
         (right, ("--tap",), 1, "\nnot ok 1 - a\n  ---\n"),
         ({"a.log": known}, (), 1, "there is no logs/a.out"),
+        ({"a.log": known}, ("--accept", "a"), 0, "0 passed, 0 failed, 1 known to fail\n"),
     ):
         suite = Suite(files, REPEAT)
         status, told = suite.run(*words)
         if status != wanted or said not in without_time(told):
             yield f"status {status} of a known failure with {words}, and is said: {told}"
-        if "a.out" in files and suite.read("logs/a.out") != files["a.out"]:
-            yield "the transcript of a known failure is written"
+        elif (words or "a.out" in files) and suite.read("logs/a.out") != files.get("a.out", SAID):
+            yield f"with {words} the transcript of a known failure is {suite.read('logs/a.out')}"
 
 
 def faults_of_same() -> Iterator[str]:

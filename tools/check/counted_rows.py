@@ -10,63 +10,26 @@ import textwrap
 from collections.abc import Iterator, Sequence
 
 from common.files import match_in
-from written_words import CRATE, SPECS
+from written_words import CRATE, MAX_LINE, filled_in
 
 COUNTS = "turn_laws"
-MAX_LINE = 100
 # What a proof of the counts cites in addition to them, with its module, and what of this it opens.
 OPENED = ("declared", "row_numbers")
-OWN = {
-    "EachNumberIsARow": f"Rattle.{COUNTS}.specs.DefinedRows",
-    "declared": f"{SPECS}.EachTable",
-    "row_count": f"{SPECS}.RuleTables",
-    "row_numbers": f"Rattle.{COUNTS}.specs.DefinedRows",
-    "rows_in": f"Rattle.{COUNTS}.specs.DefinedRows",
-}
+DEFINED = "Rattle.turn_laws.specs.DefinedRows"
+OWN = {"EachNumberIsARow": DEFINED, "declared": "Rattle.play_cover.specs.EachTable",
+       "row_count": "Rattle.play_cover.specs.RuleTables", "row_numbers": DEFINED,
+       "rows_in": DEFINED}
+# The proofs, each with what it shows and what it cites of these.
+PROOFS = [
+    (f"crates/{COUNTS}/proofs/NumberedRows.antt", "pub each_number : EachNumberIsARow",
+     ["EachNumberIsARow", "row_numbers"]),
+    (f"{CRATE}/proofs/CountedRows.antt", "pub each_count : (t : Table) → row_count t ≡ rows_in t",
+     ["declared", "row_count", "row_numbers", "rows_in"]),
+]
 LIST = re.compile(r"\b(?:noted|by_table) table\.(\w+) \(?(\w+)")
 WITH_LAST = re.compile(r"^\w+ d = \w+_by_table table\.(\w+) (\w+)$", re.MULTILINE)
 CASES = re.compile(r"\bnote_row table\.(\w+) \(question_row ")
 HEAD = re.compile(r"^(?:abbrev|unfoldable) pub (\w+) : ((?:ℕ → )*)List ", re.MULTILINE)
-DEFINITION = """\
--- The rows that the definition of each table has, made by `tools/check/rule-words --write`.
-use Rattle.std.specs.Prelude.{{◌≡◌, ℕ, ◌+◌, List, [], ◌∷◌, ◌++◌, length, map}}
-use Rattle.std.specs.List.{{enumerate_from, range_with_len}}
-use Rattle.cave_world.specs.declared.tables.Table.{{Table}}
-use Rattle.cave_world.specs.declared.tables.Table.TheVariants as table
-use Rattle.turn_ends.specs.Questions.{{question_row}}
-use Rattle.turn_scene.specs.Rows.{{Row}}
-{imports}
-
--- the numbers by which the rows of a list are noted
-abbrev pub numbers_of : {{C F : Type 0}} → List (Row C F) → List ℕ
-numbers_of rows = map (λ numbered. numbered.0) (enumerate_from 1 rows)
-
--- and a last row that stands beside the list
-abbrev pub numbers_with_last : {{C F : Type 0}} → List (Row C F) → List ℕ
-numbers_with_last rows = numbers_of rows ++ (length rows + 1) ∷ []
-
--- the numbers of the rows of each table
-unfoldable pub row_numbers : Table → List ℕ
-{cases}
-
--- how many rows a table has
-abbrev pub rows_in : Table → ℕ
-rows_in t = length (row_numbers t)
-
--- the rows of each table have the numbers from 1 to their count
-abbrev pub EachNumberIsARow : Type 0
-EachNumberIsARow = (t : Table) → row_numbers t ≡ range_with_len 1 (rows_in t)
-"""
-PROOF = """\
--- {what}, made by `tools/check/rule-words --write`.
-{types}use Rattle.cave_world.specs.declared.tables.Table.TheVariants as table
-{imports}
-
-pub {name} : {says}
-{unfolded}
-{name} table.{first} = refl
-{name} _ = refl
-"""
 
 
 def module_of(path: str) -> str:
@@ -88,12 +51,9 @@ def counts_in(texts: dict[str, str]) -> dict[str, tuple[str, int]]:
 def homes_in(texts: dict[str, str]) -> dict[str, tuple[str, int]]:
     """The module of each list of rows, and how many numbers it takes."""
     heads = {path: HEAD.findall(text) for path, text in texts.items()}
-    return {
-        name: (module_of(path), numbers.count("ℕ"))
-        for path, found in heads.items()
-        for name, numbers in found
-        if name.endswith("_rows") or name == "questions"
-    }
+    return {name: (module_of(path), numbers.count("ℕ"))
+            for path, found in heads.items() for name, numbers in found
+            if name.endswith("_rows") or name == "questions"}
 
 
 def use_lines(names: dict[str, str]) -> Iterator[str]:
@@ -122,54 +82,23 @@ def files(tables: Sequence[str], texts: dict[str, str]) -> Iterator[tuple[str, s
     cases, names = list[str](), dict[str, str]()
     for table in tables:
         rows, more = counts[table]
-        module, numbers = homes[rows]
-        names[rows] = module
+        names[rows], numbers = homes[rows]
         listed = f"({rows}{' 0' * numbers})" if numbers else rows
         of = "map question_row" if rows == "questions" else ["numbers_of", "numbers_with_last"][more]
         cases.append(f"row_numbers table.{table} = {of} {listed}")
-    yield f"crates/{COUNTS}/specs/DefinedRows.antt", DEFINITION.format(
-        imports="\n".join(use_lines(names)), cases="\n".join(cases)
-    )
-    yield f"crates/{COUNTS}/proofs/NumberedRows.antt", proof(
-        "The rows of each table have the numbers from 1 to their count",
-        "each_number",
-        "EachNumberIsARow",
-        "use Rattle.std.proofs.Common.{refl}\n",
-        ["EachNumberIsARow", "row_numbers"],
-        names,
-        tables,
-        texts,
-    )
-    yield f"{CRATE}/proofs/CountedRows.antt", proof(
-        "Each table has words for each of its rows",
-        "each_count",
-        "(t : Table) → row_count t ≡ rows_in t",
-        "use Rattle.std.proofs.Common.{◌≡◌, refl}\n"
-        "use Rattle.cave_world.specs.declared.tables.Table.{Table}\n",
-        ["declared", "row_count", "row_numbers", "rows_in"],
-        names,
-        tables,
-        texts,
-    )
-
-
-def proof(what: str, name: str, says: str, types: str, own: Sequence[str],
-          names: dict[str, str], tables: Sequence[str], texts: dict[str, str]) -> str:
-    """The text of a proof that goes by each table: with what it says, by which imports, and the
-    definitions that only it cites."""
-    cited = names | {it: OWN[it] for it in own}
-    opened = [it for it in cited if is_unfoldable(it, texts)]
-    return PROOF.format(
-        what=what,
-        name=name,
-        says=says,
-        types=types,
-        imports="\n".join(use_lines({it: cited[it] for it in {*own, *opened}})),
-        unfolded=textwrap.fill(
-            "unfolding " + " ".join(opened), MAX_LINE, subsequent_indent="    "
-        ),
-        first=tables[0],
-    )
+    path = f"crates/{COUNTS}/specs/DefinedRows.antt"
+    yield path, filled_in(path, {
+        "use Rattle.turn_scene.specs.Rows.{Row}": "\n".join(use_lines(names)),
+        "unfoldable pub row_numbers : Table → List ℕ": "\n".join(cases)})
+    for path, shown, own in PROOFS:
+        cited = names | {it: OWN[it] for it in own}
+        opened = [it for it in cited if is_unfoldable(it, texts)]
+        lines = textwrap.wrap("unfolding " + " ".join(opened), MAX_LINE, subsequent_indent="    ")
+        name = shown.split()[1]
+        yield path, filled_in(path, {
+            "use Rattle.cave_world.specs.declared.tables.Table.TheVariants as table":
+                "\n".join(use_lines({it: cited[it] for it in {*own, *opened}})),
+            shown: "\n".join([*lines, f"{name} table.{tables[0]} = refl", f"{name} _ = refl"])})
 
 
 def is_unfoldable(name: str, texts: dict[str, str]) -> bool:

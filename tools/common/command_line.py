@@ -3,14 +3,15 @@
 
     from common import command_line
 
-    command_line.answer_help()            at the beginning of what a script does
+    command_line.run(main)                is what a script does if it isn't asked for help
     command_line.demand("rt", "git")      before it runs these programs
-    command_line.skip(2, "maps", "dot")   as it leaves out two maps if there is no `dot`
+    command_line.skips(2, "maps", "dot")  whether it leaves out two maps, for lack of `dot`
     command_line.check(faults)            is all that a check does: it names each fault in a line
 
 As a script it says which of some programs isn't there, with status 1.
 """
 
+import argparse
 import os
 import shutil
 import sys
@@ -35,6 +36,12 @@ def answer_help(words: list[str] | None = None) -> None:
         sys.exit()
 
 
+def parser() -> argparse.ArgumentParser:
+    """What reads the words of a script, whose help is what the script says about itself."""
+    return argparse.ArgumentParser(description=sys.modules["__main__"].__doc__,
+                                   formatter_class=argparse.RawDescriptionHelpFormatter)
+
+
 def the_program(*others: str) -> str:
     """The program, which the command line has to name alone, by its whole path. It and the others
     have to be there."""
@@ -53,10 +60,15 @@ def told(faults: Iterable[str]) -> int:
     return 1 if found else 0
 
 
+def run(main: Callable[[], int | None]) -> NoReturn:
+    """Does what a script is for, unless it is asked for help, and ends with that status."""
+    answer_help()
+    sys.exit(main())
+
+
 def check(faults: Callable[[], Iterable[str]]) -> NoReturn:
     """Ends a check by naming what it finds."""
-    answer_help()
-    sys.exit(told(faults()))
+    run(lambda: told(faults()))
 
 
 def missing(*programs: str) -> str | None:
@@ -78,20 +90,18 @@ def demand(*programs: str) -> None:
         sys.exit(2)
 
 
-def skip(count: int, parts: str, *programs: str) -> None:
-    """Says how many parts of a check are skipped, and why. `make test` adds these up, by the file
-    that SKIPPED names."""
-    skip_for(count, parts, missing(*programs))
-
-
-def skip_for(count: int, parts: str, reason: str | None) -> None:
-    """The same, for another reason."""
-    line = f"{count} {parts} skipped: {reason}"
+def skips(count: int, parts: str, *programs: str, reason: str | None = None) -> bool:
+    """Whether parts of a check are skipped, because a program isn't there or for another reason. It
+    says how many, and why. `make test` adds these up, by the file that SKIPPED names."""
+    if not (why := reason or missing(*programs)):
+        return False
+    line = f"{count} {parts} skipped: {why}"
     print(line)
     if path := os.environ.get("SKIPPED"):
         os.makedirs(os.path.dirname(path), exist_ok=True)
         with open(path, "a", encoding="utf-8") as file:
             print(line, file=file)
+    return True
 
 
 if __name__ == "__main__":

@@ -6,6 +6,11 @@
 import glob
 import os
 import re
+import shutil
+import subprocess
+from collections.abc import Sequence
+from functools import cache
+from typing import Any
 
 TOP = os.path.dirname(os.path.dirname(os.path.dirname(os.path.abspath(__file__))))
 BUILT = f"{TOP}/crates/cave/out/cave"
@@ -14,8 +19,7 @@ MADE = {"out", "__pycache__"}  # folders that aren't read
 
 def text_of(path: str, encoding: str = "utf-8") -> str:
     """The text of a file, whose path begins in the repository if it isn't a whole one."""
-    with open(os.path.join(TOP, path), encoding=encoding, errors="replace") as file:
-        return file.read()
+    return bytes_of(path).decode(encoding, "replace")
 
 
 def bytes_of(path: str) -> bytes:
@@ -49,10 +53,35 @@ def is_python(path: str) -> bool:
         return path.endswith(".py") or file.readline().rstrip() == b"#!/usr/bin/env python3"
 
 
+@cache
 def crates() -> dict[str, list[str]]:
     """The crates in their order, each with those that crates.txt lists for it."""
     rows = (it.partition(":") for it in text_of("crates.txt").splitlines())
     return {name: listed.split() for name, _, listed in rows if name[:1] not in ("", "#")}
+
+
+@cache
+def below(crate: str) -> list[str]:
+    """The crates on which one is built, each after those that it uses, and at last it itself."""
+    found = [it for used in crates()[crate] if used in crates() for it in below(used)]
+    return [*dict.fromkeys(found), crate]
+
+
+def copy_crates(folder: str, names: Sequence[str], *left_out: str) -> None:
+    """Makes a repository of some crates, without what has one of these names."""
+    for name in names:
+        shutil.copytree(f"{TOP}/crates/{name}", f"{folder}/crates/{name}",
+                        ignore=shutil.ignore_patterns(*left_out))
+    write(f"{folder}/crates.txt", "".join(f"{it}: {' '.join(crates()[it])}\n" for it in names))
+    shutil.copy(f"{TOP}/HANDLES", folder)
+    subprocess.run(["git", "init", "-q", folder], check=True)
+
+
+def ran_in(folder: str, words: Sequence[str], **more: Any) -> subprocess.CompletedProcess[str]:
+    """A run of a command in a folder, with all that it says as one text, its `stdout`."""
+    return subprocess.run(
+        words, cwd=os.path.join(TOP, folder), text=True, errors="replace", stdin=subprocess.DEVNULL,
+        stdout=subprocess.PIPE, stderr=subprocess.STDOUT, **more)
 
 
 def match_in(pattern: str | re.Pattern[str], text: str) -> re.Match[str]:

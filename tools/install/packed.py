@@ -90,17 +90,13 @@ def said_by_git(*words: str) -> str:
     return "" if ran.returncode else ran.stdout.strip()
 
 
-def is_elf(content: bytes) -> bool:
-    return content.startswith(b"\x7fELF")
-
-
 class Build:
     """A program with the commit by which it was proved, unless it was handed over."""
 
     def __init__(self, program: str, is_given: bool, keeps_symbols: bool = False) -> None:
         self.path, self.is_given = program, is_given
         self.built = bytes_of(os.path.abspath(program))
-        self.keeps_symbols = keeps_symbols or not is_elf(self.built)
+        self.keeps_symbols = keeps_symbols or not self.built.startswith(b"\x7fELF")
         self.version = versions.of_program()
 
     @cached_property
@@ -215,8 +211,7 @@ def tools(kind: Kind) -> Iterator[tuple[str, File]]:
     for name, (_, needed) in TOOLS.items():
         yield f"bin/{name}", File(b"", True, f"../{SHARE}/{name}")
         yield f"{SHARE}/{name}", File(as_users_call_it(name, kind.interpreter), True)
-        yield from ((f"{SHARE}/{OURS.sub('', it)}", File(bytes_of(it)))
-                    for it in found(needed))
+        yield from ((f"{SHARE}/{OURS.sub('', it)}", File(bytes_of(it))) for it in found(needed))
 
 
 def debian_changelog() -> bytes:
@@ -295,7 +290,7 @@ def put(files: dict[str, File], folder: str, moment: int | None = None) -> None:
         os.chmod(to, 0o755 if it.is_program else 0o644)
     if moment is None:
         return
-    for path in [*files, *reversed(folders_of([*files]))]:
+    for path in [*files, *reversed(folders_of([*files])), "."]:
         if path not in files:
             os.chmod(f"{folder}/{path}", 0o755)
         os.utime(f"{folder}/{path}", (moment, moment), follow_symlinks=False)

@@ -1,4 +1,4 @@
-"""What a server of `tools/page/live` answers over HTTP; used by tools/page/check-live.
+"""What a server of `tools/page/live` answers over HTTP; used by tools/page/test.
 
 Each part gives, one after another, what it looks at, what is found there, and what is expected."""
 
@@ -11,19 +11,12 @@ from collections.abc import Callable
 from typing import Any
 
 from common.files import bytes_of, write
-from parts import Checks
+from common.parts import Checks
 from served import FULL, FULL_SEED, SEED, SHOAL, TOUR, Head, Served, tour
 
 WORDS = ["e", "w", "n", "take lamp", "drop lamp", "look", "# a remark", "", "inventory", "plugh",
          "seed 7", "drop vase", "take vase", "score", "no", "yes", "  in  ", "mareel"]
 SAVES = {"Content-Type": "application/json"}
-
-
-def printed(program: str, view: str, server: Served, log: str | None = None) -> bytes:
-    """What the program prints of a log by itself."""
-    cave, _, *options = server.words
-    words = [program, "play", cave, log or server.path, *options, "--print", view]
-    return subprocess.run(words, capture_output=True, check=True).stdout
 
 
 def pillow(server: Served) -> tuple[int, Head]:
@@ -90,10 +83,10 @@ def wrong_requests(program: str) -> Checks:
 def changes(program: str) -> Checks:
     """The tour without its pillow: the vase breaks. Taken back, all is as it was."""
     with tour(program) as server:
-        yield "the walk", server.walk.text(), printed(program, "walk", server)
+        yield "the walk", server.walk.text(), server.played(server.file())
         status, head = pillow(server)
         yield "the change", [status, head["score"], head["unsaved"]], [200, 59, True]
-        yield "the walk is that of the changed log", server.walk.text(), walk_now(program, server)
+        yield "the walk is that of the changed log", server.walk.text(), server.played()
         yield "what is otherwise", [it for it in list_of(head, "come") if "VASE" in it][0], (
             "object 58 VASE: at 3, fixed, prop 2")
         yield "its script", server.got("script"), b"expect 9 take pillow\ndelete 9\n"
@@ -107,24 +100,13 @@ def changes(program: str) -> Checks:
         yield "made again", [head["score"], head["done"]], [59, 1]
         _, head = server.change({"kind": "seed", "place": 99})
         yield "another seed", head["seed"], "99"
-        yield "the walk with it", server.walk.text(), walk_now(program, server, "99")
+        yield "the walk with it", server.walk.text(), server.played(seed="99")
 
 
 def list_of(head: Head, name: str) -> list[str]:
     facts = head["facts"]
     assert isinstance(facts, dict)
     return list(facts[name])
-
-
-def walk_now(program: str, server: Served, seed: str = "") -> bytes:
-    """What the program prints of the held log, played from its first line."""
-    path = f"{server.room.name}/held"
-    write(path, server.got("log"))
-    cave, _, *options = server.words
-    if seed:
-        options[options.index("--seed") + 1] = seed
-    words = [program, "play", cave, path, *options, "--print", "walk"]
-    return subprocess.run(words, capture_output=True, check=True).stdout
 
 
 def refusals(program: str) -> Checks:
@@ -160,12 +142,12 @@ def at_random(program: str, count: int) -> Checks:
             status, _ = random_change(chance, server)
             refused += status != 200
             if at % 10 == 9:
-                yield f"the walk after {at + 1}", server.walk.text(), walk_now(program, server)
+                yield f"the walk after {at + 1}", server.walk.text(), server.played()
         yield "most of them are made", refused < count / 3, True
         held = server.got("log")
         yield "saved", server.hear("POST", "save", {"told": False})[0], 200
         yield "the file", server.file(), held
-        yield "played from its first line", server.walk.text(), printed(program, "walk", server)
+        yield "played from its first line", server.walk.text(), server.played(server.file())
         server.hear("POST", "go", {"count": 0})
         yield "all taken back", server.got("log"), bytes_of(FULL)
 

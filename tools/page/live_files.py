@@ -1,5 +1,5 @@
 """What a page of `tools/page/live` does with the file of its log, with other pages and with the
-server's end, and how fast it is; used by tools/page/live-test."""
+server's end, and how fast it is; used by tools/page/test."""
 
 import os
 import random
@@ -7,9 +7,9 @@ import random
 from selenium.webdriver.common.keys import Keys
 
 from common.files import TOP, bytes_of, write
+from common.parts import Checks
 from live_checks import LOG, REHEARSED, TYPED, edit_line, lines_of, page_is
-from parts import Checks
-from served import FULL, FULL_SEED, SHOAL, TOUR, Served, tour
+from served import FULL, FULL_SEED, SHOAL, TOUR, Served
 from window import Live
 
 SHOWN = "return performance.getEntriesByName('shown').map((it) => [it.duration, it.detail])"
@@ -26,104 +26,94 @@ LARGEST, LARGEST_SEED = f"{TOP}/logs/shoal/batteries-used.log", ["--seed", "1"]
 CHANGES = 10
 
 
-def seeds(window: Live, program: str) -> Checks:
+def seeds(window: Live, server: Served) -> Checks:
     """The seed at the head."""
-    with tour(program) as server:
-        window.open(server.address)
-        seed = "return byId('seed').value"
-        yield "the seed", window.run(seed), "3"
-        window.click("#seed")
-        window.retype("99")
-        window.press(Keys.TAB)
-        yield "another seed", window.wait("return byId('seed').dataset.held === '99'"), True
-        yield "the opening is replayed too", window.run("return held.stream[0]"), 99
-        window.click("#seed")
-        window.retype("2147483648")
-        window.press(Keys.TAB)
-        yield "a bad seed", "a bad seed" in window.text("#notice"), True
-        window.click("#seed")
-        window.retype("99")
-        window.run("list.focus()")
-        window.press_with(Keys.CONTROL, "z")
-        yield "taken back", window.run(seed), "3"
-        yield from page_is(window, server, "the old seed")
+    seed = "return byId('seed').value"
+    yield "the seed", window.run(seed), "3"
+    window.click("#seed")
+    window.retype("99")
+    window.press(Keys.TAB)
+    yield "another seed", window.wait("return byId('seed').dataset.held === '99'"), True
+    yield "the opening is replayed too", window.run("return held.stream[0]"), 99
+    window.click("#seed")
+    window.retype("2147483648")
+    window.press(Keys.TAB)
+    yield "a bad seed", "a bad seed" in window.text("#notice"), True
+    window.click("#seed")
+    window.retype("99")
+    window.run("list.focus()")
+    window.press_with(Keys.CONTROL, "z")
+    yield "taken back", window.run(seed), "3"
+    yield from page_is(window, server, "the old seed")
 
 
-def on_disk(window: Live, program: str) -> Checks:
+def on_disk(window: Live, server: Served) -> Checks:
     """The file that changed on disk meanwhile."""
-    with tour(program) as server:
-        window.open(server.address)
-        edit_line(window, 18, "drop vase")
-        with open(server.path, "a", encoding="ascii") as file:
-            file.write("look\n")
-        window.press_with(Keys.CONTROL, "s")
-        yield "it is said", "changed on disk" in window.text("#notice"), True
-        yield "nothing is saved", lines_of(server.path), [*lines_of(TOUR), "look"]
-        window.click("#save-over")
-        yield "until that is asked for", lines_of(server.path), window.run(LOG)
-        yield "saved", window.text("#unsaved"), "saved"
+    edit_line(window, 18, "drop vase")
+    with open(server.path, "a", encoding="ascii") as file:
+        file.write("look\n")
+    window.press_with(Keys.CONTROL, "s")
+    yield "it is said", "changed on disk" in window.text("#notice"), True
+    yield "nothing is saved", lines_of(server.path), [*lines_of(TOUR), "look"]
+    window.click("#save-over")
+    yield "until that is asked for", lines_of(server.path), window.run(LOG)
+    yield "saved", window.text("#unsaved"), "saved"
 
 
-def two_pages(window: Live, program: str) -> Checks:
+def two_pages(window: Live, server: Served) -> Checks:
     """Two pages of one log show the same."""
-    with tour(program) as server:
-        window.open(server.address)
-        first = window.driver.current_window_handle
-        window.driver.switch_to.new_window("tab")
-        window.open(server.address)
-        edit_line(window, 18, "drop vase")
-        window.driver.switch_to.window(first)
-        yield "the other page shows it", window.wait(
-            "return held.lines[17] === 'drop vase' && changes.list.length === 1"), True
-        yield from page_is(window, server, "the other page")
-        window.run("list.focus()")
-        window.press_with(Keys.CONTROL, "z")
-        yield "and takes it back", window.run(LOG), lines_of(TOUR)
-        window.driver.switch_to.window(window.driver.window_handles[1])
-        yield "which the first one shows", window.wait(
-            "return held.lines[17] === 'drop pillow'"), True
-        window.driver.close()
-        window.driver.switch_to.window(first)
+    first = window.driver.current_window_handle
+    window.driver.switch_to.new_window("tab")
+    window.open(server.address)
+    edit_line(window, 18, "drop vase")
+    window.driver.switch_to.window(first)
+    yield "the other page shows it", window.wait(
+        "return held.lines[17] === 'drop vase' && changes.list.length === 1"), True
+    yield from page_is(window, server, "the other page")
+    window.run("list.focus()")
+    window.press_with(Keys.CONTROL, "z")
+    yield "and takes it back", window.run(LOG), lines_of(TOUR)
+    window.driver.switch_to.window(window.driver.window_handles[1])
+    yield "which the first one shows", window.wait("return held.lines[17] === 'drop pillow'"), True
+    window.driver.close()
+    window.driver.switch_to.window(first)
 
 
-def leaving(window: Live, program: str) -> Checks:
-    """A page with changes that aren't saved asks before it closes; and the server's end."""
-    with tour(program) as server:
-        window.open(server.address)
-        yield "saved: it doesn't ask", asks(window), False
-        window.open(server.address)
-        edit_line(window, 18, "drop vase")
-        held = server.got("log")
-        yield "not saved: it asks", asks(window), True
-        yield "the changes are still there", window.run("return held.lines[17]"), "drop vase"
-        window.run("window.confirm = () => true")
-        window.click("#end")
-        yield "it is said", "The server has ended" in window.text("#notice"), True
-        server.end()
-        yield "the draft", bytes_of(f"{server.path}.unsaved"), held
-        yield "the file is as it was", lines_of(server.path), lines_of(TOUR)
-    with tour(program) as server:
-        window.open(server.address)
-        server.end()
-        window.run("list.focus(); go(4)")
-        yield "a server that ended", window.wait("return wire.isEnded"), True
-        yield "is said", "ended" in window.text("#notice"), True
-    yield from lost(window, program)
+def leaving(window: Live, server: Served) -> Checks:
+    """A page with changes that aren't saved asks before it closes."""
+    yield "saved: it doesn't ask", asks(window), False
+    window.open(server.address)
+    edit_line(window, 18, "drop vase")
+    held = server.got("log")
+    yield "not saved: it asks", asks(window), True
+    yield "the changes are still there", window.run("return held.lines[17]"), "drop vase"
+    window.run("window.confirm = () => true")
+    window.click("#end")
+    yield "it is said", "The server has ended" in window.text("#notice"), True
+    server.end()
+    yield "the draft", bytes_of(f"{server.path}.unsaved"), held
+    yield "the file is as it was", lines_of(server.path), lines_of(TOUR)
 
 
-def lost(window: Live, program: str) -> Checks:
+def ended(window: Live, server: Served) -> Checks:
+    """The server's end is said."""
+    server.end()
+    window.run("list.focus(); go(4)")
+    yield "a server that ended", window.wait("return wire.isEnded"), True
+    yield "is said", "ended" in window.text("#notice"), True
+
+
+def lost(window: Live, server: Served) -> Checks:
     """A line that is typed as the server ends isn't lost."""
-    with tour(program) as server:
-        window.open(server.address)
-        window.run("list.focus(); go(4)")
-        window.press(Keys.ENTER)
-        window.retype("look")
-        server.end()
-        window.press(Keys.ENTER)
-        yield "a line for a server that ended stays", window.run(TYPED), "look"
-        yield "and what is wrong is said at it", "ended" in window.text("#typed-wrong"), True
-        yield "the log is as it was", window.run(LOG), lines_of(TOUR)
-        window.press(Keys.ESCAPE)
+    window.run("list.focus(); go(4)")
+    window.press(Keys.ENTER)
+    window.retype("look")
+    server.end()
+    window.press(Keys.ENTER)
+    yield "a line for a server that ended stays", window.run(TYPED), "look"
+    yield "and what is wrong is said at it", "ended" in window.text("#typed-wrong"), True
+    yield "the log is as it was", window.run(LOG), lines_of(TOUR)
+    window.press(Keys.ESCAPE)
 
 
 def asks(window: Live) -> bool:
@@ -198,6 +188,7 @@ def quick(window: Live, program: str, count: int, most: float) -> Checks:
         os.remove(held)
 
 
-PARTS = {"seeds": seeds, "the file on disk": on_disk, "two pages": two_pages, "leaving": leaving,
-         "changes at random": at_random, "the largest log": largest}
+TOURS = {"seeds": seeds, "the file on disk": on_disk, "two pages": two_pages, "leaving": leaving,
+         "the server's end": ended, "a line that is typed then": lost}
+PARTS = {"changes at random": at_random, "the largest log": largest}
 SPEEDS = {3_000: 100.0, 60_000: 400.0}

@@ -1,4 +1,4 @@
-"""What a page shows and what moves it, checked in a browser; used by tools/page/page-test.
+"""What a page shows and what moves it, checked in a browser; used by tools/page/test.
 
 Each part gives, one after another, what it looks at, what is found there, and what is expected.
 """
@@ -6,9 +6,9 @@ Each part gives, one after another, what it looks at, what is found there, and w
 from collections.abc import Callable
 
 from common.files import TOP
+from common.parts import Checks
 from pages import (FULL, FULL_SEED, SEED, SHOAL, TOUR, Pages, Walk, happened_at, line_beside, named,
                    place_at, said_at, score_of, things_at, trail_of, visits_of)
-from parts import Checks
 from window import Page
 
 # What is seen of a line: its number wherever the page shows it, its place, its trail, its facts.
@@ -34,22 +34,16 @@ return {
   leadsHere: !ends.length || !here.length || ends.at(-1) === middle(here[0]),
   facts: Object.fromEntries(all('#facts dd').map((it) => [it.dataset.fact, it.textContent])),
 };"""
-TEXTS = """return [...document.querySelectorAll('#lines [data-at]')].map((it) =>
-  [Number(it.dataset.at), it.querySelector('.said')?.textContent ?? ''])"""
-CHOSEN = """return Number(document.querySelector('#lines [aria-selected="true"]').dataset.at)"""
+TEXTS = "[Number(it.dataset.at), it.querySelector('.said')?.textContent ?? '']"
 ADDRESS = "return location.hash === arguments[0]"
 FOCUS = "return document.activeElement.id"
-FOUND = "return document.getElementById('found').textContent"
 PALE = """return [...document.querySelectorAll('.place:not(.pale):not(.forced)')]
   .map((it) => Number(it.dataset.place)).sort((a, b) => a - b)"""
 BOTH = """return ['here', 'there'].map((name) =>
   Number(document.querySelector('.place.' + name)?.dataset.place))"""
 MARKED = ["died", "hint", "closing", "closed", "treasure found", "treasure home"]
-MARKS = """return [...document.querySelectorAll('#chart .event-mark title')]
-  .map((it) => it.textContent)"""
 PRINT = "dispatchEvent(new Event('beforeprint'))"  # all lines are drawn
-BADGES = """return [...document.querySelectorAll('#lines .event')].map((it) =>
-  [Number(it.closest('[data-at]').dataset.at), it.textContent])"""
+BADGE = "[Number(it.closest('[data-at]').dataset.at), it.textContent]"
 SIGHT = "return document.getElementById('drawing').getAttribute('viewBox').split(' ').map(Number)"
 DEATH = """const { middle } = placeInView();
 return middle.x > sight.x && middle.x < sight.x + sight.width && middle.y > sight.y
@@ -60,7 +54,7 @@ return [box.x + box.width / 2 - all.x - all.width / 2, mark.textContent]"""
 
 
 def chosen(page: Page) -> int:
-    return int(page.run(CHOSEN))
+    return int(page.each('#lines [aria-selected="true"]', "it.dataset.at")[0])
 
 
 def facts_of(walk: Walk, line: int) -> dict[str, str]:
@@ -104,15 +98,14 @@ def facts(pages: Pages, page: Page) -> Checks:
         length, said = len(walk.lines), said_at(walk)
         for line in range(length + 1):
             yield from line_is(page, walk, line, f"line {line}")
-            for at, shown in page.run(TEXTS):
+            for at, shown in page.each("#lines [data-at]", TEXTS):
                 if abs(at - line) < 3:
                     yield f"what was said at line {at}", shown.rstrip("\n"), said[at]
             page.press("ArrowDown")
         yield "after the last line", chosen(page), length
         score = page.run(SEEN)["facts"]["Score"]
         yield "the last score is the transcript's", score.split(",")[0], score_of(walk)
-        head = page.run("return document.getElementById('sum').textContent")
-        yield "the sum is the transcript's", head, walk.transcript.splitlines()[-1][3:]
+        yield "the sum is the transcript's", page.get("#sum"), walk.transcript.splitlines()[-1][3:]
 
 
 def marks(pages: Pages, page: Page) -> Checks:
@@ -126,13 +119,13 @@ def marks(pages: Pages, page: Page) -> Checks:
         lines = range(1, len(walk.lines) + 1)
         titles = [f"at {at - 1}: {it}" for at in lines for it in happened_at(walk, at)
                   if it in MARKED]
-        yield f"{name}: marks of the chart", page.run(MARKS), titles
+        yield f"{name}: marks of the chart", page.each("#chart .event-mark title"), titles
         for line in (it for it in lines if walk.steps["to"][it - 1] == 0):
             page.open(walk.path, line - 1)
             yield f"{name}: the place of the death at {line - 1} is in sight", page.run(DEATH), True
         page.run(PRINT)
         badges = [[at, it] for at in lines for it in happened_at(walk, at)]
-        yield f"{name}: what happened at lines", page.run(BADGES), badges
+        yield f"{name}: what happened at lines", page.each("#lines .event", BADGE), badges
 
 
 def keys(pages: Pages, page: Page) -> Checks:
@@ -161,17 +154,16 @@ def keys(pages: Pages, page: Page) -> Checks:
     page.press("-")
     yield "- goes farther", page.run(SIGHT)[2], width
     page.click("#keys summary")
-    yield "Keys shows keys", page.run("return document.getElementById('keys').open"), True
+    yield "Keys shows keys", page.get("#keys", "open"), True
     page.press("Escape")
-    yield "Esc hides them", page.run("return document.getElementById('keys').open"), False
+    yield "Esc hides them", page.get("#keys", "open"), False
     for is_open in (True, False):
         page.press("?")
-        yield "? shows the keys, and hides them", page.run(
-            "return document.getElementById('keys').open"), is_open
-    page.run("document.getElementById('chart').focus()")
+        yield "? shows the keys, and hides them", page.get("#keys", "open"), is_open
+    page.focus("#chart")
     page.press("End")
     yield "End on the chart", chosen(page), last
-    page.run("document.querySelector('.place.here').focus()")
+    page.focus(".place.here")
     page.press("Enter")
     yield "Enter on a place is its next visit", chosen(page), visits_of(walk, 3)[0]
     page.press("ArrowDown")
@@ -204,8 +196,7 @@ def small(pages: Pages, page: Page) -> Checks:
         yield f"{name}: the opening has what is looked for", chosen(page), 0
         page.press("End")
         yield f"{name}: the last line", chosen(page), len(lines)
-        head = page.run("return document.getElementById('sum').textContent")
-        yield f"{name}: the sum", head, walk.transcript.splitlines()[-1][3:]
+        yield f"{name}: the sum", page.get("#sum"), walk.transcript.splitlines()[-1][3:]
         place = page.run(SEEN)["facts"]["Place"].split(" ")[0]
         yield f"{name}: the place", place, str(place_at(walk, 1) if lines else 1)
     asked = pages.log("asked.log", ["yes"])
@@ -214,9 +205,8 @@ def small(pages: Pages, page: Page) -> Checks:
         f"27 of 326, {chr(0x2212)}5 at this line")
     page.open(pages.of_walk("alone", SHOAL[0], asked, SHOAL[1], "--against",
                             f"{pages.room}/no-line.log").path)
-    text = page.run("return document.getElementById('parting').textContent")
-    yield "against a log without a line", text, ("Parts from no-line.log at 0 by yes, not its"
-                                                 " end; ends with 27, 5 less than 32.")
+    yield "against a log without a line", page.get("#parting"), (
+        "Parts from no-line.log at 0 by yes, not its end; ends with 27, 5 less than 32.")
 
 
 def clicks(pages: Pages, page: Page) -> Checks:
@@ -246,7 +236,7 @@ def clicks(pages: Pages, page: Page) -> Checks:
     before = chosen(page)
     page.click('[data-place="40"]')
     yield "a click on a place that wasn't visited", chosen(page), before
-    said = page.run("return document.getElementById('said-now').textContent")
+    said = page.get("#said-now")
     yield "what is said of it", said.endswith("never visited in tour.log"), True
     page.click("#whole")
     old = page.run(SIGHT)
@@ -269,7 +259,7 @@ def search(pages: Pages, page: Page) -> Checks:
     yield "/ goes to the field", page.run(FOCUS), "search"
     page.press(*wanted)
     yield "the first line that has it", chosen(page), found[0]
-    yield "how many there are", page.run(FOUND), f"1 of {len(found)}"
+    yield "how many there are", page.get("#found"), f"1 of {len(found)}"
     page.press("Enter")
     yield "Enter", chosen(page), found[1]
     page.press("Shift+Enter")
@@ -286,15 +276,12 @@ def search(pages: Pages, page: Page) -> Checks:
     yield "the next match", chosen(page), found[0]
     page.click("#before")
     yield "the match before", chosen(page), found[-1]
-    marks = page.run("return [...new Set([...document.querySelectorAll('#lines mark')]"
-                     ".map((it) => it.textContent.toLowerCase()))]")
-    yield "what is marked", marks, [wanted]
+    yield "what is marked", {it.lower() for it in page.each("#lines mark")}, {wanted}
     page.press("/", *"the door is")  # with the end of a line in it
-    yield "a text over two lines", [chosen(page), page.run(FOUND)], [9, "1 of 1"]
-    marks = page.run("return document.querySelector('#line-9 mark').textContent")
-    yield "its mark", marks, "The\ndoor is"
+    yield "a text over two lines", [chosen(page), page.get("#found")], [9, "1 of 1"]
+    yield "its mark", page.get("#line-9 mark"), "The\ndoor is"
     page.press("/", *"@@")
-    yield "a text that isn't there", page.run(FOUND), "nowhere"
+    yield "a text that isn't there", page.get("#found"), "nowhere"
     yield "the line stays", chosen(page), 9
 
 
@@ -313,29 +300,26 @@ def against(pages: Pages, page: Page) -> Checks:
     walk = pages.two_tours()
     page.open(walk.path)
     yield from line_is_beside(page, 18, "the page opens where they part")
-    text = page.run("return document.getElementById('parting').textContent")
-    yield "what parts them", text, ("Parts from tour.log at 17 by drop vase, not drop pillow;"
-                                    " ends with 59, 14 less than 73.")
+    yield "what parts them", page.get("#parting"), (
+        "Parts from tour.log at 17 by drop vase, not drop pillow; ends with 59, 14 less than 73.")
     page.press("End")
     score = page.run(SEEN)["facts"]["Score"]
     yield "both scores", score, "59 of 326; 73 in tour.log"
     page.press("o")
-    name = page.run("return document.getElementById('name').textContent")
-    yield "o shows the other walk", name, "tour.log"
+    yield "o shows the other walk", page.get("#name"), "tour.log"
     yield "its score", page.run(SEEN)["facts"]["Score"], "73 of 326; 59 in without-pillow.log"
     page.click("#other")
     yield "the button shows the first again", page.run(SEEN)["facts"]["Score"], score
     lines = walk.lines[:11] + ["# One more line.", "w", "look", "look"]
     log = pages.log("astray.log", lines)
-    walk = pages.of_walk("astray", SHOAL[0], log, [*SHOAL[1], *SEED],
-                         "--against", TOUR)
+    walk = pages.of_walk("astray", SHOAL[0], log, [*SHOAL[1], *SEED], "--against", TOUR)
     page.open(walk.path)
     yield from line_is_beside(page, 13, "where they part after a comment")
     other = pages.tour()
     for line in (13, 14, 15):
         places, there = page.run(BOTH), page.run("return beside(now.at)")
         yield f"both places, line {line}", places, [place_at(walk, line), place_at(other, there)]
-        theirs = page.run("return document.querySelectorAll('#trails .trail.theirs').length")
+        theirs = page.count("#trails .trail.theirs")
         yield f"the other trail, line {line}", theirs, len(trail_of(other, there))
         page.press("ArrowDown")
     there = page.run("return beside(now.at)")
@@ -345,13 +329,10 @@ def against(pages: Pages, page: Page) -> Checks:
     page.press("o")
     yield "o goes back", chosen(page), there
     page.press("Home")
-    theirs = page.run("return document.querySelectorAll('.trail.theirs, .place.there').length")
-    yield "one trail before they part", theirs, 0
-    same = pages.of_walk("same", SHOAL[0], TOUR, [*SHOAL[1], *SEED],
-                         "--against", TOUR)
+    yield "one trail before they part", page.count(".trail.theirs, .place.there"), 0
+    same = pages.of_walk("same", SHOAL[0], TOUR, [*SHOAL[1], *SEED], "--against", TOUR)
     page.open(same.path)
-    text = page.run("return document.getElementById('parting').textContent")
-    yield "walks that never part", text, f"Plays as {TOUR} does."
+    yield "walks that never part", page.get("#parting"), f"Plays as {TOUR} does."
 
 
 def beside(pages: Pages, page: Page) -> Checks:
@@ -366,8 +347,7 @@ def beside(pages: Pages, page: Page) -> Checks:
                              "--against", TOUR)
         page.open(walk.path)
         if told:
-            text = page.run("return document.getElementById('parting').textContent")
-            yield f"{name}: what parts them", text, told
+            yield f"{name}: what parts them", page.get("#parting"), told
         found = page.run("return walk().columns.map((column, at) => [beside(at), isAlone(at)])")
         same = [line_beside(walk, other, it) for it in range(len(lines) + 1)]
         is_alone = [it == at + 1 for it in range(len(lines) + 1)]
@@ -390,36 +370,31 @@ def objects(pages: Pages, page: Page) -> Checks:
     page.open(walk.path)
     for line in (0, 5, 13, 19, len(walk.lines)):
         page.run("go(arguments[0])", line)
-        shown = page.run("return [...document.querySelectorAll('#things text')].map((it) =>"
-                         " [Number(it.dataset.things), it.querySelector('title').textContent])")
+        shown = page.each(
+            "#things text", "[Number(it.dataset.things), it.querySelector('title').textContent]")
         places = [place for place in range(1, 301) if things_at(walk, place, line)]
         wanted = [[it, named(things_at(walk, it, line))] for it in places]
         yield f"the objects at places, line {line}", sorted(
             [place, names.lower()] for place, names in shown), wanted
     table = pages.printed("play", SHOAL[0], TOUR, *SHOAL[1], *SEED, "--print", "score")
-    rows = page.run("return [...document.querySelectorAll('#score-table tr')].map((row) =>"
-                    " [...row.children].map((it) => it.textContent))")
+    rows = page.each("#score-table tr", "[...it.children].map((cell) => cell.textContent)")
     yield "the table of the score", rows, [it.split("\t") for it in table.splitlines()]
     page.click("#score-box summary")
-    yield "it is shown", page.run("return document.getElementById('score-box').open"), True
+    yield "it is shown", page.get("#score-box", "open"), True
     page.run("go(18)")
-    page.run("document.getElementById('lines').focus()")
+    page.focus("#lines")
     page.press("c")
-    said = page.run("return document.getElementById('said-now').textContent")
-    yield "a line of a script", said, f"copied: replace 17 {walk.lines[17]}"
-    foot = page.run("return document.querySelector('footer').textContent.split('. ')[0]")
-    version = pages.printed("--version").strip()
-    yield "the foot", foot, ("Played in shoal.txt, with the bindings shoal.bind, from the seed 3, by"
-                             f" {version}")
+    yield "a line of a script", page.get("#said-now"), f"copied: replace 17 {walk.lines[17]}"
+    yield "the foot", page.get("footer").split(". ")[0], (
+        "Played in shoal.txt, with the bindings shoal.bind, from the seed 3, by"
+        f" {pages.printed('--version').strip()}")
 
 
 def line_is_beside(page: Page, line: int, how: str) -> Checks:
     """That a line is looked at, with the other walk's line beside it on the chart."""
     yield how, chosen(page), line
-    dots = page.run("return document.querySelectorAll('#cursor .dot').length")
-    yield f"{how}: dots on the chart", dots, 2
-    path = page.run("return document.querySelectorAll('#chart .score.theirs').length")
-    yield f"{how}: the other score", path, 1
+    yield f"{how}: dots on the chart", page.count("#cursor .dot"), 2
+    yield f"{how}: the other score", page.count("#chart .score.theirs"), 1
 
 
 PARTS: dict[str, Callable[[Pages, Page], Checks]] = {

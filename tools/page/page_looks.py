@@ -1,13 +1,13 @@
 """How pages look, to eyes and to screen readers, in print, with hostile texts and with long logs,
-checked in a browser; used by tools/page/page-test."""
+checked in a browser; used by tools/page/test."""
 
 import re
 from collections.abc import Callable
 
 from common.files import TOP, bytes_of
+from common.parts import Checks
 from page_checks import chosen, line_is
 from pages import FULL, FULL_SEED, SEED, SHOAL, Pages, Walk, said_at
-from parts import Checks
 from window import Page
 
 WIDTHS = [(1600, 1000), (1200, 800), (900, 1100), (420, 860)]
@@ -58,8 +58,8 @@ FULL_SIGHT = """const list = document.getElementById('lines');
 const { left, top, bottom } = list.getBoundingClientRect();
 return [top + 20, (top + bottom) / 2, bottom - 20].every((y) =>
   document.elementFromPoint(left + 60, y)?.closest('[data-at]'))"""
-DRAWN = "return document.querySelectorAll('#lines [data-at]').length"
 NAMED = "button combobox searchbox listbox slider group region option image img".split()
+FOREIGN = "img, b:not(footer b), i, iframe"
 HARM = """</script><script>harm=1</script><!--<img src=x onerror=harm=1> &amp;"'{{DATA}} ]]>"""
 
 
@@ -99,18 +99,16 @@ def roles(pages: Pages, page: Page) -> Checks:
                        ("button", "37 You're in the mate's berth., 1 visit"),
                        ("searchbox", "Look for a text"), ("combobox", "Go to a place")]:
         yield f"a {role}", (role, name) in told, True
-    slider = page.run("return document.getElementById('chart').getAttribute('aria-valuetext')")
-    yield "the chart in words", slider, ("at 11: ne, You're in the try-works., score 59,"
-                                         " lamp 324, treasure found")
-    page.run("document.getElementById('chart').focus()")
+    yield "the chart in words", page.get("#chart", "ariaValueText"), (
+        "at 11: ne, You're in the try-works., score 59, lamp 324, treasure found")
+    page.focus("#chart")
     page.press("ArrowRight")
-    said = page.run("return document.querySelector('[role=status]').textContent")
+    said = page.get("[role=status]")
     yield "what is said of a move", said.startswith("at 12: take vase, "), True
-    sizes = page.run("return [...document.querySelectorAll('[role=option]')].map((it) =>"
-                     " [it.getAttribute('aria-posinset'), it.getAttribute('aria-setsize')].join())")
+    sizes = page.each("[role=option]", "it.ariaPosInSet + ',' + it.ariaSetSize")
     wanted = [f"{at},{len(walk.lines) + 1}" for at in range(1, len(walk.lines) + 2)]
     yield "the places of lines in the list", sizes, wanted
-    page.run("document.getElementById('lines').focus()")
+    page.focus("#lines")
     reached = []
     for _ in range(14):
         page.press("Tab")
@@ -147,25 +145,21 @@ def harmless(pages: Pages, page: Page) -> Checks:
     walk = pages.of_walk("hostile", path, pages.log(name, lines), options)
     page.open(walk.path, 0)
     yield "harm", page.run("return window.harm ?? 'none'"), "none"
-    yield "elements that no page has", page.run(
-        "return document.querySelectorAll('img, b:not(footer b), i, iframe').length"), 0
+    yield "elements that no page has", page.count(FOREIGN), 0
     yield "scripts", page.run("return document.scripts.length"), 2
-    yield "the name", page.run("return document.getElementById('name').textContent"), name
+    yield "the name", page.get("#name"), name
     yield "the title", page.run("return document.title"), name
-    yield "the cave", page.run("return document.querySelector('footer b').textContent"), (
-        "a <b>'&\" {{MAP}} cave.txt")
+    yield "the cave", page.get("footer b"), "a <b>'&\" {{MAP}} cave.txt"
     said = said_at(walk)
     yield "the texts have it", HARM in "\n".join(said), True
-    shown = page.run("return [...document.querySelectorAll('#lines [data-at]')].map((it) =>"
-                     " [it.querySelector('code')?.textContent,"
-                     " it.querySelector('.said')?.textContent ?? ''])")
+    shown = page.each("#lines [data-at]", "[it.querySelector('code')?.textContent,"
+                                          " it.querySelector('.said')?.textContent ?? '']")
     yield "the lines", [it[0] for it in shown[1:]], [f"> {it}" for it in lines]
     utf8 = [it.encode("latin-1").decode(errors="replace") for it in said]
     pairs = [(got, want) for (_, got), want in zip(shown, utf8) if "\ufffd" not in want]
     yield "the texts", [it for it, _ in pairs], [it for _, it in pairs]
-    titles = page.run("return [...document.querySelectorAll('[data-place]')].map((it) =>"
-                      " it.getAttribute('aria-label')).join()")
-    yield "a place's title", HARM[:30] in titles, True
+    titles = page.each("[data-place]", "it.ariaLabel")
+    yield "a place's title", any(HARM[:30] in it for it in titles), True
 
 
 def wandering(count: int) -> list[str]:
@@ -194,7 +188,7 @@ def quick(page: Page, walk: Walk) -> Checks:
     for part in (0.3, 0.9, 0.1, 0.5):
         page.run(SCROLL, part)
         yield f"lines are drawn after a scroll to {part}", page.wait(FULL_SIGHT), True
-        drawn = page.run(DRAWN)
+        drawn = page.count("#lines [data-at]")
         yield f"how many are drawn after a scroll to {part}", min(drawn, MOST_DRAWN), drawn
     page.press("End")
     yield from line_is(page, walk, len(walk.lines), "End")

@@ -1,6 +1,5 @@
 """What tools/page/page refuses, and how, and what tools/page/chart draws and refuses; used by
-tools/page/page-test.
-"""
+tools/page/test."""
 
 import os
 import pty
@@ -10,8 +9,8 @@ import sys
 import xml.etree.ElementTree as tree
 
 from common.files import TOP, text_of
+from common.parts import Checks
 from pages import SEED, SHOAL, TOUR, Pages
-from parts import Checks
 
 
 def refusals(pages: Pages) -> Checks:
@@ -106,8 +105,7 @@ def charts(pages: Pages) -> Checks:
     table = pages.printed("play", SHOAL[0], TOUR, *SHOAL[1], *SEED, "--print", "steps")
     steps, output = pages.file("tour.steps", table), f"{pages.room}/chart.svg"
     head = table.splitlines()[0]
-    refused: list[tuple[str, int, str, str | None]] = [
-        ("no gnuplot", 2, steps, empty_path(pages))]
+    refused: list[tuple[str, int, str, str | None]] = [("no gnuplot", 2, steps, empty_path(pages))]
     if shutil.which("gnuplot"):
         refused += [
             ("no file", 5, "nowhere.steps", None),
@@ -135,8 +133,7 @@ def words_of(chart: str) -> set[str | None]:
     return {it.text for it in tree.parse(chart).iter() if it.tag.endswith(("}text", "}tspan"))}
 
 
-def chart_of(steps: str, output: str,
-             path: str | None = None) -> subprocess.CompletedProcess[str]:
+def chart_of(steps: str, output: str, path: str | None = None) -> subprocess.CompletedProcess[str]:
     """A run of tools/page/chart, with the programs of a path."""
     return subprocess.run(
         [sys.executable, f"{TOP}/tools/page/chart", steps, "--output", output], capture_output=True,

@@ -5,12 +5,12 @@
     made.path, made.lines, made.steps, made.said, made.places
 """
 
+import difflib
 import json
 import subprocess
 import sys
 from typing import Any, BinaryIO, NamedTuple
 
-from beside import same_lines
 from common.files import TOP, bytes_of, match_in, text_of, write
 from served import FULL, FULL_SEED, SEED, TOUR
 from steps import Steps, columns_of, events_of
@@ -143,8 +143,9 @@ def things_at(walk: Walk, place: int, line: int) -> list[Told]:
 
 def line_beside(walk: Walk, other: Walk, line: int) -> int:
     """The line of another walk that is beside a line: the same one, or the last before it."""
+    same = difflib.SequenceMatcher(None, walk.lines, other.lines, autojunk=False)
     pairs = [(first + it + 1, second + it + 1)
-             for first, second, count in same_lines(walk.lines, other.lines) for it in range(count)]
+             for first, second, count in same.get_matching_blocks() for it in range(count)]
     before = [pair for pair in [(0, 0), *pairs] if pair[0] <= line]
     return before[-1][1]
 

@@ -95,7 +95,7 @@ class Served:
         else:
             write(self.path, log)
         cave, *options = words
-        self.words = [cave, self.path, *options]
+        self.words, self.program = [cave, self.path, *options], program
         self.command = [sys.executable, f"{TOP}/tools/page/live", *self.words, "--program", program,
                         "--no-browser"]
         self.walk, self.errors = Walk(), ""
@@ -167,6 +167,16 @@ class Served:
     def file(self) -> bytes:
         """The log on disk."""
         return bytes_of(self.path)
+
+    def played(self, log: bytes | None = None, seed: str = "") -> bytes:
+        """The walk of the held log, or of another, as the program itself prints it."""
+        cave, _, *options = self.words
+        if seed:
+            options[options.index("--seed") + 1] = seed
+        with tempfile.NamedTemporaryFile() as file:
+            write(file.name, self.got("log") if log is None else log)
+            words = [self.program, "play", cave, file.name, *options, "--print", "walk"]
+            return subprocess.run(words, capture_output=True, check=True).stdout
 
 
 def tour(program: str) -> Served:

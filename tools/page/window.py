@@ -104,8 +104,23 @@ class Window:
         return found
 
     def text(self, selector: str) -> str:
-        return str(self.run("return document.querySelector(arguments[0])?.innerText ?? ''",
-                            selector))
+        return str(self.get(selector, "innerText") or "")
+
+    def get(self, selector: str, name: str = "textContent") -> Any:
+        """A property of an element, or nothing if it isn't there."""
+        return self.run("return document.querySelector(arguments[0])?.[arguments[1]]", selector,
+                        name)
+
+    def each(self, selector: str, of: str = "it.textContent") -> Any:
+        """What an expression gives of `it`, for each of some elements."""
+        return self.run(f"return [...document.querySelectorAll(arguments[0])].map((it) => {of})",
+                        selector)
+
+    def count(self, selector: str) -> int:
+        return len(self.each(selector, "0"))
+
+    def focus(self, selector: str) -> None:
+        self.run("document.querySelector(arguments[0]).focus()", selector)
 
     # ---- what is done
 

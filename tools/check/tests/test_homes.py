@@ -46,10 +46,5 @@ IMPORTED = {
     ("lamps/specs/Wick.antt", "pub use Rattle.oil.specs.Oil.{a} -- oil\n"): "and hands on a of oil",
 }
 
-Homes = tests_of(
-    "homes",
-    [
-        (f"{path} {text}", HOMES | {f"crates/{path}": text}, said)
-        for (path, text), said in IMPORTED.items()
-    ],
-)
+Homes = tests_of("homes", [(f"{path} {text}", HOMES | {f"crates/{path}": text}, said)
+                           for (path, text), said in IMPORTED.items()])

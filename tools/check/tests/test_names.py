@@ -115,13 +115,8 @@ def numbered() -> list[Case]:
     """A clause with a number beside the definitions' number, and definitions of the number alone."""
     specs = "crates/oil/specs/Oil.antt"
     found: list[Case] = [
-        (
-            number,
-            {specs: WRITTEN, "crates/oil/src/oil.rt": NUMBER.format(number=number)},
-            said,
-        )
-        for number, said in NUMBERS.items()
-    ]
+        (number, {specs: WRITTEN, "crates/oil/src/oil.rt": NUMBER.format(number=number)}, said)
+        for number, said in NUMBERS.items()]
     imports = f"{specs}: a definition reads the code's MAX_DROPS"
     return [*found, ("written", {specs: WRITTEN}, ""), ("imported", {specs: IMPORTED}, imports)]
 

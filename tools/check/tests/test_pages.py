@@ -9,7 +9,8 @@ RIGHT = {
     "crates/lamps/specs/Lamp.antt": "pub burn : Bool\nburn = true\n",
     "crates/lamps/src/lib.rt": "pub use lamp::burn;\npub use oil::fill;\n",
     "crates/oil/src/lib.rt": "pub use oil::fill;\n",
-    "crates/oil/src/oil.rt": "pub fn pour_oil() {\n}\n\npub fn fill() {\n}\n",
+    "crates/oil/src/oil.rt": "pub fn pour_oil() {\n}\n\npub fn fill() {\n}\n\npub struct Wick {\n"
+    "    pub length: u8,\n    pub knots: u8,\n    own: u8,\n}\n",
     "logs/lamp.log": "no\n",
     "model/wick.py": "LEAST, WICKS = 1, 3\n\n\ndef trim_wick():\n    length = WICKS\n",
     "docs/ROOMS.md": "# Rooms\n\n## The lamp\n\n`burn` in `lamps/specs/Lamp.antt`; `lamps`, `oil`\n"
@@ -54,12 +55,13 @@ PAGES = {
     "## oil\n| Call |\n|---|\n| `pour_oil()` |": "oil doesn't give pour_oil()",
     f"the lamp:\n{HEADS}| `lamps` | `burn`: `valued` |": "valued isn't declared there",
     f"{HEADS}| `lamps` | {'word ' * 61} |": "a cell has",
+    "| Type | Fields |\n|---|---|\n| `Wick` | `length` |": "Wick has knots, too",
+    "| Type | Fields |\n|---|---|\n| `Wicks` | |": "Wicks has fields, too",
     "[the lamp](ROOMS.md#the-lamp)": "",
     "[the oil](ROOMS.md#the-oil)": "docs/ROOMS.md has no heading the-oil",
     "[the oil](OIL.md)": "there is no OIL.md",
 }
-# A file beside such a page, and what is then said: a crate and a file of the model that have no
-# room, and a page at the top.
+# A file beside such a page, and what is then said: of what has no room, and of a page at the top.
 BESIDE = {
     ("crates.txt", "lamps: oil\noil:\nwicks:\n"): "docs/ROOMS.md: wicks has no room",
     ("model/oil.py", "DROPS = 1\n"): "docs/ROOMS.md: oil.py has no room",

@@ -10,11 +10,6 @@ ROOMS = {
         "docs/ROOMS.md isn't as `tools/check/rooms --write` makes",
 }
 
-Rooms = tests_of(
-    "rooms",
-    [
-        (page, RIGHT | {"crates/oil/src/lib.rt": "//! Oil.\n", "docs/ROOMS.md": page}, said)
-        for page, said in ROOMS.items()
-    ],
-    words=["--check"],
-)
+Rooms = tests_of("rooms", [
+    (page, RIGHT | {"crates/oil/src/lib.rt": "//! Oil.\n", "docs/ROOMS.md": page}, said)
+    for page, said in ROOMS.items()], words=["--check"])

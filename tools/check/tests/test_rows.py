@@ -105,11 +105,7 @@ def declared() -> list[Case]:
     return found
 
 
-Rows = tests_of(
-    "rows",
-    [(page, with_rows(page), said) for page, said in TABLES.items()],
-    ["noted_rows.py", "defined_rows.py"],
-)
+Rows = tests_of("rows", [(page, with_rows(page), said) for page, said in TABLES.items()],
+                ["noted_rows.py", "defined_rows.py"])
 Declared = tests_of(
-    "rule-words", declared(), ["noted_rows.py", "written_words.py", "counted_rows.py"], ["--check"]
-)
+    "rule-words", declared(), ["noted_rows.py", "written_words.py", "counted_rows.py"], ["--check"])

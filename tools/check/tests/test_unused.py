@@ -28,10 +28,6 @@ CHANGED = [
     ("crates.txt", "oil:\n", "oil:\nwick: oil\n", "wick doesn't use oil"),
 ]
 
-Unused = tests_of(
-    "unused",
-    [
-        (f"{path} {old} {new}", USED | {path: USED[path].replace(old, new)}, said)
-        for path, old, new, said in CHANGED
-    ],
-)
+Unused = tests_of("unused", [
+    (f"{path} {old} {new}", USED | {path: USED[path].replace(old, new)}, said)
+    for path, old, new, said in CHANGED])

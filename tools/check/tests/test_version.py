@@ -26,10 +26,5 @@ def of_version(page: str, version: str) -> dict[str, str]:
     return {"CHANGELOG.md": f"# Changelog\n\n{page}", "crates/play_command/src/app.rt": code}
 
 
-Version = tests_of(
-    "version",
-    [
-        (f"{version} {page}", of_version(page, version), said)
-        for (page, version), said in CHANGELOGS.items()
-    ],
-)
+Version = tests_of("version", [(f"{version} {page}", of_version(page, version), said)
+                               for (page, version), said in CHANGELOGS.items()])

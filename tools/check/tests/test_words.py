@@ -15,7 +15,5 @@ WORDED = {
     ("CONTRIBUTING.md", "| so many | the number |\n"): "",
 }
 
-Words = tests_of(
-    "words",
-    [(f"{path} {text}", {path: text}, said) for (path, text), said in WORDED.items()],
-)
+Words = tests_of("words", [(f"{path} {text}", {path: text}, said)
+                           for (path, text), said in WORDED.items()])

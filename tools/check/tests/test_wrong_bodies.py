@@ -73,10 +73,5 @@ EDITS = [
     (GATE, "file: src/lamp.rt\n", "it changes nothing"),
     ("tools/soak/loops/README", "", "there is no wrong body"),
 ]
-Edits = tests_of(
-    "edits",
-    [
-        (f"{path} {text}", {"crates/lamps/src/lamp.rt": LAMP, path: text}, said)
-        for path, text, said in EDITS
-    ],
-)
+Edits = tests_of("edits", [(f"{path} {text}", {"crates/lamps/src/lamp.rt": LAMP, path: text}, said)
+                           for path, text, said in EDITS])

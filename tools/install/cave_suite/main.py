@@ -22,14 +22,16 @@ CLOSED, STOPPED = 141, 130  # the status after SIGPIPE, and after SIGINT
 
 
 def updated(log: Log, found: Played, asked: Asked | None) -> list[Hunk]:
-    """Writes a transcript again, as a reader says if one is asked; gives what is left."""
-    if not found.is_played or log.xfail is not None or not found.hunks:
+    """Writes a transcript again, as a reader says if one is asked; gives what is left. A log that is
+    known to fail only gets its first one, and goes on to fail: it isn't yet what it should be."""
+    is_known = log.xfail is not None
+    if not found.is_played or not found.hunks or is_known and log.has(".out"):
         return found.hunks
     if asked is None or not found.new:
         write(log, found.new)
-        return []
+        return found.hunks if is_known else []
     left = asked.update(log, found.old, found.new, [*differences(log, found.old, found.new)])
-    return left if log.has(".out") else found.hunks
+    return left if log.has(".out") and not is_known else found.hunks
 
 
 def result_of(log: Log, found: Played) -> Result:

@@ -1,10 +1,11 @@
-"""Parts of tests of pages, as a module: what each finds, and the line that is printed of it."""
+"""Parts of a test, as a module: what each finds, and the line that is printed of it."""
 
 import time
 from collections.abc import Callable, Iterable, Iterator
 
 # What is looked at, what is found there, and what is expected.
 Checks = Iterator[tuple[str, object, object]]
+Part = tuple[str, Checks]  # and its name
 SHOWN = 10
 
 
@@ -32,7 +33,7 @@ def run(name: str, checks: Checks, console: Callable[[], list[str]]) -> tuple[in
     return count, len(wrong)
 
 
-def run_all(parts: Iterable[tuple[str, Checks]], words: list[str], of: str,
+def run_all(parts: Iterable[Part], words: list[str], of: str,
             console: Callable[[], list[str]] = list) -> int:
     """Runs the parts whose names have one of the words, or all; the last line has their sums. What
     is said on a console while a part runs is wrong."""
