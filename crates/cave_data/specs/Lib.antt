@@ -19,4 +19,10 @@ pub mod Laws
 pub mod Cave
 pub mod Limits
 pub mod Ranges
-pub use Rattle.data_rows.specs as data_rows
+pub use Rattle.data_rows.specs.Answers
+pub use Rattle.data_rows.specs.BindingLines
+pub use Rattle.data_rows.specs.Grammar
+pub use Rattle.data_rows.specs.PlaceRole
+pub use Rattle.data_rows.specs.Role
+pub use Rattle.data_rows.specs.RowViews
+pub use Rattle.data_rows.specs.Targets

@@ -12,6 +12,11 @@ pub mod Session
 pub mod Table
 pub mod Tails
 pub mod Takeover
-pub use Rattle.base_lines.specs as base_lines
-pub use Rattle.replay_checkpoints.specs as replay_checkpoints
-pub use Rattle.replay_edits.specs as replay_edits
+pub use Rattle.base_lines.specs.Bytes
+pub use Rattle.base_lines.specs.Limits
+pub use Rattle.base_lines.specs.Line
+pub use Rattle.replay_checkpoints.specs.Blocks
+pub use Rattle.replay_checkpoints.specs.Spacing
+pub use Rattle.replay_edits.specs.Edit
+pub use Rattle.replay_edits.specs.Faults
+pub use Rattle.replay_edits.specs.LineText

@@ -7,6 +7,10 @@ pub mod ObjectWords
 pub mod Request
 pub mod Revival
 pub mod Turns
-pub use Rattle.base_lines.specs as base_lines
-pub use Rattle.cave_world.specs as cave_world
-pub use Rattle.turn_scene.specs as turn_scene
+pub use Rattle.base_lines.specs.Line
+pub use Rattle.turn_scene.specs.Bounds
+pub use Rattle.turn_scene.specs.Rows
+pub use Rattle.turn_scene.specs.Scene
+pub use Rattle.turn_ends.specs.Counting
+pub use Rattle.turn_ends.specs.Score
+pub use Rattle.turn_text.specs.Text

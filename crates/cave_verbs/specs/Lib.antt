@@ -22,6 +22,6 @@ pub mod Room
 pub mod Rows
 pub mod Tests
 pub mod Verbs
-pub use Rattle.data_rows.specs as data_rows
-pub use Rattle.cave_world.specs as cave_world
-pub use Rattle.turn_scene.specs as turn_scene
+pub use Rattle.turn_scene.specs.Bounds
+pub use Rattle.turn_scene.specs.Scene
+pub use Rattle.turn_scene.specs.Rows as SceneRows

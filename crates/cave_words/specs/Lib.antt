@@ -3,5 +3,7 @@ pub mod Meanings
 pub mod Named
 pub mod Stream
 pub mod Words
-pub use Rattle.base_lines.specs as base_lines
-pub use Rattle.cave_data.specs as cave_data
+pub use Rattle.base_lines.specs.Bytes
+pub use Rattle.base_lines.specs.Line
+pub use Rattle.base_lines.specs.LogLine
+pub use Rattle.cave_data.specs.CaveView

@@ -11,8 +11,7 @@ pub mod word;
 pub mod words;
 
 pub use base_lines::{LineFault, LogLine, Meter, Steps, check_line};
-pub use cave_data::{Cave, Rating};
-pub use data_rows::{CaveError, Special};
+pub use cave_data::Cave;
 pub use lexicon::Lexicon;
 pub use meaning::{Class, Meaning};
 pub use named::Named;

@@ -5,6 +5,10 @@ pub mod SameGame
 pub mod Sight
 pub mod State
 pub mod Travel
-pub use Rattle.base_lines.specs as base_lines
-pub use Rattle.data_rows.specs as data_rows
-pub use Rattle.world_objects.specs as world_objects
+pub use Rattle.base_lines.specs.Numbers
+pub use Rattle.data_rows.specs.RowViews
+pub use Rattle.data_rows.specs.Targets
+pub use Rattle.world_objects.specs.Links
+pub use Rattle.world_objects.specs.Lists
+pub use Rattle.world_objects.specs.Objects
+pub use Rattle.world_objects.specs.Props

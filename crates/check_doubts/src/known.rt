@@ -1,29 +1,13 @@
 //! Doubts that are known: which others are left, and which entries no doubt meets any more.
 
 ghost use Rattle.std.specs.Prelude.{◌≡◌, ◌++◌, IfOk, OnOk, string_bytes};
-ghost use Rattle.std.specs.Str.Lines.{lines};
-ghost use Rattle.check_doubts.specs.Known.{entries_of, entry_line, entry_of, has_line, is_known};
-ghost use Rattle.check_doubts.specs.Known.{is_unmet, left_doubts, unmet_line, unmet_lines};
-ghost use Rattle.check_doubts.specs.Known.{unmet_text};
+ghost use Rattle.check_doubts.specs.Known.{entries_of, entry_line, entry_of, is_known};
+ghost use Rattle.check_doubts.specs.Known.{left_doubts, unmet_text};
 
 use crate::flaw::Doubt;
 use crate::listing::{DoubtFiles, file_of};
-use base_lines::{is_skipped, split_line};
+use check_tables::known_lines::{has_line, push_unmet_lines};
 use std::alloc::{AllocError, Global};
-
-/// Whether a text has a line.
-pub fn has_line(text: &[u8], wanted: &[u8]) -> bool
-    ensures { result ≡ has_line text.now wanted.now }
-{
-    let mut rest = text;
-    while let Some((line, after)) = split_line(rest) {
-        if line == wanted {
-            return true;
-        }
-        rest = after;
-    }
-    false
-}
 
 /// The entry of a doubt in the list of those that are known.
 fn entry_of(alloc: Global, files: &DoubtFiles<'_>, doubt: &Doubt) -> Result<String, AllocError>
@@ -91,51 +75,6 @@ fn entries_of(
         push_entry(alloc, files, doubt, &mut entries)?;
     }
     Ok(entries)
-}
-
-/// Whether a line says something, and is none of the entries.
-fn is_unmet(entries: &[u8], line: &[u8]) -> bool
-    ensures { result ≡ is_unmet entries.now line.now }
-{
-    !is_skipped(line) && !has_line(entries, line)
-}
-
-/// Appends these words about a line of a file.
-fn push_unmet_line(
-    alloc: Global,
-    file: &str,
-    words: &str,
-    number: usize,
-    text: &mut Vec<u8>,
-) -> Result<(), AllocError>
-    ensures { OnOk result (text.new.items ≡ text.old.items ++ unmet_line file.now words.now number) }
-{
-    let told = format!(in alloc; "{file}:{number}: {words}\n")?;
-    text.extend_from_slice(told.as_bytes())
-}
-
-/// Appends these words about each line of a list, which is in a file, that is none of the entries.
-pub fn push_unmet_lines(
-    alloc: Global,
-    file: &str,
-    words: &str,
-    entries: &[u8],
-    known: &[u8],
-    text: &mut Vec<u8>,
-) -> Result<(), AllocError>
-    ensures { OnOk result (text.new.items
-        ≡ text.old.items ++ unmet_lines file.now words.now entries.now 1 (lines known.now)) }
-{
-    let mut rest = known;
-    let mut number = 0usize;
-    while let Some((line, after)) = split_line(rest) {
-        number += 1;
-        if is_unmet(entries, line) {
-            push_unmet_line(alloc, file, words, number, text)?;
-        }
-        rest = after;
-    }
-    Ok(())
 }
 
 /// Appends a line for each entry of a list that no doubt meets.

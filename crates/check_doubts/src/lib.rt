@@ -19,5 +19,5 @@ mod written;
 
 pub use cave_doubts::doubts;
 pub use flaw::{Doubt, Source};
-pub use known::{has_line, left_doubts, push_unmet, push_unmet_lines};
+pub use known::{left_doubts, push_unmet};
 pub use listing::{DoubtFiles, push_doubts};

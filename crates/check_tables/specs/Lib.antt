@@ -2,6 +2,7 @@ pub mod Names
 pub mod Unused
 pub mod Clues
 pub mod NearKey
+pub mod KnownLines
 pub mod TextKinds
 pub mod WayWords
 pub mod TravelWords

@@ -1,8 +1,9 @@
 //! Tables of the names, messages and words of a cave, what its texts are called, what is said about
-//! its ways, and what is known of a fault beyond its cause.
+//! its ways, what is known of a fault beyond its cause, and lists of what is known.
 #![tactic(auto)]
 
 pub mod clue;
+pub mod known_lines;
 pub mod names;
 mod near_key;
 pub mod text_kinds;

@@ -3,11 +3,11 @@ use Rattle.std.specs.Prelude.{ℕ, false, List, Option, Some, true, None, ◌+�
 use Rattle.std.specs.Prelude.{nat_lt, nat_le, length, take, drop, codes, bytes_eq, unwrap_or}
 use Rattle.std.specs.Prelude.{if◌then◌else◌}
 use Rattle.cave_replay.specs.Play.{MachineRules, state_after}
-use Rattle.cave_replay.specs.replay_edits.Edit.{Game}
+use Rattle.cave_replay.specs.Edit.{Game}
 use Rattle.ledger.specs.declared.account.Account.{Account}
 use Rattle.std.specs.List.{list_all}
 use Rattle.std.specs.Option.{option_or, option_map}
-use Rattle.cave_replay.specs.base_lines.Bytes.{is_digit, number_of}
+use Rattle.cave_replay.specs.Bytes.{is_digit, number_of}
 use Rattle.ledger.specs.declared.entry.BookEntry.{BookEntry}
 use Rattle.ledger.specs.declared.entry.BookEntry.TheVariants.{In, Out, Comment}
 

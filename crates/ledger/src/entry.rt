@@ -1,6 +1,6 @@
 ghost use Rattle.std.specs.Prelude.{◌≡◌};
 ghost use Rattle.std.specs.List.{list_all};
-ghost use Rattle.cave_replay.specs.base_lines.Bytes.{is_digit};
+ghost use Rattle.cave_replay.specs.Bytes.{is_digit};
 ghost use Rattle.ledger.specs.Ledger.{amount_after, entry_of, is_payment, balance_after};
 
 use cave_replay::number_of;

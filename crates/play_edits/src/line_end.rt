@@ -46,7 +46,7 @@ fn is_same_end(end: LineEnd, other: LineEnd) -> bool
 }
 
 /// Whether all the ends are this one.
-pub(crate) fn are_alike(end: LineEnd, ends: &[LineEnd]) -> bool
+pub(crate) fn are_same_ends(end: LineEnd, ends: &[LineEnd]) -> bool
     ensures { result ≡ list_all (is_same_end end) ends.now }
 {
     ends.iter().all(|&other| is_same_end(end, other))

@@ -6,7 +6,9 @@ ghost use Rattle.play_edits.specs.LogEnds.{ends_after, ends_after_item, log_ends
 ghost use Rattle.play_edits.specs.LogEnds.{unlike_ends};
 ghost use Rattle.replay_scripts.specs.Views.{applied_item};
 
-use crate::line_end::{LineEnd, TextEnds, are_alike, end_of_line, ends_in, first_end, text_ends};
+use crate::line_end::{
+    LineEnd, TextEnds, are_same_ends, end_of_line, ends_in, first_end, text_ends,
+};
 use replay_edits::Edit;
 use replay_scripts::Item;
 use std::alloc::{AllocError, Global};
@@ -66,7 +68,7 @@ impl LogEnds {
 fn unlike_ends(alloc: Global, usual: LineEnd, ends: Vec<LineEnd>) -> Vec<LineEnd>
     ensures { result.items ≡ unlike_ends usual ends.items }
 {
-    if are_alike(usual, &ends) {
+    if are_same_ends(usual, &ends) {
         Vec::new(alloc)
     } else {
         ends

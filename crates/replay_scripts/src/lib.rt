@@ -10,7 +10,7 @@ pub mod script;
 pub mod script_text;
 pub mod undo_laws;
 
-pub use edit_flaw::{EditFlaw, ScriptWord};
+pub use edit_flaw::EditFlaw;
 pub use fault::{ScriptFlaw, ScriptRefusal};
 pub use guard::Guard;
 pub use script::{Item, Script};

@@ -44,12 +44,12 @@ theft_rows =
     ∷ plain_row (is_here it ∷ no (immovable it) ∷ []) (send it place.Chest ∷ [])
     ∷ []
 
-unfoldable pub steal : CaveView → ℕ → Scene → Scene
-steal cave x p = (by_table table.Theft theft_rows (deed cave x p)).scene
+unfoldable pub after_stealing : CaveView → ℕ → Scene → Scene
+after_stealing cave x p = (by_table table.Theft theft_rows (deed cave x p)).scene
 
 -- the treasures of a list are stolen one after another
 abbrev pub after_stealing_all : CaveView → List ℕ → Scene → Scene
-after_stealing_all cave xs p = for_each xs (steal cave) p
+after_stealing_all cave xs p = for_each xs (after_stealing cave) p
 
 -- all treasures are stolen
 abbrev pub steal_all : Effect (Unit {0})

@@ -56,12 +56,12 @@ apart_rows =
     ∷ otherwise (settle_dwarf its_place ∷ [])
 
 -- a dwarf is kept apart from the player
-unfoldable pub keep_one_apart : CaveView → ℕ → Scene → Scene
-keep_one_apart cave number p = (by_table table.Apart apart_rows (deed cave number p)).scene
+unfoldable pub after_keeping_one_apart : CaveView → ℕ → Scene → Scene
+after_keeping_one_apart cave number p = (by_table table.Apart apart_rows (deed cave number p)).scene
 
 -- each of the five before the pirate is kept apart
 abbrev pub keep_apart : Effect Attack
-keep_apart d = in_scene (for_each_from 0 PIRATE (keep_one_apart d.cave) d.scene) d
+keep_apart d = in_scene (for_each_from 0 PIRATE (after_keeping_one_apart d.cave) d.scene) d
 
 -- the dwarves are awake, two of them may be gone, and one throws its axe, which stays here
 unfoldable pub wake : List (Effect Attack)

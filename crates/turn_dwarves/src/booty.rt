@@ -10,7 +10,8 @@ ghost use Rattle.turn_scene.specs.Treasures.{treasures};
 ghost use Rattle.turn_scene.specs.Effects.{after_sending};
 ghost use Rattle.turn_scene.specs.Rows.{Does, deed};
 ghost use Rattle.turn_dwarves.specs.Booty.{fair, is_carried_booty, carries_booty, treasure_near};
-ghost use Rattle.turn_dwarves.specs.Booty.{steal, after_stealing_all, with_pirate_home, take_booty};
+ghost use Rattle.turn_dwarves.specs.Booty.{after_stealing, after_stealing_all, take_booty};
+ghost use Rattle.turn_dwarves.specs.Booty.{with_pirate_home};
 ghost use Rattle.turn_dwarves.specs.Booty.{hide_chest};
 
 use crate::band::{dwarf_of, set_dwarf};
@@ -84,10 +85,10 @@ fn bring_to_chest(rules: &Rules<'_>, object: Object, state: &mut State)
 }
 
 /// Brings a treasure that is fair game to the pirate's chest, if it is carried, or here and loose.
-#[tactic(auto, unfolding(crate::specs::Booty::steal, crate::specs::Booty::theft_rows))]
+#[tactic(auto, unfolding(crate::specs::Booty::after_stealing, crate::specs::Booty::theft_rows))]
 fn steal<N: RowNotes>(rules: &Rules<'_>, object: Object, scene: &mut Scene<'_, N>)
     ensures scene { scene_of N.rows scene.new
-        ≡ steal (cave_of rules.now) object (scene_of N.rows scene.old) }
+        ≡ after_stealing (cave_of rules.now) object (scene_of N.rows scene.old) }
     ensures says { GoesOnSaying 0 scene.old scene.new }
 {
     if !is_fair(rules, object, scene) {

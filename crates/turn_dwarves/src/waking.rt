@@ -9,7 +9,7 @@ ghost use Rattle.cave_world.specs.declared.tables.Table.TheVariants as table;
 ghost use Rattle.turn_dwarves.specs.Band.{with_anger};
 ghost use Rattle.turn_dwarves.specs.Knives.{no_attack};
 ghost use Rattle.turn_dwarves.specs.Waking.{without_dwarf, let_one_leave, with_dwarf_at};
-ghost use Rattle.turn_dwarves.specs.Waking.{keep_one_apart, wake, waking_rows};
+ghost use Rattle.turn_dwarves.specs.Waking.{after_keeping_one_apart, wake, waking_rows};
 ghost use Rattle.turn_scene.specs.Effects.{for_each_from};
 
 use crate::band::{dwarf_of, set_dwarf};
@@ -87,11 +87,11 @@ fn put_dwarf_at(number: usize, place: Place, state: &mut State)
 
 /// A dwarf that is where the player is goes to another place, if one is named for it; any dwarf
 /// forgets where it came from.
-#[tactic(auto, unfolding(crate::specs::Waking::keep_one_apart, crate::specs::Waking::apart_rows))]
+#[tactic(auto, unfolding(crate::specs::Waking::after_keeping_one_apart, crate::specs::Waking::apart_rows))]
 fn keep_one_apart<N: RowNotes>(rules: &Rules<'_>, number: usize, scene: &mut Scene<'_, N>)
     requires { number < defined.PIRATE }
     ensures scene { scene_of N.rows scene.new
-        ≡ keep_one_apart (cave_of rules.now) number (scene_of N.rows scene.old) }
+        ≡ after_keeping_one_apart (cave_of rules.now) number (scene_of N.rows scene.old) }
     ensures says { GoesOnSaying 0 scene.old scene.new }
 {
     let place = dwarf_of(scene.state, number).place;
@@ -110,7 +110,7 @@ fn keep_one_apart<N: RowNotes>(rules: &Rules<'_>, number: usize, scene: &mut Sce
 /// from.
 fn keep_apart<N: RowNotes>(rules: &Rules<'_>, scene: &mut Scene<'_, N>)
     ensures scene { scene_of N.rows scene.new
-        ≡ for_each_from 0 defined.PIRATE (keep_one_apart (cave_of rules.now))
+        ≡ for_each_from 0 defined.PIRATE (after_keeping_one_apart (cave_of rules.now))
         (scene_of N.rows scene.old) }
     ensures says { GoesOnSaying 0 scene.old scene.new }
 {

@@ -12,7 +12,8 @@ use Rattle.cave_words.specs.Stream.{next}
 use Rattle.turn_dwarves.specs.Ahead.{ways_of_dwarf}
 use Rattle.cave_world.specs.Limits.{PIRATE}
 use Rattle.turn_dwarves.specs.Band.{dwarf_of, gone, with_anger, with_dwarf}
-use Rattle.turn_dwarves.specs.Booty.{after_stealing_all, hide_chest, steal, take_booty, theft_rows}
+use Rattle.turn_dwarves.specs.Booty.{after_stealing, after_stealing_all, hide_chest, take_booty}
+use Rattle.turn_dwarves.specs.Booty.{theft_rows}
 use Rattle.turn_dwarves.specs.Booty.{with_pirate_home}
 use Rattle.turn_dwarves.specs.Dwarves.{anger_rows, awake, encounter_dwarves}
 use Rattle.turn_dwarves.specs.Knives.{Raider, attack, attacker, dwarf_turn, let_dwarf_act}
@@ -22,7 +23,8 @@ use Rattle.turn_dwarves.specs.Lines.{dwarf_rows, knife_rows, provoked_rows, tell
 use Rattle.turn_dwarves.specs.Moving.{after_dwarf_move, chosen_way, dwarf_in_sight, dwarf_on_way}
 use Rattle.turn_dwarves.specs.Pirate.{after_pirate, chase_rows, move_pirate, pirate_rows}
 use Rattle.turn_dwarves.specs.Pirate.{pirate_turn_rows}
-use Rattle.turn_dwarves.specs.Waking.{apart_rows, keep_one_apart, leaving_rows, wake, waking_rows}
+use Rattle.turn_dwarves.specs.Waking.{after_keeping_one_apart, apart_rows, leaving_rows, wake}
+use Rattle.turn_dwarves.specs.Waking.{waking_rows}
 use Rattle.turn_dwarves.specs.Waking.{with_dwarf_at, without_dwarf}
 use Rattle.turn_dwarves.specs.declared.knives.Attack.{Attack}
 use Rattle.turn_scene.specs.Effects.{for_each_from}
@@ -71,8 +73,8 @@ module _ {game : CaveView} {l : Line} {Q P : Claim} (k : IsKept game l Q P) wher
   settled_kept n place s gone h = dwarf_kept n _ s (λ some low. gone some) h
 
   one_apart_kept : (cave : CaveView) (n : ℕ) (p : Scene) → On R p.state
-      → On R (keep_one_apart cave n p).state
-  unfolding keep_one_apart apart_rows
+      → On R (after_keeping_one_apart cave n p).state
+  unfolding after_keeping_one_apart apart_rows
   one_apart_kept cave n p h =
       by_guarded R (deed cave n p) (noted table.Apart apart_rows) (
         (λ fit. settled_kept n _ p.state
@@ -81,9 +83,9 @@ module _ {game : CaveView} {l : Line} {Q P : Claim} (k : IsKept game l Q P) wher
       )
 
   apart_kept : (cave : CaveView) (p : Scene) → On R p.state
-      → On R (for_each_from 0 5 (keep_one_apart cave) p).state
+      → On R (for_each_from 0 5 (after_keeping_one_apart cave) p).state
   apart_kept cave p h =
-      each_kept (λ (q : Scene). On R q.state) 0 5 (keep_one_apart cave)
+      each_kept (λ (q : Scene). On R q.state) 0 5 (after_keeping_one_apart cave)
       (λ n q g. one_apart_kept cave n q g) p h
 
   woken_kept : (d : Deed Attack) → (d.scene.state.dwarves.anger == 1 && true) ≡ true
@@ -164,8 +166,9 @@ module _ {game : CaveView} {l : Line} {Q P : Claim} (k : IsKept game l Q P) wher
         (λ _. first),
       ))
 
-  stolen_kept : (cave : CaveView) (x : ℕ) (p : Scene) → On R p.state → On R (steal cave x p).state
-  unfolding steal theft_rows
+  stolen_kept : (cave : CaveView) (x : ℕ) (p : Scene)
+      → On R p.state → On R (after_stealing cave x p).state
+  unfolding after_stealing theft_rows
   stolen_kept cave x p h =
       quiet R (noted table.Theft theft_rows) (search effects parts 20) (deed cave x p) h
 
@@ -173,7 +176,7 @@ module _ {game : CaveView} {l : Line} {Q P : Claim} (k : IsKept game l Q P) wher
       → On R (after_stealing_all cave xs p).state
   all_stolen_kept cave [] p h = h
   all_stolen_kept cave (x ∷ xs) p h =
-      all_stolen_kept cave xs (steal cave x p) (stolen_kept cave x p h)
+      all_stolen_kept cave xs (after_stealing cave x p) (stolen_kept cave x p h)
 
   home_kept : (cave : CaveView) (s : State) → On R s → On R (with_pirate_home cave s)
   unfolding with_pirate_home

@@ -9,7 +9,8 @@ use Rattle.turn_scene.specs.Rows.{otherwise_row}
 use Rattle.turn_scene.specs.Scene.{Scene}
 use Rattle.turn_dwarves.specs.Ahead.{ahead, dwarf_way_rows, ways_of_dwarf}
 use Rattle.turn_dwarves.specs.Band.{dwarf_of}
-use Rattle.turn_dwarves.specs.Booty.{after_stealing_all, hide_chest, steal, take_booty, theft_rows}
+use Rattle.turn_dwarves.specs.Booty.{after_stealing, after_stealing_all, hide_chest, take_booty}
+use Rattle.turn_dwarves.specs.Booty.{theft_rows}
 use Rattle.turn_dwarves.specs.Dwarves.{anger_rows, awake, encounter_dwarves}
 use Rattle.turn_dwarves.specs.Knives.{Raider, attack, dwarf_turn, let_dwarf_act, raid, raider}
 use Rattle.turn_dwarves.specs.Knives.{dwarf_turn_rows, move_attacker, no_attack, threat_rows}
@@ -18,7 +19,8 @@ use Rattle.turn_dwarves.specs.Lines.{dwarf_rows, knife_rows, provoked_rows, tell
 use Rattle.turn_dwarves.specs.Moving.{after_dwarf_move, chosen_way, dwarf_in_sight, dwarf_on_way}
 use Rattle.turn_dwarves.specs.Moving.{dwarf_sight_rows, loses_sight}
 use Rattle.turn_dwarves.specs.Pirate.{after_pirate, chase_rows, pirate_rows, pirate_turn_rows}
-use Rattle.turn_dwarves.specs.Waking.{apart_rows, keep_one_apart, leaving_rows, wake, waking_rows}
+use Rattle.turn_dwarves.specs.Waking.{after_keeping_one_apart, apart_rows, leaving_rows, wake}
+use Rattle.turn_dwarves.specs.Waking.{waking_rows}
 use Rattle.turn_dwarves.specs.declared.knives.Attack.{Attack}
 use Rattle.turn_laws.specs.DefinedRows.{row_numbers}
 use Rattle.turn_laws.proofs.Effects.{each_kept}
@@ -32,14 +34,14 @@ module _ {cave : CaveView} {N : Notes} (k : IsNoted cave N) where
   leaving_noted c n p h = noted_effects k table.Leaving leaving_rows refl c n (search parts 20) p h
 
   one_apart_noted : (c : CaveView) (n : ℕ) (p : Scene) → Meets N p
-      → Meets N (keep_one_apart c n p)
-  unfolding keep_one_apart apart_rows row_numbers
+      → Meets N (after_keeping_one_apart c n p)
+  unfolding after_keeping_one_apart apart_rows row_numbers
   one_apart_noted c n p h = noted_effects k table.Apart apart_rows refl c n (search parts 20) p h
 
   apart_noted : (c : CaveView) (p : Scene) → Meets N p
-      → Meets N (for_each_from 0 5 (keep_one_apart c) p)
+      → Meets N (for_each_from 0 5 (after_keeping_one_apart c) p)
   apart_noted c p h =
-      each_kept (λ (q : Scene). Meets N q) 0 5 (keep_one_apart c)
+      each_kept (λ (q : Scene). Meets N q) 0 5 (after_keeping_one_apart c)
       (λ n q g. one_apart_noted c n q g) p h
 
   woken_noted : (c : CaveView) (a : Attack) (p : Scene) → Meets N p
@@ -102,14 +104,15 @@ module _ {cave : CaveView} {N : Notes} (k : IsNoted cave N) where
       (noted_effects k table.Provoked provoked_rows refl c a (search parts 20) d.scene
       (noted_effects k table.DwarvesHere dwarf_rows refl c a (search (told k) parts 20) p h))
 
-  stolen_noted : (c : CaveView) (x : ℕ) (p : Scene) → Meets N p → Meets N (steal c x p)
-  unfolding steal theft_rows row_numbers
+  stolen_noted : (c : CaveView) (x : ℕ) (p : Scene) → Meets N p → Meets N (after_stealing c x p)
+  unfolding after_stealing theft_rows row_numbers
   stolen_noted c x p h = noted_effects k table.Theft theft_rows refl c x (search parts 20) p h
 
   all_stolen_noted : (c : CaveView) (xs : List ℕ) (p : Scene) → Meets N p
       → Meets N (after_stealing_all c xs p)
   all_stolen_noted c [] p h = h
-  all_stolen_noted c (x ∷ xs) p h = all_stolen_noted c xs (steal c x p) (stolen_noted c x p h)
+  all_stolen_noted c (x ∷ xs) p h =
+      all_stolen_noted c xs (after_stealing c x p) (stolen_noted c x p h)
 
   pirate_noted : (c : CaveView) (p : Scene) → Meets N p → Meets N (after_pirate c p)
   unfolding after_pirate pirate_turn_rows chase_rows pirate_rows take_booty hide_chest row_numbers

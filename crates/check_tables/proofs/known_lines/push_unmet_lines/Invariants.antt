@@ -1,7 +1,7 @@
 use Rattle.std.proofs.Common.{◌≡◌, ◌+◌, ◌≤◌, ◌++◌, length}
 use Rattle.std.specs.Str.Lines.{lines}
-use Rattle.check_doubts.specs.Known.{unmet_lines}
-use Rattle.check_doubts.proofs.known.push_unmet_lines.Given as goal
+use Rattle.check_tables.specs.KnownLines.{unmet_lines}
+use Rattle.check_tables.proofs.known_lines.push_unmet_lines.Given as goal
 
 -- the lines so far, with those of the rest, are all lines; each line that was counted took at least
 -- one byte

@@ -1,6 +1,6 @@
 use Rattle.std.proofs.Common.{◌≡◌, length}
-use Rattle.check_doubts.specs.Known.{has_line}
-use Rattle.check_doubts.proofs.known.has_line.Given as goal
+use Rattle.check_tables.specs.KnownLines.{has_line}
+use Rattle.check_tables.proofs.known_lines.has_line.Given as goal
 
 abbrev pub invariant-loop-line : goal.invariant-loop-line
 invariant-loop-line l = has_line l.text l.wanted ≡ has_line l.rest l.wanted
