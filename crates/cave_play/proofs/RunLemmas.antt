@@ -166,6 +166,7 @@ EndsBy-unwritten (fault.Cave error clue) stages IsOutput old new never there kep
 EndsBy-unwritten (fault.Doubt doubt) stages IsOutput old new never there kept = (there, kept)
 EndsBy-unwritten fault.LargeKnown stages IsOutput old new never there kept = (there, kept)
 EndsBy-unwritten (fault.Unshown count) stages IsOutput old new never there kept = (there, kept)
+EndsBy-unwritten (fault.Unmapped place) stages IsOutput old new never there kept = (there, kept)
 EndsBy-unwritten fault.Seed stages IsOutput old new never there kept = (there, kept)
 EndsBy-unwritten fault.Every stages IsOutput old new never there kept = (there, kept)
 EndsBy-unwritten (fault.Log refused) stages IsOutput old new never there kept = (there, kept)

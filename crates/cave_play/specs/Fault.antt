@@ -22,6 +22,7 @@ status_of fault.LargeKnown = 1
 status_of (fault.Unshown count) = 1
 status_of fault.Seed = 2
 status_of fault.Every = 2
+status_of (fault.Unmapped place) = 2
 status_of (fault.Log refused) = 3
 status_of (fault.NewLog refused) = 3
 status_of (fault.Script refused) = 4
@@ -46,6 +47,7 @@ input_from Bindings = input.Bindings
 abbrev pub input_of : PlayFault → Option Input
 input_of (fault.Cave error clue) = Some (input_at error.site)
 input_of (fault.Doubt found) = Some (input_from found.source)
+input_of (fault.Unmapped place) = Some input.Cave
 input_of fault.LargeKnown = Some input.Known
 input_of (fault.Log refused) = Some input.Log
 input_of (fault.NewLog refused) = Some input.Script

@@ -15,8 +15,16 @@ pub mod Size
 pub mod Bytes
 pub mod GuardLaws
 pub mod TwoLogs
-pub use Rattle.base_lines.specs as base_lines
-pub use Rattle.cave_data.specs as cave_data
-pub use Rattle.replay_checkpoints.specs as replay_checkpoints
-pub use Rattle.replay_edits.specs as replay_edits
-pub use Rattle.play_machine.specs as play_machine
+pub use Rattle.base_lines.specs.Limits
+pub use Rattle.base_lines.specs.Line
+pub use Rattle.cave_data.specs.Reads
+pub use Rattle.replay_edits.specs.Edit
+pub use Rattle.replay_edits.specs.Faults
+pub use Rattle.replay_edits.specs.LineText
+pub use Rattle.play_machine.specs.FinalState
+pub use Rattle.play_machine.specs.Moments
+pub use Rattle.play_machine.specs.Score
+pub use Rattle.play_machine.specs.Steps
+pub use Rattle.play_machine.specs.Transcript
+pub use Rattle.play_machine.specs.Walk
+pub use Rattle.play_machine.specs.Watch

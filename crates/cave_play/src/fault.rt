@@ -124,6 +124,9 @@ pub enum PlayFault {
     /// No log shows this many things, they aren't known, and the run is strict.
     #[error("{0} left that no log shows")]
     Unshown(usize),
+    /// The place around which a map is to be drawn isn't on it.
+    #[error("place {0} isn't on the map: it has no text, and no way leads to it or from it")]
+    Unmapped(u16),
     /// The seed is too great.
     #[error("a seed is at most 2147483647")]
     Seed,
@@ -185,7 +188,7 @@ impl PlayFault {
         match self {
             PlayFault::Cave(_, _) | PlayFault::Doubt(_) => 1,
             PlayFault::LargeKnown | PlayFault::Unshown(_) => 1,
-            PlayFault::Seed | PlayFault::Every => 2,
+            PlayFault::Seed | PlayFault::Every | PlayFault::Unmapped(_) => 2,
             PlayFault::Log(_) | PlayFault::NewLog(_) => 3,
             PlayFault::Script(_) | PlayFault::Refused(_) => 4,
             PlayFault::Read(_) => 5,
@@ -200,7 +203,7 @@ impl PlayFault {
     {
         match self {
             PlayFault::Cave(error, _) if error.site == FaultSite::Bindings => Some(Input::Bindings),
-            PlayFault::Cave(_, _) => Some(Input::Cave),
+            PlayFault::Cave(_, _) | PlayFault::Unmapped(_) => Some(Input::Cave),
             PlayFault::Doubt(found) => Some(input_from(found.source)),
             PlayFault::LargeKnown => Some(Input::Known),
             PlayFault::Log(_) => Some(Input::Log),

@@ -38,7 +38,7 @@ pub use play_machine::{
 pub use play_state_text::{Counts, push_state};
 pub use replay_difference::script::ScriptForm;
 pub use replay_edits::{Edit, EditFault, LineText};
-pub use replay_scripts::{EditFlaw, ScriptFlaw, ScriptWord};
+pub use replay_scripts::ScriptFlaw;
 pub use run::{run_check, run_edit, run_play};
 pub use two_logs::{run_edit_to, run_script};
 pub use world_objects::Object;

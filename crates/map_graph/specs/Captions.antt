@@ -6,30 +6,39 @@ use Rattle.map_graph.specs.declared.captions.SeenCounts.{SeenCounts}
 use Rattle.map_graph.specs.declared.parts.DrawnPart.{DrawnPart}
 use Rattle.map_ways.specs.declared.regions.Region.{Region}
 
--- how many of a cave's places and ways plays of this many logs saw
+-- how many there are of something, which has an s unless there is one
+abbrev pub counted : ℕ → List ℕ → List ℕ
+counted count noun =
+    decimal count ++ (codes " " ++ (noun ++ (if count == 1 then [] else codes "s")))
+
+-- how many of the places and ways plays of this many logs saw
 abbrev pub seen_words : SeenCounts → ℕ → List ℕ
 seen_words counts logs =
-    decimal counts.visited ++ (codes " of " ++ (decimal counts.places
-    ++ (codes " places, " ++ (decimal counts.taken ++ (codes " of " ++ (decimal counts.ways
-    ++ (codes " ways in " ++ (decimal logs ++ codes " logs"))))))))
+    decimal counts.visited ++ (codes " of " ++ (counted counts.places (codes "place")
+    ++ (codes ", " ++ (decimal counts.taken ++ (codes " of "
+    ++ (counted counts.ways (codes "way") ++ (codes " in " ++ counted logs (codes "log"))))))))
 
 -- how many there are
 abbrev pub count_words : SeenCounts → List ℕ
 count_words counts =
-    decimal counts.places ++ (codes " places, " ++ (decimal counts.ways ++ codes " ways"))
+    counted counts.places (codes "place") ++ (codes ", " ++ counted counts.ways (codes "way"))
 
 abbrev pub title_of_map : SeenCounts → ℕ → List ℕ
 title_of_map counts logs = if logs == 0 then count_words counts else seen_words counts logs
 
+-- places are drawn that are at most this many ways from one
+abbrev pub distance_words : ℕ → ℕ → List ℕ
+distance_words ways place =
+    codes "<BR/>drawn: at most " ++ (counted ways (codes "way")
+    ++ (codes " from place " ++ decimal place))
+
 -- which places are drawn, if not all are
 abbrev pub around_words : Option Region → List ℕ
 around_words None = []
-around_words (Some around) =
-    codes "<BR/>drawn: at most " ++ (decimal around.ways
-    ++ (codes " ways from place " ++ decimal around.place))
+around_words (Some around) = distance_words around.ways around.place
 
 abbrev pub seen_only_words : Bool → List ℕ
-seen_only_words seen = if seen then codes "<BR/>drawn: what the logs saw" else []
+seen_only_words seen = if seen then codes "<BR/>drawn: what was seen" else []
 
 abbrev pub part_words : DrawnPart → List ℕ
 part_words part = around_words part.around ++ seen_only_words part.seen

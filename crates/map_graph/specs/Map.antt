@@ -6,9 +6,10 @@ use Rattle.cave_data.specs.CaveView.{CaveView}
 use Rattle.map_graph.specs.Captions.{caption, seen_words}
 use Rattle.map_graph.specs.Edges.{edges, edge}
 use Rattle.map_graph.specs.Parts.{drawn_places}
+use Rattle.map_ways.specs.Regions.{ends_among, places_around}
 use Rattle.map_graph.specs.Places.{node}
 use Rattle.map_graph.specs.Stops.{is_way_taken, is_visited}
-use Rattle.map_ways.specs.Ways.{ends_of_ways, mapped_places}
+use Rattle.map_ways.specs.Ways.{mapped_places}
 use Rattle.map_graph.specs.declared.captions.SeenCounts.{SeenCounts}
 use Rattle.map_graph.specs.declared.parts.DrawnPart.{DrawnPart}
 use Rattle.map_graph.specs.declared.stops.Stop.{Stop}
@@ -41,27 +42,28 @@ graph_opening =
 abbrev pub labels_opening : List ℕ
 labels_opening = codes "  node [shape=plaintext, margin=0];\n"
 
--- the ends of ways from a place that plays took
-unfoldable pub ends_taken : CaveView → List Stop → ℕ → List ℕ
-ends_taken cave stops from = filter (is_way_taken cave stops from) (ends_of_ways cave from)
+-- the places, of some, to which plays took a way from one
+unfoldable pub ends_taken : CaveView → List Stop → List ℕ → ℕ → List ℕ
+ends_taken cave stops places from =
+    filter (is_way_taken cave stops from) (ends_among cave places from)
 
-unfoldable pub places_visited : CaveView → List Stop → List ℕ
-places_visited cave stops = filter (is_visited cave stops) (mapped_places cave)
+unfoldable pub places_visited : CaveView → List Stop → List ℕ → List ℕ
+places_visited cave stops places = filter (is_visited cave stops) places
 
--- how many ways from the places on the map plays took
-unfoldable pub count_taken : CaveView → List Stop → ℕ
-count_taken cave stops = sum_by (λ from. length (ends_taken cave stops from)) (mapped_places cave)
+-- how many ways between some places plays took
+unfoldable pub count_taken : CaveView → List Stop → List ℕ → ℕ
+count_taken cave stops places = sum_by (λ from. length (ends_taken cave stops places from)) places
 
-unfoldable pub count_ways : CaveView → ℕ
-count_ways cave = sum_by (λ from. length (ends_of_ways cave from)) (mapped_places cave)
+unfoldable pub count_ways : CaveView → List ℕ → ℕ
+count_ways cave places = sum_by (λ from. length (ends_among cave places from)) places
 
--- how many of the cave's places and ways plays saw
-unfoldable pub seen_counts : CaveView → List Stop → SeenCounts
-seen_counts cave stops = record {
-  visited = length (places_visited cave stops);
-  places = length (mapped_places cave);
-  taken = count_taken cave stops;
-  ways = count_ways cave;
+-- how many of some places, and of the ways between them, plays saw
+unfoldable pub seen_counts : CaveView → List Stop → List ℕ → SeenCounts
+seen_counts cave stops places = record {
+  visited = length (places_visited cave stops places);
+  places = length places;
+  taken = count_taken cave stops places;
+  ways = count_ways cave places;
 }
 
 -- the line that sums up what plays saw, if there were logs
@@ -74,10 +76,15 @@ nodes_and_edges cave mapped stops logs seen places =
     flat_map (node cave mapped stops logs) places
     ++ (labels_opening ++ flat_map (edges cave stops logs seen places) places)
 
+-- how many of the places around one, or of all, plays saw
+abbrev pub counts_around : CaveView → List ℕ → List Stop → DrawnPart → SeenCounts
+counts_around cave mapped stops part =
+    seen_counts cave stops (places_around cave mapped part.around)
+
 -- the part of a map that is drawn, with what stands above it
 unfoldable pub drawing : CaveView → List ℕ → List Stop → DrawnPart → ℕ → List ℕ
 drawing cave mapped stops part logs =
-    caption (seen_counts cave stops) logs part
+    caption (counts_around cave mapped stops part) logs part
     ++ nodes_and_edges cave mapped stops logs part.seen (drawn_places cave stops part mapped)
 
 -- the map, or a part of it, if plays of this many logs had these stops
@@ -85,4 +92,4 @@ unfoldable pub map_of_places : CaveView → List Stop → DrawnPart → ℕ → 
 map_of_places cave stops part logs =
     graph_opening
     ++ (drawing cave (mapped_places cave) stops part logs
-    ++ (codes "}\n" ++ sums (seen_counts cave stops) logs))
+    ++ (codes "}\n" ++ sums (counts_around cave (mapped_places cave) stops part) logs))

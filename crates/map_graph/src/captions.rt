@@ -1,8 +1,10 @@
 //! What stands above a map: how much of the cave plays saw, which part is drawn, and a legend.
 
-ghost use Rattle.std.specs.Prelude.{◌≡◌, ◌++◌, OnOk};
+ghost use Rattle.std.specs.Fmt.{decimal};
+ghost use Rattle.std.specs.Prelude.{◌≡◌, ◌++◌, OnOk, codes};
 ghost use Rattle.map_graph.specs.Captions.{around_words, caption, caption_opening, cave_legend};
-ghost use Rattle.map_graph.specs.Captions.{count_words, heading, legend_opening, logs_legend};
+ghost use Rattle.map_graph.specs.Captions.{counted, distance_words, heading};
+ghost use Rattle.map_graph.specs.Captions.{legend_opening, logs_legend};
 ghost use Rattle.map_graph.specs.Captions.{part_words, seen_legend, seen_only_words, seen_words};
 ghost use Rattle.map_graph.specs.Captions.{title_of_map, words_legend};
 
@@ -19,7 +21,37 @@ pub struct SeenCounts {
     pub ways: usize,
 }
 
-/// Appends how many of a cave's places and ways plays of this many logs saw.
+/// Appends how many there are of something.
+fn push_counted(
+    alloc: Global,
+    count: usize,
+    noun: &str,
+    text: &mut Vec<u8>,
+) -> Result<(), AllocError>
+    ensures { OnOk result (text.new.items ≡ text.old.items ++ counted count noun.now) }
+{
+    let plural = if count == 1 { "" } else { "s" };
+    let words = format!(in alloc; "{count} {noun}{plural}")?;
+    text.extend_from_slice(words.as_bytes())
+}
+
+/// Appends how many of several places or ways plays saw.
+fn push_seen(
+    alloc: Global,
+    seen: usize,
+    count: usize,
+    noun: &str,
+    text: &mut Vec<u8>,
+) -> Result<(), AllocError>
+    ensures { OnOk result (text.new.items
+        ≡ text.old.items ++ (decimal seen ++ (codes " of " ++ counted count noun.now))) }
+{
+    let words = format!(in alloc; "{seen} of ")?;
+    text.extend_from_slice(words.as_bytes())?;
+    push_counted(alloc, count, noun, text)
+}
+
+/// Appends how many of the places and ways plays of this many logs saw.
 pub fn push_seen_words(
     alloc: Global,
     counts: SeenCounts,
@@ -34,18 +66,11 @@ pub fn push_seen_words(
         taken,
         ways,
     } = counts;
-    let words = format!(in alloc;
-        "{visited} of {places} places, {taken} of {ways} ways in {logs} logs"
-    )?;
-    text.extend_from_slice(words.as_bytes())
-}
-
-fn push_count_words(alloc: Global, counts: SeenCounts, text: &mut Vec<u8>) -> Result<(), AllocError>
-    ensures { OnOk result (text.new.items ≡ text.old.items ++ count_words counts) }
-{
-    let SeenCounts { places, ways, .. } = counts;
-    let words = format!(in alloc; "{places} places, {ways} ways")?;
-    text.extend_from_slice(words.as_bytes())
+    push_seen(alloc, visited, places, "place", text)?;
+    text.extend_from_slice(b", ")?;
+    push_seen(alloc, taken, ways, "way", text)?;
+    text.extend_from_slice(b" in ")?;
+    push_counted(alloc, logs, "log", text)
 }
 
 fn push_title_of_map(
@@ -57,9 +82,27 @@ fn push_title_of_map(
     ensures { OnOk result (text.new.items ≡ text.old.items ++ title_of_map counts logs) }
 {
     if logs == 0 {
-        return push_count_words(alloc, counts, text);
+        let SeenCounts { places, ways, .. } = counts;
+        push_counted(alloc, places, "place", text)?;
+        text.extend_from_slice(b", ")?;
+        return push_counted(alloc, ways, "way", text);
     }
     push_seen_words(alloc, counts, logs, text)
+}
+
+/// Appends that places at most this many ways from one are drawn.
+fn push_distance(
+    alloc: Global,
+    ways: usize,
+    place: u16,
+    text: &mut Vec<u8>,
+) -> Result<(), AllocError>
+    ensures { OnOk result (text.new.items ≡ text.old.items ++ distance_words ways place) }
+{
+    text.extend_from_slice(b"<BR/>drawn: at most ")?;
+    push_counted(alloc, ways, "way", text)?;
+    let words = format!(in alloc; " from place {place}")?;
+    text.extend_from_slice(words.as_bytes())
 }
 
 /// Appends which places are drawn, if not all are.
@@ -70,18 +113,17 @@ fn push_around_words(
 ) -> Result<(), AllocError>
     ensures { OnOk result (text.new.items ≡ text.old.items ++ around_words around) }
 {
-    let Some(Region { place, ways }) = around else {
-        return Ok(());
-    };
-    let words = format!(in alloc; "<BR/>drawn: at most {ways} ways from place {place}")?;
-    text.extend_from_slice(words.as_bytes())
+    match around {
+        Some(Region { place, ways }) => push_distance(alloc, ways as usize, place, text),
+        None => Ok(()),
+    }
 }
 
 fn seen_only_words(seen: bool) -> &'static str
     ensures { result.now ≡ seen_only_words seen }
 {
     if seen {
-        "<BR/>drawn: what the logs saw"
+        "<BR/>drawn: what was seen"
     } else {
         ""
     }

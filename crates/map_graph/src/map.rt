@@ -1,15 +1,15 @@
 //! The map of a cave, and the counts of what plays saw of it.
 
-ghost use Rattle.std.specs.Prelude.{◌≡◌, ◌≤◌, ◌++◌, All, OnOk, length};
-ghost use Rattle.std.specs.List.{filter, flat_map, sum_by};
+ghost use Rattle.std.specs.Prelude.{◌≡◌, ◌≤◌, ◌++◌, All, IfOk, OnOk, length};
+ghost use Rattle.std.specs.List.{flat_map};
 ghost use Rattle.base_lines.specs.Numbers as defined;
 ghost use Rattle.map_graph.specs.Edges.{edges};
-ghost use Rattle.map_graph.specs.Map.{ends_taken, graph_opening, labels_opening};
-ghost use Rattle.map_graph.specs.Map.{map_of_places, nodes_and_edges, seen_counts, sums};
+ghost use Rattle.map_graph.specs.Map.{count_taken, count_ways, counts_around, ends_taken};
+ghost use Rattle.map_graph.specs.Map.{graph_opening, labels_opening, map_of_places};
+ghost use Rattle.map_graph.specs.Map.{nodes_and_edges, places_visited, seen_counts, sums};
 ghost use Rattle.map_graph.specs.Parts.{drawn_places};
 ghost use Rattle.map_graph.specs.Places.{node};
-ghost use Rattle.map_graph.specs.Stops.{is_visited};
-ghost use Rattle.map_ways.specs.Ways.{ends_of_ways, mapped_places};
+ghost use Rattle.map_ways.specs.Ways.{mapped_places};
 
 use crate::captions::{SeenCounts, push_caption, push_seen_words};
 use crate::edges::push_edges;
@@ -19,7 +19,7 @@ use crate::sights::Sights;
 use crate::stops::{Stop, is_visited, is_way_taken};
 use base_lines::numbers::LAST_PLACE;
 use cave_data::Cave;
-use map_ways::{count_ends_of_ways, is_way, mapped_places};
+use map_ways::{count_ends_among, is_one_of, is_way, mapped_places, places_around};
 use std::alloc::{AllocError, Global};
 
 /// Appends how the graph begins.
@@ -95,8 +95,9 @@ fn push_nodes_and_edges(
 }
 
 /// How many of these places plays were at.
+#[tactic(auto, unfolding(crate::specs::Map::places_visited))]
 fn count_visited(cave: &Cave, stops: &[Stop], places: &[u16]) -> usize
-    ensures { result ≡ length (filter (is_visited cave.now stops.now) places.now) }
+    ensures { result ≡ length (places_visited cave.now stops.now places.now) }
 {
     places
         .iter()
@@ -104,45 +105,62 @@ fn count_visited(cave: &Cave, stops: &[Stop], places: &[u16]) -> usize
         .count()
 }
 
-/// How many ends of ways from a place plays reached by these.
-#[tactic(auto, unfolding(crate::specs::Map::ends_taken, map_ways::specs::Ways::ends_of_ways, map_ways::specs::Ways::place_numbers))]
-fn count_ends_taken(cave: &Cave, stops: &[Stop], from: u16) -> usize
-    ensures value { result ≡ length (ends_taken cave.now stops.now from) }
+/// To how many of these places plays took a way from one.
+#[tactic(auto, unfolding(crate::specs::Map::ends_taken, map_ways::specs::Regions::ends_among, map_ways::specs::Ways::ends_of_ways, map_ways::specs::Ways::place_numbers))]
+fn count_ends_taken(cave: &Cave, stops: &[Stop], places: &[u16], from: u16) -> usize
+    ensures value { result ≡ length (ends_taken cave.now stops.now places.now from) }
     ensures within { result ≤ defined.LAST_PLACE }
 {
     (1..LAST_PLACE + 1)
         .filter(|to| is_way(cave, from, *to))
+        .filter(|to| is_one_of(places, *to))
         .filter(|to| is_way_taken(cave, stops, from, *to))
         .count()
 }
 
-/// How many ways from these places plays took, and how many there are.
+/// How many ways between these places plays took, and how many there are.
+#[tactic(auto, unfolding(crate::specs::Map::count_taken, crate::specs::Map::count_ways))]
 fn count_taken_and_all(cave: &Cave, stops: &[Stop], places: &[u16]) -> (usize, usize)
     requires { length places.now ≤ defined.LAST_PLACE }
-    ensures taken { result.0
-        ≡ sum_by (λ from. length (ends_taken cave.now stops.now from)) places.now }
-    ensures all { result.1 ≡ sum_by (λ from. length (ends_of_ways cave.now from)) places.now }
+    ensures taken { result.0 ≡ count_taken cave.now stops.now places.now }
+    ensures all { result.1 ≡ count_ways cave.now places.now }
 {
     let (mut taken, mut all) = (0, 0);
     for from in places {
-        taken += count_ends_taken(cave, stops, *from);
-        all += count_ends_of_ways(cave, *from);
+        taken += count_ends_taken(cave, stops, places, *from);
+        all += count_ends_among(cave, places, *from);
     }
     (taken, all)
 }
 
-/// How many of a cave's places and ways plays saw.
-fn seen_counts(cave: &Cave, stops: &[Stop], mapped: &[u16]) -> SeenCounts
-    requires { mapped.now ≡ mapped_places cave.now }
-    ensures { result ≡ seen_counts cave.now stops.now }
+/// How many of these places, and of the ways between them, plays saw.
+#[tactic(auto, unfolding(crate::specs::Map::seen_counts))]
+fn seen_counts(cave: &Cave, stops: &[Stop], places: &[u16]) -> SeenCounts
+    requires { length places.now ≤ defined.LAST_PLACE }
+    ensures { result ≡ seen_counts cave.now stops.now places.now }
 {
-    let (taken, ways) = count_taken_and_all(cave, stops, mapped);
+    let (taken, ways) = count_taken_and_all(cave, stops, places);
     SeenCounts {
-        visited: count_visited(cave, stops, mapped),
-        places: mapped.len(),
+        visited: count_visited(cave, stops, places),
+        places: places.len(),
         taken,
         ways,
     }
+}
+
+/// How many of the places around one, or of all, plays saw.
+fn counts_around(
+    alloc: Global,
+    cave: &Cave,
+    mapped: &[u16],
+    stops: &[Stop],
+    part: DrawnPart,
+) -> Result<SeenCounts, AllocError>
+    requires { mapped.now ≡ mapped_places cave.now }
+    ensures { IfOk result (λ counts. counts ≡ counts_around cave.now mapped.now stops.now part) }
+{
+    let places = places_around(alloc, cave, mapped, part.around)?;
+    Ok(seen_counts(cave, stops, &places))
 }
 
 /// Appends the line that sums up what plays saw, if there were logs.
@@ -200,7 +218,7 @@ fn push_map_of_places(
     ensures { OnOk result (text.new.items
         ≡ text.old.items ++ map_of_places cave.now stops.now drawn.0 drawn.1) }
 {
-    let counts = seen_counts(cave, stops, mapped);
+    let counts = counts_around(alloc, cave, mapped, stops, drawn.0)?;
     push_graph_opening(text)?;
     push_caption(alloc, counts, drawn.1, drawn.0, text)?;
     push_drawn_nodes_and_edges(alloc, cave, mapped, stops, drawn, text)?;

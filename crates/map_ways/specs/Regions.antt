@@ -3,7 +3,7 @@ use Rattle.std.specs.Prelude.{◌≡◌, ◌≤◌, ℕ, zero, suc, Bool, true, 
 use Rattle.std.specs.Prelude.{List, [], ◌∷◌, Option, None, Some}
 use Rattle.std.specs.List.{filter, list_any}
 use Rattle.cave_data.specs.CaveView.{CaveView}
-use Rattle.map_ways.specs.Ways.{is_way}
+use Rattle.map_ways.specs.Ways.{ends_of_ways, is_way}
 use Rattle.map_ways.specs.declared.regions.Region.{Region}
 
 abbrev pub is_one_of : List ℕ → ℕ → Bool
@@ -28,6 +28,10 @@ places_within cave mapped from (suc ways) =
 abbrev pub places_around : CaveView → List ℕ → Option Region → List ℕ
 places_around cave mapped None = mapped
 places_around cave mapped (Some around) = places_within cave mapped around.place around.ways
+
+-- the places, of some, to which ways lead from one
+unfoldable pub ends_among : CaveView → List ℕ → ℕ → List ℕ
+ends_among cave places from = filter (is_one_of places) (ends_of_ways cave from)
 
 -- a walk by ways from one place to another, all of whose places are on the map: the places that it
 -- passes, the last of them first

@@ -12,8 +12,7 @@ pub mod ways;
 
 pub use falls::motions_taking;
 pub use labels::push_label;
-pub use regions::{Region, is_one_of, places_around};
+pub use regions::{Region, count_ends_among, is_one_of, places_around};
 pub use ways::{
-    are_joined, count_ends_of_ways, count_nowhere, ends_at, ends_of_edges, is_way, leads_by,
-    mapped_places,
+    are_joined, count_nowhere, ends_at, ends_of_edges, is_mapped, is_way, leads_by, mapped_places,
 };

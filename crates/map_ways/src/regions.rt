@@ -1,11 +1,13 @@
 //! The places within some ways of one.
 
-ghost use Rattle.std.specs.Prelude.{◌≡◌, ◌==◌, IfOk};
+ghost use Rattle.std.specs.Prelude.{◌≡◌, ◌≤◌, ◌==◌, IfOk, length};
 ghost use Rattle.std.specs.List.{filter};
-ghost use Rattle.map_ways.specs.Regions.{is_led_to, is_one_of, is_way_on, places_around};
+ghost use Rattle.base_lines.specs.Numbers as defined;
+ghost use Rattle.map_ways.specs.Regions.{ends_among, is_led_to, is_one_of, is_way_on, places_around};
 ghost use Rattle.map_ways.specs.Regions.{places_within};
 
 use crate::ways::is_way;
+use base_lines::numbers::LAST_PLACE;
 use cave_data::Cave;
 use std::alloc::{AllocError, Global};
 
@@ -97,4 +99,16 @@ pub fn places_around(
         None => Vec::from_slice(alloc, mapped),
         Some(Region { place, ways }) => places_within(alloc, cave, mapped, place, ways),
     }
+}
+
+/// To how many of these places ways lead from one.
+#[tactic(auto, unfolding(crate::specs::Regions::ends_among, crate::specs::Ways::ends_of_ways, crate::specs::Ways::place_numbers))]
+pub fn count_ends_among(cave: &Cave, places: &[u16], from: u16) -> usize
+    ensures value { result ≡ length (ends_among cave.now places.now from) }
+    ensures within { result ≤ defined.LAST_PLACE }
+{
+    (1..LAST_PLACE + 1)
+        .filter(|to| is_way(cave, from, *to))
+        .filter(|to| is_one_of(places, *to))
+        .count()
 }

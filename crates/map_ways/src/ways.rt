@@ -6,7 +6,7 @@ ghost use Rattle.base_lines.specs.Numbers as defined;
 ghost use Rattle.data_rows.specs.RowViews.{going};
 ghost use Rattle.map_ways.specs.Leads.{emerald_of};
 ghost use Rattle.map_ways.specs.Ways.{are_joined, begins_edge, count_nowhere, ends_at};
-ghost use Rattle.map_ways.specs.Ways.{ends_of_edges, ends_of_ways, has_way, is_mapped, is_row_to};
+ghost use Rattle.map_ways.specs.Ways.{ends_of_edges, has_way, is_mapped, is_row_to};
 ghost use Rattle.map_ways.specs.Ways.{is_way, lead_to, leads_by, leads_nowhere, mapped_places};
 
 use crate::falls::is_reached;
@@ -72,7 +72,8 @@ fn has_way(cave: &Cave, place: u16) -> bool
     (1..LAST_PLACE + 1).any(|other| are_joined(cave, place, other))
 }
 
-fn is_mapped(cave: &Cave, place: u16) -> bool
+/// Whether a place is on the map: it has a text, or a way.
+pub fn is_mapped(cave: &Cave, place: u16) -> bool
     ensures { result ≡ is_mapped cave.now place }
 {
     cave.long(place).is_some() || cave.short(place).is_some() || has_way(cave, place)
@@ -86,17 +87,6 @@ pub fn mapped_places(alloc: Global, cave: &Cave) -> Result<Vec<u16>, AllocError>
     (1..LAST_PLACE + 1)
         .filter(|place| is_mapped(cave, *place))
         .collect(alloc)
-}
-
-/// To how many places ways lead from a place.
-#[tactic(auto, unfolding(crate::specs::Ways::ends_of_ways, crate::specs::Ways::place_numbers))]
-pub fn count_ends_of_ways(cave: &Cave, from: u16) -> usize
-    ensures value { result ≡ length (ends_of_ways cave.now from) }
-    ensures within { result ≤ defined.LAST_PLACE }
-{
-    (1..LAST_PLACE + 1)
-        .filter(|to| is_way(cave, from, *to))
-        .count()
 }
 
 fn leads_nowhere(row: &Row) -> bool

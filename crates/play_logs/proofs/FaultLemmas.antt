@@ -10,7 +10,7 @@ use Rattle.cave_play.specs.Run as stage
 use Rattle.cave_play.specs.Stages.{log_stage}
 use Rattle.cave_play.specs.declared.fault.PlayFault.{PlayFault}
 use Rattle.cave_play.proofs.InputLemmas.{Says-some}
-use Rattle.cave_play.proofs.StageLemmas.{IsFoundIn-memory}
+use Rattle.cave_play.proofs.StageLemmas.{IsFoundIn-memory, neither}
 use Rattle.play_logs.specs.Faults.{AreValidLogs, IsFoundFrom, IsFoundInLogs, RunsLogs, at_log}
 use Rattle.play_logs.specs.declared.fault.LogsFault.{LogsFault}
 
@@ -123,3 +123,14 @@ RunsLogs-after stage first logs P old new (Err found) never (inr (inl (at, there
     inr (inl (at, inr (never, there)), kept)
 RunsLogs-after stage first logs P old new (Err found) never (inr (inr (none, there), kept)) =
     inr (inr (after_stage stage first never none, there), kept)
+
+-- a run after stages that decide no fault
+pub RunsLogs-behind : {X : Type 0} (first later : List Stage) (logs : List (List ℕ))
+    (P : X → List ℕ → Type 0) (old new : Option (List ℕ)) (r : Result X LogsFault)
+    → first_decided first ≡ None
+    → RunsLogs later logs P old new r → RunsLogs (first ++ later) logs P old new r
+RunsLogs-behind [] later logs P old new r none runs = runs
+RunsLogs-behind (stage ∷ first) later logs P old new r none runs =
+    let (here, rest) = neither stage.decides (first_decided first) none in
+    RunsLogs-after stage (first ++ later) logs P old new r here
+    (RunsLogs-behind first later logs P old new r rest runs)

@@ -2,16 +2,19 @@
 
 ghost use Rattle.std.specs.Prelude.{◌≡◌, ℕ, List, [], None, map};
 ghost use Rattle.std.specs.List.{AllZip};
+ghost use Rattle.cave_play.specs.Doubted.{IsReadOf};
 ghost use Rattle.cave_play.specs.Input.{Says};
 ghost use Rattle.cave_play.specs.Judge.{large_seed};
-ghost use Rattle.play_logs.specs.Faults.{JudgesLogs, RunsLogs, first_stages, IsReported, games_of};
+ghost use Rattle.cave_play.specs.Run.{Judges};
+ghost use Rattle.play_logs.specs.Faults.{IsReportOn, IsReported, JudgesLogs, RunsLogs};
+ghost use Rattle.play_logs.specs.Faults.{first_stages, games_of};
 
 use crate::fault::LogsFault;
 use crate::notes::PlayNotes;
 use crate::plays::note_logs;
-use cave_play::CaveReaders;
 use cave_play::judge::{ReadCave, check_seed, read_texts};
 use cave_play::output::write_output;
+use cave_play::{CaveReaders, PlayFault};
 use cave_words::Lexicon;
 use play_machine::CaveMachine;
 use std::alloc::Global;
@@ -35,12 +38,45 @@ pub fn run_logs<N: PlayNotes, C: Read, B: Read, L: Read, W: Write>(
         (IsReported N.report_on N.found_on database bindings moves seed view.now)
         (W.contents output.old) (W.contents output.new) result }
 {
-    check_seed(seed)?;
-    let read = read_texts(alloc, cave)?;
-    let made = report_in_cave::<N, L>(alloc, &read, logs, seed, view);
+    let read = read_for_logs(alloc, cave, seed)?;
+    let ended = report_logs::<N, L, W>(alloc, &read, logs, seed, view, output);
     // By a call, as in other runs, so the checker goes through the tables of a cave in one place.
     drop(read);
-    let reported = made?;
+    ended
+}
+
+/// Judges the seed with which logs are played, and reads their cave.
+pub fn read_for_logs<C: Read, B: Read>(
+    alloc: Global,
+    cave: &mut CaveReaders<C, B>,
+    seed: u32,
+) -> Result<ReadCave, PlayFault>
+    ensures judged { (database : List ℕ) × (bindings : List ℕ)
+        × Says (C.remaining cave.old.database) database
+        × Says (B.remaining cave.old.bindings) bindings
+        × Judges (first_stages database bindings seed) (IsReadOf database bindings) result }
+{
+    check_seed(seed)?;
+    read_texts(alloc, cave)
+}
+
+/// Plays logs in a cave, and writes the report on what is noted of their plays, once it is whole.
+/// Returns what is found with the report.
+pub fn report_logs<N: PlayNotes, L: Read, W: Write>(
+    alloc: Global,
+    read: &ReadCave,
+    logs: &mut [L],
+    seed: u32,
+    view: &N::View,
+    output: &mut W,
+) -> Result<N::Found, LogsFault>
+    requires { large_seed seed ≡ None }
+    ensures runs { (moves : List (List ℕ)) × AllZip Says (map L.remaining logs.old) moves
+        × RunsLogs [] moves (IsReportOn N.report_on N.found_on read.now.database.items
+        read.now.cave view.now (games_of seed moves))
+        (W.contents output.old) (W.contents output.new) result }
+{
+    let reported = report_in_cave::<N, L>(alloc, read, logs, seed, view)?;
     write_output(output, &reported.text)?;
     Ok(reported.found)
 }

@@ -7,15 +7,16 @@ use Rattle.cave_data.specs.CaveView.{CaveView}
 use Rattle.map_graph.specs.Captions.{caption}
 use Rattle.map_graph.specs.Edges.{MAX_EDGES_WITH_TEXT, drawn_edge, edge, edges, is_crowded}
 use Rattle.map_graph.specs.Edges.{is_drawn_between, is_shown, labelled_edge, plain_edge}
-use Rattle.map_graph.specs.Map.{count_taken, drawing, ends_taken, graph_opening, labels_opening}
+use Rattle.map_graph.specs.Map.{count_taken, drawing, ends_taken, graph_opening}
+use Rattle.map_graph.specs.Map.{labels_opening}
 use Rattle.map_graph.specs.Map.{map_of_places, nodes_and_edges, places_visited, seen_counts, sums}
-use Rattle.map_ways.specs.Regions.{is_one_of, places_around}
+use Rattle.map_ways.specs.Regions.{ends_among, is_one_of, places_around}
 use Rattle.map_graph.specs.Parts.{drawn_places}
 use Rattle.map_graph.specs.Places.{node, node_text, stay_text}
 use Rattle.map_graph.specs.Stops.{is_way_taken, is_visited, visits}
 use Rattle.map_graph.specs.declared.parts.DrawnPart.{DrawnPart}
 use Rattle.map_graph.specs.declared.stops.Stop.{Stop}
-use Rattle.map_ways.specs.Ways.{are_joined, ends_of_edges, ends_of_ways, mapped_places}
+use Rattle.map_ways.specs.Ways.{are_joined, ends_of_edges, mapped_places}
 
 agree_filter : {X : Type 0} (p q : X → Bool) (xs : List X) → ((x : X) → p x ≡ q x)
     → filter p xs ≡ filter q xs
@@ -66,28 +67,32 @@ module _ (cave : CaveView) (stops others : List Stop)
       (drawn_edge cave others logs seen places from) (ends_of_edges cave from)
       (agree_drawn logs seen places from)
 
-  agree_visited : places_visited cave stops ≡ places_visited cave others
+  agree_visited : (places : List ℕ)
+      → places_visited cave stops places ≡ places_visited cave others places
   unfolding places_visited
-  agree_visited =
-      agree_filter (is_visited cave stops) (is_visited cave others) (mapped_places cave) visited
+  agree_visited places =
+      agree_filter (is_visited cave stops) (is_visited cave others) places visited
 
-  agree_taken : (from : ℕ) → ends_taken cave stops from ≡ ends_taken cave others from
+  agree_taken : (places : List ℕ) (from : ℕ)
+      → ends_taken cave stops places from ≡ ends_taken cave others places from
   unfolding ends_taken
-  agree_taken from =
+  agree_taken places from =
       agree_filter (is_way_taken cave stops from) (is_way_taken cave others from)
-      (ends_of_ways cave from)
+      (ends_among cave places from)
       (taken from)
 
-  agree_count : count_taken cave stops ≡ count_taken cave others
+  agree_count : (places : List ℕ)
+      → count_taken cave stops places ≡ count_taken cave others places
   unfolding count_taken
-  agree_count =
-      agree_sum (λ from. length (ends_taken cave stops from))
-      (λ from. length (ends_taken cave others from)) (mapped_places cave)
-      (λ from. ap length (agree_taken from))
+  agree_count places =
+      agree_sum (λ from. length (ends_taken cave stops places from))
+      (λ from. length (ends_taken cave others places from)) places
+      (λ from. ap length (agree_taken places from))
 
-  agree_counts : seen_counts cave stops ≡ seen_counts cave others
+  agree_counts : (places : List ℕ)
+      → seen_counts cave stops places ≡ seen_counts cave others places
   unfolding seen_counts
-  agree_counts = rw (agree_visited, agree_count) refl
+  agree_counts places = rw (agree_visited places, agree_count places) refl
 
   agree_places : (part : DrawnPart) (mapped : List ℕ)
       → drawn_places cave stops part mapped ≡ drawn_places cave others part mapped
@@ -110,7 +115,8 @@ module _ (cave : CaveView) (stops others : List Stop)
       → drawing cave mapped stops part logs ≡ drawing cave mapped others part logs
   unfolding drawing
   agree_drawing mapped part logs =
-      ap₂ (λ counts lines. caption counts logs part ++ lines) agree_counts
+      ap₂ (λ counts lines. caption counts logs part ++ lines)
+      (agree_counts (places_around cave mapped part.around))
       (ap (nodes_and_edges cave mapped stops logs part.seen) (agree_places part mapped)
       ∙ agree_parts mapped logs part.seen (drawn_places cave others part mapped))
 
@@ -119,4 +125,5 @@ module _ (cave : CaveView) (stops others : List Stop)
   unfolding map_of_places
   agree_map part logs =
       ap₂ (λ lines counts. graph_opening ++ (lines ++ (codes "}\n" ++ sums counts logs)))
-      (agree_drawing (mapped_places cave) part logs) agree_counts
+      (agree_drawing (mapped_places cave) part logs)
+      (agree_counts (places_around cave (mapped_places cave) part.around))

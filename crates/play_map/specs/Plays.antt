@@ -1,9 +1,11 @@
 -- The stops of the plays of logs, and the map with what they saw.
-use Rattle.std.specs.Prelude.{◌≡◌, ℕ, List, [], ◌∷◌, length}
+use Rattle.std.specs.Prelude.{◌≡◌, ℕ, List, [], ◌∷◌, ◌++◌, length, Option, Result}
 use Rattle.std.specs.List.{flat_map}
 use Rattle.std.specs.Str.Lines.{lines}
 use Rattle.cave_data.specs.CaveView.{CaveView}
 use Rattle.cave_data.specs.Reads.{Reads}
+use Rattle.play_logs.specs.Faults.{RunsLogs, first_stages}
+use Rattle.play_logs.specs.declared.fault.LogsFault.{LogsFault}
 use Rattle.play_machine.specs.Moments.{Moment, noted_of}
 use Rattle.cave_world.specs.declared.part.Part.{Part}
 use Rattle.cave_world.specs.declared.state.State.{State}
@@ -11,11 +13,12 @@ use Rattle.replay_edits.specs.Edit.{Game, game_of}
 use Rattle.map_graph.specs.Map.{map_of_places}
 use Rattle.map_graph.specs.Stops.{ways_by_rows}
 use Rattle.play_command.specs.declared.map_part.MapPart.{MapPart}
-use Rattle.play_map.specs.Parts.{drawn_part}
+use Rattle.play_map.specs.Parts.{drawn_part, place_stage}
 use Rattle.map_graph.specs.declared.stops.Stop.{Stop}
 use Rattle.map_graph.specs.declared.stops.Stop.TheVariants.{InState}
 use Rattle.std.specs.List.Sorted.{IsPermutation}
 use Rattle.cave_play.specs.Run.{AtMostOne}
+use Rattle.cave_play.specs.Stages.{Stage}
 
 -- the stops of a line: the state after it, and the ways by which the player went
 abbrev pub stops_at : Moment → List Stop
@@ -52,6 +55,20 @@ map_text cave seed part logs =
 abbrev pub IsMapped : List ℕ → List ℕ → List (List ℕ) → ℕ → MapPart → List ℕ → Type 0
 IsMapped database bindings logs seed part output =
     (cave : CaveView) × Reads database bindings cave × (output ≡ map_text cave seed part logs)
+
+-- the stage judges the place in the middle of a part, in the cave of the database and its bindings
+abbrev pub JudgesPlace : List ℕ → List ℕ → MapPart → Stage → Type 0
+JudgesPlace database bindings part judges =
+    (cave : CaveView) → Reads database bindings cave → judges ≡ place_stage cave part
+
+-- what a run leaves that draws a map: after the cave the place in the middle is judged, and then
+-- the logs are
+abbrev pub RunsMap : List ℕ → List ℕ → List (List ℕ) → ℕ → MapPart
+    → Option (List ℕ) → Option (List ℕ) → Result (Unit {0}) LogsFault → Type 0
+RunsMap database bindings logs seed part old new ended =
+    (judges : Stage) → JudgesPlace database bindings part judges
+    → RunsLogs (first_stages database bindings seed ++ judges ∷ []) logs
+    (λ _. IsMapped database bindings logs seed part) old new ended
 
 -- the order of the logs changes no byte of a map
 abbrev pub OrderOfLogsIsNothing : Type 0

@@ -22,7 +22,7 @@ fn complaint_of(alloc: Global, fault: PlayFault) -> Result<String, AllocError> {
 }
 
 /// Faults, the status of each, and the line that is printed.
-const FAULTS: [(PlayFault, u8, &str); 16] = [
+const FAULTS: [(PlayFault, u8, &str); 17] = [
     (
         PlayFault::Cave(
             CaveError {
@@ -41,6 +41,11 @@ const FAULTS: [(PlayFault, u8, &str); 16] = [
         "cave: a.known: the list of what is known is larger than 1,048,576 bytes",
     ),
     (PlayFault::Unshown(3), 1, "cave: 3 left that no log shows"),
+    (
+        PlayFault::Unmapped(77),
+        2,
+        "cave: a.txt: place 77 isn't on the map: it has no text, and no way leads to it or from it",
+    ),
     (PlayFault::Seed, 2, "cave: a seed is at most 2147483647"),
     (
         PlayFault::Every,

@@ -1,6 +1,6 @@
 use Rattle.std.proofs.Common.{◌≡◌, ℕ, List, ◌++◌, OnOk, subst, ap, ◌∙◌, append_assoc}
 use Rattle.map_graph.specs.Captions.{caption}
-use Rattle.map_graph.specs.Map.{drawing, map_of_places, nodes_and_edges, sums}
+use Rattle.map_graph.specs.Map.{counts_around, drawing, map_of_places, nodes_and_edges, sums}
 use Rattle.map_graph.specs.Parts.{drawn_places}
 use Rattle.map_graph.proofs.map.push_map_of_places.Goals as goal
 
@@ -24,7 +24,8 @@ returns c =
     let logs = c.args.drawn.1 in
     let first = c.push_graph_opening.new.text.items in
     let second = c.push_caption.new.text.items in
-    let counts = c.seen_counts-counts.ensures in
+    let counts = c.in_ok-counts.ensures
+    ∙ ap (λ mapped. counts_around cave mapped stops part) c.requires in
     let draw = λ (mapped : List ℕ). nodes_and_edges cave mapped stops logs part.seen
     (drawn_places cave stops part mapped) in
     subst (λ text. OnOk c.push_sums.result (c.push_sums.new.text.items ≡ text))
