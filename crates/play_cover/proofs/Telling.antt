@@ -53,11 +53,11 @@ pub covered-reported : (database bindings : List ℕ) (logs : List (List ℕ)) (
     (asked view : CoverView) (listed known : KnownEntries) (left : ℕ) (output : List ℕ)
     → asked ≡ view → known ≡ listed
     → ((cave : CaveView) × Reads database bindings cave
-    × (output ≡ report_on_games view known database cave (games_of seed logs))
-    × (left ≡ left_in_games view known database cave (games_of seed logs)))
+    × ((output ≡ report_on_games view known database cave (games_of seed logs))
+    × (left ≡ left_in_games view known database cave (games_of seed logs))))
     → IsCovered database bindings listed logs seed asked left output
 covered-reported database bindings logs seed asked view listed known left output is same
-    (cave, reads, told, found) = (
+    (cave, reads, (told, found)) = (
       cave,
       reads,
       told ∙ games_reported view known database cave seed logs

@@ -1,5 +1,5 @@
 -- The report on things of several groups, some of which are covered.
-use Rattle.std.specs.Prelude.{ℕ, Bool, not, List, [], ◌∷◌, ◌++◌, length, codes}
+use Rattle.std.specs.Prelude.{ℕ, ◌==◌, Bool, not, if◌then◌else◌, List, [], ◌∷◌, ◌++◌, length, codes}
 use Rattle.std.specs.Fmt.{decimal}
 use Rattle.std.specs.List.{filter, flat_map, sum_by}
 use Rattle.play_cover.specs.Known.{KnownEntries, is_known}
@@ -19,6 +19,14 @@ pub record Catalogue (Group : Type 0) : Type 0 where
   pub name : Group → ℕ → List ℕ
   pub indent : List ℕ
   pub words : Group → ℕ → List ℕ
+
+-- the word for this many logs
+abbrev pub logs_word : ℕ → List ℕ
+logs_word logs = if logs == 1 then codes "log" else codes "logs"
+
+-- how the last line of a report on this many logs ends
+abbrev pub in_logs : ℕ → List ℕ
+in_logs logs = codes " in " ++ (decimal logs ++ (codes " " ++ (logs_word logs ++ codes "\n")))
 
 module _ {Group : Type 0} (of : Catalogue Group) where
   -- the names of those that were never covered, if there are any

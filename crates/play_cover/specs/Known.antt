@@ -3,7 +3,7 @@ use Rattle.std.specs.Prelude.{ℕ, Bool, List, ◌++◌, codes}
 use Rattle.std.specs.List.{flat_map}
 use Rattle.std.specs.Str.Lines.{lines}
 use Rattle.base_lines.specs.Bytes.{after_prefix, is_blank}
-use Rattle.check_doubts.specs.Known.{has_line, unmet_lines}
+use Rattle.check_tables.specs.KnownLines.{has_line, unmet_lines}
 
 -- the name of the file of a list, and the list without the blanks that begin its lines
 pub record KnownEntries : Type 0 where

@@ -1,19 +1,19 @@
 -- The report on the rules, and on the travel rows of a cave, some of whose rows applied.
-use Rattle.std.specs.Prelude.{ℕ, ◌+◌, ◌*◌, Bool, List, ◌++◌, length, codes}
+use Rattle.std.specs.Prelude.{ℕ, ◌+◌, ◌*◌, Bool, true, List, ◌++◌, length, codes}
 use Rattle.std.specs.Fmt.{decimal}
 use Rattle.std.specs.List.{range_with_len}
 use Rattle.data_bindings.specs.declared.by_line.WayLine.{WayLine}
 use Rattle.cave_data.specs.CaveView.{CaveView}
 use Rattle.cave_world.specs.declared.tables.Table.{Table}
 use Rattle.play_cover.specs.Coverage.{Catalogue, all_entries, covered_count, groups_text}
-use Rattle.play_cover.specs.Coverage.{left_count, present_count}
+use Rattle.play_cover.specs.Coverage.{in_logs, left_count, present_count}
 use Rattle.play_cover.specs.EachTable.{tables}
 use Rattle.play_cover.specs.Known.{KnownEntries, unmet_text}
 use Rattle.play_cover.specs.RuleTables.{row_count, table_name, table_number}
 use Rattle.play_cover.specs.RuleTables.{words_of_row}
 use Rattle.check_tables.specs.TravelWords.{way_entries}
 use Rattle.play_cover.specs.TravelRows.{left_ways, missing_ways, travel_text}
-use Rattle.play_cover.specs.TravelRows.{ways_applied}
+use Rattle.play_cover.specs.TravelRows.{ways_noted}
 use Rattle.play_cover.specs.declared.coverage.Detail.TheVariants.{Both}
 use Rattle.play_cover.specs.declared.marks.Mark.{Mark}
 
@@ -43,7 +43,7 @@ abbrev pub row_sums : ℕ → ℕ → ℕ → ℕ → ℕ → List ℕ
 row_sums covered present taken all logs =
     codes "-- " ++ (decimal covered ++ (codes " of " ++ (decimal present
     ++ (codes " rows and " ++ (decimal taken ++ (codes " of " ++ (decimal all
-    ++ (codes " travel rows in " ++ (decimal logs ++ codes " logs\n")))))))))
+    ++ (codes " travel rows" ++ in_logs logs))))))))
 
 -- the entries of all rows that never applied
 abbrev pub row_entries : (Mark → Bool) → CaveView → List WayLine → List ℕ
@@ -58,7 +58,7 @@ module _ (is_covered : Mark → Bool) (cave : CaveView) (known : KnownEntries) w
       unmet_text known (row_entries is_covered cave ways)
       ++ (groups_text rule_rows is_covered known Both ++ (travel_text is_covered cave known ways
       ++ row_sums (covered_count rule_rows is_covered) (present_count rule_rows)
-      (length (ways_applied is_covered ways)) (length ways) logs))
+      (length (ways_noted is_covered true ways)) (length ways) logs))
 
   -- how many rows are left
   abbrev pub rows_left : List WayLine → ℕ

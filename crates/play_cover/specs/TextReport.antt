@@ -6,7 +6,7 @@ use Rattle.cave_data.specs.CaveView.{CaveView}
 use Rattle.play_command.specs.declared.views.TextView.{TextView}
 use Rattle.play_command.specs.declared.views.TextView.TheVariants as asked
 use Rattle.play_cover.specs.Coverage.{Catalogue, all_entries, covered_count, groups_text}
-use Rattle.play_cover.specs.Coverage.{left_count, present_count}
+use Rattle.play_cover.specs.Coverage.{in_logs, left_count, present_count}
 use Rattle.play_cover.specs.Known.{KnownEntries, unmet_text}
 use Rattle.check_tables.specs.TextKinds.{first_line_shown, heading_of_kind, kind_number, kinds}
 use Rattle.check_tables.specs.TextKinds.{name_of_text, text_at, word_of_kind}
@@ -45,7 +45,7 @@ detail_of asked.Texts = detail.Missing
 abbrev pub text_sums : ℕ → ℕ → ℕ → List ℕ
 text_sums covered present logs =
     codes "-- " ++ (decimal covered ++ (codes " of " ++ (decimal present
-    ++ (codes " texts in " ++ (decimal logs ++ codes " logs\n")))))
+    ++ (codes " texts" ++ in_logs logs))))
 
 module _ (cave : CaveView) (is_said : Mark → Bool) (known : KnownEntries) where
   -- which entries of the list no text is; then what the view asks for about each kind, or about

@@ -11,6 +11,7 @@ use Rattle.play_cover.specs.Known.{KnownEntries, is_known}
 use Rattle.play_cover.specs.RowMarks.{mark_of_row}
 use Rattle.play_cover.specs.declared.marks.Mark.{Mark}
 
+-- how many of all rows applied, and how many failed
 abbrev pub way_counts : ℕ → ℕ → ℕ → List ℕ
 way_counts applied all failed =
     codes "travel: " ++ (decimal applied ++ (codes " of " ++ (decimal all
@@ -21,40 +22,32 @@ abbrev pub unknown_ways : CaveView → KnownEntries → List WayLine → List Wa
 unknown_ways cave known ways = filter (λ way. not (is_known known (way_words cave way))) ways
 
 module _ (is_covered : Mark → Bool) where
-  -- a row was tried and applied
-  abbrev pub is_way_applied : WayLine → Bool
-  is_way_applied way = is_covered (mark_of_row (OfPlace way.place way.index true))
+  -- a row applied, or was tried and failed
+  abbrev pub is_way_noted : Bool → WayLine → Bool
+  is_way_noted applied way = is_covered (mark_of_row (OfPlace way.place way.index applied))
 
-  -- it was tried and failed
-  abbrev pub is_way_failed : WayLine → Bool
-  is_way_failed way = is_covered (mark_of_row (OfPlace way.place way.index false))
-
-  unfoldable pub ways_applied : List WayLine → List WayLine
-  ways_applied ways = filter is_way_applied ways
-
-  -- the rows that failed, some of which may also have applied
-  unfoldable pub ways_failed : List WayLine → List WayLine
-  ways_failed ways = filter is_way_failed ways
+  -- the rows that applied, or those that failed: some may be both
+  unfoldable pub ways_noted : Bool → List WayLine → List WayLine
+  ways_noted applied ways = filter (is_way_noted applied) ways
 
   unfoldable pub ways_missing : List WayLine → List WayLine
-  ways_missing ways = filter (λ way. not (is_way_applied way)) ways
+  ways_missing ways = filter (λ way. not (is_way_noted true way)) ways
 
   -- the line of the travel rows of a cave
   abbrev pub travel_line : List WayLine → List ℕ
   travel_line ways =
-      way_counts (length (ways_applied ways)) (length ways) (length (ways_failed ways))
+      way_counts (length (ways_noted true ways)) (length ways) (length (ways_noted false ways))
       ++ (never_taken (ways_missing ways) ++ codes "\n")
 
   -- whether the row was tried
   abbrev pub trial_words : WayLine → List ℕ
-  trial_words way = if is_way_failed way then codes ", failed  " else codes "  "
+  trial_words way = if is_way_noted false way then codes ", failed  " else codes "  "
 
-  -- what comes before the words of a row: its line in the database, and whether it was tried
-  abbrev pub way_indent : WayLine → List ℕ
-  way_indent way = codes "    line " ++ (decimal way.line ++ trial_words way)
-
+  -- its line in the database, whether it was tried, and its words
   abbrev pub way_line : CaveView → WayLine → List ℕ
-  way_line cave way = way_indent way ++ (way_words cave way ++ codes "\n")
+  way_line cave way =
+      codes "    line " ++ (decimal way.line
+      ++ (trial_words way ++ (way_words cave way ++ codes "\n")))
 
   -- the rows that never applied, by their places
   abbrev pub missing_ways : List WayLine → List WayLine

@@ -3,7 +3,7 @@
 ghost use Rattle.std.specs.Prelude.{◌≡◌, ◌≤◌, codes, [], ◌++◌, ◌^◌, length, IfOk, OnOk};
 ghost use Rattle.play_cover.specs.Coverage.{Catalogue, all_entries, covered, covered_count};
 ghost use Rattle.play_cover.specs.Coverage.{detail_text, entry_lines, groups_text, left};
-ghost use Rattle.play_cover.specs.Coverage.{left_count};
+ghost use Rattle.play_cover.specs.Coverage.{in_logs, left_count, logs_word};
 ghost use Rattle.play_cover.specs.Coverage.{line_with, missing, names, never, present_count};
 ghost use Rattle.play_cover.specs.Coverage.{left_of};
 ghost use Rattle.std.specs.List.{filter};
@@ -14,6 +14,22 @@ ghost use Rattle.play_cover.specs.Marks.{is_marked, mark};
 use crate::known::KnownList;
 use crate::marks::{Mark, MarkSet};
 use std::alloc::{AllocError, Global};
+
+/// The word for this many logs.
+fn logs_word(logs: usize) -> &'static str
+    ensures { result.now ≡ logs_word logs }
+{
+    if logs == 1 { "log" } else { "logs" }
+}
+
+/// Appends how the last line of a report on this many logs ends.
+pub fn push_in_logs(alloc: Global, logs: usize, text: &mut Vec<u8>) -> Result<(), AllocError>
+    ensures { OnOk result (text.new.items ≡ text.old.items ++ in_logs logs) }
+{
+    let word = logs_word(logs);
+    let ending = format!(in alloc; " in {logs} {word}\n")?;
+    text.extend_from_slice(ending.as_bytes())
+}
 
 /// Groups of things that may be covered.
 pub trait Groups {
@@ -335,24 +351,8 @@ pub fn push_groups<T: Groups>(
     Ok(totals)
 }
 
-/// The things of a group that aren't covered.
-#[tactic(auto, unfolding(crate::specs::Coverage::missing))]
-fn find_missing<T: Groups>(
-    alloc: Global,
-    of: &T,
-    marks: &MarkSet,
-    group: T::Group,
-) -> Result<Vec<u16>, AllocError>
-    ensures { IfOk result
-        (λ found. found.items ≡ missing (T.catalogue of.now) (is_marked marks.now) group) }
-{
-    let numbers = of.present(alloc, group)?;
-    let number = of.number(group);
-    let found = missing(alloc, marks, number, &numbers)?;
-    Ok(found)
-}
-
 /// Appends the entries of what isn't covered of a group, a line each.
+#[tactic(auto, unfolding(crate::specs::Coverage::missing))]
 fn push_missing_entry_lines<T: Groups>(
     alloc: Global,
     of: &T,
@@ -364,7 +364,9 @@ fn push_missing_entry_lines<T: Groups>(
         ++ entry_lines (T.catalogue of.now) [] group
         (missing (T.catalogue of.now) (is_marked marks.now) group)) }
 {
-    let found = find_missing(alloc, of, marks, group)?;
+    let numbers = of.present(alloc, group)?;
+    let number = of.number(group);
+    let found = missing(alloc, marks, number, &numbers)?;
     push_entries(alloc, of, "", group, &found, text)
 }
 

@@ -1,12 +1,11 @@
 //! The list of what is known never to be shown.
 
 ghost use Rattle.std.specs.Prelude.{◌≡◌, ◌++◌, IfOk, OnOk};
-ghost use Rattle.play_cover.specs.Known.{is_known, known_entries, line_without_blanks, unmet_text};
-ghost use Rattle.play_cover.specs.Known.{without_blanks};
+ghost use Rattle.play_cover.specs.Known.{is_known, known_entries, unmet_text, without_blanks};
 
 use base_lines::bytes::skip_blanks;
 use base_lines::split_line;
-use check_doubts::{has_line, push_unmet_lines};
+use check_tables::known_lines::{has_line, push_unmet_lines};
 use std::alloc::{AllocError, Global};
 use std::marker::Model;
 
@@ -26,14 +25,6 @@ impl Model for KnownList {
     ghost view = { λ known. record { file = string_bytes known.file; list = known.list.items } };
 }
 
-/// Appends a line without the blanks that begin it.
-fn push_line_without_blanks(line: &[u8], text: &mut Vec<u8>) -> Result<(), AllocError>
-    ensures { OnOk result (text.new.items ≡ text.old.items ++ line_without_blanks line.now) }
-{
-    text.extend_from_slice(skip_blanks(line))?;
-    text.extend_from_slice(b"\n")
-}
-
 /// The lines of a text without the blanks that begin them.
 #[tactic(auto, unfolding(crate::specs::Known::without_blanks))]
 fn without_blanks(alloc: Global, text: &[u8]) -> Result<Vec<u8>, AllocError>
@@ -42,7 +33,8 @@ fn without_blanks(alloc: Global, text: &[u8]) -> Result<Vec<u8>, AllocError>
     let mut list = Vec::new(alloc);
     let mut rest = text;
     while let Some((line, after)) = split_line(rest) {
-        push_line_without_blanks(line, &mut list)?;
+        list.extend_from_slice(skip_blanks(line))?;
+        list.extend_from_slice(b"\n")?;
         rest = after;
     }
     Ok(list)

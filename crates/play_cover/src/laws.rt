@@ -1,6 +1,7 @@
 //! Laws about the tables of the rules, and about what is written of the plays of logs. Each is the
 //! contract of a function that does nothing.
 
+ghost use Rattle.play_cover.specs.MoreLogs.{MoreLogsListNoMore};
 ghost use Rattle.play_cover.specs.Plays.{AgainIsNothing, OneCoveredOutput, OrderIsNothing};
 ghost use Rattle.play_cover.specs.RowCounts.{EachCountIsOfItsRows, EachCoveredRowIsThere};
 ghost use Rattle.play_cover.specs.RowMarks.{EachRowHasItsMark};
@@ -19,6 +20,12 @@ pub fn again_is_nothing()
 /// A database with its bindings, logs and a seed have at most one output.
 pub fn one_covered_output()
     ensures { OneCoveredOutput }
+{}
+
+/// What is listed as never said, applied or taken of logs and more of them is part of what is
+/// listed of the first.
+pub fn more_logs_list_no_more()
+    ensures { MoreLogsListNoMore }
 {}
 
 /// Rows with the same mark are the same row.

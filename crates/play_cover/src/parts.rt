@@ -1,6 +1,6 @@
 //! Which texts the parts of a play say.
 
-ghost use Rattle.std.specs.Prelude.{◌∷◌, [], OnOk};
+ghost use Rattle.std.specs.Prelude.{◌≡◌, ◌∷◌, [], OnOk};
 ghost use Rattle.std.specs.FinMap.{get};
 ghost use Rattle.cave_data.specs.CaveView.{class_of};
 ghost use Rattle.data_rows.specs.Role.{role_number};
@@ -8,14 +8,25 @@ ghost use Rattle.play_cover.specs.Marks.{Notes};
 ghost use Rattle.play_cover.specs.Texts.{class_said, look_said, message_said, text};
 ghost use Rattle.play_cover.specs.Texts.{said_by_part, said_by_all};
 
-use crate::marks::MarkSet;
-use crate::text::text_mark;
+use crate::marks::{Mark, MarkSet};
 use cave_data::Cave;
 use cave_world::Part;
 use check_tables::text_kinds::{PROPS_PER_OBJECT, TextKind};
 use data_rows::Role;
 use std::alloc::{AllocError, Global};
 use world_objects::Object;
+
+/// The mark of a text. It has the number of its place, its object, its message or its role, and a
+/// class that of its greatest score. The text of an object at a prop has a hundred times the number
+/// of the object and the prop, as in a database.
+fn text_mark(kind: TextKind, number: u16) -> Mark
+    ensures { result ≡ text kind number }
+{
+    Mark {
+        group: kind.number(),
+        number: number as usize,
+    }
+}
 
 fn note(alloc: Global, said: &mut MarkSet, kind: TextKind, number: u16) -> Result<(), AllocError>
     ensures { OnOk result (Notes (text kind number ∷ []) said.old said.new) }

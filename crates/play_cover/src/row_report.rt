@@ -5,12 +5,12 @@ ghost use Rattle.play_cover.specs.Known.{unmet_text};
 ghost use Rattle.play_cover.specs.Marks.{is_marked};
 ghost use Rattle.play_cover.specs.RowReport.{row_entries, row_report, row_sums, rows_left};
 
-use crate::coverage::{CoverTotals, Detail, Groups, push_all_entries, push_groups};
+use crate::coverage::{CoverTotals, Detail, Groups, push_all_entries, push_groups, push_in_logs};
 use crate::each_table::each_table;
 use crate::known::KnownList;
 use crate::marks::MarkSet;
 use crate::rule_tables::{row_count, table_name, table_number, words_of_row};
-use crate::travel_report::{count_applied_ways, missing_ways, push_travel};
+use crate::travel_report::{count_noted_ways, missing_ways, push_travel};
 use cave_data::Cave;
 use cave_world::Table;
 use check_tables::travel_words::push_way_entries;
@@ -91,10 +91,11 @@ fn push_row_sums(
         ≡ text.old.items ++ row_sums rows.covered rows.present taken all logs) }
 {
     let (covered, present) = (rows.covered, rows.present);
-    let closing = format!(in alloc;
-        "-- {covered} of {present} rows and {taken} of {all} travel rows in {logs} logs\n"
+    let counts = format!(in alloc;
+        "-- {covered} of {present} rows and {taken} of {all} travel rows"
     )?;
-    text.extend_from_slice(closing.as_bytes())
+    text.extend_from_slice(counts.as_bytes())?;
+    push_in_logs(alloc, logs, text)
 }
 
 /// The travel rows of a cave, with their lines in its database.
@@ -143,7 +144,7 @@ pub fn push_row_report(
     push_unmet_rows(alloc, noted, cave, known, ways, text)?;
     let rows = push_groups(alloc, &RuleTables, noted, known, Detail::Both, text)?;
     let left = push_travel(alloc, noted, cave, known, ways, text)?;
-    let taken = count_applied_ways(noted, ways);
+    let taken = count_noted_ways(noted, ways, true);
     push_row_sums(alloc, rows, taken, ways.len(), logs, text)?;
     Ok(rows.left + left)
 }

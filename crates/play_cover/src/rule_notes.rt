@@ -1,7 +1,10 @@
 //! Which rows apply in plays.
 
+ghost use Rattle.std.specs.Prelude.{OnOk, map};
+ghost use Rattle.play_cover.specs.Marks.{Notes};
+ghost use Rattle.play_cover.specs.RowMarks.{mark_of_row};
+
 use crate::known::KnownList;
-use crate::line_rows::note_rows;
 use crate::marks::MarkSet;
 use crate::row_report::{CaveWays, push_row_report};
 use crate::rule_tables::row_mark;
@@ -12,6 +15,16 @@ use play_logs::kept_rows::KeptRows;
 use play_logs::notes::PlayNotes;
 use play_machine::{Begun, SeenLine, Watch};
 use std::alloc::{AllocError, Global};
+
+/// Marks rows.
+pub fn note_rows(alloc: Global, rows: &[RuleRow], marks: &mut MarkSet) -> Result<(), AllocError>
+    ensures { OnOk result (Notes (map mark_of_row rows.now) marks.old marks.new) }
+{
+    for row in rows {
+        marks.note(alloc, row_mark(*row))?;
+    }
+    Ok(())
+}
 
 /// The rows that apply in plays, or are tried.
 #[derive(Drop)]

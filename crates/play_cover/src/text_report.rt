@@ -8,10 +8,9 @@ ghost use Rattle.play_cover.specs.TextReport.{cave_texts, detail_of, text_report
 ghost use Rattle.play_cover.specs.TextReport.{texts_left};
 
 use crate::cave_texts::CaveTexts;
-use crate::coverage::{Detail, Groups, push_all_entries, push_groups};
+use crate::coverage::{Detail, Groups, push_all_entries, push_groups, push_in_logs};
 use crate::known::KnownList;
 use crate::marks::MarkSet;
-use crate::text::NUMBERS;
 use check_tables::text_kinds::{
     KINDS, PROPS_PER_OBJECT, TextKind, heading_of_kind, name_at, push_first_line, text_at,
     word_of_kind,
@@ -19,6 +18,9 @@ use check_tables::text_kinds::{
 use data_rows::role::ROLE_NAMES;
 use play_command::TextView;
 use std::alloc::{AllocError, Global};
+
+/// One more than the greatest number that a text may have.
+const NUMBERS: usize = 10_000;
 
 /// What is asked about the texts of a cave: what is printed, and the list of what is known.
 #[derive(Drop)]
@@ -110,8 +112,9 @@ fn push_text_sums(
 ) -> Result<(), AllocError>
     ensures { OnOk result (text.new.items ≡ text.old.items ++ text_sums covered present logs) }
 {
-    let closing = format!(in alloc; "-- {covered} of {present} texts in {logs} logs\n")?;
-    text.extend_from_slice(closing.as_bytes())
+    let counts = format!(in alloc; "-- {covered} of {present} texts")?;
+    text.extend_from_slice(counts.as_bytes())?;
+    push_in_logs(alloc, logs, text)
 }
 
 /// Appends which entries of a list no text is that was never said.

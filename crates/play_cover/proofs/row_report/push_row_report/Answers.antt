@@ -23,6 +23,6 @@ returns-clause-told c =
     let before = c.in_ok-left.ensures.told ∙ ap (λ t. t ++ travel) first in
     c.in_ok-push_row_sums.ensures
     ∙ (λ i. before i ++ row_sums (rows.covered i) (rows.present i)
-    (c.count_applied_ways-taken.ensures i) (length ways) c.args.logs)
+    (c.count_noted_ways-taken.ensures i) (length ways) c.args.logs)
     ∙ append_assoc ((old ++ unmet) ++ tables) travel _
     ∙ append_assoc (old ++ unmet) tables _ ∙ append_assoc old unmet _

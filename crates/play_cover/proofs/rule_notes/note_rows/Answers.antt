@@ -1,7 +1,7 @@
 use Rattle.std.proofs.Common.{[], ◌∷◌, subst}
 use Rattle.play_cover.specs.Marks.{Notes}
 use Rattle.play_cover.proofs.Noting.{rows_noted, row_more}
-use Rattle.play_cover.proofs.line_rows.note_rows.Goals as goal
+use Rattle.play_cover.proofs.rule_notes.note_rows.Goals as goal
 
 pub loop-row-preserved : goal.loop-row-preserved
 loop-row-preserved c =

@@ -1,7 +1,7 @@
 use Rattle.std.proofs.Common.{map, take}
 use Rattle.play_cover.specs.Marks.{Notes}
 use Rattle.play_cover.specs.RowMarks.{mark_of_row}
-use Rattle.play_cover.proofs.line_rows.note_rows.Given as goal
+use Rattle.play_cover.proofs.rule_notes.note_rows.Given as goal
 
 abbrev pub invariant-loop-row : goal.invariant-loop-row
 invariant-loop-row l =
