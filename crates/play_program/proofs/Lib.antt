@@ -1,4 +1,6 @@
 pub mod OpeningLemmas
 pub mod PeekLemmas
+pub mod LookedLemmas
+pub mod NoticeLemmas
 pub mod BesideLemmas
 mod CoverLemmas

@@ -1,5 +1,5 @@
 -- What a run over files leaves, and what the program reports of it.
-use Rattle.std.specs.Prelude.{◌≡◌, ◌⊎◌, ℕ, List, [], ◌∷◌, ◌++◌, map, Option, None, Some}
+use Rattle.std.specs.Prelude.{◌≡◌, ◌⊎◌, ℕ, List, [], ◌∷◌, map, Option, None, Some}
 use Rattle.std.specs.Prelude.{◌==◌, Bool, true, false, Result, Ok, Err, MatchResult, length, take}
 use Rattle.std.specs.Io.KnownBytes.{Appends}
 use Rattle.std.specs.List.{AllZip}
@@ -12,9 +12,9 @@ use Rattle.play_command.specs.declared.line.Line.{Line}
 use Rattle.play_program.specs.Beside.{asks_refusals, report_in, told_beside}
 use Rattle.play_program.specs.Calls.{Call, Told, and_then}
 use Rattle.play_program.specs.Calls.Call.{Puts, Tells}
-use Rattle.play_program.specs.Failures.{failure_status, is_silent, message_of}
+use Rattle.play_program.specs.Failures.{failure_status, has_output, is_silent, message_of}
 use Rattle.play_program.specs.Names.{FileNames, files_in}
-use Rattle.play_program.specs.Notice.{calls_for_log}
+use Rattle.play_program.specs.Notice.{TellsHeads, logs_named}
 use Rattle.play_program.specs.Opening.{Stops, bytes_named, opening, script_bytes}
 use Rattle.play_program.specs.Runs.{RunsLine}
 use Rattle.play_program.specs.declared.failure.Failure.{Failure}
@@ -30,14 +30,15 @@ pub record AreTextsIn (bytes_of : List ℕ → Option (List ℕ)) (names : FileN
   pub script : Says (script_bytes bytes_of names.script names.typed) texts.script
   pub each_log : AllZip Says (map bytes_of names.logs) logs
 
--- all files of the run were opened, what the head of the log says differently was reported, unless
--- its reader failed, and what their bytes ask for was done
+-- all files of the run were opened, what the heads of logs say differently was reported, and what
+-- their bytes ask for was done
 pub record RunsOpened (bytes_of : List ℕ → Option (List ℕ)) (asked : Line) (names : FileNames)
     (calls called : Option (List Call)) (old new : Option (List ℕ))
     (ended : Result (Option EditRun) Failure) : Type 0 where
-  pub opened : (log : List ℕ) × (failed : Bool) × Says (bytes_named bytes_of names.log) log
-      × (called ≡ and_then calls
-      (opening (files_in names) ++ calls_for_log failed asked names.log log))
+  pub opened : (opened : Option (List Call))
+      × (opened ≡ and_then calls (opening (files_in names)))
+      × TellsHeads asked (logs_named asked names) (map bytes_of (logs_named asked names))
+      opened called
   pub runs : (texts : InputTexts) × (logs : List (List ℕ))
       × AreTextsIn bytes_of names texts logs × RunsLine asked texts logs old new ended
 
@@ -72,14 +73,24 @@ abbrev pub in_list : Failure → Failure
 in_list (Run found log) = list_failure found log
 in_list failure = failure
 
--- an output was put into the file if the run ended well, and otherwise nothing was
+-- the whole output of a run that failed was put into the file, if it has one, and otherwise nothing
+-- was
+abbrev pub PutsFailure : Bool → List ℕ → List ℕ → Option (List Call) → Option (List Call)
+    → Failure → Failure → Type 0
+PutsFailure true file output calls called failure found =
+    (called ≡ and_then calls (Puts file output ∷ []))
+    × ((found ≡ failure) ⊎ IsUnput file found)
+PutsFailure false file output calls called failure found =
+    (called ≡ calls) × (found ≡ in_list failure)
+
+-- an output was put into the file if the run ended well, or failed only since it is strict
 abbrev pub PutsEnd : List ℕ → List ℕ → Option (List Call) → Option (List Call)
     → Result (Option EditRun) Failure → Result (Option EditRun) Failure → Type 0
 PutsEnd file output calls called (Ok made) ended =
     (called ≡ and_then calls (Puts file output ∷ []))
     × MatchResult ended (λ said. said ≡ made) (IsUnput file)
-PutsEnd file output calls called (Err failure) ended =
-    (called ≡ calls) × (ended ≡ Err (in_list failure))
+PutsEnd file output calls called (Err failure) ended = (found : Failure) × (ended ≡ Err found)
+    × PutsFailure (has_output failure) file output calls called failure found
 
 -- what a run over files leaves if its output is kept until it is whole and then goes into a file
 abbrev pub RunsIntoFile : (List ℕ → Option (List ℕ)) → Line → FileNames → List ℕ

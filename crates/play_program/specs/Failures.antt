@@ -20,6 +20,16 @@ failure_status (Run found log) = status_of found
 failure_status (Unwritten name reason) = status_of fault.Write
 failure_status (Unprinted reason) = status_of fault.Write
 
+-- the run is done, and fails since it is strict: its output says what is left
+abbrev pub is_left : PlayFault → Bool
+is_left (fault.Doubt first) = true
+is_left (fault.Unshown left) = true
+is_left found = false
+
+abbrev pub has_output : Failure → Bool
+has_output (Run found log) = is_left found
+has_output failure = false
+
 -- nobody reads any more what is written
 abbrev pub is_closed_pipe : ErrorKind → Bool
 is_closed_pipe kind.BrokenPipe = true

@@ -3,6 +3,7 @@ pub mod Calls
 pub mod Head
 pub mod Notice
 pub mod Peek
+pub mod Looked
 pub mod Names
 pub mod Failures
 pub mod Opening

@@ -12,7 +12,7 @@ use Rattle.cave_play.specs.TwoLogs.{RunsEditTo, RunsScript}
 use Rattle.cave_play.specs.declared.edits.EditRun.{EditRun}
 use Rattle.cave_play.specs.declared.fault.PlayFault.{PlayFault}
 use Rattle.cave_play.specs.declared.fault.PlayFault.TheVariants as fault
-use Rattle.play_map.specs.Plays.{IsMapped}
+use Rattle.play_map.specs.Plays.{RunsMap}
 use Rattle.play_cover.specs.Known.{known_entries}
 use Rattle.play_cover.specs.Plays.{IsCovered, cover_stages}
 use Rattle.play_cover.specs.declared.run.CoverAsked.{CoverAsked}
@@ -25,7 +25,7 @@ use Rattle.play_command.specs.declared.line.Line.TheVariants.{Check, Doubts, Pla
 use Rattle.play_command.specs.declared.line.Line.TheVariants.{Script, Text}
 use Rattle.play_command.specs.declared.line.ScriptSource.{ScriptSource}
 use Rattle.play_command.specs.declared.line.ScriptSource.TheVariants.{Log}
-use Rattle.play_logs.specs.Faults.{RunsLogs, first_stages}
+use Rattle.play_logs.specs.Faults.{RunsLogs}
 use Rattle.play_logs.specs.declared.fault.LogsFault.{LogsFault}
 use Rattle.play_program.specs.declared.failure.Failure.{Failure}
 use Rattle.play_program.specs.declared.failure.Failure.TheVariants.{Run}
@@ -81,12 +81,6 @@ RunsEdits _ texts editing report old new ended =
     one.RunsWith (edit_stages texts.database texts.bindings texts.log texts.script editing)
     (IsEditRun texts.database texts.bindings texts.log texts.script editing report) old new ended
 
--- what a run over several logs leaves
-abbrev pub RunsOverLogs : List Stage → List (List ℕ) → (List ℕ → Type 0)
-    → Option (List ℕ) → Option (List ℕ) → Result (Option EditRun) Failure → Type 0
-RunsOverLogs first logs IsOutput old new ended = (found : Result (Unit {0}) LogsFault)
-    × (ended ≡ ended_over_logs found) × RunsLogs first logs (λ _. IsOutput) old new found
-
 -- what a run leaves that reports what logs show, with a list of what is known in a file
 abbrev pub RunsCover : Bool → InputTexts → List (List ℕ) → ℕ → CoverView → Option (List ℕ)
     → Option (List ℕ) → Option (List ℕ) → Result (Option EditRun) Failure → Type 0
@@ -115,8 +109,8 @@ RunsLine (Edit files log script editing aside) texts logs old new ended =
 RunsLine (Cover files log seed view known strict) texts logs old new ended =
     RunsCover strict texts logs seed view (option_map (λ s. s.now) known) old new ended
 RunsLine (Map files log seed part) texts logs old new ended =
-    RunsOverLogs (first_stages texts.database texts.bindings seed) logs
-    (IsMapped texts.database texts.bindings logs seed part) old new ended
+    (found : Result (Unit {0}) LogsFault) × (ended ≡ ended_over_logs found)
+    × RunsMap texts.database texts.bindings logs seed part old new found
 RunsLine (Script before after output form) texts logs old new ended =
     (alone : Result (Unit {0}) PlayFault) × (ended ≡ ended_alone alone)
     × RunsScript form texts old new alone

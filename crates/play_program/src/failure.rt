@@ -4,8 +4,8 @@ ghost use Rattle.std.specs.Prelude.{◌≡◌, None};
 ghost use Rattle.std.specs.IoError.{error_kind};
 ghost use Rattle.cave_play.specs.declared.fault.PlayFault.TheVariants.{Memory};
 ghost use Rattle.play_program.specs.Calls.{told_of};
-ghost use Rattle.play_program.specs.Failures.{failure_status, is_closed_pipe, is_silent};
-ghost use Rattle.play_program.specs.Failures.{message_of};
+ghost use Rattle.play_program.specs.Failures.{failure_status, has_output, is_closed_pipe};
+ghost use Rattle.play_program.specs.Failures.{is_left, is_silent, message_of};
 ghost use Rattle.play_program.specs.Names.{names_in};
 
 use crate::message::Message;
@@ -34,6 +34,13 @@ pub fn is_closed_pipe(reason: &io::Error) -> bool
     matches!(reason.kind(), ErrorKind::BrokenPipe)
 }
 
+/// Whether the run is done, and fails since it is strict.
+fn is_left(fault: &PlayFault) -> bool
+    ensures { result ≡ is_left fault.now }
+{
+    matches!(fault, PlayFault::Doubt(_) | PlayFault::Unshown(_))
+}
+
 impl<'a> Failure<'a> {
     /// Memory ran out.
     pub fn memory() -> Failure<'a>
@@ -50,6 +57,16 @@ impl<'a> Failure<'a> {
             Failure::Run(fault, _) => fault.status(),
             Failure::Unopened(input, _, _) => PlayFault::Read(*input).status(),
             Failure::Unwritten(_, _) | Failure::Unprinted(_) => PlayFault::Write.status(),
+        }
+    }
+
+    /// Whether the run has a whole output all the same, which says what is left.
+    pub fn has_output(&self) -> bool
+        ensures { result ≡ has_output self.now }
+    {
+        match self {
+            Failure::Run(fault, _) => is_left(fault),
+            _ => false,
         }
     }
 

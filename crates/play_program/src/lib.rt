@@ -6,6 +6,8 @@ mod beside;
 pub mod command;
 pub mod failure;
 pub mod head;
+mod looked;
+pub mod looked_file;
 pub mod message;
 pub mod names;
 mod notice;

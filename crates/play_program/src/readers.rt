@@ -2,10 +2,12 @@
 
 ghost use Rattle.std.specs.Prelude.{◌≡◌, [], ◌∷◌, IfOk, map, option_map};
 ghost use Rattle.cave_play.specs.Input.{input_left};
+ghost use Rattle.play_program.specs.Looked.{looked_left};
 ghost use Rattle.play_program.specs.Names.{cave_files, files_in, named, named_logs, names_in};
 ghost use Rattle.play_program.specs.Opening.{AreReadersOf, Opened, bytes_named, script_bytes};
 
 use crate::failure::Failure;
+use crate::looked_file::LookedFile;
 use crate::names::Names;
 use crate::system::System;
 use cave_play::{CaveReaders, Input, InputReader, Inputs};
@@ -29,15 +31,19 @@ pub struct Readers<'a, F, L> {
 }
 
 /// Opens the file of an input.
-fn open<'a, S: System>(system: &mut S, input: Input, file: &'a str) -> Result<S::File, Failure<'a>>
+fn open<'a, S: System>(
+    system: &mut S,
+    input: Input,
+    file: &'a str,
+) -> Result<LookedFile<S::File>, Failure<'a>>
     ensures reads { IfOk result (λ opened.
-        S.File.remaining opened ≡ S.bytes_of system.old file.now) }
+        looked_left S.File.remaining opened ≡ S.bytes_of system.old file.now) }
     ensures kept { S.bytes_of system.new ≡ S.bytes_of system.old }
     ensures opened { Opened ((input, file.now) ∷ []) (S.calls system.old) (S.calls system.new)
         result }
 {
     match system.open(file) {
-        Ok(opened) => Ok(opened),
+        Ok(opened) => Ok(LookedFile::of(opened)),
         Err(reason) if reason.kind() == ErrorKind::OutOfMemory => Err(Failure::memory()),
         Err(reason) => Err(Failure::Unopened(input, file, reason)),
     }
@@ -48,8 +54,8 @@ fn open_named<'a, S: System>(
     system: &mut S,
     input: Input,
     file: Option<&'a str>,
-) -> Result<InputReader<'a, S::File>, Failure<'a>>
-    ensures reads { IfOk result (λ reader. input_left S.File.remaining reader
+) -> Result<InputReader<'a, LookedFile<S::File>>, Failure<'a>>
+    ensures reads { IfOk result (λ reader. input_left (looked_left S.File.remaining) reader
         ≡ bytes_named (S.bytes_of system.old) (option_map (λ s. s.now) file.entry)) }
     ensures kept { S.bytes_of system.new ≡ S.bytes_of system.old }
     ensures opened { Opened (named input (option_map (λ s. s.now) file.entry)) (S.calls system.old)
@@ -69,10 +75,13 @@ fn open_cave<'a, S: System>(
     system: &mut S,
     cave: Option<&'a str>,
     bind: Option<&'a str>,
-) -> Result<CaveReaders<InputReader<'a, S::File>, InputReader<'a, S::File>>, Failure<'a>>
-    ensures database { IfOk result (λ readers. input_left S.File.remaining readers.database
+) -> Result<
+    CaveReaders<InputReader<'a, LookedFile<S::File>>, InputReader<'a, LookedFile<S::File>>>,
+    Failure<'a>,
+>
+    ensures database { IfOk result (λ readers. input_left (looked_left S.File.remaining) readers.database
         ≡ bytes_named (S.bytes_of system.old) (option_map (λ s. s.now) cave.entry)) }
-    ensures bindings { IfOk result (λ readers. input_left S.File.remaining readers.bindings
+    ensures bindings { IfOk result (λ readers. input_left (looked_left S.File.remaining) readers.bindings
         ≡ bytes_named (S.bytes_of system.old) (option_map (λ s. s.now) bind.entry)) }
     ensures kept { S.bytes_of system.new ≡ S.bytes_of system.old }
     ensures opened { Opened (cave_files (option_map (λ s. s.now) cave.entry)
@@ -88,8 +97,8 @@ fn open_logs<'a, S: System>(
     alloc: Global,
     system: &mut S,
     files: &[&'a str],
-) -> Result<Vec<S::File>, Failure<'a>>
-    ensures reads { IfOk result (λ logs. map S.File.remaining logs.items
+) -> Result<Vec<LookedFile<S::File>>, Failure<'a>>
+    ensures reads { IfOk result (λ logs. map (looked_left S.File.remaining) logs.items
         ≡ map (S.bytes_of system.old) (map (λ s. s.now) files.now)) }
     ensures kept { S.bytes_of system.new ≡ S.bytes_of system.old }
     ensures opened { Opened (named_logs (map (λ s. s.now) files.now)) (S.calls system.old)
@@ -110,8 +119,8 @@ fn open_script<'a, S: System>(
     system: &mut S,
     file: Option<&'a str>,
     typed: Option<&'a [u8]>,
-) -> Result<InputReader<'a, S::File>, Failure<'a>>
-    ensures reads { IfOk result (λ reader. input_left S.File.remaining reader
+) -> Result<InputReader<'a, LookedFile<S::File>>, Failure<'a>>
+    ensures reads { IfOk result (λ reader. input_left (looked_left S.File.remaining) reader
         ≡ script_bytes (S.bytes_of system.old) (option_map (λ s. s.now) file.entry)
         (option_map (λ text. text.now) typed.entry)) }
     ensures opened { Opened (named Input.Script (option_map (λ s. s.now) file.entry))
@@ -128,8 +137,8 @@ pub fn open_files<'a, S: System>(
     alloc: Global,
     system: &mut S,
     names: Names<'a>,
-) -> Result<Readers<'a, S::File, InputReader<'a, S::File>>, Failure<'a>>
-    ensures reads { IfOk result (AreReadersOf S.File.remaining (S.bytes_of system.old)
+) -> Result<Readers<'a, LookedFile<S::File>, InputReader<'a, LookedFile<S::File>>>, Failure<'a>>
+    ensures reads { IfOk result (AreReadersOf (looked_left S.File.remaining) (S.bytes_of system.old)
         (names_in names.entry)) }
     ensures opened { Opened (files_in (names_in names.entry)) (S.calls system.old)
         (S.calls system.new) result }

@@ -3,31 +3,28 @@
 ghost use Rattle.std.specs.Prelude.{◌≡◌, [], ◌∷◌, IfErr, Ok, option_map};
 ghost use Rattle.play_program.specs.Calls.{and_then};
 ghost use Rattle.play_program.specs.Calls.Call.{Puts};
-ghost use Rattle.play_program.specs.Ends.{EndsRun, IsUnput, RunsFiles, RunsIntoFile, RunsTo};
+ghost use Rattle.play_program.specs.Ends.{EndsRun, IsUnput, PutsFailure, RunsFiles, RunsIntoFile};
+ghost use Rattle.play_program.specs.Ends.{RunsTo};
 ghost use Rattle.play_program.specs.Ends.{SaysEnd, TellsUnless, failure_by, in_list, with_reason};
-ghost use Rattle.play_program.specs.Failures.{failure_status, is_silent, message_of};
+ghost use Rattle.play_program.specs.Failures.{failure_status, has_output, is_silent, message_of};
 ghost use Rattle.play_program.specs.Names.{names_in};
 
 use crate::beside::{print_report, tell_beside};
 use crate::command::run_command;
 use crate::failure::Failure;
 use crate::names::Names;
-use crate::notice::tell_head;
+use crate::notice::{made_log, tell_head_of, tell_heads};
 use crate::output::Output;
-use crate::peek::peek;
 use crate::readers::{Readers, open_files};
 use crate::system::System;
 use cave_play::{EditRun, Inputs, PlayFault};
 use play_command::Line;
 use std::alloc::Global;
 use std::io;
-use std::io::{ErrorKind, Read, Write};
+use std::io::{ErrorKind, Write};
 
 /// The status of a run that succeeded.
 const DONE: u8 = 0;
-
-/// How many bytes of a log are looked at before the run: the most that a line and its end have.
-const MAX_HEAD_BYTES: usize = 257;
 
 /// Does a run whose output goes to a writer.
 fn run_into<'a, S: System, W: Write>(
@@ -44,11 +41,12 @@ fn run_into<'a, S: System, W: Write>(
     let Readers { inputs, logs } = open_files(alloc, system, names)?;
     let Inputs { cave, log, script } = inputs;
     let mut log = log;
-    let mut buffer = [0; MAX_HEAD_BYTES];
-    let peeked = peek(&mut log, &mut buffer);
-    let head = &buffer[..peeked.count];
-    tell_head(system, asked, names.log, peeked.failed, head);
-    let log = head.chain(log);
+    let mut logs = logs;
+    let mut script = script;
+    tell_head_of(system, asked, names.log, &mut log);
+    tell_heads(system, asked, names.logs, logs.as_mut_slice());
+    let made = made_log(asked, names.script);
+    tell_head_of(system, asked, made, &mut script);
     let inputs = Inputs { cave, log, script };
     let mut readers = Readers { inputs, logs };
     run_command(alloc, asked, &mut readers, output)
@@ -78,6 +76,26 @@ fn in_list<'a>(failure: Failure<'a>) -> Failure<'a>
     }
 }
 
+/// Puts the output of a run that failed into a file, if it is whole, and returns why the program
+/// then fails.
+fn put_failure<'a, S: System>(
+    system: &mut S,
+    file: &'a str,
+    output: &[u8],
+    failure: Failure<'a>,
+) -> Failure<'a>
+    ensures puts { PutsFailure (has_output failure.entry) file.now output.now (S.calls system.old)
+        (S.calls system.new) failure.entry result }
+{
+    if failure.has_output() {
+        return match put(system, file, output) {
+            Ok(()) => failure,
+            Err(unput) => unput,
+        };
+    }
+    in_list(failure)
+}
+
 /// Does a run whose output goes into a file. The output is kept until it is whole, so the file can
 /// be one that the run reads.
 fn run_into_file<'a, S: System>(
@@ -96,7 +114,7 @@ fn run_into_file<'a, S: System>(
             put(system, file, &output)?;
             Ok(made)
         }
-        Err(failure) => Err(in_list(failure)),
+        Err(failure) => Err(put_failure(system, file, &output, failure)),
     }
 }
 

@@ -1,7 +1,8 @@
-use Rattle.std.proofs.Common.{◌≡◌, ℕ, List, [], ◌∷◌, Err, Ok, Some, ap, refl, subst}
+use Rattle.std.proofs.Common.{◌≡◌, ℕ, List, [], ◌∷◌, Err, Ok, Some, refl, subst}
 use Rattle.play_program.specs.Calls.{and_then}
 use Rattle.play_program.specs.Calls.Call.{Puts}
-use Rattle.play_program.specs.Ends.{RunsFiles}
+use Rattle.play_program.specs.Ends.{PutsFailure, RunsFiles}
+use Rattle.play_program.specs.Failures.{has_output}
 use Rattle.play_program.specs.Names.{names_in}
 use Rattle.play_program.proofs.run.run_into_file.Goals as goal
 
@@ -44,6 +45,14 @@ returns g c =
             (names_in c.args.names) (g.S.System.calls system) opened (Some first) (Some output)
             (Err c.in-Err.failure))
             c.new-output.ensures.items c.in-Err.ensures.runs,
-        (refl, ap (λ f. Err f) c.in_list.ensures),
+        (
+          c.put_failure.result,
+          refl,
+          subst
+              (λ (bytes : List ℕ). PutsFailure (has_output c.in-Err.failure) c.args.file.now bytes
+              opened (g.S.System.calls c.put_failure.new.system) c.in-Err.failure
+              c.put_failure.result)
+              c.deref-in-Err.ensures.value c.put_failure.ensures.puts,
+        ),
       );
     }
