@@ -49,4 +49,5 @@ def report(cave, said, count, view, known=()):
             continue
         listed = f", never {' '.join(map(name_of, never))}" if never else ""
         lines.append(f"{HEADINGS[kind]}: {len(texts) - len(never)} of {len(texts)}{listed}")
-    return met, [*lines, f"-- {shown} of {all_texts} texts in {count} logs"], left
+    logs = "log" if count == 1 else "logs"
+    return met, [*lines, f"-- {shown} of {all_texts} texts in {count} {logs}"], left

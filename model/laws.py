@@ -69,7 +69,7 @@ def of_lines(line, before, after, said):
     if before["here"] and after["here"]:
         yield "gone_for_good", before["gone"] <= after["gone"]
 
-def broken(game, line, before):
+def broken(game, line, before, after):
     """The laws that don't hold of a line, or of the state after it."""
-    laws = [*of_lines(line, before, facts(game), game.out), *of_states(game)]
+    laws = [*of_lines(line, before, after, game.out), *of_states(game)]
     return [law for law, holds in laws if not holds]

@@ -353,11 +353,11 @@ def run_edit(cave, file, log, script, log_ends, options, told):
             "play": ended.transcript,
             "transcript": [*reports, *ended.transcript]}[options["print"]]
 
-def run_cover(cave, names, files, options, known):
+def run_cover(cave, names, texts, options, known):
     """Plays logs, and returns what is printed about the texts that none of them says, as lines."""
     said, known = set(), cover.known_of(lines_of(known))
-    for name, file in zip(names, files):
-        log = judged_as(3, name, log_of, text_of(file))
+    for name, text in zip(names, texts):
+        log = judged_as(3, name, log_of, text)
         said |= edits.play(cave, options["seed"], log).game.said
     entries, lines, left = cover.report(cave, said, len(names), options["print"], known)
     words = "nothing that is never shown says this"
@@ -379,8 +379,9 @@ def run_words(words, told):
     bind, known = options["bind"], options["known"]
     in_order = [names[0], bind, *names[1:], *([known] if known is not None else [])]
     files = [None if it is None else opened(it) for it in in_order]
-    log_text = text_of(files[2]) if command in ("play", "edit") else ""
-    told.append(head_notice((names + [""])[1], log_text, names[0], options))
+    logs = {"play": names[1:], "edit": names[1:2], "cover": names[1:]}.get(command, [])
+    texts = [text_of(it) for it in files[2:2 + len(logs)]]
+    told += [head_notice(*it, names[0], options) for it in zip(logs, texts)]
     listed = text_of(files.pop()) if known is not None else ""
     if command == "cover":
         check_known(known, listed)
@@ -395,13 +396,13 @@ def run_words(words, told):
         check_known(known, listed)
         return check_lines(cave, options, names[0], database, bindings, listed)
     if command == "cover":
-        return run_cover(cave, names[1:], files[2:], options, listed)
-    log = judged_as(3, names[1], log_of, log_text)
+        return run_cover(cave, logs, texts, options, listed)
+    log = judged_as(3, names[1], log_of, texts[0])
     if command == "edit":
         name, text = (names[2], text_of(files[3])) if options["edit"] is None else (
             "--edit", "".join(it + "\n" for it in options["edit"]))
         script = judged_as(4, name, edits.script_of, text, options["guarded"])
-        log_ends = ends.Ends(log_text, text)
+        log_ends = ends.Ends(texts[0], text)
         return run_edit(cave, name, log, script, log_ends, options, told)
     if options["print"] == "steps":
         return edits.steps(cave, options["seed"], log)
