@@ -51,25 +51,15 @@ $(BUILT): $(SOURCES)
 checks test: export SKIPPED = $(CURDIR)/out/skipped
 checks: ## checks names, imports, pages and scripts, in a minute or two, without any proof
 	@rm -f out/skipped
-	tools/check/unused
-	tools/check/homes
-	tools/check/names
-	tools/check/numbers
-	tools/check/pages
-	tools/check/clauses
-	tools/check/edits
-	tools/check/words
-	tools/check/rows
-	tools/check/version
+	tools/check/run
+	tools/check/wrong-bodies
 	tools/check/rule-words --check
 	tools/check/rooms --check
 	tools/measure/counts --check
-	tools/check/checks
-	tools/check/help
+	python3 -B -m unittest discover tools/check/tests
 	logs/tools/check-documents
 	logs/tools/plant --check
 	logs/tools/check-runner
-	tools/check/completions
 
 # Those checks, and the lines that must not compile; then the gate: each proof from nothing, the
 # edits that must fail, each of which has to compile, the tests and the program; and then the suite
@@ -82,7 +72,7 @@ test: has-rt has-cc checks ## runs the gate: all proofs anew, wrong bodies, test
 	tools/measure/progress all out/test.log rt ci
 	@tail -n 1 out/test.log
 	@! grep 'BAD EDIT' out/test.log
-	tools/check/wrong-bodies
+	tools/check/wrong-bodies out/test.log
 	logs/run $(PROGRAM)
 	logs/tools/check-large-cave $(PROGRAM)
 	logs/tools/check-coverage $(PROGRAM)

@@ -2,16 +2,21 @@
 
 import os
 import re
-import shutil
 import subprocess
 import sys
 import tempfile
+from collections.abc import Sequence
+from concurrent.futures import ThreadPoolExecutor
+from typing import NamedTuple
 
 from suite import TOP
 
-PYTHON = [sys.executable, "-S"]  # only the standard library: nothing else is needed
+from common.files import text_of, write
+from common.parts import Checks
 
-RIGHT = {"right.log": "# A walk.\n# run: play\nno\n", "right.out": ""}
+PYTHON = [sys.executable, "-S"]  # only the standard library: nothing else is needed
+TIME = re.compile(r"(\d (?:failed|known to fail)), in \d+\.\d s$", re.MULTILINE)
+AT_ONCE = 4  # cases
 # A program that says each line of a script, if there is one, and then of a log, but no comment.
 REPEAT = """\
 #!/bin/sh
@@ -19,6 +24,8 @@ for file in "$4" "$3"
 do [ -f "$file" ] && cat "$file"
 done | awk '!/^#/ { print "\\n> " $0 "\\nSo " $0 "." }'
 """
+Files = dict[str, str]
+Ended = tuple[int, str]  # the status of a run, and all that it says but for the time
 
 
 def answers(words: list[str]) -> str:
@@ -26,69 +33,73 @@ def answers(words: list[str]) -> str:
     return "".join(f"\n> {it}\nSo {it}.\n" for it in words)
 
 
-def walk(words: list[str], head: str = "") -> str:
+def walk(words: list[str], head: str = "# A walk.\n") -> str:
     """A log of these lines, which that program plays."""
     return f"# cave: CAVE\n{head}" + "".join(f"{it}\n" for it in words)
 
 
 class Folder:
-    """Files in a folder of their own, beside a program `say`, if one is given."""
+    """Files in a folder of their own, beside a program `say`, if one is given, which `cave-suite`
+    runs; otherwise it runs one that does nothing."""
 
-    def __init__(self, files: dict[str, str], program: str | None = None) -> None:
+    def __init__(self, files: Files, program: str = "") -> None:
         self.folder = tempfile.TemporaryDirectory()
         self.top = os.path.realpath(self.folder.name)
         for name, text in files.items():
-            self.write(name, text)
-        self.program = "true"
+            write(f"{self.top}/{name}", text)
+        self.program = write(f"{self.top}/say", program) if program else "true"
         if program:
-            self.program = self.write("say", program)
             os.chmod(self.program, 0o755)
 
-    def write(self, name: str, text: str) -> str:
-        path = f"{self.top}/{name}"
-        os.makedirs(os.path.dirname(path), exist_ok=True)
-        with open(path, "w", encoding="ascii", newline="") as file:
-            file.write(text)
-        return path
-
     def read(self, name: str) -> str:
-        with open(f"{self.top}/{name}", encoding="utf-8", newline="") as file:
-            return file.read()
+        return text_of(f"{self.top}/{name}")
 
     def command(self, *words: str) -> list[str]:
-        """The command that plays suites of this folder with its program."""
         return [*PYTHON, f"{TOP}/tools/install/cave-suite", "--program", self.program, *words]
 
-    def run(self, *words: str, at: str = ".") -> tuple[int, str]:
-        """The status of a run that is called in the folder or below it, and all that it says."""
-        return said_by(self.command(*words), os.path.join(self.top, at))
+    def run(self, *words: str, at: str = "") -> Ended:
+        """A run that is called in the folder or below it."""
+        ran = subprocess.run(self.command(*words), cwd=os.path.join(self.top, at),
+                             capture_output=True, stdin=subprocess.DEVNULL)
+        return ran.returncode, TIME.sub(r"\1", (ran.stdout + ran.stderr).decode())
 
 
 class Suite(Folder):
     """A suite of files in a folder `logs`, which its own `logs/run` plays."""
 
-    def __init__(self, files: dict[str, str], program: str | None = None) -> None:
+    def __init__(self, files: Files, program: str = "") -> None:
         super().__init__({f"logs/{name}": text for name, text in files.items()}, program)
-        os.makedirs(f"{self.top}/logs", exist_ok=True)
-        shutil.copy(f"{TOP}/logs/run", f"{self.top}/logs")
+        write(f"{self.top}/logs/run", text_of("logs/run"))
         os.symlink(f"{TOP}/tools", f"{self.top}/tools")
 
-    def run(self, *words: str, program: str | None = None, at: str = "..") -> tuple[int, str]:
-        command = [*PYTHON, f"{self.top}/logs/run", program or self.program, *words]
-        return said_by(command, os.path.join(f"{self.top}/logs", at))
+    def command(self, *words: str) -> list[str]:
+        return [*PYTHON, f"{self.top}/logs/run", self.program, *words]
 
 
-def said_by(command: list[str], folder: str) -> tuple[int, str]:
-    ran = subprocess.run(command, cwd=folder, capture_output=True, stdin=subprocess.DEVNULL)
-    return ran.returncode, (ran.stdout + ran.stderr).decode()
+class Case(NamedTuple):
+    """The files of a suite, the words with which it is played, and what has to follow: the status,
+    what is among all that is said, and the transcript of the log `a`. `@` is the folder."""
+
+    files: Files
+    words: str
+    status: int
+    said: str
+    program: str = ""
+    after: str | None = None
+    at: str = ""  # the folder of the call
+    kind: type[Folder] = Suite
 
 
-def play(files: dict[str, str], *words: str, program: str | None = None,
-         at: str = "..") -> tuple[int, str]:
-    """Plays a suite with a program that does nothing, if no other is given."""
-    suite = Suite(files)
-    return suite.run(*(it.replace("@", suite.top) for it in words), program=program, at=at)
+def play(case: Case) -> tuple[str, object, object]:
+    folder = case.kind(case.files, case.program)
+    status, told = folder.run(*case.words.replace("@", folder.top).split(), at=case.at)
+    wanted = case.said.replace("@", folder.top)
+    after = None if case.after is None else folder.read("logs/a.out")
+    got = status, wanted if wanted in told else told, after
+    what = f"{', '.join(case.files)} with `{case.words}` in `{case.at}`"
+    return what, got, (case.status, wanted, case.after)
 
 
-def without_time(said: str) -> str:
-    return re.sub(r"(\d (?:failed|known to fail)), in \d+\.\d s$", r"\1", said, flags=re.MULTILINE)
+def played(cases: Sequence[Case]) -> Checks:
+    with ThreadPoolExecutor(AT_ONCE) as pool:
+        yield from pool.map(play, cases)

@@ -29,10 +29,11 @@ if sys.version_info < OLDEST:
              % (*sys.version_info[:2], *OLDEST))
 
 
-def answer_help(words: list[str] | None = None) -> None:
-    """Prints what the script says about itself, and ends it, if one of its words asks for help."""
+def answer_help(words: list[str] | None = None, said: str | None = None) -> None:
+    """Prints what the script says about itself, or something else, and ends it, if one of its words
+    asks for help."""
     if {"-h", "--help"} & {*(sys.argv[1:] if words is None else words)}:
-        print((sys.modules["__main__"].__doc__ or "").strip())
+        print((said or sys.modules["__main__"].__doc__ or "").strip())
         sys.exit()
 
 

@@ -8,11 +8,15 @@ import os
 import re
 import shutil
 import subprocess
-from collections.abc import Sequence
+import sys
+from collections.abc import Callable, Iterator, Sequence
 from functools import cache
 from typing import Any
 
-TOP = os.path.dirname(os.path.dirname(os.path.dirname(os.path.abspath(__file__))))
+from common import command_line
+
+# The repository that is read: this one, unless a test of a script names another.
+TOP = os.environ.get("REPOSITORY") or os.path.abspath(f"{os.path.dirname(__file__)}/../..")
 BUILT = f"{TOP}/crates/cave/out/cave"
 MADE = {"out", "__pycache__"}  # folders that aren't read
 
@@ -32,6 +36,26 @@ def text_if(path: str) -> str:
     return text_of(path) if os.path.exists(os.path.join(TOP, path)) else ""
 
 
+def section_of(page: str, heading: str) -> str:
+    """What a page says below a heading of the second level, or nothing."""
+    found = re.search(rf"(?ms)^## {heading}\n(.*?)(?=^## |\Z)", text_if(page))
+    return found[1].strip("\n") if found else ""
+
+
+def tables_in(page: str) -> Iterator[list[list[str]]]:
+    """The tables of a page, each by its rows of cells, without the line below its heads."""
+    for table in re.findall(r"(?:^\|.*\n?)+", page, re.MULTILINE):
+        rows = (re.split(r"(?<!\\)\|", row.strip()[1:-1]) for row in table.splitlines())
+        cells = ([cell.strip() for cell in row] for row in rows)
+        yield [it for it in cells if not all(re.fullmatch(r":?-+:?", cell) for cell in it)]
+
+
+def cases_in(page: str, heading: str) -> list[list[str]]:
+    """The rows of the table below a heading: cases of a test, in which ` / ` is between lines."""
+    _, *rows = next(tables_in(section_of(page, heading)))
+    return [[cell.replace(" / ", "\n") for cell in row] for row in rows]
+
+
 def write(path: str, content: str | bytes) -> str:
     """Puts a text or bytes into a file, whose folder is made if there is none; the whole path."""
     whole = os.path.join(TOP, path)
@@ -39,6 +63,20 @@ def write(path: str, content: str | bytes) -> str:
     with open(whole, "wb") as file:
         file.write(content.encode() if isinstance(content, str) else content)
     return whole
+
+
+def make(made: Callable[[], dict[str, str]]) -> int:
+    """What a script does that makes texts of files, by their paths: with `--write` it writes them,
+    and with `--check` it names those that are stale. The status."""
+    script = "/".join(os.path.abspath(sys.argv[0]).split("/")[-3:])
+    if sys.argv[1:] not in (["--write"], ["--check"]):
+        sys.exit(sys.modules["__main__"].__doc__)
+    stale = {path: text for path, text in made().items() if text_if(path) != text}
+    if sys.argv[1] == "--check":
+        return command_line.told(f"{it} isn't as `{script} --write` makes it" for it in stale)
+    for path, text in stale.items():
+        write(path, text)
+    return 0
 
 
 def files(*patterns: str) -> list[str]:

@@ -6,7 +6,6 @@ heading of its kind. The rest of the page stays as it is.
 
 import datetime
 import os
-import re
 from collections.abc import Iterable
 
 from common import files
@@ -26,26 +25,16 @@ def table(heads: list[str], rows: Iterable[Iterable[object]]) -> str:
     return "".join([head, "|---" * len(heads) + "|\n", *lines])
 
 
-def section(title: str) -> str:
-    """The lines of a section below its heading, or nothing."""
-    found = re.search(rf"(?ms)^## {title}\n(.*?)(?=^## |\Z)", files.text_of(PAGE))
-    return found[1].strip("\n") if found else ""
-
-
 def rows_of(title: str) -> dict[str, list[str]]:
     """The rows of the one table of a section, by their first cells."""
-    rows = re.findall(r"^\| (.*) \|$", section(title), re.MULTILINE)[1:]
-    return {row.split(" | ")[0]: row.split(" | ") for row in rows}
+    _, *rows = next(files.tables_in(files.section_of(PAGE, title)), [])
+    return {row[0]: row for row in rows}
 
 
 def write(title: str, text: str) -> None:
     """Puts a text in the place of a section, or below the last one."""
-    page, head = files.text_of(PAGE), f"## {title}\n"
     said = f"Measured on {today()}, on {os.cpu_count()} processors."
-    new = f"{head}{said}\n{text.strip()}\n"
-    old = re.search(rf"(?ms)^{head}.*?(?=\n## |\Z)", page)
-    if old:
-        page = page[: old.start()] + new + page[old.end() :]
-    else:
-        page = f"{page.rstrip()}\n\n{new}"
-    files.write(PAGE, page)
+    new = f"## {title}\n{said}\n{text.strip()}\n"
+    before, _, after = files.text_of(PAGE).partition(f"\n## {title}\n")
+    rest = after.partition("\n## ")[1:]
+    files.write(PAGE, f"{before.rstrip()}\n\n{new}{''.join(rest)}")

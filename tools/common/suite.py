@@ -3,11 +3,12 @@
     from common.suite import SUITE
 """
 
+import os
 import sys
 
 from common.files import TOP
 
-sys.path.append(f"{TOP}/tools/install")
+sys.path.append(f"{os.path.dirname(os.path.abspath(__file__))}/../install")
 
 from cave_suite.suites import Suite  # of the folder that is on the path now
 

@@ -1,8 +1,8 @@
 """Pages that are made to be tested, as a module, each with what the program printed of its walk.
 
-    from pages import Pages, Unmade
-    made = Pages(room, program).of_walk("caves/a.txt", ["no", "in"])
-    made.path, made.lines, made.steps, made.said, made.places
+    from pages import Pages
+    made = Pages(room, program).of_walk("tour", TOUR, *SEED)
+    made.path, made.lines, made.steps, made.transcript, made.told
 """
 
 import difflib
@@ -12,11 +12,9 @@ import sys
 from typing import Any, BinaryIO, NamedTuple
 
 from common.files import TOP, bytes_of, match_in, text_of, write
-from served import FULL, FULL_SEED, SEED, TOUR
-from steps import Steps, columns_of, events_of
+from served import SEED, SHOAL, TOUR
 
-__all__ = ["FULL", "FULL_SEED", "SEED", "SHOAL", "TOUR", "Pages", "Walk"]  # for tests
-SHOAL = (f"{TOP}/caves/shoal.txt", ["--bind", f"{TOP}/caves/shoal.bind"])
+NUMBERS = {*"from to turns score lamp draws stream".split()}  # columns that are read as numbers
 Told = dict[str, Any]  # what the program prints of a line, or of an object
 
 
@@ -25,13 +23,9 @@ class Walk(NamedTuple):
 
     path: str
     lines: list[str]
-    steps: Steps
+    steps: dict[str, list[Any]]
     transcript: str
     told: list[Told]
-
-
-class Unmade(Exception):
-    """What was said in place of a page or of a play."""
 
 
 class Pages:
@@ -42,9 +36,7 @@ class Pages:
 
     def file(self, name: str, content: str | bytes) -> str:
         """A file of the folder."""
-        path = f"{self.room}/{name}"
-        write(path, content if isinstance(content, bytes) else content.encode())
-        return path
+        return write(f"{self.room}/{name}", content)
 
     def log(self, name: str, lines: list[str]) -> str:
         return self.file(name, "".join(f"{it}\n" for it in lines))
@@ -52,57 +44,51 @@ class Pages:
     def ran(self, *words: str, stdin: int | BinaryIO = subprocess.DEVNULL,
             env: dict[str, str] | None = None) -> subprocess.CompletedProcess[str]:
         """A run of tools/page/page."""
-        command = [sys.executable, f"{TOP}/tools/page/page", *words, "--program", self.program]
+        command = [sys.executable, f"{TOP}/tools/page/page", "--program", self.program, *words]
         return subprocess.run(command, capture_output=True, text=True, stdin=stdin, env=env)
 
     def printed(self, *words: str) -> str:
         """What the program prints."""
-        ran = subprocess.run([self.program, *words], capture_output=True)
-        if ran.returncode:
-            raise Unmade(ran.stderr.decode(errors="replace"))
+        ran = subprocess.run([self.program, *words], capture_output=True, check=True)
         return ran.stdout.decode("latin-1")
 
-    def of_walk(self, name: str, cave: str, log: str, options: list[str], *more: str) -> Walk:
+    def of_walk(self, name: str, log: str, *options: str, against: str = "",
+                cave: list[str] = SHOAL) -> Walk:
         """A page, and the walk that it shows."""
-        path = f"{self.room}/{name}.html"
-        ran = self.ran(cave, log, *options, *more, "--output", path)
+        path, words = f"{self.room}/{name}.html", [cave[0], log, *cave[1:], *options]
+        ran = self.ran(*words, *(["--against", against] if against else []), "--output", path)
         if ran.returncode or ran.stderr:
-            raise Unmade(f"tools/page/page ends with {ran.returncode}: {ran.stderr}")
-        lines = bytes_of(log).decode("ascii").splitlines()
-        steps = columns_of(self.printed("play", cave, log, *options, "--print", "steps"))
-        told = self.printed("play", cave, log, *options, "--print", "walk").splitlines()
-        return Walk(path, lines, steps, self.printed("play", cave, log, *options),
-                    [*map(json.loads, told)])
+            raise ValueError(f"tools/page/page ends with {ran.returncode}: {ran.stderr}")
+        head, *rows = (it.split("\t") for it in self.printed("play", *words, "--print", "steps")
+                       .removesuffix("\n").split("\n"))
+        steps = {name: [int(it) if name in NUMBERS else it for it in column]
+                 for name, *column in zip(head, *rows)}
+        told = self.printed("play", *words, "--print", "walk").splitlines()
+        return Walk(path, bytes_of(log).decode("ascii").splitlines(), steps,
+                    self.printed("play", *words), [*map(json.loads, told)])
 
     def tour(self) -> Walk:
-        return self.of_walk("tour", SHOAL[0], TOUR, [*SHOAL[1], *SEED])
+        return self.of_walk("tour", TOUR, *SEED)
 
     def two_tours(self) -> Walk:
         """The tour as it goes without the pillow, against the tour."""
         lines = text_of(TOUR).splitlines()
         lines[17:19] = ["drop vase", "drop pillow"]
-        log = self.log("without-pillow.log", lines)
-        return self.of_walk("two", SHOAL[0], log, [*SHOAL[1], *SEED], "--against", TOUR)
+        return self.of_walk("two", self.log("without-pillow.log", lines), *SEED, against=TOUR)
 
 
 # ---- what a walk says
 
-def blocks_of(walk: Walk) -> list[str]:
-    """What the transcript has of each played line, one after another, after the opening."""
-    rows = walk.transcript.removesuffix("\n").rpartition("\n")[0]
-    played = [it for it in walk.lines if not it.startswith("#") and it.strip(" \t")]
-    found, rest = list[str](), f"{rows}\n"
-    for line in played:
-        before, _, rest = rest.partition(f"\n> {line}\n")
-        found.append(before)
-    return [*found, rest]
-
-
 def said_at(walk: Walk) -> list[str]:
     """What was said at each line, from the opening on; nothing after a comment."""
-    blocks = iter(blocks_of(walk))
-    is_played = [True, *(not it.startswith("#") and bool(it.strip(" \t")) for it in walk.lines)]
-    return [next(blocks).rstrip("\n") if it else "" for it in is_played]
+    said, last = [""] * (len(walk.lines) + 1), 0
+    rest = walk.transcript.removesuffix("\n").rpartition("\n")[0] + "\n"
+    for at, line in enumerate(walk.lines, 1):
+        if not line.startswith("#") and line.strip(" \t"):
+            said[last], _, rest = rest.partition(f"\n> {line}\n")
+            last = at
+    said[last] = rest
+    return [it.rstrip("\n") for it in said]
 
 
 def score_of(walk: Walk) -> str:
@@ -146,9 +132,10 @@ def line_beside(walk: Walk, other: Walk, line: int) -> int:
     same = difflib.SequenceMatcher(None, walk.lines, other.lines, autojunk=False)
     pairs = [(first + it + 1, second + it + 1)
              for first, second, count in same.get_matching_blocks() for it in range(count)]
-    before = [pair for pair in [(0, 0), *pairs] if pair[0] <= line]
-    return before[-1][1]
+    return [(0, 0), *(pair for pair in pairs if pair[0] <= line)][-1][1]
 
 
 def happened_at(walk: Walk, line: int) -> list[str]:
-    return events_of(walk.steps["happened"][line - 1]) if line else []
+    """What happened at a line, as a list of names."""
+    happened: str = walk.steps["happened"][line - 1] if line else "-"
+    return [] if happened == "-" else happened.split(",")

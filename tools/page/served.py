@@ -1,7 +1,7 @@
 """A server of `tools/page/live` as a module, for its tests: started on a copy of a log, and asked.
 
-    from served import Served
-    with Served(program, ["caves/shoal.txt", "logs/tour.log", "--seed", "3"]) as server:
+    from served import SEED, SHOAL, Served
+    with Served(program, [*SHOAL, *SEED], log=b"no\\n") as server:
         status, events = server.post("change", {"number": 0, "edits": [..]})
         server.walk.put(events)
 """
@@ -10,14 +10,12 @@ from __future__ import annotations
 
 from common.files import TOP, bytes_of, write
 
-import http.client
 import json
-import shutil
 import signal
 import subprocess
 import sys
 import tempfile
-from types import TracebackType
+from http.client import HTTPConnection, HTTPResponse
 from urllib.parse import urlsplit
 
 SHOAL = [f"{TOP}/caves/shoal.txt", "--bind", f"{TOP}/caves/shoal.bind"]
@@ -25,6 +23,7 @@ TOUR, SEED = f"{TOP}/logs/tour.log", ["--seed", "3"]
 FULL, FULL_SEED = f"{TOP}/logs/shoal/full-score.log", ["--seed", "229"]
 SECONDS = 60
 Head = dict[str, object]
+Event = tuple[Head, list[bytes]]  # and its lines of a walk
 
 
 class Walk:
@@ -33,7 +32,7 @@ class Walk:
     def __init__(self) -> None:
         self.number, self.opening, self.lines = -1, b"", list[bytes]()
 
-    def put(self, events: list[tuple[Head, list[bytes]]]) -> None:
+    def put(self, events: list[Event]) -> None:
         """Puts what events say into the walk, by what the manual says about them."""
         for head, lines in events:
             if head.get("kind") == "whole":
@@ -63,18 +62,15 @@ class Walk:
 
 def moved(line: bytes, places: int, turns: int) -> bytes:
     """A line of a walk at another place, after more turns."""
-    if not places and not turns:
-        return line
     told = json.loads(line)
-    old = [f'"place":{told["place"]},', f',"turns":{told["turns"]},']
-    new = [f'"place":{told["place"] + places},', f',"turns":{told["turns"] + turns},']
-    for before, after in zip(old, new):
-        line = line.replace(before.encode(), after.encode(), 1)
+    for form, more in (('"place":{},', places), (',"turns":{},', turns)):
+        old = told[form.split('"')[1]]
+        line = line.replace(form.format(old).encode(), form.format(old + more).encode(), 1)
     return line
 
 
-def events_of(content: bytes) -> list[tuple[Head, list[bytes]]]:
-    """The events of an answer, each with its lines of a walk."""
+def events_of(content: bytes) -> list[Event]:
+    """The events of an answer."""
     rows, events = content.split(b"\n")[:-1], []
     while rows:
         head = json.loads(rows.pop(0))
@@ -86,16 +82,11 @@ def events_of(content: bytes) -> list[tuple[Head, list[bytes]]]:
 class Served:
     """A server that runs until the `with` ends, with a copy of its log in a folder of its own."""
 
-    def __init__(self, program: str, words: list[str], *, log: bytes | str = b"",
+    def __init__(self, program: str, words: list[str], *, log: bytes = b"",
                  name: str = "tour.log") -> None:
         self.room = tempfile.TemporaryDirectory(prefix="live-")
-        self.path = f"{self.room.name}/{name}"
-        if isinstance(log, str):
-            shutil.copy(log, self.path)
-        else:
-            write(self.path, log)
-        cave, *options = words
-        self.words, self.program = [cave, self.path, *options], program
+        self.path = write(f"{self.room.name}/{name}", log)
+        self.program, self.words = program, [words[0], self.path, *words[1:]]
         self.command = [sys.executable, f"{TOP}/tools/page/live", *self.words, "--program", program,
                         "--no-browser"]
         self.walk, self.errors = Walk(), ""
@@ -104,18 +95,16 @@ class Served:
         self.process = subprocess.Popen(
             self.command, stdout=subprocess.PIPE, stderr=subprocess.PIPE, text=True,
             cwd=self.room.name)
-        assert self.process.stdout and self.process.stderr
-        told = self.process.stdout.readline()
-        if not told:
-            raise RuntimeError(f"the server says: {self.process.stderr.read()}")
-        self.address = told.strip().rpartition(": ")[2]
+        assert self.process.stdout
+        self.address = self.process.stdout.readline().strip().rpartition(": ")[2]
+        if not self.address:
+            raise RuntimeError(f"the server says: {self.process.communicate()[1]}")
         parts = urlsplit(self.address)
         self.host, self.token = parts.netloc, parts.path.strip("/")
-        self.hear("GET", "walk")
+        self.walk.put(events_of(self.got("walk")))
         return self
 
-    def __exit__(self, kind: type[BaseException] | None, wrong: BaseException | None,
-                 trace: TracebackType | None) -> None:
+    def __exit__(self, *how: object) -> None:
         self.end()
         self.room.cleanup()
 
@@ -129,40 +118,36 @@ class Served:
     # ---- asking
 
     def ask(self, method: str, name: str, content: bytes | None = None, *, token: str | None = None,
-            headers: dict[str, str] | None = None) -> tuple[int, dict[str, str], bytes]:
-        """What the server answers: its status, its headers and its content."""
-        connection = http.client.HTTPConnection(self.host, timeout=SECONDS)
+            headers: dict[str, str] | None = None) -> tuple[HTTPResponse, bytes]:
+        """What the server answers, and the content of that."""
+        connection = HTTPConnection(self.host, timeout=SECONDS)
         try:
             path = f"/{self.token if token is None else token}/{name}"
             connection.request(method, path, content, headers or {})
             answer = connection.getresponse()
-            return answer.status, dict(answer.getheaders()), answer.read()
+            return answer, answer.read()
         finally:
             connection.close()
 
-    def post(self, name: str, said: object) -> tuple[int, list[tuple[Head, list[bytes]]]]:
+    def got(self, name: str) -> bytes:
+        """A file that the server gives."""
+        return self.ask("GET", name)[1]
+
+    def post(self, name: str, said: object) -> tuple[int, list[Event]]:
         """The answer of this server to a page, as events."""
         headers = {"Content-Type": "application/json", "Origin": f"http://{self.host}"}
-        status, _, content = self.ask("POST", name, json.dumps(said).encode(), headers=headers)
-        return status, events_of(content)
+        answer, content = self.ask("POST", name, json.dumps(said).encode(), headers=headers)
+        return answer.status, events_of(content)
 
-    def hear(self, method: str, name: str, said: Head | None = None) -> tuple[int, Head]:
+    def told(self, name: str, **said: object) -> tuple[int, Head]:
         """The same as a page does it: the answer is put into the walk."""
-        if method == "POST":
-            status, events = self.post(name, (said or {}) | {"number": self.walk.number})
-        else:
-            status, _, content = self.ask("GET", name)
-            events = events_of(content)
+        status, events = self.post(name, said | {"number": self.walk.number})
         if status == 200:
             self.walk.put(events)
         return status, events[-1][0] if events else {}
 
     def change(self, *edits: Head) -> tuple[int, Head]:
-        return self.hear("POST", "change", {"edits": [*edits]})
-
-    def got(self, name: str) -> bytes:
-        """A file that the server gives."""
-        return self.ask("GET", name)[2]
+        return self.told("change", edits=edits)
 
     def file(self) -> bytes:
         """The log on disk."""
@@ -181,4 +166,4 @@ class Served:
 
 def tour(program: str) -> Served:
     """A server of a copy of the tour."""
-    return Served(program, [*SHOAL, *SEED], log=TOUR)
+    return Served(program, [*SHOAL, *SEED], log=bytes_of(TOUR))

@@ -1,115 +1,106 @@
 """A headless chromium as a module, driven by Debian's python3-selenium, for tests of pages.
 
     with Page(1200, 800) as page:             # a page of a walk, from disk
-        page.open("walk.html", 12)
-        page.press("ArrowDown", "Shift+Enter")
+        page.open("walk.html", 12).press("ArrowDown", "Shift+Enter").chosen()
     with Live() as window:                    # a page that `tools/page/live` serves
-        window.open(server.address)
-        window.press(Keys.ENTER)
-        window.run("return held.lines.length")
+        window.open(server.address).press("Enter").retype("look").text("#told")
+
+What does something gives the window back, so what is asked then can stand behind it.
 """
 
-import base64
 import os
 import pathlib
 import re
 import shutil
-import time
-from types import TracebackType
 from typing import Any, TypeVar
 
 from selenium import webdriver
+from selenium.common.exceptions import TimeoutException
 from selenium.webdriver.common.action_chains import ActionChains
 from selenium.webdriver.common.by import By
 from selenium.webdriver.common.keys import Keys
+from selenium.webdriver.support.wait import WebDriverWait
 
 ARGUMENTS = """--headless=new --no-first-run --disable-gpu --force-device-scale-factor=1
 --force-color-profile=srgb --hide-scrollbars --disable-dev-shm-usage""".split()
 SECONDS = 30
 QUIET = """return wire.number >= 0 && !wire.isAsking && !editor.isSending
   && document.readyState === 'complete'"""
-PASTE = """const given = new DataTransfer();
-given.setData('text/plain', arguments[0]);
-document.activeElement.dispatchEvent(new ClipboardEvent('paste',
-  { clipboardData: given, bubbles: true, cancelable: true }));"""
-COPY = """const taken = new DataTransfer();
-document.activeElement.dispatchEvent(new ClipboardEvent(arguments[0],
-  { clipboardData: taken, bubbles: true, cancelable: true }));
-return taken.getData('text/plain')"""
+# What the clipboard gets, or gives, as keys would copy, cut or paste.
+CLIPBOARD = """const [kind, text] = arguments, held = new DataTransfer();
+held.setData('text/plain', text);
+document.activeElement.dispatchEvent(new ClipboardEvent(kind,
+  { clipboardData: held, bubbles: true, cancelable: true }));
+return held.getData('text/plain')"""
 It = TypeVar("It", bound="Window")
 
 
-class Window:
+def signs_of(key: str) -> list[str]:
+    """A key by its name or sign, as selenium has it; those of `Shift+Enter` are held together."""
+    names = key.split("+") if len(key) > 1 else [key]
+    return [getattr(Keys, re.sub(r"(?<=[a-z])(?=[A-Z])", "_", it).upper(), it) for it in names]
+
+
+class Window(webdriver.Chrome):
     """A window of chromium, which is closed at the end of the `with`."""
 
     move = 0  # milliseconds that the mouse takes to a place
 
     def __init__(self, width: int = 1300, height: int = 900) -> None:
-        self.size = (width, height)
-
-    def __enter__(self: It) -> It:
         options = webdriver.ChromeOptions()
         for it in [*ARGUMENTS, *["--no-sandbox"] * (os.geteuid() == 0)]:
             options.add_argument(it)
         options.binary_location = shutil.which("chromium") or ""
         options.set_capability("goog:loggingPrefs", {"browser": "ALL"})
-        self.driver = webdriver.Chrome(options=options)
-        self.resize(*self.size)
-        self.shade()
-        return self
+        super().__init__(options=options)
+        self.size = (width, height)
+        self.resize(width, height).shade()
 
-    def __exit__(self, kind: type[BaseException] | None, wrong: BaseException | None,
-                 trace: TracebackType | None) -> None:
-        self.driver.quit()
-
-    def settle(self) -> None:
+    def settle(self: It) -> It:
         """Waits for what was done."""
+        return self
 
     # ---- what is shown
 
-    def tool(self, name: str, **said: object) -> Any:
-        """A call of chromium's own tools for developers."""
-        return self.driver.execute_cdp_cmd(name, said)
-
-    def resize(self, width: int, height: int) -> None:
+    def resize(self: It, width: int, height: int) -> It:
         """Gives what is seen of a page a width and a height."""
-        self.tool("Emulation.setDeviceMetricsOverride", width=width, height=height,
-                  deviceScaleFactor=1, mobile=False)
+        self.execute_cdp_cmd("Emulation.setDeviceMetricsOverride", {
+            "width": width, "height": height, "deviceScaleFactor": 1, "mobile": False})
+        return self
 
-    def shade(self, scheme: str = "light", medium: str = "") -> None:
+    def shade(self: It, scheme: str = "light", medium: str = "") -> It:
         """Shows pages by day, `light`, or by night, `dark`; on a screen or in `print`."""
         features = [{"name": "prefers-color-scheme", "value": scheme},
                     {"name": "prefers-reduced-motion", "value": "reduce"}]
-        self.tool("Emulation.setEmulatedMedia", media=medium, features=features)
-
-    def picture(self) -> bytes:
-        """A picture of what is in sight, as PNG."""
-        return bytes(self.driver.get_screenshot_as_png())
+        said = {"media": medium, "features": features}
+        self.execute_cdp_cmd("Emulation.setEmulatedMedia", said)
+        return self
 
     def messages(self) -> list[str]:
         """What was said on the console since the last call."""
-        return [it["message"] for it in self.driver.get_log("browser")]
+        return [it["message"] for it in self.get_log("browser")]
 
     # ---- what is asked
 
     def run(self, script: str, *given: object) -> Any:
         """What a script returns, to which `given` are `arguments`."""
-        return self.driver.execute_script(script, *given)
+        return self.execute_script(script, *given)
 
     def wait(self, script: str, *given: object) -> Any:
         """What a script returns, once that is true, or at last all the same."""
-        until = time.monotonic() + SECONDS
-        while not (found := self.run(script, *given)) and time.monotonic() < until:
-            time.sleep(0.02)
-        return found
+        try:
+            waiting = WebDriverWait(self, SECONDS, poll_frequency=0.02)
+            return waiting.until(lambda window: window.run(script, *given))
+        except TimeoutException:
+            return self.run(script, *given)
 
-    def text(self, selector: str) -> str:
-        return str(self.get(selector, "innerText") or "")
-
-    def get(self, selector: str, name: str = "textContent") -> Any:
+    def value(self, selector: str, name: str = "textContent") -> Any:
         """A property of an element, or nothing if it isn't there."""
         return self.run("return document.querySelector(arguments[0])?.[arguments[1]]", selector,
                         name)
+
+    def text(self, selector: str) -> str:
+        return str(self.value(selector, "innerText") or "")
 
     def each(self, selector: str, of: str = "it.textContent") -> Any:
         """What an expression gives of `it`, for each of some elements."""
@@ -119,61 +110,70 @@ class Window:
     def count(self, selector: str) -> int:
         return len(self.each(selector, "0"))
 
-    def focus(self, selector: str) -> None:
-        self.run("document.querySelector(arguments[0]).focus()", selector)
+    def chosen(self) -> int:
+        """The line that is looked at."""
+        return int(self.each('#lines [aria-selected="true"]', "it.dataset.at")[0])
+
+    def focused(self) -> str:
+        """The name of the element that has the keys."""
+        return str(self.run("return document.activeElement.id"))
 
     # ---- what is done
 
-    def click(self, selector: str, right: float = 0, down: float = 0, held: str = "") -> None:
-        """Clicks into the middle of an element, or this far from it."""
-        found = self.driver.find_element(By.CSS_SELECTOR, selector)
-        actions = ActionChains(self.driver, duration=self.move)
-        if held:
-            actions.key_down(held)
-        actions.move_to_element_with_offset(found, round(right), round(down)).click()
-        if held:
-            actions.key_up(held)
+    def do(self: It, script: str, *given: object) -> It:
+        """Runs a script for what it does."""
+        self.run(script, *given)
+        return self
+
+    def focus(self: It, selector: str) -> It:
+        return self.do("document.querySelector(arguments[0]).focus()", selector)
+
+    def perform(self: It, actions: ActionChains) -> It:
         actions.perform()
-        self.settle()
+        return self.settle()
+
+    def press(self: It, *keys: str) -> It:
+        """Presses keys, one after another, and waits for what they lead to."""
+        actions = ActionChains(self)
+        for signs in map(signs_of, keys):
+            for it in signs:
+                actions.key_down(it)
+            for it in reversed(signs):
+                actions.key_up(it)
+        return self.perform(actions)
+
+    def click(self: It, selector: str, right: float = 0, down: float = 0, held: str = "") -> It:
+        """Clicks into the middle of an element, or this far from it."""
+        found = self.find_element(By.CSS_SELECTOR, selector)
+        actions = ActionChains(self, duration=self.move)
+        for it in signs_of(held) if held else []:
+            actions.key_down(it)
+        actions.move_to_element_with_offset(found, round(right), round(down)).click()
+        for it in signs_of(held) if held else []:
+            actions.key_up(it)
+        return self.perform(actions)
+
+    def drag(self: It, selector: str, right: int, down: int) -> It:
+        """Drags what is in the middle of an element so far."""
+        found = self.find_element(By.CSS_SELECTOR, selector)
+        return self.perform(ActionChains(self).drag_and_drop_by_offset(found, right, down))
 
 
 class Page(Window):
     """A window for pages from disk."""
 
-    def open(self, path: str, place: object = None) -> None:
+    def open(self: It, path: str, place: object = None) -> It:
         """Opens a page, at a place in the log."""
-        self.driver.get("about:blank")
+        self.get("about:blank")
         address = pathlib.Path(path).resolve().as_uri()
-        self.driver.get(address + (f"#{place}" if place is not None else ""))
-
-    def press(self, *keys: str) -> None:
-        """Presses keys, one after another, by their names or signs; those of a `Shift+Enter`
-        together."""
-        actions = ActionChains(self.driver)
-        for key in keys:
-            held = key.split("+") if len(key) > 1 else [key]
-            names = [re.sub(r"(?<=[a-z])(?=[A-Z])", "_", it).upper() for it in held]
-            signs = [getattr(Keys, name, it) for name, it in zip(names, held)]
-            for it in signs:
-                actions.key_down(it)
-            for it in reversed(signs):
-                actions.key_up(it)
-        actions.perform()
-
-    def drag(self, selector: str, right: int, down: int) -> None:
-        """Drags what is in the middle of an element so far."""
-        found = self.driver.find_element(By.CSS_SELECTOR, selector)
-        ActionChains(self.driver).drag_and_drop_by_offset(found, right, down).perform()
+        self.get(address + (f"#{place}" if place is not None else ""))
+        return self
 
     def seconds(self) -> float:
         """The processor's time that pages have taken, regardless of what else the machine does."""
-        self.tool("Performance.enable", timeDomain="threadTicks")
-        metrics = self.tool("Performance.getMetrics")["metrics"]
+        self.execute_cdp_cmd("Performance.enable", {"timeDomain": "threadTicks"})
+        metrics = self.execute_cdp_cmd("Performance.getMetrics", {})["metrics"]
         return next(float(it["value"]) for it in metrics if it["name"] == "TaskDuration")
-
-    def printed(self) -> bytes:
-        """The page as it prints, as PDF."""
-        return base64.b64decode(self.tool("Page.printToPDF", printBackground=True)["data"])
 
 
 class Live(Window):
@@ -181,41 +181,32 @@ class Live(Window):
 
     move = 250
 
-    def open(self, address: str) -> None:
+    def open(self: It, address: str) -> It:
         """Opens a page, and waits for its log."""
         self.run("if (typeof file === 'object') file.isUnsaved = false")  # it asks nothing
-        self.driver.get(address)
-        self.settle()
+        self.get(address)
+        return self.settle()
 
-    def settle(self) -> None:
+    def settle(self: It) -> It:
         """Waits until all that was asked of the server is answered."""
         self.wait(QUIET)
+        return self
 
     def messages(self) -> list[str]:
         """Without what chromium itself says about an answer that refuses, and about a server that
         has ended."""
         return [it for it in super().messages() if "Failed to load resource: " not in it]
 
-    def press(self, *keys: str) -> None:
-        """Presses keys, one after another, and waits for what they lead to."""
-        ActionChains(self.driver).send_keys(*keys).perform()
-        self.settle()
+    def type(self: It, text: str) -> It:
+        return self.perform(ActionChains(self).send_keys(text))
 
-    def press_with(self, modifier: str, *keys: str) -> None:
-        actions = ActionChains(self.driver).key_down(modifier)
-        actions.send_keys(*keys).key_up(modifier).perform()
-        self.settle()
-
-    def retype(self, text: str) -> None:
+    def retype(self, text: str) -> "Live":
         """Types over all that the field has."""
-        self.press_with(Keys.CONTROL, "a")
-        self.press(*([text] if text else [Keys.DELETE]))
+        self.press("Control+a")
+        return self.type(text) if text else self.press("Delete")
 
-    def paste(self, text: str) -> None:
-        self.run(PASTE, text)
-        self.settle()
-
-    def copy(self, kind: str = "copy") -> str:
-        found = str(self.run(COPY, kind))
+    def clipboard(self, kind: str, text: str = "") -> str:
+        """What is copied, cut or pasted."""
+        found = str(self.run(CLIPBOARD, kind, text))
         self.settle()
         return found

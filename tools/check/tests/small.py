@@ -1,18 +1,19 @@
-"""Small repositories, each with one thing wrong, over which a check runs; a test for each."""
+"""Small repositories, each with one thing wrong, over which a check runs; a test for each.
+
+    python3 -B -m unittest discover tools/check/tests -k WORD    runs those with WORD in their names
+"""
 
 import os
 import re
-import shutil
+import shlex
 import subprocess
 import sys
 import tempfile
 import unittest
-from collections.abc import Callable, Iterable, Sequence
+from collections.abc import Callable, Iterable, Mapping
 
-TOOLS = os.path.dirname(os.path.dirname(os.path.dirname(os.path.abspath(__file__))))
-TOP, COMMON = os.path.dirname(TOOLS), f"{TOOLS}/common"
-IGNORED = shutil.ignore_patterns("__pycache__")
-sys.path += [f"{TOOLS}/check", TOOLS]
+TOP = os.path.abspath(f"{os.path.dirname(__file__)}/../../..")
+sys.path += [f"{TOP}/tools/check", f"{TOP}/tools"]
 
 from common.files import write  # of the folder that is on the path now
 
@@ -22,39 +23,22 @@ Files = dict[str, str]
 Case = tuple[str, Files, str]
 
 
-def run(files: Files, tool: str, modules: Sequence[str], words: Sequence[str]) -> tuple[int, str]:
-    """The status of a check with these words, run in a repository of these files, and its words. It
-    and its modules are of tools/check, unless they have another folder of tools/, or of logs/."""
+def run(files: Files, command: str) -> tuple[int, str]:
+    """The status of a command over a repository of these files, and what it says."""
     with tempfile.TemporaryDirectory() as folder:
         for path, text in files.items():
-            write(f"{folder}/{path}", text)
-        shutil.copytree(COMMON, f"{folder}/tools/common", ignore=IGNORED)
-        for name in (tool, *modules):
-            path = in_folder(name)
-            os.makedirs(os.path.dirname(f"{folder}/{path}"), exist_ok=True)
-            if os.path.isdir(f"{TOP}/{path}"):
-                shutil.copytree(f"{TOP}/{path}", f"{folder}/{path}", ignore=IGNORED)
-            else:
-                shutil.copy(f"{TOP}/{path}", f"{folder}/{path}")
-        ran = subprocess.run([f"{folder}/{in_folder(tool)}", *words], cwd=folder,
-                             capture_output=True, text=True)
+            os.chmod(write(f"{folder}/{path}", text), 0o755)
+        tool, *words = shlex.split(command)
+        ran = subprocess.run([f"{TOP}/{tool}", *words], cwd=folder, capture_output=True, text=True,
+                             env=os.environ | {"REPOSITORY": folder})
     return ran.returncode, ran.stdout + ran.stderr
 
 
-def in_folder(name: str) -> str:
-    """The path of a script or a module."""
-    if name.startswith("logs/"):
-        return name
-    return f"tools/{name}" if "/" in name else f"tools/check/{name}"
-
-
-def tests_of(
-    tool: str, cases: Iterable[Case], modules: Sequence[str] = (), words: Sequence[str] = ()
-) -> type[unittest.TestCase]:
+def tests_of(command: str, cases: Iterable[Case]) -> type[unittest.TestCase]:
     """A class with one test for each case, so that one can be run alone by its name."""
     def one(files: Files, said: str) -> Callable[[unittest.TestCase], None]:
         def test(self: unittest.TestCase) -> None:
-            status, told = run(files, tool, modules, words)
+            status, told = run(files, command)
             self.assertIn(said, told)
             self.assertEqual(status, int(bool(said)), told)
         return test
@@ -63,4 +47,15 @@ def tests_of(
     for at, (name, files, said) in enumerate(cases):
         plain = re.sub(r"\W+", "_", name).strip("_")[:60]
         tests[f"test_{at:02}_{plain}"] = one(files, said)
-    return type(re.sub(r"\W", "_", tool).title(), (unittest.TestCase,), tests)
+    return type(re.sub(r"\W", "_", command).title(), (unittest.TestCase,), tests)
+
+
+def changed(right: Files, cases: Mapping[tuple[str, str], str]) -> Iterable[Case]:
+    """A case for each path and text, which the repository has in addition."""
+    return ((f"{path} {text}", right | {path: text}, said) for (path, text), said in cases.items())
+
+
+def edited(right: Files, cases: Iterable[tuple[str, str, str, str]]) -> Iterable[Case]:
+    """A case for each path, in whose file one text is replaced by another."""
+    return ((f"{path} {old} {new}", right | {path: right[path].replace(old, new)}, said)
+            for path, old, new, said in cases)

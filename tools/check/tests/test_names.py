@@ -1,8 +1,14 @@
-"""What `tools/check/names` and `tools/check/numbers` have to refuse: functions that don't share a
+"""What `tools/check/run names numbers` has to refuse: functions that don't share a
 word with their definition, types that are namesakes, and clauses that read a number of the code."""
 
-from small import Case, tests_of
+from collections.abc import Iterator
 
+from small import Case, Files, tests_of  # first: it finds the scripts
+
+from common.files import cases_in
+
+TABLES = "tools/check/tests/names.md"
+SPECS = "crates/oil/specs/Oil.antt"
 # A function and the definition that it meets, if the proof looks into it.
 MEETING = """#[tactic(auto, unfolding(crate::specs::Lamp::{definition}))]
 pub fn {function}(lamp: &Lamp) -> Lamp
@@ -10,15 +16,7 @@ pub fn {function}(lamp: &Lamp) -> Lamp
 {{
 }}
 """
-MEETINGS = {
-    ("burn", "burn"): "",
-    ("burn", "after_burn"): "",
-    ("set_wick", "with_wick"): "",
-    ("burn", "glow"): "burn meets glow: no word is shared",
-    ("trim_wick", "shortened"): "trim_wick meets shortened: no word is shared",
-}
-# A function and what its clause says about it, if nothing looks into the definitions `glow`,
-# `wick_trimmed` and `lamp_lit` of its crate, or `spill` and `fill` of another one.
+# A function and what its clause says about it.
 CLAUSE = """ghost use Rattle.lamps.specs.Lamp.{{glow, wick_trimmed, lamp_lit}};
 ghost use Rattle.oil.specs.Oil.{{spill, MAX_DROPS}};
 ghost use Rattle.oil.specs.Can as defined;
@@ -31,44 +29,8 @@ impl Lamp {{
     }}
 }}
 """
-CLAUSES = {
-    ("glow", "result ≡ glow self.now"): "",
-    ("burn", "result ≡ glow self.now"): "burn meets glow: no word is shared",
-    ("burn", "self.new ≡ glow self.old"): "burn meets glow: no word is shared",
-    ("burn", "text.new.items ≡ text.old.items ++ glow self.now"): "burn meets glow",
-    ("burn", "OnOk result (text.new.items ≡ glow self.now)"): "burn meets glow",
-    ("burn", "glow self.old ≡ self.new"): "burn meets glow: no word is shared",
-    ("burn", "(glow self.old).wick ≡ result"): "burn meets glow: no word is shared",
-    ("burn", "result ≡ drop self.now"): "",
-    ("burn", "result ≡ MAX_DROPS"): "",
-    ("burn", "result ≡ spill self.now"): "burn meets spill: no word is shared",
-    ("burn", "result ≡ defined.fill self.now"): "burn meets fill: no word is shared",
-    ("burn", "result ≡ Some (spill self.now)"): "burn meets spill: no word is shared",
-    ("spill", "result ≡ spill self.now"): "",
-    ("burn", "glow self.now ≡ self.old"): "",
-    ("trim_wick", "self.new ≡ wick_trimmed self.old"): "",
-    ("trims", "self.new ≡ wick_trimmed self.old"): "",
-    ("lit", "result ≡ lamp_lit self.now"): "",
-    ("is_lit", "result ≡ lamp_lit self.now"): "",
-    ("burn", "result ≡ glow (lamp_lit burn self.now)"): "burn meets glow",
-    ("light", "result ≡ glow (lamp_lit self.now)"): "light meets glow",
-    ("glowing", "result ≡ wick_trimmed (glow self.now)"): "",
-}
-# Functions that may differ from what they meet.
-KEPT_NAMES = {
-    "burn glow": "",
-    "glow burn": "tools/check/kept-names: glow burn: it isn't so",
-}
-
-# A type of one crate, one of another, and what is said of the two.
-NAMESAKES = {
-    ("pub struct Wick {", "pub record Oil : Type 0 where"): "",
-    ("pub struct Wick {", "pub record Wick : Type 0 where"): "type Wick lamps oil isn't listed",
-    ("    pub enum Wick {", "pub data Wick : Type 0 where"): "type Wick lamps oil isn't listed",
-    ("struct Wick {", "pub record Wick : Type 0 where"): "",
-    ("pub struct Oil {", "pub record Oil : Type 0 where"): "",
-}
-
+# The same without a body, as in a trait.
+BODILESS = CLAUSE.replace("}}\n    {{\n    }}\n", "}};\n\n    fn spill(&self);\n")
 # A constant that code and definitions have, and a clause of it.
 NUMBER = """const MAX_DROPS: u8 = 9;
 
@@ -87,39 +49,33 @@ WRITTEN = "abbrev pub MAX_DROPS : ℕ\nMAX_DROPS = 9\n"
 IMPORTED = "use Rattle.oil.specs.declared.oil.TheConstants.{MAX_DROPS}\n"
 
 
-def named() -> list[Case]:
+def named() -> Iterator[Case]:
     """Functions and what they meet, what their clauses say, and those that may differ."""
-    found: list[Case] = []
-    for (function, met), said in MEETINGS.items():
+    for function, met, said in cases_in(TABLES, "Looked into"):
         code = MEETING.format(function=function, definition=met)
-        found.append((f"{function} {met}", with_code(code, ""), said))
-    for (function, clause), said in CLAUSES.items():
+        yield f"{function} {met}", with_code(code, ""), said
+    for function, clause, said in cases_in(TABLES, "Clauses"):
         code = CLAUSE.format(function=function, clause=clause)
-        found.append((f"{function} {clause}", with_code(code, ""), said))
+        yield f"{function} {clause}", with_code(code, ""), said
+    bodiless = BODILESS.format(function="burn", clause="result ≡ glow self.now")
+    yield "bodiless", with_code(bodiless, ""), "burn meets glow: no word is shared"
     differs = CLAUSE.format(function="burn", clause="result ≡ glow self.now")
-    for kept, said in KEPT_NAMES.items():
-        found.append((f"kept {kept}", with_code(differs, f"# why\nburn glow\n{kept}\n"), said))
-    for (code, definition), said in NAMESAKES.items():
+    for kept, said in cases_in(TABLES, "Kept"):
+        yield f"kept {kept}", with_code(differs, f"# why\nburn glow\n{kept}\n"), said
+    for code, definition, said in cases_in(TABLES, "Types"):
         two = with_code(f"{code}\n}}\n", "type Oil lamps oil\n" if "Oil {" in code else "")
-        found.append((f"{code} {definition}", two | {"crates/oil/specs/Oil.antt": definition}, said))
-    return found
+        yield f"{code} {definition}", two | {SPECS: definition}, said
 
 
-def with_code(code: str, kept: str) -> dict[str, str]:
+def with_code(code: str, kept: str) -> Files:
     """A repository with this function, and these names that may differ."""
-    crates = "lamps: oil\noil:\n"
-    return {"crates.txt": crates, "crates/lamps/src/lamp.rt": code, "tools/check/kept-names": kept}
+    return {"crates.txt": "lamps: oil\noil:\n", "crates/lamps/src/lamp.rt": code,
+            "tools/check/kept-names": kept}
 
 
-def numbered() -> list[Case]:
-    """A clause with a number beside the definitions' number, and definitions of the number alone."""
-    specs = "crates/oil/specs/Oil.antt"
-    found: list[Case] = [
-        (number, {specs: WRITTEN, "crates/oil/src/oil.rt": NUMBER.format(number=number)}, said)
-        for number, said in NUMBERS.items()]
-    imports = f"{specs}: a definition reads the code's MAX_DROPS"
-    return [*found, ("written", {specs: WRITTEN}, ""), ("imported", {specs: IMPORTED}, imports)]
-
-
-Names = tests_of("names", named())
-Numbers = tests_of("numbers", numbered())
+Names = tests_of("tools/check/run names", named())
+Numbers = tests_of("tools/check/run numbers", [
+    *((it, {SPECS: WRITTEN, "crates/oil/src/oil.rt": NUMBER.format(number=it)}, said)
+      for it, said in NUMBERS.items()),
+    ("written", {SPECS: WRITTEN}, ""),
+    ("imported", {SPECS: IMPORTED}, f"{SPECS}: a definition reads the code's MAX_DROPS")])

@@ -1,6 +1,36 @@
-"""What `tools/check/unused` has to refuse: what has no caller, name or import, and lost tests."""
+"""What checks of crates and scripts have to refuse: imports from a crate that hands the item on;
+what has no caller, name or import, and lost tests; stale counts, too many lines of scripts or
+functions of a crate."""
 
-from small import tests_of
+import shutil
+
+from small import Case, Files, changed, edited, tests_of  # first: it finds the scripts
+
+from common.files import cases_in
+
+# A door over a crate with lamps, and what others import, or hand on.
+HOMES = {
+    "crates.txt": """# The door is porch.
+oil:
+lamps: oil
+porch: lamps
+hall: oil lamps porch
+yard: lamps
+shed: porch
+""",
+    "docs/LIBRARY.md": "## porch\n\n`trim`, `Wick`\n",
+    "crates/oil/src/lib.rt": "pub fn fill() {\n}\n",
+    "crates/lamps/src/lib.rt": "pub mod wick;\n\npub use wick::trim;\n",
+    "crates/lamps/src/wick.rt": "ghost use Rattle.lamps.specs.Wick.{trim};\n\npub fn trim() {\n}\n",
+    "crates/porch/src/lib.rt": "pub use lamps::{trim, wick::Wick};\n",
+    "crates/porch/specs/Lib.antt": "pub mod Porch\npub use Rattle.lamps.specs.Wick\n",
+    "crates/yard/src/yard.rt": "use lamps::trim;\n",
+    "crates/shed/src/main.rt": "use porch::{Wick, trim};\n",
+}
+
+Homes = tests_of("tools/check/run homes", changed(
+    HOMES, {(f"crates/{path}", f"{text}\n"): said
+            for path, text, said in cases_in("tools/check/tests/homes.md", "Imports")}))
 
 USED = {
     "crates.txt": "lamps: oil\noil:\n",
@@ -12,7 +42,8 @@ USED = {
     "#[test]\nfn a_lamp_is_lit() {\n    light();\n    check();\n}\n\nfn check() {\n"
     "}\n\nfn main() {\n    light();\n}\n",
 }
-LIGHTS, OILS, LIT = "crates/lamps/src/lib.rt", "crates/oil/src/lib.rt", "crates/lamps/specs/Lamp.antt"
+LIGHTS, OILS = "crates/lamps/src/lib.rt", "crates/oil/src/lib.rt"
+LIT = "crates/lamps/specs/Lamp.antt"
 # In which file what is replaced by what, and what is then said.
 CHANGED = [
     (LIGHTS, "", "", ""),
@@ -20,7 +51,7 @@ CHANGED = [
     (LIGHTS, "    check();\n", "", "nothing calls check, which is no test"),
     (LIGHTS, "    fill()\n", "    1\n", "nobody calls fill"),
     (LIGHTS, "use oil::fill;", "use oil::{drain, fill};", "drain isn't used"),
-    (LIGHTS, "ensures value { lit }", "ensures value { true }", "lit of Rattle.lamps.specs.Lamp isn't"),
+    (LIGHTS, "ensures value { lit }", "ensures value { true }", "lit of Rattle.lamps.specs.Lamp"),
     (OILS, "    MAX_DROPS\n", "    9\n", "nothing names MAX_DROPS"),
     (OILS, "pub fn fill", "pub struct Drop;\n\npub fn fill", "nothing names Drop"),
     (OILS, "pub fn fill", "pub fn drain() {\n}\n\npub fn fill", "nobody calls drain"),
@@ -28,6 +59,29 @@ CHANGED = [
     ("crates.txt", "oil:\n", "oil:\nwick: oil\n", "wick doesn't use oil"),
 ]
 
-Unused = tests_of("unused", [
-    (f"{path} {old} {new}", USED | {path: USED[path].replace(old, new)}, said)
-    for path, old, new, said in CHANGED])
+Unused = tests_of("tools/check/run unused", edited(USED, CHANGED))
+
+MEASURED = "docs/MEASURED.md"
+COUNTED: Files = {
+    "crates.txt": "# NAME: DEP DEP ..\n\n# Base: all.\noil:\n", MEASURED: "# Measured\n",
+    "logs/walk.log": "# run: play\nno\n", "logs/walk.out": "",
+} | {f"model/{it}": "" for it in """program.py cover.py cave generate.py errands.py players.py
+scripts.py worlds.py directed.py seeds.py cases.py shrink.py counts.py duel suite check-duel
+change-rows laws.py""".split()}
+LONG = "tools/page/long.py"
+FILL = {"crates/oil/src/a.rt": "pub const fn a()\n{\n}\n    pub(crate) fn b();\n fn c() {}\n" * 37}
+
+Counts = tests_of("tools/measure/counts --check", [
+    ("stale", COUNTED, f"{MEASURED}: the counts are stale"),
+    ("too many lines", COUNTED | {LONG: "\n" * 20_000}, "lines, and may have"),
+    ("too many functions", COUNTED | FILL, "oil has 111 functions, and may have 110"),
+])
+
+CLEAN = "import os\n\nprint(os.sep)\n"
+LAMPS: list[Case] = [
+    ("used", {"tools/page/lamp.py": CLEAN}, ""),
+    ("unused", {"logs/tools/lamp.py": f"import re\n{CLEAN}"}, "logs/tools/lamp.py:1:1: 're'"),
+    ("a script", {"model/lamp": f"#!/usr/bin/env python3\n{CLEAN}oil\n"}, "undefined name 'oil'"),
+]
+if shutil.which("pyflakes3"):
+    Flakes = tests_of("tools/soak/scripts pyflakes", LAMPS)

@@ -134,8 +134,12 @@ class Answers(BaseHTTPRequestHandler):
             name = given.file.encode("ascii", "replace").decode().translate(UNQUOTED)
             self.send_header("Content-Disposition", f'attachment; filename="{name}"')
         self.send_header("Content-Length", str(len(given.content)))
-        self.end_headers()
-        self.wfile.write(given.content)
+        try:
+            self.end_headers()
+            self.wfile.write(given.content)
+        finally:
+            if given.ends:
+                self.server.site.ending.put(None)
 
 
 UNQUOTED = {ord(it): "_" for it in '"\\/?'} | dict.fromkeys(range(32), "_")

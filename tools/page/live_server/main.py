@@ -8,8 +8,10 @@ import shutil
 import signal
 import sys
 import threading
+import time
 import webbrowser
 from collections.abc import Callable
+from queue import SimpleQueue
 from types import FrameType
 
 from . import words
@@ -108,7 +110,9 @@ def serve(site: Site, at: int, opens: bool) -> None:
     print(f"{site.home.path}: {server.address}", "Ctrl-C ends it.", sep="\n", flush=True)
     if opens:
         threading.Thread(target=webbrowser.open, args=(server.address,), daemon=True).start()
-    site.ending.wait()
+    # A signal that comes right before a longer wait wouldn't end that.
+    while site.ending.empty():
+        time.sleep(0.2)
     server.shutdown()
     server.server_close()
 
@@ -132,10 +136,10 @@ def keep(site: Site) -> None:
 def main(about: str, built: str, draw: Draw) -> int:
     """Runs the tool: `about` is its help, `built` the program of the repository."""
     said = asked(about)
-    ending = threading.Event()
+    ending = SimpleQueue[None]()
 
     def end(_: int, __: FrameType | None) -> None:
-        ending.set()
+        ending.put(None)
 
     for it in ENDS:
         signal.signal(it, end)

@@ -5,7 +5,7 @@ from __future__ import annotations
 import html
 from dataclasses import dataclass
 
-from filled import WALK, page_of as filled_page, part
+from cave_walk.filled import WALK, page_of as filled_page, part
 
 LIVE = ["held.js", "told.js", "wire.js", "words.js", "editor.js", "chosen.js", "near.js",
         "changes.js", "file.js", "live.js"]

@@ -3,9 +3,9 @@
 from __future__ import annotations
 
 import json
-import threading
 from collections.abc import Callable
 from dataclasses import dataclass, field
+from queue import SimpleQueue
 
 from .held import Log, Nothing, Stale, event_text
 from .program import Refused
@@ -18,12 +18,14 @@ TEXT, JSON_LINES = "text/plain; charset=utf-8", "application/jsonl"
 
 @dataclass(frozen=True)
 class Answer:
-    """An answer: its status, its content and the kind of it, and the file that it is saved as."""
+    """An answer: its status, its content and the kind of it, the file that it is saved as, and
+    whether the server ends once it is sent."""
 
     content: bytes
     kind: str = JSON_LINES
     status: int = 200
     file: str | None = None
+    ends: bool = False
 
 
 def told(status: int, kind: str, message: str = "") -> Answer:
@@ -45,7 +47,8 @@ class Site:
     log: Log
     home: Home
     page: Callable[[], bytes]
-    ending: threading.Event = field(default_factory=threading.Event)
+    # Signals put into it, too: an event could wait for itself if one came as it begins to wait.
+    ending: SimpleQueue[None] = field(default_factory=SimpleQueue)
 
     # ---- what is only looked at
 
@@ -132,8 +135,7 @@ class Site:
         """Ends the server."""
         with self.log.lock:
             event = self.log.tell({"kind": "ended"})
-        self.ending.set()
-        return Answer(event.text)
+        return Answer(event.text, ends=True)
 
 
 def object_of(content: bytes) -> dict[str, object]:

@@ -1,0 +1,108 @@
+"""Compares the tables of rules in the pages with those of the definitions.
+
+Above a table of a page stands `<!-- rows: NAME NAME -->`, with the names of the tables in specs/
+that say the same, one after another, and each side has the same number of rows. The tables of a
+file stand in the pages in the order of the file, unless one is a part of another. A table of more
+than one row that no page names, a name that no table has, a page's table with another number of
+rows than its definitions, and two that stand the other way round are named.
+
+So are the tables whose rows are noted, which have a name on their page: one that no page shows, or
+shows without a name, and a name of a table that is noted nowhere.
+
+On the pages the rows of all tables have numbers, from 1 on, and each but the last says in its first
+cell when it applies. A row of a page says the messages that its definition says, in their order,
+and names in its first cell each object that the tests of its definition name, or its effect if it
+is one of a list of effects: so two rows that are exchanged are noticed whenever these differ. What
+is defined by the cases of a value, and isn't noted, isn't compared.
+"""
+
+import re
+from collections import defaultdict
+from collections.abc import Iterator
+from itertools import combinations
+
+from common.files import text_of
+from rule_tables import (Noted, Shown, Table, Words, noted_in, parts_of, rows_in_words,
+                         tables_defined, tables_shown)
+
+SPAN = re.compile(r"`([a-z][a-z0-9-]*)`")
+Places = dict[str, int]  # which table of the pages shows the definition of a name
+
+
+def late_tables(places: Places, tables: list[Table]) -> Iterator[tuple[str, str]]:
+    """Pairs of tables of a file that stand in the pages the other way round than they should."""
+    parts = parts_of({it.name: it.text for it in tables})
+    order = [name for name in parts if name in places]
+    near = {name: {it for it in order if places[it] == places[name]} for name in order}
+    inside = {name: set[str]().union(*(parts[it] for it in near[name])) for name in order}
+    for one, other in combinations(order, 2):
+        are_apart = not near[one] & inside[other] and not near[other] & inside[one]
+        if are_apart and places[other] < places[one]:
+            yield one, other
+
+
+def faults_of_counts(shown: Shown, defined: dict[str, Table]) -> Iterator[str]:
+    """What is wrong with the names above a page's table, and with the number of its rows."""
+    unknown = [it for it in shown.names if it not in defined]
+    yield from (f"{it} is no table of rows" for it in unknown)
+    count = sum(len(defined[it].rows) for it in shown.names if it in defined)
+    if not unknown and count != len(shown.rows):
+        yield f"{' '.join(shown.names)} has {count} rows, and the page shows {len(shown.rows)}"
+
+
+def faults_of_rows(shown: Shown, defined: list[Words], roles: set[str]) -> Iterator[str]:
+    """Rows of a page whose number isn't their place, that don't say when they apply, but the last,
+    which applies otherwise, or that say or ask something other than those of the definition."""
+    called = ", ".join(shown.labels or shown.names)
+    for place, (number, words, *_) in enumerate(shown.rows, 1):
+        if number != str(place):
+            yield f"row {place} of {called} has the number {number}"
+        if not words and place < len(shown.rows):
+            yield f"{called} {number}: it has no words, and isn't the last row"
+    for (number, *cells), row in zip(shown.rows, defined):
+        spans = [it.replace("-", "") for it in SPAN.findall("|".join(cells))]
+        told = [it for it in spans if it in roles]
+        unnamed = sorted(row.things - set(re.findall(r"\b[A-Z]+2?\b", cells[0])))
+        head = f"{called} {number}: the definition"
+        if told != row.roles:
+            yield f"{head} says {' '.join(row.roles)}, and the page {' '.join(told)}"
+        if unnamed:
+            yield f"{head} asks of {' '.join(unnamed)}, and the page doesn't"
+
+
+def faults_of_notes(noted: Noted, pages: list[Shown], places: Places) -> Iterator[str]:
+    """What is wrong with the tables that are noted, and with those of the pages that have names."""
+    found = defaultdict[int, list[str]](list)
+    for table, rows in noted.items():
+        yield from (f"{table} has {it}, which no page shows" for it in rows if it not in places)
+        at = {places[it] for it in rows if it in places}
+        if len(at) > 1:
+            yield f"{table} stands on the pages more than once"
+        for place in at:
+            found[place].append(table)
+    for place, (_, labels, *_) in enumerate(pages):
+        tables = found[place]
+        if len(tables) != len(labels):
+            yield f"noted are {', '.join(tables) or 'no rows'} of {', '.join(labels) or 'no name'}"
+
+
+def faults() -> Iterator[str]:
+    files, pages = tables_defined(), [*tables_shown()]
+    defined = {it.name: it for tables in files.values() for it in tables}
+    words = rows_in_words(files)
+    places = {name: at for at, shown in enumerate(pages) for name in shown.names}
+    roles = {role for name in places for row in words.get(name, []) for role in row.roles}
+    for shown in pages:
+        told = [*faults_of_counts(shown, defined)]
+        are_cases = any(defined[it].form == "cases" for it in shown.names if it in defined)
+        rows = [row for name in shown.names for row in words.get(name, [])]
+        told += faults_of_rows(shown, [] if are_cases and not shown.labels else rows, roles)
+        yield from (f"{shown.page}: {it}" for it in told)
+    for name, table in sorted(defined.items()):
+        if table.form == "rows" and len(table.rows) > 1 and name not in places:
+            yield f"{name} has rows that no page shows"
+    for path, tables in files.items():
+        for one, other in late_tables(places, tables):
+            yield f"{path}: {one} and {other} stand in the pages the other way round"
+    yield from faults_of_notes(noted_in(map(text_of, files)), pages, places)
+    yield from ["no page shows a table of rows"] * (not pages)

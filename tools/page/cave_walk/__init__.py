@@ -1,0 +1,1 @@
+"""What makes pages and charts of walks, for `page`, `chart` and `live`."""

@@ -1,0 +1,81 @@
+"""The chart of a walk: its score and its lamp, drawn by gnuplot."""
+
+import subprocess
+import sys
+from collections.abc import Iterable
+
+from common import command_line
+
+from .steps import Steps, Stop, columns_of, events_of, put, text
+
+MARKS = {  # for an event: the type of its points, their size, their colour
+    "treasure found": (12, 1.0, "#1d6f86"),
+    "treasure home": (13, 1.1, "#1d6f86"),
+    "died": (2, 1.2, "#b3261e"),
+}
+HEAD = """set terminal svg size 1200,400 font 'Helvetica,13' background rgb 'white'
+set datafile separator '\\t'
+set border 3+8 lc rgb '#8a949b'
+set grid ytics lc rgb '#e3e8ea' lt 1
+set tics out nomirror
+set key above right samplen 2
+set xlabel 'place in the log'
+set ylabel 'score' tc rgb '#1d6f86'
+set y2label 'lamp' tc rgb '#b07a1e'
+set y2tics
+"""
+LINES = """$steps using 1:2 with fillsteps fs solid noborder fc rgb '#e4f0f3' notitle,
+$steps using 1:2 with steps lc rgb '#1d6f86' lw 2 title 'score',
+$steps using 1:3 axes x1y2 with lines lc rgb '#b07a1e' lw 1.2 title 'lamp'"""
+
+
+def file_of(name: str) -> str:
+    """The text of a file, or of standard input."""
+    try:
+        with open(0 if name == "-" else name, "rb") as file:
+            return text(file.read())
+    except OSError as error:
+        raise Stop(f"{name}: the file can't be read: {error.strerror}", 5) from None
+
+
+def block(name: str, rows: Iterable[str]) -> str:
+    """A table inside a script of gnuplot."""
+    return "\n".join([f"${name} << END_OF_ROWS", *rows, "END_OF_ROWS", ""])
+
+
+def script_of(steps: Steps) -> str:
+    """The commands for gnuplot."""
+    lines = [*zip(steps["place"], steps["score"], steps["lamp"], steps["happened"])]
+    told = [HEAD, block("steps", (f"{at}\t{score}\t{lamp}" for at, score, lamp, _ in lines))]
+    plots = [LINES]
+    for event, (kind, size, colour) in MARKS.items():
+        marked = [f"{at}\t{score}" for at, score, _, it in lines if event in events_of(it)]
+        if marked:
+            name = event.replace(" ", "_")
+            told.append(block(name, marked))
+            plots.append(f"${name} using 1:2 with points pt {kind} ps {size} lw 1.5"
+                         f" lc rgb '{colour}' title '{event}'")
+    lamps, most = steps["lamp"], max(*steps["score"], 1)
+    told += [f"set xrange [0:{max(len(lines) - 1, 1)}]", f"set yrange [0:{1.1 * most:.0f}]"]
+    told += [f"set y2range [{min(*lamps, 0)}:{1.1 * max(*lamps, 1):.0f}]"]
+    return "\n".join([*told, f"plot {', '.join(plots)}".replace(",\n", ", "), ""])
+
+
+def main() -> int:
+    asks = command_line.parser()
+    asks.add_argument("steps", metavar="STEPS")
+    asks.add_argument("--output", metavar="CHART.svg")
+    said = asks.parse_args()
+    if lost := command_line.missing("gnuplot"):
+        raise Stop(lost)
+    steps = columns_of(file_of(said.steps))
+    if not steps["line"]:
+        raise Stop(f"{said.steps}: a log without a line has no chart")
+    drawn = subprocess.run(["gnuplot"], input=script_of(steps).encode(), capture_output=True)
+    if drawn.returncode or not drawn.stdout:
+        raise Stop(f"gnuplot ends with status {drawn.returncode}: {drawn.stderr.decode()}")
+    if said.output:
+        put(said.output, drawn.stdout)
+    else:
+        sys.stdout.buffer.write(drawn.stdout)
+    return 0
