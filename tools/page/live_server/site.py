@@ -47,7 +47,7 @@ class Site:
     log: Log
     home: Home
     page: Callable[[], bytes]
-    # Signals put into it, too: an event could wait for itself if one came as it begins to wait.
+    # Signals put into it, too, at any moment: an event that is being set could wait for itself.
     ending: SimpleQueue[None] = field(default_factory=SimpleQueue)
 
     # ---- what is only looked at
