@@ -2,6 +2,8 @@ mod CauseLemmas
 mod ExactCauses
 mod FirstFaults
 mod KeyLemmas
+mod ListedWays
+mod MarksOfLines
 mod WayCounts
 mod WayLines
 mod WaysOfRows

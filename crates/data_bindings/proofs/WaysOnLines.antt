@@ -1,12 +1,11 @@
--- Each way that is listed stands on its line.
-use Rattle.std.proofs.Common.{◌≡◌, ◌∙◌, ◌++◌, ◌∷◌, ℕ, suc, Bool, true, false, List, []}
+-- Each way that is listed stands on its line, and each way of a place is listed.
+use Rattle.std.proofs.Common.{◌≡◌, ◌<◌, ◌∙◌, ◌++◌, ◌∷◌, ℕ, suc, true, false, List, []}
 use Rattle.std.proofs.Common.{Option, Some, None, length, refl, sym, ap, subst, arith}
 use Rattle.std.specs.Prelude.{◌==◌, is_some, slice_get, unwrap_or}
 use Rattle.std.specs.List.{All}
 use Rattle.std.specs.Str.Lines.{lines}
 use Rattle.std.proofs.lemmas.List.{append_assoc, length-append}
 use Rattle.std.proofs.lemmas.List.Elements.{All-nil, All-cons, All-weaker}
-use Rattle.base_lines.specs.Bytes.{is_all_blank}
 use Rattle.cave_data.specs.CaveView.{ways_from}
 use Rattle.data_rows.specs.DatabaseGrammar.{HasRows, blank_line, database_ends, row_line}
 use Rattle.data_rows.specs.DatabaseGrammar.{section_ends, section_number}
@@ -20,17 +19,17 @@ use Rattle.data_rows.specs.declared.error.Section.TheVariants as section
 use Rattle.data_rows.specs.declared.number.Number.TheVariants.{Natural, Negative}
 use Rattle.data_rows.specs.declared.position.Position.{Position}
 use Rattle.data_rows.specs.declared.position.Position.TheVariants.{Outside, Inside, After}
-use Rattle.data_rows.proofs.LineLemmas.{begins-row, closes-minus_one, closes-natural, heading-end}
-use Rattle.data_rows.proofs.LineLemmas.{heading-section, nonblank_line}
-use Rattle.data_rows.proofs.RowLemmas.{entry-read}
+use Rattle.data_rows.proofs.LineLemmas.{closes-minus_one, heading-end, heading-section}
+use Rattle.data_rows.proofs.LineLemmas.{nonblank_line}
 use Rattle.data_bindings.specs.Marks.{mark_at, mark_of, marked_rows}
-use Rattle.data_bindings.specs.Marks.{with_marked_row}
 use Rattle.data_bindings.specs.WayLaws.{StandsOn, WaysStandOnTheirLines}
 use Rattle.data_bindings.specs.WayLines.{way_index, way_lines, way_lines_from}
 use Rattle.data_bindings.specs.declared.by_line.WayLine.{WayLine}
 use Rattle.data_bindings.specs.declared.mark.MarkedRow.{MarkedRow}
 use Rattle.data_bindings.specs.declared.mark.RowMark.{RowMark}
 use Rattle.data_bindings.specs.declared.mark.RowMark.TheVariants as mark
+use Rattle.data_bindings.proofs.ListedWays.{listed_from, rows_counted}
+use Rattle.data_bindings.proofs.MarksOfLines.{marks_then, none_after_end, row_leads, row_marked}
 use Rattle.data_bindings.proofs.WaysOfRows.{Alike, IsNoWay, at_end, goings_append, goings_of, leads_nowhere, marked_as_no_way}
 use Rattle.data_bindings.proofs.WaysOfRows.{more_goings, more_ways, no_goings, no_line, way_alike, ways_of_cave}
 
@@ -62,14 +61,6 @@ one_passed passed line later rows position before stand =
     (way_lines_from before (marked_rows (suc (length (passed ++ line ∷ []))) position later)))
     (append_assoc passed (line ∷ []) later) stand)
 
--- the marks of a line and of those after it
-marks_then : (position next : Position) (line : List ℕ) (later : List (List ℕ)) (number : ℕ)
-    (marked : Option RowMark) → mark_at position line ≡ marked
-    → position_after_line position line ≡ next
-    → with_marked_row number marked (marked_rows (suc number) next later)
-    ≡ marked_rows number position (line ∷ later)
-marks_then position next line later number marked is leads = rw (is, leads) refl
-
 -- a line that has no row
 unmarked : (passed : List (List ℕ)) (earlier : List Entry) (position next : Position)
     (line : List ℕ) (later : List (List ℕ)) (rows : List Entry)
@@ -81,25 +72,6 @@ unmarked passed earlier position next line later rows none leads stand before al
     (way_lines_from before marks))
     (marks_then position next line later (suc (length passed)) None none leads)
     (one_passed passed line later (earlier ++ rows) next before (stand before alike))
-
--- a row is what the reading of its line marks, and its section goes on
-row_marked : (s : Section) (line : List ℕ) (row : Entry) → IsRow s line row
-    → mark_at (Inside s) line ≡ mark_of row
-row_marked s line row is =
-    let begins = begins-row s line row is in
-    let some = nonblank_line (Natural begins.0) line begins.1 in
-    let open_still = closes-natural begins.0 line begins.1 in
-    let read = entry-read s line row is in
-    rw (some, open_still, read) refl
-
-row_leads : (s : Section) (line : List ℕ) (row : Entry) → IsRow s line row
-    → position_after_line (Inside s) line ≡ Inside s
-unfolding position_after_line
-row_leads s line row is =
-    let begins = begins-row s line row is in
-    let some = nonblank_line (Natural begins.0) line begins.1 in
-    let open_still = closes-natural begins.0 line begins.1 in
-    rw (some, open_still) refl
 
 -- a row that isn't a way
 other_row : (passed : List (List ℕ)) (earlier : List Entry) (s : Section) (line : List ℕ)
@@ -211,19 +183,6 @@ way_row_stands passed earlier line place going later rest is stand before alike 
           (sym among) (at_end (goings_of place earlier) going (goings_of place rest)));
     }
 
--- after the end no line has a row
-none_after_line : (number : ℕ) (line : List ℕ) (ls : List (List ℕ)) (blank : Bool)
-    → is_all_blank line ≡ blank → marked_rows (suc number) After ls ≡ []
-    → marked_rows number After (line ∷ ls) ≡ []
-unfolding position_after_line
-none_after_line number line ls true blank later = rw blank later
-none_after_line number line ls false some later = rw some later
-
-none_after_end : (number : ℕ) (ls : List (List ℕ)) → marked_rows number After ls ≡ []
-none_after_end number [] = refl
-none_after_end number (line ∷ ls) =
-    none_after_line number line ls (is_all_blank line) refl (none_after_end (suc number) ls)
-
 -- ---- lines that have rows
 
 ways_stand : {position : Position} {ls : List (List ℕ)} {rows : List Entry}
@@ -266,8 +225,16 @@ ways_stand (row_line {s = s} {line = line} {row = row} {lines = later} {rows = r
 pub ways_stand_on_their_lines : WaysStandOnTheirLines
 unfolding way_lines
 ways_stand_on_their_lines database bindings c reads =
-    All-weaker (StandsAmong (lines database) rows) (StandsOn (lines database) (ways_from c)) in_cave
-    (way_lines database) (ways_stand reads.right.is_database.has_rows [] [] [] (λ place. refl))
+    record {
+      each_line = All-weaker (StandsAmong (lines database) rows)
+          (StandsOn (lines database) (ways_from c)) in_cave (way_lines database)
+          (ways_stand reads.right.is_database.has_rows [] [] [] (λ place. refl));
+      each_way = λ place index less.
+          listed_from place index [] (marked_rows 1 Outside (lines database)) (omega arith)
+          (subst (λ n. index < n)
+          (ap length (same place) ∙ sym (rows_counted reads.right.is_database.has_rows 1 place))
+          less);
+    }
   where
     rows : List Entry
     rows = reads.right.is_database.rows

@@ -1,5 +1,5 @@
--- The lines with which ways are listed are those on which they stand.
-use Rattle.std.specs.Prelude.{◌≡◌, ℕ, ◌+◌, List, Some, slice_get}
+-- The lines with which ways are listed are those on which they stand, and each way has one.
+use Rattle.std.specs.Prelude.{◌≡◌, ◌<◌, ℕ, ◌+◌, List, Some, Contains, length, slice_get}
 use Rattle.std.specs.List.{All}
 use Rattle.std.specs.Str.Lines.{lines}
 use Rattle.cave_data.specs.CaveView.{CaveView, ways_from}
@@ -21,7 +21,18 @@ pub record StandsOn (ls : List (List ℕ)) (ways : ℕ → List Going) (way : Wa
   pub is_row : IsRow section.Travel line (Way way.place going)
   pub is_way : slice_get (ways way.place) way.index ≡ Some going
 
--- in the cave that a database makes, each way that is listed stands on its line
+-- the way of the place with this index is listed, with a line
+pub record HasALine (listed : List WayLine) (place index : ℕ) : Type 0 where
+  pub line : ℕ
+  pub is_listed : Contains listed (record { line = line; place = place; index = index })
+
+-- each way that is listed stands on its line, and each way of a place is listed
+pub record StandOnTheirLines (ls : List (List ℕ)) (ways : ℕ → List Going)
+    (listed : List WayLine) : Type 0 where
+  pub each_line : All (StandsOn ls ways) listed
+  pub each_way : (place index : ℕ) → index < length (ways place) → HasALine listed place index
+
+-- this is so of the ways of the cave that a database makes
 abbrev pub WaysStandOnTheirLines : Type 0
 WaysStandOnTheirLines = (database bindings : List ℕ) (c : CaveView) → Reads database bindings c
-    → All (StandsOn (lines database) (ways_from c)) (way_lines database)
+    → StandOnTheirLines (lines database) (ways_from c) (way_lines database)

@@ -16,7 +16,7 @@ pub fn faults_are_first()
 {}
 
 /// Each way that is listed with a line is that line's row, and the way of its place that has its
-/// index.
+/// index. Each index below the number of a place's ways has such a line.
 pub fn ways_stand_on_their_lines()
     ensures { WaysStandOnTheirLines }
 {}

@@ -6,20 +6,25 @@ use Rattle.std.specs.List.{slice_get}
 use Rattle.std.proofs.lemmas.Bool.{false≢true}
 use Rattle.cave_data.specs.CaveView.{ways_from}
 use Rattle.data_rows.specs.Rows.{Going}
+use Rattle.data_rows.specs.declared.targets.Condition.{Condition}
+use Rattle.data_rows.specs.declared.targets.Condition.TheVariants.{Chance}
+use Rattle.data_rows.specs.declared.targets.Destination.{Destination}
+use Rattle.data_rows.specs.declared.targets.Destination.TheVariants.{PutsEmeraldDown}
 use Rattle.cave_world.specs.declared.state.State.{State}
 use Rattle.cave_world.specs.declared.tables.RuleRow.TheVariants.{OfPlace}
 use Rattle.cave_world.specs.declared.travel_rows.Outcome.TheVariants.{Go, NoMotion}
-use Rattle.cave_world.specs.Travel.{Try, TravelResult, after_trying_row, count_unlisted}
+use Rattle.cave_world.specs.Travel.{Try, TravelResult, after_condition, after_go, after_trying_row}
+use Rattle.cave_world.specs.Travel.{count_unlisted}
 use Rattle.cave_world.specs.Travel.{from_listed, holds, is_passed, lists_motion, result_of_last}
 use Rattle.cave_world.specs.Travel.{row_condition, row_destination, row_outcome, rows_tried_by}
 use Rattle.cave_world.specs.Travel.{rows_tried_from, travel, travel_by_rows, tries, try_of}
-use Rattle.map_ways.specs.Laws.{AppliedRowsAreWays}
+use Rattle.map_ways.specs.Laws.{AppliedRowsAreWays, begins_as_any}
 use Rattle.map_ways.specs.Leads.{emerald_of}
 use Rattle.map_ways.specs.Ways.{ends_at}
 use Rattle.map_ways.proofs.Ends.{ends_of}
-use Rattle.map_ways.proofs.LabelLaws.{leads_by_stream}
+use Rattle.map_ways.proofs.LabelLaws.{leads_by_stream, named_from}
 use Rattle.map_ways.proofs.Several.{if_kept}
-use Rattle.map_ways.proofs.WayLeads.{ways_are_what_leads}
+use Rattle.map_ways.proofs.WayLeads.{named_leads}
 
 number_same : {p q m n : ℕ} {a b : Bool} → OfPlace p m a ≡ OfPlace q n b → m ≡ n
 number_same same = grind (arith, same)
@@ -27,8 +32,32 @@ number_same same = grind (arith, same)
 applies_same : {p q m n : ℕ} {a b : Bool} → OfPlace p m a ≡ OfPlace q n b → a ≡ b
 applies_same same = grind (arith, same)
 
+place_same : {p q m n : ℕ} {a b : Bool} → OfPlace p m a ≡ OfPlace q n b → p ≡ q
+place_same same = grind (arith, same)
+
 row_same : {a b : Going} → Some a ≡ Some b → a ≡ b
 row_same same = grind (arith, same)
+
+-- a try leaves the player at the place
+
+drawn_here : (m : Condition) (s : State) → (after_condition m s).trail.here ≡ s.trail.here
+drawn_here (Chance percent) s = refl
+drawn_here _ s = refl
+
+gone_here : (emerald : ℕ) (d : Destination) (s : State)
+    → (after_go emerald d s).trail.here ≡ s.trail.here
+gone_here emerald PutsEmeraldDown s = refl
+gone_here emerald _ s = refl
+
+still_here : (emerald : ℕ) (s : State) (row : Going)
+    → (after_trying_row emerald s row).trail.here ≡ s.trail.here
+unfolding after_trying_row
+still_here emerald s row =
+    let t = after_condition (row_condition row) s in
+    let d = row_destination row in
+    if_kept (λ (u : State). u.trail.here ≡ s.trail.here) (holds (row_condition row) s)
+    (after_go emerald d t) t (gone_here emerald d t ∙ drawn_here (row_condition row) s)
+    (drawn_here (row_condition row) s)
 
 -- the rows from the first that lists the motion are numbered as those of the place
 numbered : (motion : ℕ) (ways : List Going) (later : ℕ)
@@ -104,13 +133,45 @@ module _ (emerald to index here : ℕ) (all : List Going) (row : Going)
       by_outcome again false is (suc at, less, same_row) before =
           again (at, omega (arith, less), same_row) _
 
+-- the rows that are tried are of the place where the player is
+
+module _ (emerald from index place : ℕ) (applies : Bool) where
+  abbrev IsFrom : List Try → Type 0
+  IsFrom some = Contains (map (λ t. t.row) some) (OfPlace from index applies) → place ≡ from
+
+  none_from : IsFrom []
+  none_from (at, less, is) = absurd (omega (arith, less))
+
+  from_here : (s : State) → s.trail.here ≡ place → (failed : Option ℕ) (number : ℕ)
+      (rows : List Going) → IsFrom (tries emerald s failed number rows)
+  from_here s here failed number [] = none_from
+  from_here s here failed number (first ∷ rows) =
+      if_kept IsFrom (is_passed failed first) _ _ (from_here s here failed (number + 1) rows)
+      (by_outcome (is_some (row_outcome s first))
+      (from_here (after_trying_row emerald s first) (still_here emerald s first ∙ here)
+      (Some first.target) (number + 1) rows))
+    where
+      rest : List Try
+      rest = tries emerald (after_trying_row emerald s first) (Some first.target) (number + 1) rows
+
+      by_outcome : (b : Bool) → IsFrom rest
+          → IsFrom (try_of emerald s number first ∷ (if b then [] else rest))
+      by_outcome true again (zero, less, same) = sym here ∙ place_same same
+      by_outcome true again (suc at, less, same) = absurd (omega (arith, less))
+      by_outcome false again (zero, less, same) = sym here ∙ place_same same
+      by_outcome false again (suc at, less, same) = again (at, omega (arith, less), same)
+
 pub applied_rows_are_ways : AppliedRowsAreWays
 unfolding rows_tried_from rows_tried_by travel travel_by_rows
-applied_rows_are_ways cave motion from to index s row number at tried there ends =
+applied_rows_are_ways cave motion from to index s row number all tried there ends =
     let ways = ways_from cave s.trail.here in
-    (ways_are_what_leads cave from to number).1 motion
-    (leads_by_stream cave motion from to s at
+    let here : s.trail.here ≡ from = from_here (emerald_of cave) from index s.trail.here true s refl
+    None (count_unlisted motion ways) (from_listed motion ways) tried in
+    named_leads (emerald_of cave) (begins_as_any motion (ways_from cave from)) motion to []
+    (ways_from cave from)
+    (named_from cave motion from to number.0 s here all []
+    (leads_by_stream cave motion to s
     (goes_on (emerald_of cave) to index from ways row
-    (subst (λ here. slice_get (ways_from cave here) index ≡ Some row) (sym at.here) there) ends
+    (subst (λ place. slice_get (ways_from cave place) index ≡ Some row) (sym here) there) ends
     s None (count_unlisted motion ways) (from_listed motion ways) (numbered motion ways) tried
-    (record { state = s; outcome = NoMotion })))
+    (record { state = s; outcome = NoMotion }))))

@@ -1,12 +1,11 @@
 -- A label names a motion exactly if it leads there in some state.
 use Rattle.std.proofs.Common.{◌≡◌, ℕ, ◌+◌, ◌<◌, ◌≤◌, true, false, List, [], ◌∷◌, refl, sym, ap}
-use Rattle.std.proofs.Common.{Option, None, Some, subst, ◌∙◌}
+use Rattle.std.proofs.Common.{Option, None, Some, length, subst, ◌∙◌}
 use Rattle.std.specs.Prelude.{if◌then◌else◌, is_some}
 use Rattle.std.specs.List.{All}
 use Rattle.std.proofs.lemmas.Bool.{false≢true}
-use Rattle.std.proofs.lemmas.List.Elements.{All-nil}
 use Rattle.cave_data.specs.CaveView.{CaveView, ways_from}
-use Rattle.base_lines.specs.Numbers.{LAST_PLACE}
+use Rattle.base_lines.specs.Numbers.{LAST_OBJECT, LAST_PLACE}
 use Rattle.data_rows.specs.Rows.{Going}
 use Rattle.cave_world.specs.declared.state.State.{State}
 use Rattle.cave_world.specs.declared.travel_rows.Outcome.TheVariants.{Go, NoMotion}
@@ -14,7 +13,7 @@ use Rattle.cave_world.specs.Travel.{after_trying_row, count_unlisted, from_liste
 use Rattle.cave_world.specs.Travel.{result_of_last, row_outcome, travel, travel_by_rows, tries}
 use Rattle.cave_world.specs.Travel.{try_of}
 use Rattle.map_ways.specs.Laws.{LabelsNameWhatLeads, WhatLeadsIsNamed, begins_as_any, label_names}
-use Rattle.map_ways.specs.Leads.{CanLead, IsDraw, IsStateAt, emerald_of, tries_by}
+use Rattle.map_ways.specs.Leads.{CanLead, IsDraw, IsStateAt, emerald_of, travel_by, tries_by}
 use Rattle.map_ways.proofs.Falling.{taken_to_leads, takes, takes_to}
 use Rattle.map_ways.proofs.Leading.{Anything, Leads, draws_of, leads_of}
 use Rattle.map_ways.proofs.Sees.{sees_at_first}
@@ -37,13 +36,13 @@ module _ (cave : CaveView) (motion from to : ℕ) (low : 0 < from) where
       at.laid.all_first) in
       (draws, (all, there number (record { state = s; outcome = NoMotion })))
 
-  takes_by : (s : State) → IsStateAt from s → (draws : List ℕ) (number : ℕ) (listed : List Going)
-      → LeadsBy s draws number listed → takes_to (emerald_of cave) to [] listed ≡ true
-  takes_by s at draws number listed leads =
+  takes_by : (s : State) → s.trail.here ≡ from → length s.objects.first ≡ LAST_OBJECT
+      → (draws : List ℕ) (number : ℕ) (listed : List Going) → LeadsBy s draws number listed
+      → takes_to (emerald_of cave) to [] listed ≡ true
+  takes_by s here all draws number listed leads =
       takes (Anything (emerald_of cave) s to) (emerald_of cave) s to [] false listed tt
       (leads_of (emerald_of cave) s to [] listed false s draws
-      (sees_at_first (emerald_of cave) s (subst (λ here. 0 < here) (sym at.here) low)
-      at.laid.all_first)
+      (sees_at_first (emerald_of cave) s (subst (λ place. 0 < place) (sym here) low) all)
       (λ next passing. absurd (false≢true (sym passing)))
       (number, (record { state = s; outcome = NoMotion }, (refl, leads))))
 
@@ -56,11 +55,17 @@ module _ (cave : CaveView) (motion from to : ℕ) (low : 0 < from) where
   abbrev ways : List Going
   ways = ways_from cave from
 
-  named : CanLead cave motion from to → label_names cave motion from to ≡ true
-  named (s, (draws, (at, (all, leads)))) =
+  -- what leads there from a state with all objects is named
+  pub named_from : (s : State) → s.trail.here ≡ from → length s.objects.first ≡ LAST_OBJECT
+      → (draws : List ℕ) → (travel_by cave motion draws s).outcome ≡ Go to
+      → label_names cave motion from to ≡ true
+  named_from s here all draws leads =
       named_of (emerald_of cave) (begins_as_any motion ways) motion to [] ways refl refl
-      (takes_by s at draws (count_unlisted motion ways) (from_listed motion ways)
-      (subst (LeadsFrom s draws) at.here leads))
+      (takes_by s here all draws (count_unlisted motion ways) (from_listed motion ways)
+      (subst (LeadsFrom s draws) here leads))
+
+  named : CanLead cave motion from to → label_names cave motion from to ≡ true
+  named (s, (draws, (at, (all, leads)))) = named_from s at.here at.laid.all_first draws leads
 
   pub taken_leads : from ≤ LAST_PLACE
       → takes_to (emerald_of cave) to [] (from_listed motion ways) ≡ true
@@ -95,28 +100,18 @@ by_stream emerald s failed number (row ∷ rows) =
     else try_of emerald s number row ∷ (if is_some (row_outcome s row) then [] else all))
     (by_stream emerald (after_trying_row emerald s row) (Some row.target) (number + 1) rows)
 
--- what leads to the place by the stream leads there with some draws, as there are none
-pub leads_by_stream : (cave : CaveView) (motion from to : ℕ) (s : State) → IsStateAt from s
-    → (travel cave (emerald_of cave) motion s).outcome ≡ Go to → CanLead cave motion from to
+-- what leads to the place by the stream leads there with draws, as there are none
+pub leads_by_stream : (cave : CaveView) (motion to : ℕ) (s : State)
+    → (travel cave (emerald_of cave) motion s).outcome ≡ Go to
+    → (travel_by cave motion [] s).outcome ≡ Go to
 unfolding travel travel_by_rows
-leads_by_stream cave motion from to s at leads =
-    let ways = ways_from cave s.trail.here in (
-      s,
-      (
-        [],
-        (
-          at,
-          (
-            All-nil IsDraw,
-            ap (λ all. (result_of_last (record { state = s; outcome = NoMotion }) all).outcome)
-                (by_stream (emerald_of cave) s None (count_unlisted motion ways)
-                (from_listed motion ways))
-                ∙ leads,
-          ),
-        ),
-      ),
-    )
+leads_by_stream cave motion to s leads =
+    let ways = ways_from cave s.trail.here in
+    ap (λ all. (result_of_last (record { state = s; outcome = NoMotion }) all).outcome)
+    (by_stream (emerald_of cave) s None (count_unlisted motion ways) (from_listed motion ways))
+    ∙ leads
 
 pub what_leads_is_named : WhatLeadsIsNamed
 what_leads_is_named cave motion from to s number at leads =
-    named cave motion from to number.0 (leads_by_stream cave motion from to s at leads)
+    named_from cave motion from to number.0 s at.here at.laid.all_first []
+    (leads_by_stream cave motion to s leads)

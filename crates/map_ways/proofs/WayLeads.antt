@@ -175,7 +175,7 @@ module _ (emerald : ℕ) (as_any : Bool) (motion : ℕ) where
           (sym (ap (λ b. b
           || is_among as_any motion (motions_taking emerald true [] before row)) is) ∙ named)
 
-  named_leads : (place : ℕ) (before ways : List Going)
+  pub named_leads : (place : ℕ) (before ways : List Going)
       → is_named_on_way emerald as_any place motion before ways ≡ true
       → lead_to emerald place before ways ≡ true
   named_leads place before [] named = absurd (false≢true named)

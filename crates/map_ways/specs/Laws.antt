@@ -3,7 +3,7 @@ use Rattle.std.specs.Prelude.{◌≡◌, ℕ, ◌+◌, ◌<◌, ◌≤◌, Bool,
 use Rattle.std.specs.Prelude.{if◌then◌else◌, List, [], ◌∷◌, ◌++◌, length, Some, Contains}
 use Rattle.std.specs.List.{filter, list_any, slice_get}
 use Rattle.cave_data.specs.CaveView.{CaveView, ways_from}
-use Rattle.base_lines.specs.Numbers.{LAST_PLACE}
+use Rattle.base_lines.specs.Numbers.{LAST_OBJECT, LAST_PLACE}
 use Rattle.data_rows.specs.Rows.{Going}
 use Rattle.cave_world.specs.declared.state.State.{State}
 use Rattle.cave_world.specs.declared.travel_rows.Outcome.TheVariants.{Go}
@@ -114,13 +114,13 @@ WaysAreWhatLeads =
     → (is_way cave from to ≡ true → (motion : ℕ) × CanLead cave motion from to)
     × ((motion : ℕ) → CanLead cave motion from to → is_way cave from to ≡ true)
 
--- a row of a place that a motion tries there, and that applies, is one of a way if it leads to a
--- place: so the map draws what `travel` notes
+-- a row of a place that a motion tries there in a state with all objects, and that applies, is one of
+-- a way if it leads to a place: so the map draws what `travel` notes
 abbrev pub AppliedRowsAreWays : Type 0
 AppliedRowsAreWays =
     (cave : CaveView) (motion from to index : ℕ) (s : State) (row : Going)
     → IsPlaceNumber from
-    → IsStateAt from s
+    → length s.objects.first ≡ LAST_OBJECT
     → Contains (rows_tried_from cave (emerald_of cave) motion s) (OfPlace from index true)
     → slice_get (ways_from cave from) index ≡ Some row
     → ends_at to row ≡ true

@@ -37,8 +37,8 @@ pub fn ways_are_what_leads()
     ensures { WaysAreWhatLeads }
 {}
 
-/// A row of a place that a motion tries there, and that applies, is one of a way if it leads to a
-/// place.
+/// A row of a place that a motion tries there in a state with all objects, and that applies, is one
+/// of a way if it leads to a place.
 pub fn applied_rows_are_ways()
     ensures { AppliedRowsAreWays }
 {}

@@ -1,13 +1,19 @@
 -- The stream has its whole period: no fewer draws than its size lead back to a number.
 use Rattle.std.proofs.Common.{◌≡◌, ℕ, zero, suc, ◌+◌, ◌*◌, ◌/◌, ◌%◌, ◌<◌, ◌≤◌, false, refl, sym}
-use Rattle.std.proofs.Common.{ap, ◌∙◌, arith, inl, inr, ◌⊎◌, subst}
+use Rattle.std.proofs.Common.{ap, ◌∙◌, arith, inl, inr, ◌⊎◌, subst, Bool, true, ◌||◌, List, []}
+use Rattle.std.proofs.Common.{◌∷◌, length}
+use Rattle.std.proofs.Math.Dec.{eqb}
 use Rattle.std.specs.Prelude.{◌==◌}
-use Rattle.std.proofs.lemmas.Bool.{eq-eqb, ne_eqb}
+use Rattle.std.proofs.lemmas.Bool.{eq-eqb, ne_eqb, eqb-true, eqb-false, false≢true, cases_Bool}
+use Rattle.std.proofs.lemmas.Bool.{or_cases, true_from_ne_false}
+use Rattle.std.proofs.lemmas.Map.Keys.{IsDistinct-cons}
+use Rattle.std.proofs.lemmas.Map.Steps.{length-le_from_distinct_below}
+use Rattle.std.specs.List.{AllByRecursion, IsDistinct, list_any}
 use Rattle.std.proofs.lemmas.Nat.{mod_below}
 use Rattle.std.proofs.Math.Nat.{mod-eq_of_lt, mod-add-div, mod-mod, mul-div_cancel_left}
 use Rattle.cave_words.specs.Stream.{next}
 use Rattle.play_tables.specs.Draws.{draws_within, draws_between}
-use Rattle.play_laws.specs.DrawsMade.{after_draws, DrawsAreCounted}
+use Rattle.play_laws.specs.DrawsMade.{after_draws, DrawsAreCounted, CountedDrawsLead}
 
 -- a draw that isn't cut to the size of the stream, and several
 abbrev pub uncut : ℕ → ℕ
@@ -178,3 +184,94 @@ counted_within (suc made) (suc most) x less few =
 pub draws_counted : DrawsAreCounted
 unfolding draws_between
 draws_counted made x less = counted_within made 1048576 x less (omega arith)
+
+-- ---- draws that are counted
+
+-- the numbers that this many draws begin at
+unfoldable trail : ℕ → ℕ → List ℕ
+trail zero x = []
+trail (suc n) x = x ∷ trail n (next x)
+
+length_trail : (n x : ℕ) → length (trail n x) ≡ n
+unfolding trail
+length_trail zero x = refl
+length_trail (suc n) x = ap suc (length_trail n (next x))
+
+both_false : (one other : Bool) → (one || other) ≡ false → (one ≡ false) × (other ≡ false)
+both_false true other holds = absurd (false≢true (sym holds))
+both_false false other holds = (refl, holds)
+
+next_less : (x : ℕ) → next x < 1048576
+next_less x = mod_below (uncut x) 1048576 (omega arith)
+
+trail_less : (n x q : ℕ) → x < 1048576 → list_any (eqb q) (trail n x) ≡ true → q < 1048576
+unfolding trail
+trail_less zero x q less found = absurd (false≢true found)
+trail_less (suc n) x q less found =
+    elim (or_cases (eqb q x) (list_any (eqb q) (trail n (next x))) found) [
+      | inl here ↦ subst (λ k. k < 1048576) (sym (eqb-true q x here)) less
+      | inr there ↦ trail_less n (next x) q (next_less x) there
+    ]
+
+next_after : (made x : ℕ) → next (after_draws made x) ≡ after_draws made (next x)
+next_after zero x = refl
+next_after (suc made) x = next_after made (next x)
+
+never_back : (n made x : ℕ) → suc made + n ≤ 1048576
+    → AllByRecursion (λ y. eqb x y ≡ false) (trail n (after_draws (suc made) x))
+unfolding trail
+never_back zero made x few = tt
+never_back (suc n) made x few =
+    let later = after_draws (suc made) x in (
+      ne_eqb x later (λ same. no_return made x (omega (arith, few)) (sym same)),
+      subst (λ y. AllByRecursion (λ z. eqb x z ≡ false) (trail n y)) (sym (next_after (suc made) x))
+          (never_back n (suc made) x (omega (arith, few))),
+    )
+
+all_apart : (n x : ℕ) → n ≤ 1048576 → IsDistinct eqb (trail n x)
+unfolding trail IsDistinct
+all_apart zero x few = tt
+all_apart (suc n) x few =
+    (never_back n zero x (omega (arith, few)), all_apart n (next x) (omega (arith, few)))
+
+apart_from_each : (q : ℕ) (xs : List ℕ) → list_any (eqb q) xs ≡ false
+    → AllByRecursion (λ y. eqb q y ≡ false) xs
+apart_from_each q [] none = tt
+apart_from_each q (x ∷ xs) none =
+    let parts = both_false (eqb q x) (list_any (eqb q) xs) none in
+    (parts.0, apart_from_each q xs parts.1)
+
+-- each number of the stream is on the trail from any of them
+on_trail : (n x to : ℕ) → n ≡ 1048576 → x < 1048576 → to < 1048576
+    → list_any (eqb to) (trail n x) ≡ true
+on_trail n x to all less to_less = true_from_ne_false (list_any (eqb to) (trail n x)) (λ none.
+    let many : length (to ∷ trail n x) ≤ 1048576 =
+    length-le_from_distinct_below (to ∷ trail n x) 1048576
+    (IsDistinct-cons eqb to (trail n x) (apart_from_each to (trail n x) none)
+    (all_apart n x (omega (arith, all)))) (λ q found. below q found) in
+    omega (arith, many, length_trail n x, all))
+  where
+    below : (q : ℕ) → list_any (eqb q) (to ∷ trail n x) ≡ true → q < 1048576
+    below q found = elim (or_cases (eqb q to) (list_any (eqb q) (trail n x)) found) [
+      | inl here ↦ subst (λ k. k < 1048576) (sym (eqb-true q to here)) to_less
+      | inr there ↦ trail_less n x q less there
+    ]
+
+-- what is on the trail is where the counted draws lead
+within_leads : (most x to : ℕ) → list_any (eqb to) (trail most x) ≡ true
+    → (after_draws (draws_within most x to) x ≡ to) × (draws_within most x to < most)
+unfolding draws_within trail
+within_leads zero x to found = absurd (false≢true found)
+within_leads (suc most) x to found = elim (cases_Bool (x == to)) [
+  | inl same ↦ rw same (eqb-true x to same, omega arith)
+  | inr other ↦
+      let away : eqb to x ≡ false = ne_eqb to x (λ back. eqb-false x to other (sym back)) in
+      let (leads, less) = within_leads most (next x) to (rw away at found) in
+      rw other (leads, omega (arith, less))
+]
+
+pub counted_lead : CountedDrawsLead
+unfolding draws_between
+counted_lead from to less to_less =
+    let (leads, few) = within_leads 1048576 from to (on_trail 1048576 from to refl less to_less) in
+    record { leads = leads; few = few }

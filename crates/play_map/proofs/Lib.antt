@@ -1,3 +1,4 @@
 pub mod Agreeing
 pub mod LawLemmas
 pub mod Noted
+pub mod NotedWays

@@ -1,2 +1,3 @@
+pub mod NotedWays
 pub mod Parts
 pub mod Plays

@@ -10,6 +10,7 @@ pub mod Clocks
 pub mod Turns
 pub mod Lines
 pub mod Bounds
+pub mod KeptLists
 pub mod OnePlace
 pub mod Onward
 pub mod HintCount
@@ -21,6 +22,7 @@ pub mod LineLemmas
 pub mod QuestionLemmas
 pub mod NumberedRows
 pub mod Notes
+pub mod TriedWays
 pub mod NotesOfEnds
 pub mod NotesOfDwarves
 pub mod SaidByWays
@@ -29,4 +31,5 @@ pub mod SaidWords
 pub mod NotesOfVerbs
 pub mod NotesOfClocks
 pub mod NotesOfCommands
+pub mod NotesOfAnswers
 pub mod NotesOfLines

@@ -55,7 +55,7 @@ use Rattle.turn_scene.specs.Parts.{with_objects}
 use Rattle.world_objects.specs.Objects.{after_move_to}
 
 -- all that is by the dragon is moved to a place
-gathered_kept : (P : Claim) → IsMoved P → (cave : CaveView) (place : ℕ) (p : Scene) → On P p.state
+pub gathered_kept : (P : Claim) → IsMoved P → (cave : CaveView) (place : ℕ) (p : Scene) → On P p.state
     → On P (for_each_from 1 100 (after_gather cave place) p).state
 unfolding after_gather gathering_rows
 gathered_kept P moves cave place p h =
@@ -68,7 +68,7 @@ gathered_kept P moves cave place p h =
     placed x s h = moves (view s) (Place x place) h
 
 -- the lair is found by what is true, and changes nothing
-lair_same : (d : Deed Question) → (lair d).scene.state ≡ d.scene.state
+pub lair_same : (d : Deed Question) → (lair d).scene.state ≡ d.scene.state
 unfolding lair
 lair_same d = grind arith
 

@@ -126,7 +126,7 @@ module _ {cave : CaveView} {l : Line} {Q P : Claim} (k : IsKept cave l Q P) wher
       quiet P (noted table.NoMotion refusal_rows) (search parts 20) (deed cave motion p) h.holds
   led_kept motion outcome.NoWay p h = h.holds
 
-  forth_kept : (motion : ℕ) (p : Scene) → On R p.state
+  pub forth_kept : (motion : ℕ) (p : Scene) → On R p.state
       → On P (set_forth cave motion p).scene.state
   unfolding set_forth state_after_set_out journey_by_rows
   forth_kept motion p h =
@@ -189,7 +189,7 @@ module _ {cave : CaveView} {l : Line} {Q P : Claim} (k : IsKept cave l Q P) wher
   answer_chosen b a c h g =
       choose (λ (one : Act (Act (Option ℕ))). On R one.step.scene.state) b a c (λ _. h) (λ _. g)
 
-  own_kept : (d : Deed ℕ) → On R d.scene.state → On R (own_motion d).scene.state
+  pub own_kept : (d : Deed ℕ) → On R d.scene.state → On R (own_motion d).scene.state
   unfolding own_motion
   own_kept d h = search (answer_chosen, looking_round_kept, back_kept) depth 12
 

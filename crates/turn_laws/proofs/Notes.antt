@@ -1,12 +1,12 @@
 -- What is said and noted as rows are tried, if each row does with both what a claim allows.
 use Rattle.std.proofs.Common.{Bool, List, [], append-nil, append_assoc, arith, length, subst}
-use Rattle.std.proofs.Common.{sym, ℕ, ◌+◌, ◌++◌, ◌∷◌, ◌≡◌, ◌≤◌}
+use Rattle.std.proofs.Common.{sym, ℕ, ◌+◌, ◌++◌, ◌<◌, ◌∷◌, ◌≡◌, ◌≤◌}
 use Rattle.std.specs.Prelude.{if◌then◌else◌, None, Option, Some}
-use Rattle.cave_data.specs.CaveView.{CaveView}
+use Rattle.cave_data.specs.CaveView.{CaveView, ways_from}
 use Rattle.cave_world.specs.declared.part.Part.{Part}
 use Rattle.cave_world.specs.declared.part.Part.TheVariants as part
 use Rattle.cave_world.specs.declared.tables.RuleRow.{RuleRow}
-use Rattle.cave_world.specs.declared.tables.RuleRow.TheVariants.{OfTable}
+use Rattle.cave_world.specs.declared.tables.RuleRow.TheVariants.{OfPlace, OfTable}
 use Rattle.cave_world.specs.declared.tables.Table.{Table}
 use Rattle.data_rows.specs.declared.role.Role.{Role}
 use Rattle.turn_scene.specs.Rows.{act_by_table, by_table, deed, first_fitting_or, fits}
@@ -15,9 +15,11 @@ use Rattle.turn_scene.specs.Rows.{after_trying_by, all_hold, noted, noted_from, 
 use Rattle.turn_scene.specs.Rows.{nothing_but}
 use Rattle.turn_scene.specs.Scene.{Scene, after_draw, after_row}
 use Rattle.turn_laws.specs.DefinedRows.{rows_in}
-use Rattle.turn_laws.specs.NotedRows.{IsRow}
+use Rattle.turn_laws.specs.NotedRows.{IsTriedIn}
 use Rattle.turn_laws.specs.SaidParts.{MaySay}
-use Rattle.turn_laws.proofs.View.{choose}
+use Rattle.turn_laws.proofs.KeptLists.{ListedSince}
+use Rattle.turn_laws.proofs.View.{On, choose}
+use Rattle.world_objects.specs.Objects.{Layout}
 
 -- a claim about the parts that are said and the rows that are noted
 abbrev pub Notes : Type 1
@@ -27,9 +29,18 @@ Notes = List Part → List RuleRow → Type 0
 abbrev pub Meets : Notes → Scene → Type 0
 Meets N p = N p.parts p.rows
 
+-- a table has the row, or a place has it, and a motion tries it in a state in which each half is in
+-- one list, if it was so before
+abbrev pub IsRowSince : CaveView → Layout → RuleRow → Type 0
+IsRowSince cave since (OfTable t number) = (1 ≤ number) × (number ≤ rows_in t)
+IsRowSince cave since (OfPlace place index applies) =
+    (index < length (ways_from cave place))
+    × IsTriedIn (On (ListedSince since)) cave (OfPlace place index applies)
+
 -- it is kept by each note of a row that there is, and by each part that a cave may say
-pub record IsNoted (cave : CaveView) (N : Notes) : Type 0 where
-  pub keeps : (parts : List Part) (rows : List RuleRow) (row : RuleRow) → IsRow cave row
+pub record IsNoted (cave : CaveView) (since : Layout) (N : Notes) : Type 0 where
+  pub keeps : (parts : List Part) (rows : List RuleRow) (row : RuleRow)
+      → IsRowSince cave since row
       → N parts rows → N parts (rows ++ row ∷ [])
   pub says : (parts : List Part) (rows : List RuleRow) (said : Part) → MaySay cave said
       → N parts rows → N (parts ++ said ∷ []) rows
@@ -84,7 +95,7 @@ Noted N a = Meets N a.scene
 abbrev pub ThenNoted : {F : Type 0} → Notes → Act (Act F) → Type 0
 ThenNoted N a = Meets N a.step.scene
 
-module _ {cave : CaveView} {N : Notes} (k : IsNoted cave N) where
+module _ {cave : CaveView} {since : Layout} {N : Notes} (k : IsNoted cave since N) where
   -- rows that are noted from a number on
   noted_after : {C F : Type 0} (Q : Act F → Type 0) (t : Table) (n : ℕ) (rows : List (Row C F))
       (f : Deed C → Act F) (c : CaveView) (x : C) → 1 ≤ n → n + length rows ≤ 1 + rows_in t
@@ -141,12 +152,13 @@ module _ {cave : CaveView} {N : Notes} (k : IsNoted cave N) where
   chosen b p q h g = choose (λ (s : Scene). Meets N s) b p q (λ _. h) (λ _. g)
 
 -- rows that there are
-abbrev pub AreRows : CaveView → List RuleRow → Type 0
-AreRows cave [] = Unit {0}
-AreRows cave (row ∷ rows) = IsRow cave row × AreRows cave rows
+abbrev pub AreRows : CaveView → Layout → List RuleRow → Type 0
+AreRows cave since [] = Unit {0}
+AreRows cave since (row ∷ rows) = IsRowSince cave since row × AreRows cave since rows
 
-pub all_noted : {cave : CaveView} {N : Notes} → IsNoted cave N → (parts : List Part)
-    (rows more : List RuleRow) → AreRows cave more → N parts rows → N parts (rows ++ more)
+pub all_noted : {cave : CaveView} {since : Layout} {N : Notes} → IsNoted cave since N
+    → (parts : List Part) (rows more : List RuleRow) → AreRows cave since more → N parts rows
+    → N parts (rows ++ more)
 all_noted {N = N} k parts rows [] each h = subst (N parts) (sym (append-nil rows)) h
 all_noted {N = N} k parts rows (row ∷ more) each h =
     subst (N parts) (append_assoc rows (row ∷ []) more)

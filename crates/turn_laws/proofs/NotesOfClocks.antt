@@ -2,6 +2,7 @@
 use Rattle.std.proofs.Common.{false, inl, refl, ℕ}
 use Rattle.std.specs.Prelude.{take as first_of}
 use Rattle.cave_data.specs.CaveView.{CaveView}
+use Rattle.world_objects.specs.Objects.{Layout}
 use Rattle.cave_world.specs.declared.ending.Question.{Question}
 use Rattle.cave_world.specs.declared.ending.Question.TheVariants as question
 use Rattle.cave_world.specs.declared.tables.Table.TheVariants as table
@@ -26,7 +27,7 @@ use Rattle.turn_laws.proofs.Notes.{told, unnoted}
 use Rattle.turn_laws.proofs.NotesOfEnds.{OffersOf, ask_noted, laid_down_noted, looked, troll_noted}
 use Rattle.turn_laws.proofs.View.{choose}
 
-module _ {cave : CaveView} {N : Notes} (k : IsNoted cave N) where
+module _ {cave : CaveView} {since : Layout} {N : Notes} (k : IsNoted cave since N) where
   -- ---- the clocks and the lamp
 
   closing_noted : (c : CaveView) (p : Scene) → Meets N p

@@ -1,6 +1,7 @@
 -- What the dwarves and the pirate say and note.
 use Rattle.std.proofs.Common.{List, [], false, refl, ℕ, ◌∷◌}
 use Rattle.cave_data.specs.CaveView.{CaveView}
+use Rattle.world_objects.specs.Objects.{Layout}
 use Rattle.cave_world.specs.Limits.{PIRATE}
 use Rattle.cave_world.specs.declared.tables.Table.TheVariants as table
 use Rattle.turn_scene.specs.Effects.{for_each_from}
@@ -27,7 +28,7 @@ use Rattle.turn_laws.proofs.Effects.{each_kept}
 use Rattle.turn_laws.proofs.Notes.{IsNoted, Meets, Noted, Notes, ThenNoted, noted_all}
 use Rattle.turn_laws.proofs.Notes.{noted_effects, noted_with_last, said, told}
 
-module _ {cave : CaveView} {N : Notes} (k : IsNoted cave N) where
+module _ {cave : CaveView} {since : Layout} {N : Notes} (k : IsNoted cave since N) where
   leaving_noted : (c : CaveView) (n : ℕ) (p : Scene) → Meets N p
       → Meets N (by_table table.Leaving leaving_rows (deed c n p)).scene
   unfolding leaving_rows row_numbers

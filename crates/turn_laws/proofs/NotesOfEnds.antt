@@ -3,6 +3,7 @@ use Rattle.std.proofs.Common.{[], arith, refl, ℕ, ℤ, ◌≡◌, ◌≤◌}
 use Rattle.std.specs.Prelude.{None, Option, Some, ◌==◌}
 use Rattle.std.specs.FinMap as map
 use Rattle.cave_data.specs.CaveView.{CaveView}
+use Rattle.world_objects.specs.Objects.{Layout}
 use Rattle.cave_world.specs.declared.ending.Ending.{Ending}
 use Rattle.cave_world.specs.declared.ending.Ending.TheVariants.{Killed}
 use Rattle.cave_world.specs.declared.ending.Question.{Question}
@@ -47,7 +48,7 @@ OffersOf cave c (question.Hint i) =
     (hint : Hint) → map.get c.hints i ≡ Some hint → HasMessage cave hint.question
 OffersOf cave c _ = Unit {0}
 
-module _ {cave : CaveView} {N : Notes} (k : IsNoted cave N) where
+module _ {cave : CaveView} {since : Layout} {N : Notes} (k : IsNoted cave since N) where
   -- a question's row is noted in a table that has a row for each question
   pub posing_noted : (q : Question) (p : Scene) → Meets N p
       → Meets N (after_row table.Questions (question_row q) p)

@@ -1,27 +1,15 @@
 -- What motions, arrivals and descriptions say and note.
-use Rattle.std.proofs.Common.{Bool, List, [], arith, false, length, map, refl, subst, suc, sym}
-use Rattle.std.proofs.Common.{true, ℕ, ℤ}
-use Rattle.std.proofs.Common.{zero, ◌+◌, ◌∙◌, ◌∷◌, ◌<◌, ◌≡◌, ◌≤◌}
-use Rattle.std.specs.Prelude.{take as first_of, if◌then◌else◌, Contains, None, Option, Some}
-use Rattle.std.specs.Prelude.{is_some}
-use Rattle.cave_data.specs.CaveView.{CaveView, ways_from}
-use Rattle.cave_world.specs.Travel.{Try, after_condition, after_go, after_trying_row}
-use Rattle.cave_world.specs.Travel.{count_unlisted, from_listed, holds, is_passed, lists_motion}
-use Rattle.cave_world.specs.Travel.{row_condition, row_destination, row_outcome, rows_tried_by}
-use Rattle.cave_world.specs.Travel.{rows_tried_from, travel, tries, try_of}
-use Rattle.cave_world.specs.declared.state.State.{State}
+use Rattle.std.proofs.Common.{Bool, List, [], false, refl, suc, true, zero, ℕ, ℤ, ◌∷◌}
+use Rattle.std.specs.Prelude.{take as first_of, None, Option, Some}
+use Rattle.cave_data.specs.CaveView.{CaveView}
+use Rattle.world_objects.specs.Objects.{Layout}
+use Rattle.cave_world.specs.State.{state_after_set_out}
+use Rattle.cave_world.specs.Travel.{rows_tried_from, travel}
 use Rattle.cave_world.specs.declared.part.Part.TheVariants as part
-use Rattle.cave_world.specs.declared.tables.RuleRow.{RuleRow}
-use Rattle.cave_world.specs.declared.tables.RuleRow.TheVariants.{OfPlace, OfTable}
 use Rattle.cave_world.specs.declared.tables.Table.TheVariants as table
 use Rattle.cave_world.specs.declared.travel_rows.Outcome.{Outcome}
 use Rattle.cave_world.specs.declared.travel_rows.Outcome.TheVariants as outcome
 use Rattle.cave_words.specs.declared.named.Named.TheVariants as name
-use Rattle.data_rows.specs.Rows.{Going}
-use Rattle.data_rows.specs.declared.targets.Condition.{Condition}
-use Rattle.data_rows.specs.declared.targets.Condition.TheVariants.{Chance}
-use Rattle.data_rows.specs.declared.targets.Destination.{Destination}
-use Rattle.data_rows.specs.declared.targets.Destination.TheVariants.{PutsEmeraldDown}
 use Rattle.data_rows.specs.declared.targets.Special.TheVariants.{Bridge, Squeeze}
 use Rattle.turn_scene.specs.Rows.{Deed, act_of, after_all, always, by_table, deed, nothing_but}
 use Rattle.turn_scene.specs.Rows.{otherwise_row}
@@ -49,110 +37,18 @@ use Rattle.turn_moves.specs.Squeeze.{squeeze_rows, squeeze_through}
 use Rattle.world_objects.specs.Lists.{halves_at}
 use Rattle.world_objects.specs.declared.object.Half.{Half}
 use Rattle.turn_laws.specs.DefinedRows.{row_numbers}
-use Rattle.turn_laws.specs.NotedRows.{IsRow, IsTried}
-use Rattle.turn_laws.proofs.Notes.{AreRows, IsNoted, Meets, Noted, Notes, ThenNoted, all_noted}
+use Rattle.turn_laws.proofs.KeptLists.{ListedSince, any_line, listed_since}
+use Rattle.turn_laws.proofs.Moves.{forth_kept, own_kept}
+use Rattle.turn_laws.proofs.Notes.{IsNoted, Meets, Noted, Notes, ThenNoted, all_noted}
 use Rattle.turn_laws.proofs.Notes.{noted_all, noted_effects, noted_with_last, said, told, unnoted}
 use Rattle.turn_laws.proofs.NotesOfDwarves.{dwarves_noted}
 use Rattle.turn_laws.proofs.NotesOfEnds.{die_noted, looked, panic_noted}
+use Rattle.turn_laws.proofs.Places.{Stopped, seen_kept, shown_kept}
 use Rattle.turn_laws.proofs.SaidByWays.{MaySayAt, motion_leads}
-use Rattle.turn_laws.proofs.View.{choose}
+use Rattle.turn_laws.proofs.TriedWays.{motion_tries_rows}
+use Rattle.turn_laws.proofs.View.{Anywhere, IsKept, On, Ready}
 
--- a try leaves the player where the player is
-drawn_here : (m : Condition) (s : State) → (after_condition m s).trail.here ≡ s.trail.here
-drawn_here (Chance percent) s = refl
-drawn_here _ s = refl
-
-gone_here : (emerald : ℕ) (d : Destination) (s : State)
-    → (after_go emerald d s).trail.here ≡ s.trail.here
-gone_here emerald PutsEmeraldDown s = refl
-gone_here emerald _ s = refl
-
-tried_here : (emerald : ℕ) (s : State) (row : Going)
-    → (after_trying_row emerald s row).trail.here ≡ s.trail.here
-unfolding after_trying_row
-tried_here emerald s row =
-    let t = after_condition (row_condition row) s in
-    let d = row_destination row in
-    choose (λ (u : State). u.trail.here ≡ s.trail.here) (holds (row_condition row) s)
-    (after_go emerald d t) t
-    (λ _. gone_here emerald d t ∙ drawn_here (row_condition row) s)
-    (λ _. drawn_here (row_condition row) s)
-
--- a place has the row
-abbrev IsWay : CaveView → RuleRow → Type 0
-IsWay cave (OfTable t n) = ⊥
-IsWay cave (OfPlace place index applies) = index < length (ways_from cave place)
-
-abbrev AreWays : CaveView → List RuleRow → Type 0
-AreWays cave [] = Unit {0}
-AreWays cave (row ∷ rows) = IsWay cave row × AreWays cave rows
-
--- the rows that are tried from a number on, if all those from there on are rows of the place
-tries_are_ways : (cave : CaveView) (emerald : ℕ) (s : State) (failed : Option ℕ) (number : ℕ)
-    (rows : List Going) → number + length rows ≤ length (ways_from cave s.trail.here)
-    → AreWays cave (map (λ t. t.row) (tries emerald s failed number rows))
-tries_are_ways cave emerald s failed number [] most = tt
-tries_are_ways cave emerald s failed number (row ∷ rows) most =
-    let t = after_trying_row emerald s row in
-    let later = tries emerald t (Some row.target) (number + 1) rows in
-    let before : number < length (ways_from cave s.trail.here) = omega (arith, most) in
-    let rest : number + 1 + length rows ≤ length (ways_from cave s.trail.here) =
-    omega (arith, most) in
-    choose (λ (all : List Try). AreWays cave (map (λ t. t.row) all)) (is_passed failed row)
-    (tries emerald s failed (number + 1) rows)
-    (try_of emerald s number row ∷ (if is_some (row_outcome s row) then [] else later))
-    (λ _. tries_are_ways cave emerald s failed (number + 1) rows rest)
-    (λ _. (
-      before,
-      choose (λ (all : List Try). AreWays cave (map (λ t. t.row) all))
-          (is_some (row_outcome s row)) [] later (λ _. tt)
-          (λ _. tries_are_ways cave emerald t (Some row.target) (number + 1) rows
-          (subst (λ there. number + 1 + length rows ≤ length (ways_from cave there))
-          (sym (tried_here emerald s row)) rest)),
-    ))
-
--- a motion tries rows of the place from the first that lists it
-listed : (motion : ℕ) (ways : List Going)
-    → count_unlisted motion ways + length (from_listed motion ways) ≤ length ways
-listed motion [] = omega arith
-listed motion (way ∷ ways) = by (lists_motion motion way) (listed motion ways)
-  where
-    by : (b : Bool) → count_unlisted motion ways + length (from_listed motion ways) ≤ length ways
-        → (if b then 0 else count_unlisted motion ways + 1)
-        + length (if b then way ∷ ways else from_listed motion ways) ≤ length (way ∷ ways)
-    by true h = omega arith
-    by false h = omega (arith, h)
-
-motion_tries_ways : (cave : CaveView) (emerald motion : ℕ) (s : State)
-    → AreWays cave (rows_tried_from cave emerald motion s)
-unfolding rows_tried_from rows_tried_by
-motion_tries_ways cave emerald motion s =
-    let ways = ways_from cave s.trail.here in
-    tries_are_ways cave emerald s None (count_unlisted motion ways) (from_listed motion ways)
-    (listed motion ways)
-
-tried_row : (cave : CaveView) (row : RuleRow) → IsWay cave row → IsTried cave row
-    → IsRow cave row
-tried_row cave (OfTable t n) way tried = absurd way
-tried_row cave (OfPlace place index applies) way tried = (way, tried)
-
-tried_rows : (cave : CaveView) (rows : List RuleRow) → AreWays cave rows
-    → ((row : RuleRow) → Contains rows row → IsTried cave row) → AreRows cave rows
-tried_rows cave [] ways tried = tt
-tried_rows cave (row ∷ rows) (way, ways) tried = (
-  tried_row cave row way (tried row (0, omega arith, refl)),
-  tried_rows cave rows ways
-      (λ other (i, less, is). tried other (suc i, omega (arith, less), is)),
-)
-
-motion_tries_rows : (cave : CaveView) (motion : ℕ) (s : State)
-    → AreRows cave (rows_tried_from cave (thing cave name.Emerald) motion s)
-motion_tries_rows cave motion s =
-    tried_rows cave (rows_tried_from cave (thing cave name.Emerald) motion s)
-    (motion_tries_ways cave (thing cave name.Emerald) motion s)
-    (λ row has. (motion, s, has))
-
-module _ {cave : CaveView} {N : Notes} (k : IsNoted cave N) where
+module _ {cave : CaveView} {since : Layout} {N : Notes} (k : IsNoted cave since N) where
   dead_noted : (c : CaveView) (place : ℕ) (p : Scene) → Meets N p → Meets N (after_die_at c place p)
   unfolding after_die_at
   dead_noted c place p h = die_noted k c _ h
@@ -317,31 +213,39 @@ module _ {cave : CaveView} {N : Notes} (k : IsNoted cave N) where
       noted_effects k table.NoMotion refusal_rows refl c motion (search (told k) parts 20) p h
   led_noted c motion outcome.NoWay may p h = said k p.parts p.rows _ h
 
-  forth_noted : (motion : ℕ) (p : Scene) → Meets N p → Meets N (set_forth cave motion p).scene
-  unfolding set_forth journey_by_rows
-  forth_noted motion p h =
+  forth_noted : (motion : ℕ) (p : Scene) → On (ListedSince since) p.state → Meets N p
+      → Meets N (set_forth cave motion p).scene
+  unfolding set_forth journey_by_rows state_after_set_out
+  forth_noted motion p listed h =
       let q = after_setting_out p in let emerald = thing cave name.Emerald in
       led_noted cave motion (travel cave emerald motion q.state).outcome
       (motion_leads cave emerald motion q.state) _
       (all_noted k q.parts q.rows (rows_tried_from cave emerald motion q.state)
-      (motion_tries_rows cave motion q.state) h)
+      (motion_tries_rows cave since motion q.state listed) h)
 
-  forced_noted : (left : ℕ) (moved : Bool) (p : Scene) → Meets N p
-      → Meets N (after_forced_motions left cave (act_of p moved))
+  held : IsKept cave (any_line false false) (ListedSince since) (ListedSince since)
+  held = listed_since cave since (any_line false false)
+
+  forced_noted : (left : ℕ) (moved : Bool) (p : Scene) → Stopped (ListedSince since) moved p.state
+      → Meets N p → Meets N (after_forced_motions left cave (act_of p moved))
   unfolding after_forced_motions
-  forced_noted zero true p h = said k p.parts p.rows _ h
-  forced_noted (suc left) true p h =
+  forced_noted zero true p stopped h = said k p.parts p.rows _ h
+  forced_noted (suc left) true p stopped h =
       let j = set_forth cave 1 (with_left left p) in let s = stop_at cave j.step j.scene in
       forced_noted left s.step s.scene
-      (stop_noted cave j.step j.scene (forth_noted 1 (with_left left p) h))
-  forced_noted zero false p h = h
-  forced_noted (suc left) false p h = h
+      (shown_kept held j.step j.scene (forth_kept held 1 (with_left left p) stopped))
+      (stop_noted cave j.step j.scene (forth_noted 1 (with_left left p) stopped.holds h))
+  forced_noted zero false p stopped h = h
+  forced_noted (suc left) false p stopped h = h
 
-  pub arriving_noted : (place : ℕ) (p : Scene) → Meets N p → Meets N (after_arrival cave place p)
-  arriving_noted place p h = forced_noted p.left _ _ (stop_noted cave place p h)
+  pub arriving_noted : (place : ℕ) (p : Scene) → On (ListedSince since) p.state → Meets N p
+      → Meets N (after_arrival cave place p)
+  arriving_noted place p listed h =
+      forced_noted p.left _ _ (shown_kept held place p listed) (stop_noted cave place p h)
 
-  pub describing_noted : (p : Scene) → Meets N p → Meets N (after_description cave p)
-  describing_noted p h = forced_noted p.left _ _ (seen_noted cave p h)
+  pub describing_noted : (p : Scene) → On (Ready Anywhere (ListedSince since)) p.state
+      → Meets N p → Meets N (after_description cave p)
+  describing_noted p calm h = forced_noted p.left _ _ (seen_kept held p calm) (seen_noted cave p h)
 
   -- ---- motions that the player asks for
 
@@ -368,11 +272,15 @@ module _ {cave : CaveView} {N : Notes} (k : IsNoted cave N) where
       (otherwise_row [] that_motion) refl c motion
       (search (told k, looking_noted, back_noted) parts 20) (λ q g. g) p h
 
-  by_noted : (o : Option ℕ) (p : Scene) → Meets N p → Meets N (journey_by cave o p).scene
-  by_noted None p h = h
-  by_noted (Some motion) p h = forth_noted motion p h
+  by_noted : (o : Option ℕ) (p : Scene) → On (ListedSince since) p.state → Meets N p
+      → Meets N (journey_by cave o p).scene
+  by_noted None p listed h = h
+  by_noted (Some motion) p listed h = forth_noted motion p listed h
 
-  pub motion_noted : (motion : ℕ) (p : Scene) → Meets N p
-      → Meets N (journey_by_request cave motion p).scene
+  pub motion_noted : (motion : ℕ) (p : Scene) → On (Ready Anywhere (ListedSince since)) p.state
+      → Meets N p → Meets N (journey_by_request cave motion p).scene
   unfolding journey_by_request
-  motion_noted motion p h = by_noted _ _ (own_noted cave motion p h)
+  motion_noted motion p calm h =
+      let own = own_motion (deed cave motion p) in
+      by_noted own.step own.scene (own_kept held (deed cave motion p) calm).holds
+      (own_noted cave motion p h)

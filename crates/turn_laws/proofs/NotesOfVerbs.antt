@@ -3,6 +3,7 @@ use Rattle.std.proofs.Common.{List, [], append-nil, append_assoc, false, length,
 use Rattle.std.proofs.Common.{suc, sym, true, zero, ℕ, ◌++◌, ◌∷◌, ◌≡◌}
 use Rattle.std.specs.Prelude.{None, Option, Some, ◌==◌}
 use Rattle.cave_data.specs.CaveView.{CaveView, default_message}
+use Rattle.world_objects.specs.Objects.{Layout}
 use Rattle.cave_world.specs.declared.part.Part.{Part}
 use Rattle.cave_world.specs.declared.part.Part.TheVariants as part
 use Rattle.cave_world.specs.declared.tables.RuleRow.{RuleRow}
@@ -52,7 +53,7 @@ use Rattle.turn_laws.proofs.NotesOfEnds.{laid_down_noted, loss_noted, panic_note
 use Rattle.turn_laws.proofs.NotesOfEnds.{troll_noted}
 use Rattle.turn_laws.proofs.View.{choose}
 
-module _ {cave : CaveView} {N : Notes} (k : IsNoted cave N) where
+module _ {cave : CaveView} {since : Layout} {N : Notes} (k : IsNoted cave since N) where
   along_noted : (c : CaveView) (x : Command) (p : Scene) → Meets N p
       → Meets N (by_table table.BearAlong bear_along_rows (deed c x p)).scene
   unfolding bear_along_rows row_numbers

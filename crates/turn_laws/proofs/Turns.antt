@@ -80,7 +80,7 @@ module _ (P : Claim) (moves : IsMoved P) where
           → On P (with_objects (with_prop s.objects x w) s)
       turned x w s h = moves (view s) (Prop x w) h
 
-  fallen_kept : (cave : CaveView) (p : Scene) → On P p.state
+  pub fallen_kept : (cave : CaveView) (p : Scene) → On P p.state
       → On P (for_each_down_from 100 (after_fall cave) p).state
   unfolding after_fall fall_rows
   fallen_kept cave p h =
@@ -222,7 +222,7 @@ module _ {cave : CaveView} {l : Line} {Q P : Claim} (k : IsKept cave l Q P) wher
       (λ some. k.keeps (Puts p.state.trail.here) v (some, inl h.place) h.holds.holds)
 
   -- a command begins
-  begun_kept : (R : Claim) (s : State) → On R s → On R (begin_command cave s).state
+  pub begun_kept : (R : Claim) (s : State) → On R s → On R (begin_command cave s).state
   unfolding begin_command forget_knife_rows
   begun_kept R s h =
       let t = with_magic_waiting s in

@@ -2,7 +2,7 @@
 //! contract of a function that does nothing.
 
 ghost use Rattle.turn_laws.specs.DefinedRows.{EachNumberIsARow};
-ghost use Rattle.turn_laws.specs.NotedRows.{NotedRowsAreRows};
+ghost use Rattle.turn_laws.specs.NotedRows.{NotedRowsAreRows, NotedWaysAreTried};
 ghost use Rattle.turn_laws.specs.QuestionRows.{QuestionsAreInOrder};
 ghost use Rattle.turn_laws.specs.SaidParts.{SaidMessagesAreOfTheCave};
 
@@ -10,6 +10,12 @@ ghost use Rattle.turn_laws.specs.SaidParts.{SaidMessagesAreOfTheCave};
 /// of its place, and by `travel` a motion tries it there in some state.
 pub fn noted_rows_are_rows()
     ensures { NotedRowsAreRows }
+{}
+
+/// If each half of an object is in one list before a line, each row of a place that the line notes
+/// is one that a motion tries by `travel` in a state in which this is so, too.
+pub fn noted_ways_are_tried()
+    ensures { NotedWaysAreTried }
 {}
 
 /// Each message that a line says by its number is one that a way of the cave has, an action, a
