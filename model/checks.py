@@ -14,16 +14,18 @@ SILENT = [">$<"]
 ALWAYS = (0, 100)  # the conditions under which a way is always taken
 ENTERED = ["start", "building", "ne", "alcove", "plover"]  # places that rules bring a player to
 BROUGHT = ["CHEST", "PEARL"]  # treasures that rules put somewhere
+GIVEN = ["OYSTER", "AXE", "TROLL2", "MESSAGE", "BATTERIES", *BROUGHT]  # and others
 TOOLS = ["KEYS", "LAMP", "BIRD"]  # objects that players need and no rule brings
 DWARVES = [f"dwarf{it}" for it in range(1, 6)]
 # What rules ask of objects: texts for props that they set, and places of the bindings.
 PROPS = {"LAMP": [1], "GRATE": [1], "BIRD": [1], "DOOR": [1], "FISSURE": [1], "BOTTLE": [1, 2],
          "PLANT": [2, 4], "PLANT2": [1, 2], "AXE": [1], "DRAGON": [2], "CHASM": [1], "TROLL": [1],
          "BEAR": [1, 2, 3], "BATTERIES": [1], "VASE": [2], "CHAIN": [2]}
+FOUND = {"RUG": 1, "CHAIN": 1}  # the props that treasures get as they are found, if not 0
 ROOMS = {"ROD": ["ne", "sw"], "MAGAZINE": ["witt"], "DWARF": [*DWARVES, "dwarfalt"],
          "MESSAGE": ["message"], "CHEST": ["chest"], "PEARL": ["culdesac"]}
 NEEDERS = """LAMP GRATE ROD BIRD DOOR FISSURE MAGAZINE DWARF BOTTLE PLANT PLANT2 AXE DRAGON CHASM
-    TROLL BEAR MESSAGE BATTERIES CHEST VASE PEARL CHAIN""".split()
+    TROLL BEAR MESSAGE BATTERIES CHEST VASE PEARL RUG CHAIN""".split()
 
 def first_line(text):
     return "" if text is None or text == SILENT else text[0]
@@ -180,14 +182,24 @@ def object_doubts(cave, it):
     first, second = cave.homes.get(it, (0, 0))
     if is_tool(cave, it) and first <= 0 and second <= 0:
         yield f"no place holds object {it}, which players need"
+    is_placed = first > 0 or second > 0
+    yield from prop_doubts(cave, it, [0] * is_placed)
+    for name in GIVEN:
+        if object_of(cave, name) == it and not is_placed:
+            yield from prop_doubts(cave, it, [0])
     for name in NEEDERS:
         if object_of(cave, name) == it:
-            for prop in PROPS.get(name, ()):
-                if (it, prop) not in cave.object_texts:
-                    yield f"object {it} has no text for prop {prop}, which rules set"
+            if name in FOUND and 50 <= it <= 79:
+                yield from prop_doubts(cave, it, [FOUND[name]])
+            yield from prop_doubts(cave, it, PROPS.get(name, ()))
             for role in ROOMS.get(name, ()):
                 if cave.place(role) is None:
                     yield f"rules about object {it} need place.{role}, which is unbound"
+
+def prop_doubts(cave, it, props):
+    for prop in props:
+        if (it, prop) not in cave.object_texts:
+            yield f"object {it} has no text for prop {prop}, which rules set"
 
 def line_doubts(cave, section, line, row):
     """What is doubtful about how a line is written."""

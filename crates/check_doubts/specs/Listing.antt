@@ -1,5 +1,5 @@
 -- The list of what is doubtful about a cave.
-use Rattle.std.specs.Prelude.{ℕ, List, [], ◌++◌, codes, length, slice_index_or}
+use Rattle.std.specs.Prelude.{ℕ, ◌==◌, if◌then◌else◌, List, [], ◌++◌, codes, length, slice_index_or}
 use Rattle.std.specs.Fmt.{decimal}
 use Rattle.std.specs.List.{flat_map}
 use Rattle.data_rows.specs.PlaceRole.{PLACE_NAMES}
@@ -86,8 +86,10 @@ doubt_line files doubt =
     file_of files doubt.source
     ++ (codes ":" ++ (decimal doubt.line ++ (codes ": " ++ (words doubt.flaw ++ codes "\n"))))
 
+abbrev pub sum_line : ℕ → List ℕ
+sum_line count = if count == 1 then codes "-- 1 doubt\n"
+    else codes "-- " ++ (decimal count ++ codes " doubts\n")
+
 -- a line for each doubt, and how many there are
 unfoldable pub doubts_text : DoubtFiles → List Doubt → List ℕ
-doubts_text files doubts =
-    flat_map (doubt_line files) doubts
-    ++ (codes "-- " ++ (decimal (length doubts) ++ codes " doubts\n"))
+doubts_text files doubts = flat_map (doubt_line files) doubts ++ sum_line (length doubts)

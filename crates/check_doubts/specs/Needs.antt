@@ -28,7 +28,7 @@ use Rattle.check_doubts.specs.Ways.{is_textless_end}
 use Rattle.check_doubts.specs.declared.flaw.CaveFlaw.{CaveFlaw}
 use Rattle.check_doubts.specs.declared.flaw.CaveFlaw.TheVariants as flaw
 use Rattle.check_doubts.specs.declared.needs.Need.{Need}
-use Rattle.check_doubts.specs.declared.needs.Need.TheVariants.{Prop, Role}
+use Rattle.check_doubts.specs.declared.needs.Need.TheVariants.{Brought, Found, Placed, Prop, Role}
 use Rattle.data_bindings.specs.Marks.{is_name}
 use Rattle.data_bindings.specs.declared.mark.MarkedRow.{MarkedRow}
 
@@ -36,7 +36,9 @@ use Rattle.data_bindings.specs.declared.mark.MarkedRow.{MarkedRow}
 -- at which they look for it: the store of a closed cave has the rods of both marks
 unfoldable pub needs : List Need
 needs =
-    Prop name.Lamp 1 ∷ Prop name.Grate 1
+    Placed ∷ Brought name.Oyster ∷ Brought name.Axe ∷ Brought name.SecondTroll ∷ Brought name.Message
+    ∷ Brought name.Batteries ∷ Brought name.Chest ∷ Brought name.Pearl
+    ∷ Prop name.Lamp 1 ∷ Prop name.Grate 1
     ∷ Role name.Rod role.Ne ∷ Role name.Rod role.Sw
     ∷ Prop name.Bird 1 ∷ Prop name.Door 1 ∷ Prop name.Fissure 1
     ∷ Role name.Magazine role.Witt
@@ -52,7 +54,7 @@ needs =
     ∷ Role name.Chest role.Chest
     ∷ Prop name.Vase 2
     ∷ Role name.Pearl role.Culdesac
-    ∷ Prop name.Chain 2 ∷ []
+    ∷ Found name.Rug 1 ∷ Found name.Chain 1 ∷ Prop name.Chain 2 ∷ []
 
 abbrev pub is_squeeze : Destination → Bool
 is_squeeze (destination.Special Squeeze) = true
@@ -74,10 +76,20 @@ module _ (cave : CaveView) where
   abbrev pub is_of : ℕ → Named → Bool
   is_of object named = is_number object (object_named cave named)
 
-  abbrev pub need_flaw : ℕ → Need → Option CaveFlaw
-  need_flaw object (Prop named prop) =
-      if is_of object named && not (is_some (look_of cave object prop))
+  -- the object may have a prop for which it has no text
+  abbrev pub prop_flaw : ℕ → ℕ → Bool → Option CaveFlaw
+  prop_flaw object prop may_have = if may_have && not (is_some (look_of cave object prop))
       then Some (flaw.PropTextless object prop) else None
+
+  -- an object that a place has, or gets by rules, is seen with prop 0, and some treasures first
+  -- with another
+  abbrev pub need_flaw : ℕ → Need → Option CaveFlaw
+  need_flaw object Placed = prop_flaw object 0 (is_placed cave object)
+  need_flaw object (Brought named) =
+      prop_flaw object 0 (is_of object named && not (is_placed cave object))
+  need_flaw object (Found named prop) =
+      prop_flaw object prop (is_of object named && is_treasure object)
+  need_flaw object (Prop named prop) = prop_flaw object prop (is_of object named)
   need_flaw object (Role named role) = if is_of object named && not (is_bound role)
       then Some (flaw.PlaceUnbound (place_number role) object) else None
 

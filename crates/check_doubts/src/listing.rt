@@ -65,6 +65,9 @@ pub fn push_doubts(
 {
     push_doubt_lines(alloc, files, doubts, text)?;
     let count = doubts.len();
+    if count == 1 {
+        return text.extend_from_slice(b"-- 1 doubt\n");
+    }
     let sum = format!(in alloc; "-- {count} doubts\n")?;
     text.extend_from_slice(sum.as_bytes())
 }

@@ -4,7 +4,7 @@ ghost use Rattle.std.specs.Prelude.{◌≡◌, option_map};
 ghost use Rattle.cave_words.specs.Lexicon.{IsLexiconOf};
 ghost use Rattle.check_doubts.specs.Needs.{has_dwarf, is_bound, is_missing, is_of, is_tool};
 ghost use Rattle.check_doubts.specs.Needs.{begins_at, is_squeeze, is_squeezed, need_flaw, needs};
-ghost use Rattle.check_doubts.specs.Needs.{passage_flaw, start_flaw, voice_flaw};
+ghost use Rattle.check_doubts.specs.Needs.{passage_flaw, prop_flaw, start_flaw, voice_flaw};
 ghost use Rattle.data_rows.specs.RowViews.{going};
 
 use crate::flaw::CaveFlaw;
@@ -21,6 +21,12 @@ use data_rows::{Destination, PlaceRole, Role, Row, Special};
 /// What rules ask of an object.
 #[derive(Clone, Copy, Debug)]
 pub enum Need {
+    /// A text for prop 0, if a place has the object as a game begins.
+    Placed,
+    /// A text for prop 0, if no place has it then: rules bring it.
+    Brought(Named),
+    /// A text for the prop that a treasure gets as it is found.
+    Found(Named, u16),
     /// A text for a prop.
     Prop(Named, u16),
     /// A place of the bindings.
@@ -28,7 +34,15 @@ pub enum Need {
 }
 
 /// What rules ask of objects, by their numbers.
-const NEEDS: [Need; 33] = [
+const NEEDS: [Need; 43] = [
+    Need::Placed,
+    Need::Brought(Named::Oyster),
+    Need::Brought(Named::Axe),
+    Need::Brought(Named::SecondTroll),
+    Need::Brought(Named::Message),
+    Need::Brought(Named::Batteries),
+    Need::Brought(Named::Chest),
+    Need::Brought(Named::Pearl),
     Need::Prop(Named::Lamp, 1),
     Need::Prop(Named::Grate, 1),
     Need::Role(Named::Rod, PlaceRole::Ne),
@@ -61,6 +75,8 @@ const NEEDS: [Need; 33] = [
     Need::Role(Named::Chest, PlaceRole::Chest),
     Need::Prop(Named::Vase, 2),
     Need::Role(Named::Pearl, PlaceRole::Culdesac),
+    Need::Found(Named::Rug, 1),
+    Need::Found(Named::Chain, 1),
     Need::Prop(Named::Chain, 2),
 ];
 
@@ -85,15 +101,34 @@ fn is_of(cave: &Cave, lexicon: &Lexicon, object: u16, named: Named) -> bool
     is_number(object, lexicon.named(cave, named))
 }
 
+/// What is doubtful about a prop that an object may have.
+fn prop_flaw(cave: &Cave, object: u16, prop: u16, may_have: bool) -> Option<CaveFlaw>
+    ensures { result ≡ prop_flaw cave.now object prop may_have }
+{
+    if may_have && !cave.look(object, prop).is_some() {
+        Some(CaveFlaw::PropTextless(object, prop))
+    } else {
+        None
+    }
+}
+
 /// What an object lacks of what rules ask.
 pub(crate) fn need_flaw(cave: &Cave, lexicon: &Lexicon, object: u16, need: Need) -> Option<CaveFlaw>
     requires { IsLexiconOf cave.now lexicon.now }
     ensures { result ≡ need_flaw cave.now object need }
 {
     match need {
-        Need::Prop(named, prop)
-            if is_of(cave, lexicon, object, named) && !cave.look(object, prop).is_some() => {
-            Some(CaveFlaw::PropTextless(object, prop))
+        Need::Placed => prop_flaw(cave, object, 0, is_placed(cave, object)),
+        Need::Brought(named) => {
+            let may_have = is_of(cave, lexicon, object, named) && !is_placed(cave, object);
+            prop_flaw(cave, object, 0, may_have)
+        }
+        Need::Found(named, prop) => {
+            let may_have = is_of(cave, lexicon, object, named) && is_treasure(object);
+            prop_flaw(cave, object, prop, may_have)
+        }
+        Need::Prop(named, prop) => {
+            prop_flaw(cave, object, prop, is_of(cave, lexicon, object, named))
         }
         Need::Role(named, role) if is_of(cave, lexicon, object, named) && !is_bound(cave, role) => {
             Some(CaveFlaw::PlaceUnbound(role.number(), object))
