@@ -60,7 +60,7 @@ def wrong(message, usage=None):
 def wanted(given, names, near):
     """What is said about a name that isn't one of these, and perhaps is near to one."""
     *some, last = names
-    return f"wanted is {', '.join(some)} or {last}" + (
+    return f"expected {', '.join(some)} or {last}" + (
         f"\n\n  tip: did you mean '{near}'?" if near else "")
 
 def words_of(words):
@@ -145,7 +145,7 @@ def judged_options(command, files, options):
     if command == "edit" and len(files) == 3 and "--edit" in options:
         raise wrong("only one of SCRIPT, '--edit <EDIT>' and '--to <FILE>' can be used")
     if command == "edit" and len(files) == 2 and "--edit" not in options:
-        raise wrong("SCRIPT, '--edit <EDIT>' or '--to <FILE>' is wanted")
+        raise wrong("SCRIPT, '--edit <EDIT>' or '--to <FILE>' is required")
     if "--report" in options:
         raise wrong("'--report <WHAT>' is for '--output <FILE>': without it, '--print <WHAT>'"
                     " prints reports")
@@ -161,7 +161,7 @@ def number_in(option, text, least, most):
     raise not_in(option, text, least, most)
 
 def not_in(option, text, least, most):
-    return wrong(f"invalid value '{text}' for '{option} <{OPTIONS[option]}>': wanted are 1 to 10"
+    return wrong(f"invalid value '{text}' for '{option} <{OPTIONS[option]}>': expected 1 to 10"
                  f" digits, from {least} to {most}")
 
 # ---- Files
@@ -256,7 +256,7 @@ def doubts_lines(cave, options, name, database, bindings, known):
     left = [it for it in found if checks.entry_of(it) not in lines_of(known)]
     entries = {*map(checks.entry_of, found)}
     unmet = checks.unmet_lines(options["known"], lines_of(known), entries, "no doubt says this")
-    lines = [*unmet, *map(checks.doubt_line, left), f"-- {len(left)} doubts"]
+    lines = [*unmet, *map(checks.doubt_line, left), f"-- {len(left)} doubt{'s' * (len(left) != 1)}"]
     if left and options["strict"]:
         raise Stop(1, f"cave: {checks.doubt_line(left[0])}\n", lines)
     return lines
@@ -363,7 +363,8 @@ def run_cover(cave, names, texts, options, known):
     words = "nothing that is never shown says this"
     lines = [*checks.unmet_lines(options["known"], known, entries, words), *lines]
     if left and options["strict"]:
-        raise Stop(1, f"cave: {left} left that no log shows\n", lines)
+        what = "left that no log shows: add logs, or list them for --known"
+        raise Stop(1, f"cave: {left} {what}\n", lines)
     return lines
 
 def check_known(name, text):
@@ -381,7 +382,8 @@ def run_words(words, told):
     files = [None if it is None else opened(it) for it in in_order]
     logs = {"play": names[1:], "edit": names[1:2], "cover": names[1:]}.get(command, [])
     texts = [text_of(it) for it in files[2:2 + len(logs)]]
-    told += [head_notice(*it, names[0], options) for it in zip(logs, texts)]
+    heads = [head_notice(*it, names[0], options) for it in zip(logs, texts)]
+    told += [] if options["quiet"] else heads
     listed = text_of(files.pop()) if known is not None else ""
     if command == "cover":
         check_known(known, listed)

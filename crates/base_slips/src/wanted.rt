@@ -14,7 +14,7 @@ fn write_wanted<W: fmt::Write>(
     meant: Option<&str>,
 ) -> fmt::Result {
     let last = names.len().saturating_sub(1);
-    write!(f, "wanted is ")?;
+    write!(f, "expected ")?;
     for (at, name) in names.iter().enumerate() {
         let before = match at {
             0 => "",

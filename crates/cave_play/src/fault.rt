@@ -122,7 +122,7 @@ pub enum PlayFault {
     #[error("the list of what is known is larger than 1,048,576 bytes")]
     LargeKnown,
     /// No log shows this many things, they aren't known, and the run is strict.
-    #[error("{0} left that no log shows")]
+    #[error("{0} left that no log shows: add logs, or list them for --known")]
     Unshown(usize),
     /// The place around which a map is to be drawn isn't on it.
     #[error("place {0} isn't on the map: it has no text, and no way leads to it or from it")]

@@ -1,5 +1,6 @@
 -- The commands and their arguments.
 use Rattle.std.specs.Prelude.{◌≡◌, ℕ, List, [], ◌∷◌, true, false, Option, None, Some, codes}
+use Rattle.std.specs.List.{slice_get}
 use Rattle.clap.specs.Words.{App, Rule, app_of, new_app, new_rule, with_rule, with_subcommand}
 use Rattle.clap.specs.declared.builder.action.ArgAction.TheVariants.{Append, SetTrue}
 use Rattle.clap.specs.declared.builder.command.Command.{Command}
@@ -61,6 +62,10 @@ abbrev pub with_letter : Option ℕ → Rule → Rule
 with_letter None rule = rule
 with_letter (Some letter) rule = record rule { short = Some letter }
 
+-- an option that may also be given by the first letter of its name
+abbrev pub with_first_letter : (List ℕ → Rule) → List ℕ → Rule
+with_first_letter form id = with_letter (slice_get id 0) (form id)
+
 abbrev pub rule_given : Argument → Rule
 rule_given argument = with_letter argument.letter (plain_argument argument.form argument.id.now)
 
@@ -70,21 +75,21 @@ with_rules app (rule ∷ rules) = with_rules (with_rule app rule) rules
 
 -- ---- commands
 
--- the arguments of several commands; the letters are b, s, p and o
+-- the arguments of several commands
 abbrev pub cave_argument : Rule
 cave_argument = needed_file (codes "cave")
 
 abbrev pub bind_argument : Rule
-bind_argument = with_letter (Some 98) (option (codes "bind"))
+bind_argument = with_first_letter option (codes "bind")
 
 abbrev pub seed_argument : Rule
-seed_argument = with_letter (Some 115) (option (codes "seed"))
+seed_argument = with_first_letter option (codes "seed")
 
 abbrev pub print_argument : Rule
-print_argument = with_letter (Some 112) (option (codes "print"))
+print_argument = with_first_letter option (codes "print")
 
 abbrev pub output_argument : Rule
-output_argument = with_letter (Some 111) (option (codes "output"))
+output_argument = with_first_letter option (codes "output")
 
 abbrev pub check_app : App
 check_app = with_rules (new_app (codes "check"))
@@ -96,13 +101,12 @@ play_app = with_rules (new_app (codes "play"))
     (cave_argument ∷ needed_file (codes "log") ∷ bind_argument ∷ seed_argument ∷ print_argument
     ∷ output_argument ∷ [])
 
--- the letter of a line is e, and that of `--quiet` q
 abbrev pub edit_app : App
 edit_app = with_rules (new_app (codes "edit"))
     (cave_argument ∷ needed_file (codes "log") ∷ file (codes "script")
-    ∷ with_letter (Some 101) (options (codes "edit")) ∷ option (codes "to") ∷ bind_argument
+    ∷ with_first_letter options (codes "edit") ∷ option (codes "to") ∷ bind_argument
     ∷ seed_argument ∷ option (codes "every") ∷ print_argument ∷ flag (codes "strict")
-    ∷ flag (codes "guarded") ∷ with_letter (Some 113) (flag (codes "quiet"))
+    ∷ flag (codes "guarded") ∷ with_first_letter flag (codes "quiet")
     ∷ report_option (codes "report") ∷ output_argument ∷ [])
 
 abbrev pub script_app : App

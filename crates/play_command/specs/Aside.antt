@@ -46,6 +46,7 @@ IsReport rows beside = IsReportBy (first_of (codes "report") rows) rows beside
 pub record IsAside (rows : List Row) (view : EditView) (aside : Aside) : Type 0 where
   pub report : IsReport rows aside.report
   pub refusals : aside.refusals ≡ says_refusals (is_set (codes "quiet") rows) view aside.report
+  pub quiet : aside.quiet ≡ is_set (codes "quiet") rows
 
 -- what was found for a report names none, or the output doesn't go into a file
 abbrev pub IsBadReport : List Row → CommandFault → Type 0

@@ -20,7 +20,7 @@ const VERSION: &str = "1.0";
 
 /// What stands below the help of the program.
 const STATUSES: &str = "Exit status:
-  0  done, also where edits were refused
+  0  done, even if edits were refused
   1  the cave or its bindings are refused, or doubtful under --strict
   2  the command line is wrong
   3  the log is refused
@@ -33,26 +33,26 @@ const STATUSES: &str = "Exit status:
 const PLAY_EXAMPLE: &str =
     "Example: cave play caves/b.txt logs/first.log --bind caves/b.bind --seed 7
 
-A log has a command a line, of at most 255 printable bytes and tabs, and at most
-65535 lines. A line that begins with # is a comment, and a line as this begins the
-random numbers anew:
+A log has at most 65535 lines. Each is a command of at most 255 bytes, which are printable
+or tabs. A line that begins with # is a comment, and a line such as this begins the random
+numbers anew:
 
   seed 7";
 
 /// What stands below the help of `map`.
 const MAP_EXAMPLE: &str = "Example: cave map caves/b.txt logs/round.log --bind caves/b.bind
 
-Graphviz draws it, if `| dot -Tsvg > map.svg` follows.";
+With `| dot -Tsvg > map.svg` after it, Graphviz draws the map.";
 
 /// What stands below the help of `script`.
 const SCRIPT_EXAMPLE: &str = "Example: cave script logs/script/old.txt logs/script/new.txt
 
-Who edits a log in an editor keeps the old one, and has a script of what was changed.";
+If you edit a log in an editor, keep the old one: this prints what you changed as a script.";
 
 /// What stands below the help of `edit`.
 const EDIT_EXAMPLE: &str = "Example: cave edit caves/a.txt logs/first.log logs/first.script
 
-A script has lines as these, whose places count the lines of the log from 0:
+A script has lines such as these. Their places count the lines of the log from 0:
 
   insert 2 take lamp
   begin
@@ -60,10 +60,10 @@ A script has lines as these, whose places count the lines of the log from 0:
   seed 7
   end
 
-With `-e 'replace 3 out'` a script of a few lines needs no file, and with
-`--to logs/script/new.txt` the edits are those that make this log.
+With `-e 'replace 3 out'` a script of a few lines needs no file. With
+`--to logs/script/new.txt` the edits are those that make this log of LOG.
 
-An edit that is refused is reported by a number, or ends the run under --strict:
+A refused edit is reported by a number. Under --strict it ends the run:
 
   1  no such line: the log has none at that place
   2  a bad line: too long, or with a byte that no line may have

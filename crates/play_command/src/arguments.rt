@@ -127,92 +127,93 @@ pub(crate) const LOGS: Argument = argument! { NeededFiles "log" "LOG"
     "The logs, each of which is played by itself from its first line" };
 
 pub(crate) const SOME_LOGS: Argument = argument! { Files "log" "LOG"
-    "Logs, each of which is played by itself: what they saw is drawn strong" };
+    "Logs, each of which is played by itself: what they saw is drawn thick" };
 
 pub(crate) const SCRIPT: Argument = argument! { File "script" "SCRIPT"
-    "The edits of the log: lines `insert N TEXT`, `delete N`, `replace N TEXT`, `seed N`, and \
-     groups from `begin` to `end`" };
+    "The edits: lines `insert N TEXT`, `delete N`, `replace N TEXT` and `seed N`, and groups \
+     from `begin` to `end`" };
 
 pub(crate) const LINES: Argument = argument! { Values "edit" 'e' "EDIT"
-    "A line of the script, as 'replace 17 drop vase'; given several times, the lines stand in the \
-     place of SCRIPT in that order" };
+    "A line of the script, such as 'replace 17 drop vase'. It may be given several times: the \
+     lines, in their order, are used instead of SCRIPT" };
 
 pub(crate) const TO: Argument = argument! { Value "to" "FILE"
-    "The log that LOG becomes, in the place of SCRIPT: the edits are those that \
-     `cave script LOG FILE` prints" };
+    "The log that LOG is to become, instead of SCRIPT: the edits are those that `cave script \
+     LOG FILE` prints" };
 
 pub(crate) const OLD: Argument = argument! { NeededFile "old" "OLD" "The log before the edits" };
 
 pub(crate) const NEW: Argument = argument! { NeededFile "new" "NEW" "The log after them" };
 
 pub(crate) const BIND: Argument = argument! { Value "bind" 'b' "FILE"
-    "The bindings of messages and places to what the rules call them" };
+    "The bindings: which message or place of the cave the rules mean by each of their names" };
 
 pub(crate) const SEED: Argument = argument! { Value "seed" 's' "N"
-    "Where the random numbers begin, from 0 to 2147483647 [default: 0]" };
+    "The seed of the random numbers, from 0 to 2147483647 [default: 0]" };
 
 pub(crate) const EVERY: Argument = argument! { Value "every" "K"
-    "The most lines between two checkpoints, from 1 to 10000: the fewer, the less an edit replays \
-     and the more is kept [default: 50]" };
+    "The most lines between two checkpoints, from 1 to 10000: with fewer, an edit replays less \
+     and more memory is used [default: 50]" };
 
 pub(crate) const OUTPUT: Argument = argument! { Value "output" 'o' "FILE"
-    "The file that the output goes into, whole or not at all, in the place of standard output; it \
-     may be one of the files that are read" };
+    "Writes the output into this file, whole or not at all, instead of standard output. It may \
+     be one of the files that are read" };
 
 pub(crate) const EDIT_PRINT: Argument = argument! { Value "print" 'p' "WHAT"
-    "What is printed: `transcript`, the reports and what the game says, `play`, what it says \
-     alone, `log`, the edited log without its seed, `undo`, the script that takes the edits back, \
-     `guarded`, the accepted edits with guards, `reports`, what each edit replayed and what came \
-     of it, `table`, the same as a table, `steps`, what each line of the edited log did, `walk`, \
-     the same as JSON, `score`, where the score comes from, or `state`, the final state [default: \
-     transcript]" };
+    "What to print: `transcript` (the reports, and what the game says), `play` (only what it \
+     says), `log` (the edited log without its seed), `undo` (the script that takes the edits \
+     back), `guarded` (the accepted edits with guards), `reports` (what each edit replayed, and \
+     its result), `table` (the same as a table), `steps` (what each line of the edited log \
+     did), `walk` (the same as JSON), `score` (where the score comes from) or `state` (the \
+     final state) [default: transcript]" };
 
 pub(crate) const PLAY_PRINT: Argument = argument! { Value "print" 'p' "WHAT"
-    "What is printed: `transcript`, what the game says, `steps`, what each line did, `walk`, the \
-     same as JSON, `score`, where the score comes from, or `state`, the final state [default: \
-     transcript]" };
+    "What to print: `transcript` (what the game says), `steps` (what each line did), `walk` \
+     (the same as JSON), `score` (where the score comes from) or `state` (the final state) \
+     [default: transcript]" };
 
 pub(crate) const CHECK_PRINT: Argument = argument! { Value "print" 'p' "WHAT"
-    "What is printed: `maximum`, the greatest score, `bindings`, each key of the bindings with its \
-     number and the first line of the text there, `names`, the object of each name that rules \
-     know, `unused`, the messages that nothing says, `words`, the words by what they mean, or \
-     `doubts`, what is doubtful of the cave [default: maximum]" };
+    "What to print: `maximum` (the greatest score), `bindings` (each key of the bindings, with \
+     its number and the first line of its text), `names` (the object of each name that the \
+     rules know), `unused` (the messages that nothing says), `words` (the words, by what they \
+     mean) or `doubts` (what is doubtful about the cave) [default: maximum]" };
 
 pub(crate) const COVER_PRINT: Argument = argument! { Value "print" 'p' "WHAT"
-    "What is printed: `counts`, how many texts are said and the names of the others, `texts`, each \
-     that is never said with its first line, or `rules`, how many rows of each table of the rules \
-     apply and the numbers of the others [default: counts]" };
+    "What to print: `counts` (how many texts are said, and the names of the others), `texts` \
+     (each text that is never said, with its first line) or `rules` (how many rows of each \
+     table of the rules apply, and when the others would) [default: counts]" };
 
 pub(crate) const CHECK_STRICT: Argument = argument! { Flag "strict" ""
-    "Prints `doubts`; where one is left, ends with status 1, and writes no file" };
+    "Prints `doubts`, unless --print is given, and ends with status 1 if one is left" };
 
 pub(crate) const CHECK_KNOWN: Argument = argument! { Value "known" "FILE"
-    "Prints `doubts` except those that stand in this file: lines of that list, without the number \
-     of the line" };
+    "Prints `doubts`, unless --print is given, without those in this file, which has lines of \
+     that list without their line numbers" };
 
 pub(crate) const COVER_STRICT: Argument = argument! { Flag "strict" ""
-    "Prints `texts`; where something is left that no log shows, ends with status 1, and writes no \
-     file" };
+    "Prints `texts`, unless --print is given, and ends with status 1 if anything is left that \
+     no log shows" };
 
 pub(crate) const COVER_KNOWN: Argument = argument! { Value "known" "FILE"
-    "Prints `texts` except those that are known never to be shown: lines of this file" };
+    "Prints `texts`, unless --print is given, without what this file lists as never shown" };
 
 pub(crate) const STRICT: Argument = argument! { Flag "strict" ""
-    "Where an edit is refused, ends with status 4, and prints and writes only its line" };
+    "If an edit is refused, ends with status 4 and the line that says why, and prints and \
+     writes nothing else" };
 
 pub(crate) const GUARDED: Argument = argument! { Flag "guarded" ""
-    "Lets SCRIPT have lines `expect N TEXT`: the edit or group after one is refused where the log \
-     has no line N then, or another one" };
+    "Lets SCRIPT have lines `expect N TEXT`: the edit or group after one is refused unless line \
+     N of the log is TEXT" };
 
 pub(crate) const WITH_GUARDS: Argument = argument! { Flag "guarded" ""
-    "Puts a line `expect N TEXT` before each edit at whose place there is a line" };
+    "Puts a line `expect N TEXT` before each edit if the log has a line at its place" };
 
 pub(crate) const QUIET: Argument = argument! { Flag "quiet" 'q' ""
-    "Says nothing of edits that are refused, unless what is printed says it" };
+    "Reports neither refused edits nor a differing head of the log on standard error" };
 
 pub(crate) const REPORT: Argument = argument! { Report "report" "WHAT"
-    "With --output, prints to standard output what came of the edits: `reports`, which it is \
-     alone, or `table`, as --print prints them" };
+    "With --output, prints the result of each edit to standard output: as `reports`, if WHAT is \
+     left out, or as a `table`, as with --print" };
 
 pub(crate) const GROUP: Argument = argument! { Flag "group" ""
     "Makes the edits one group, which is accepted or refused as a whole" };
@@ -220,7 +221,7 @@ pub(crate) const GROUP: Argument = argument! { Flag "group" ""
 pub(crate) const SEEN: Argument = argument! { Flag "seen" "" "Draws only what the logs saw" };
 
 pub(crate) const FROM: Argument = argument! { Value "from" "PLACE"
-    "Draws only the places around this one, which is a number from 1 to 300" };
+    "Draws only the places around PLACE, which is a number from 1 to 300" };
 
 pub(crate) const WITHIN: Argument = argument! { Value "within" "N"
-    "With --from, the most ways from PLACE, from 0 to 300 [default: 2]" };
+    "With --from: the most ways from PLACE to a place that is drawn, from 0 to 300 [default: 2]" };

@@ -39,6 +39,8 @@ pub struct Aside {
     pub refusals: bool,
     /// The report on each item that goes to standard output, if one is asked for.
     pub report: Option<ReportView>,
+    /// Whether standard error gets nothing except why the run failed.
+    pub quiet: bool,
 }
 
 /// The names of what may be printed beside the output.
@@ -98,6 +100,11 @@ pub(crate) fn aside_in<'a>(
         (IsBadReport (rows_in found.now)) }
 {
     let report = report_found(found)?;
-    let refusals = says_refusals(is_set(found, "quiet"), view, report);
-    Ok(Aside { refusals, report })
+    let quiet = is_set(found, "quiet");
+    let refusals = says_refusals(quiet, view, report);
+    Ok(Aside {
+        refusals,
+        report,
+        quiet,
+    })
 }

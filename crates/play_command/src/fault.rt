@@ -17,13 +17,13 @@ pub enum CommandFault<'a> {
     #[error("{0}")]
     Usage(ParseError),
     /// The words name no command, or not all of its files.
-    #[error("error: a command and its files are wanted\n\nFor more information, try '--help'.\n")]
+    #[error("error: a command and its files are required\n\nFor more information, try '--help'.\n")]
     Incomplete,
-    #[error("error: invalid value '{0}' for '--seed <N>': wanted are 1 to 10 digits, \
+    #[error("error: invalid value '{0}' for '--seed <N>': expected 1 to 10 digits, \
         from 0 to 2147483647\n\n\
         For more information, try '--help'.\n")]
     BadSeed(&'a str),
-    #[error("error: invalid value '{0}' for '--every <K>': wanted are 1 to 10 digits, \
+    #[error("error: invalid value '{0}' for '--every <K>': expected 1 to 10 digits, \
         from 1 to 10000\n\n\
         For more information, try '--help'.\n")]
     BadEvery(&'a str),
@@ -45,7 +45,7 @@ pub enum CommandFault<'a> {
         For more information, try '--help'.\n", .0, WantedCommand {given: *.0})]
     NoCommand(&'a str),
     /// An edit has neither a script nor a log to make.
-    #[error("error: SCRIPT, '--edit <EDIT>' or '--to <FILE>' is wanted\n\n\
+    #[error("error: SCRIPT, '--edit <EDIT>' or '--to <FILE>' is required\n\n\
         For more information, try '--help'.\n")]
     NoScript,
     /// An edit has two of the three.
@@ -60,11 +60,11 @@ pub enum CommandFault<'a> {
         reports\n\n\
         For more information, try '--help'.\n")]
     ReportAlone,
-    #[error("error: invalid value '{0}' for '--from <PLACE>': wanted are 1 to 10 digits, \
+    #[error("error: invalid value '{0}' for '--from <PLACE>': expected 1 to 10 digits, \
         from 1 to 300\n\n\
         For more information, try '--help'.\n")]
     BadPlace(&'a str),
-    #[error("error: invalid value '{0}' for '--within <N>': wanted are 1 to 10 digits, \
+    #[error("error: invalid value '{0}' for '--within <N>': expected 1 to 10 digits, \
         from 0 to 300\n\n\
         For more information, try '--help'.\n")]
     BadWays(&'a str),
@@ -73,7 +73,7 @@ pub enum CommandFault<'a> {
         For more information, try '--help'.\n")]
     WithinAlone,
     /// Only what logs saw is to be drawn, and there are no logs.
-    #[error("error: '--seen' is for logs: LOG is wanted\n\n\
+    #[error("error: '--seen' needs a LOG\n\n\
         For more information, try '--help'.\n")]
     SeenAlone,
     #[error("cave: there isn't enough memory\n")]

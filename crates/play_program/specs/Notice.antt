@@ -1,6 +1,6 @@
 -- What the program says of the head of a log before a run.
 use Rattle.std.specs.Prelude.{◌≡◌, ℕ, Bool, true, false, List, [], ◌∷◌, ◌++◌, map, take, Option}
-use Rattle.std.specs.Prelude.{None, Some, option_map}
+use Rattle.std.specs.Prelude.{None, Some, if◌then◌else◌, option_map}
 use Rattle.std.specs.List.{AllZip}
 use Rattle.std.specs.Option.{option_and_then}
 use Rattle.play_command.specs.declared.line.Files.{Files}
@@ -22,12 +22,13 @@ words_of_files files seed = record {
   seed = seed;
 }
 
--- what a line says of how its logs are played, if it plays some
+-- what a line says of how its logs are played, if it plays some and isn't quiet
 abbrev pub words_asked : Line → Option PlayWords
 words_asked (Check files view) = None
 words_asked (Doubts files known strict) = None
 words_asked (Play files log seed view) = Some (words_of_files files seed)
-words_asked (Edit files log script editing aside) = Some (words_of_files files editing.seed)
+words_asked (Edit files log script editing aside) =
+    if aside.quiet then None else Some (words_of_files files editing.seed)
 words_asked (Cover files logs seed view known strict) = Some (words_of_files files seed)
 words_asked (Map files logs seed part) = Some (words_of_files files seed)
 words_asked (Script old new output form) = None

@@ -27,11 +27,12 @@ fn words_of_files<'a>(files: &Files<'a>, seed: u32) -> HeadWords<'a>
     }
 }
 
-/// What a line says of how its logs are played, if it plays some.
+/// What a line says of how its logs are played, if it plays some and isn't quiet.
 fn words_asked<'a>(asked: &Line<'a>) -> Option<HeadWords<'a>>
     ensures { option_map play_words result ≡ words_asked asked.now }
 {
     match asked {
+        Line::Edit { aside, .. } if aside.quiet => None,
         Line::Edit { files, editing, .. } => Some(words_of_files(files, editing.seed)),
         Line::Play { files, seed, .. }
         | Line::Cover { files, seed, .. }

@@ -40,7 +40,11 @@ const FAULTS: [(PlayFault, u8, &str); 17] = [
         1,
         "cave: a.known: the list of what is known is larger than 1,048,576 bytes",
     ),
-    (PlayFault::Unshown(3), 1, "cave: 3 left that no log shows"),
+    (
+        PlayFault::Unshown(3),
+        1,
+        "cave: 3 left that no log shows: add logs, or list them for --known",
+    ),
     (
         PlayFault::Unmapped(77),
         2,

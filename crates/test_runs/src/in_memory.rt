@@ -1,14 +1,16 @@
 //! A system in memory, of which a contract can name the bytes of its files and the calls that it gets.
 
-ghost use Rattle.std.specs.Prelude.{◌≡◌, Some, option_map};
+ghost use Rattle.std.specs.Prelude.{◌≡◌, None, Some, option_map};
 ghost use Rattle.test_runs.specs.Memory.{bytes_at, calls_by, file_named};
 
 use crate::calls::{KeptCall, KeptMessage, MemoryFile};
+use crate::streams::TestReader;
 use play_program::{Message, System, Target, replace};
 use std::alloc::Global;
 use std::io;
 use std::io::{Cursor, ErrorKind, Write};
 use std::process::Abort;
+use test_data::caves::CAVE;
 
 /// A file in memory. Its drafts take this many bytes, and then fail.
 #[derive(Drop)]
@@ -122,6 +124,57 @@ impl<R: Abort> System for MemorySystem<'_, R> {
             Some(MemoryFile::Log) => replace(&mut self.log, bytes),
             _ => Err(io::Error::from(ErrorKind::PermissionDenied)),
         }
+    }
+
+    fn tell(&mut self, message: Message<'_>) {
+        let kept = KeptMessage::told_by(self.alloc, &message).expect(self.rt, "memory for a call");
+        self.kept
+            .push(KeptCall::Tells(kept))
+            .expect(self.rt, "memory for a call");
+    }
+}
+
+/// A system of a cave and a log, whose readers fail from the ask with this number on. No contract
+/// names its bytes or its calls.
+#[derive(Drop)]
+pub struct FailingSystem<'a, R: Abort> {
+    pub rt: &'a R,
+    pub alloc: Global,
+    pub log: &'a [u8],
+    pub failing: u64,
+    pub kept: Vec<KeptCall>,
+}
+
+impl<'a, R: Abort> System for FailingSystem<'a, R> {
+    type File = TestReader<'a>;
+
+    ghost bytes_of = { λ system name. None };
+
+    ghost calls = { λ system. None };
+
+    fn open(&mut self, file: &str) -> io::Result<TestReader<'a>> {
+        let name = String::from_str(self.alloc, file).expect(self.rt, "memory for a call");
+        self.kept
+            .push(KeptCall::Opens(name))
+            .expect(self.rt, "memory for a call");
+        match MemoryFile::named(file) {
+            Some(MemoryFile::Cave) => Ok(TestReader::of(CAVE)),
+            Some(MemoryFile::Log) => {
+                let mut log = TestReader::of(self.log);
+                log.failing = self.failing;
+                Ok(log)
+            }
+            _ => Err(io::Error::from(ErrorKind::NotFound)),
+        }
+    }
+
+    fn put(&mut self, file: &str, bytes: &[u8]) -> io::Result<()> {
+        let name = String::from_str(self.alloc, file).expect(self.rt, "memory for a call");
+        let copy = Vec::from_slice(self.alloc, bytes).expect(self.rt, "memory for a call");
+        self.kept
+            .push(KeptCall::Puts(name, copy))
+            .expect(self.rt, "memory for a call");
+        Err(io::Error::from(ErrorKind::PermissionDenied))
     }
 
     fn tell(&mut self, message: Message<'_>) {

@@ -7,8 +7,8 @@ ghost use Rattle.test_runs.specs.Memory.{bytes_at, calls_by, file_named};
 
 use crate::calls::{KeptCall, KeptMessage};
 use crate::caves::{EDITED_LOG, LONG_LOG, LONG_TEXT, SCRIPT};
-use crate::in_memory::{MemorySystem, MemoryTarget};
-use cave_play::PlayFault;
+use crate::in_memory::{FailingSystem, MemorySystem, MemoryTarget};
+use cave_play::{Input, PlayFault};
 use play_program::{Output, run_program};
 use std::alloc::{AllocError, Global};
 use std::io::ErrorKind;
@@ -191,19 +191,77 @@ fn tells_head(call: Option<&KeptCall>, option: &str, text: &[u8]) -> bool {
     }
 }
 
+/// Whether a call tells that the log can't be read.
+fn tells_unread(call: Option<&KeptCall>) -> bool {
+    match call {
+        Some(KeptCall::Tells(KeptMessage::Fault(PlayFault::Read(Input::Log), Some(file)))) => {
+            file.as_str() == "log"
+        }
+        _ => false,
+    }
+}
+
+/// A log whose head says seed 3.
+const HEADED_LOG: &[u8] = b"# cave: cave --seed 3\nno\nin\n";
+
+/// Plays it from seed 4.
+const HEADED_PLAY: [&str; 6] = ["cave", "play", "cave", "log", "--seed", "4"];
+
+/// Plays that log from seed 4. Its reader fails from the ask with this number on.
+fn end_of_failing<R: Abort>(rt: &R, alloc: Global, failing: u64) -> Result<ProgramEnd, AllocError> {
+    let mut system = FailingSystem {
+        rt,
+        alloc,
+        log: HEADED_LOG,
+        failing,
+        kept: Vec::new(alloc),
+    };
+    let mut given = Vec::new(alloc);
+    for word in &HEADED_PLAY {
+        given.push(String::from_str(alloc, *word)?)?;
+    }
+    let mut output = Output::of(Vec::new(alloc));
+    let status = run_program(alloc, &mut system, Ok(given), &mut output);
+    let FailingSystem { kept, .. } = system;
+    let Output { writer, .. } = output;
+    Ok(ProgramEnd {
+        status,
+        written: writer,
+        log: Vec::new(alloc),
+        kept,
+    })
+}
+
 #[test]
-fn a_head_that_says_another_seed_is_told_if_it_can_be_read(rt: HostRuntime) -> Result<(), Fail> {
-    let log = b"# cave: cave --seed 3\nno\nin\n";
+fn a_head_that_says_another_seed_is_told(rt: HostRuntime) -> Result<(), Fail> {
     let words = ["play", "cave", "log", "--seed", "4"];
-    let end = end_with(&rt, rt.alloc(), log, &words, usize::MAX)?;
+    let end = end_with(&rt, rt.alloc(), HEADED_LOG, &words, usize::MAX)?;
     assert_eq!(rt; end.status, 0);
     assert!(rt; opens(end.kept.get(1), "log"));
     assert!(rt; tells_head(end.kept.get(2), "--seed ", b"3"));
     assert_eq!(rt; end.kept.len(), 3);
     let words = ["play", "cave", "log", "--seed", "3"];
-    let same = end_with(&rt, rt.alloc(), log, &words, usize::MAX)?;
+    let same = end_with(&rt, rt.alloc(), HEADED_LOG, &words, usize::MAX)?;
     assert_eq!(rt; same.status, 0);
     assert_eq!(rt; same.kept.len(), 2);
+    Ok(())
+}
+
+#[test]
+fn a_head_is_told_only_if_it_can_be_read(rt: HostRuntime) -> Result<(), Fail> {
+    for failing in 1..3 {
+        let end = end_of_failing(&rt, rt.alloc(), failing)?;
+        assert_eq!(rt; end.status, 5);
+        assert!(rt; end.written.is_empty());
+        assert!(rt; opens(end.kept.get(1), "log"));
+        assert!(rt; tells_unread(end.kept.get(2)));
+        assert_eq!(rt; end.kept.len(), 3);
+    }
+    let later = end_of_failing(&rt, rt.alloc(), 3)?;
+    assert_eq!(rt; later.status, 5);
+    assert!(rt; tells_head(later.kept.get(2), "--seed ", b"3"));
+    assert!(rt; tells_unread(later.kept.get(3)));
+    assert_eq!(rt; later.kept.len(), 4);
     Ok(())
 }
 

@@ -4,7 +4,7 @@ use std::alloc::{AllocError, Global};
 use std::io;
 use std::io::{Read, Write};
 
-/// Gives its bytes in pieces. It fails at the ask with the number `failing`, or gives a byte at
+/// Gives its bytes in pieces. It fails from the ask with the number `failing` on, or gives a byte at
 /// each ask without end.
 #[derive(Clone, Copy)]
 pub struct TestReader<'a> {
@@ -12,7 +12,7 @@ pub struct TestReader<'a> {
     pub bytes: &'a [u8],
     /// The most bytes given at once.
     pub piece: usize,
-    /// The ask at which it returns an error, counted from 1, or 0 if there is none.
+    /// The first ask at which it returns an error, counted from 1, or 0 if there is none.
     pub failing: u64,
     /// Whether it has no end.
     pub endless: bool,
@@ -37,7 +37,7 @@ impl<'a> TestReader<'a> {
         }
     }
 
-    /// A source that returns an error at its first ask.
+    /// A source that returns an error at each ask.
     pub fn broken() -> TestReader<'a> {
         let mut source = TestReader::of(&[]);
         source.failing = 1;
@@ -55,7 +55,7 @@ impl<'a> TestReader<'a> {
 impl Read for TestReader<'_> {
     fn read(&mut self, buf: &mut [u8]) -> io::Result<usize> {
         self.asks = self.asks.saturating_add(1);
-        if self.asks == self.failing {
+        if self.failing != 0 && self.failing <= self.asks {
             return Err(io::Error::other("the source fails"));
         }
         if self.endless && !buf.is_empty() {

@@ -78,7 +78,7 @@ const ANSWERS: [(&[&str], &str); 32] = [
         "Edit { files: Files { cave: \"a\", bind: None, output: None }, \
         log: \"b\", script: File(\"c\"), \
         editing: Editing { seed: 0, every: 50, view: Transcript, strict: false, guarded: false }, \
-        aside: Aside { refusals: false, report: None } }",
+        aside: Aside { refusals: false, report: None, quiet: false } }",
     ),
     (
         &[
@@ -93,7 +93,7 @@ const ANSWERS: [(&[&str], &str); 32] = [
         "Edit { files: Files { cave: \"a\", bind: None, output: None }, \
         log: \"b\", script: File(\"c\"), \
         editing: Editing { seed: 3, every: 10000, view: Transcript, strict: false, guarded: false }, \
-        aside: Aside { refusals: false, report: None } }",
+        aside: Aside { refusals: false, report: None, quiet: false } }",
     ),
     (
         &[
@@ -110,49 +110,49 @@ const ANSWERS: [(&[&str], &str); 32] = [
         "Edit { files: Files { cave: \"a\", bind: None, output: Some(\"d\") }, \
         log: \"b\", script: File(\"c\"), \
         editing: Editing { seed: 0, every: 50, view: Log, strict: true, guarded: false }, \
-        aside: Aside { refusals: true, report: None } }",
+        aside: Aside { refusals: true, report: None, quiet: false } }",
     ),
     (
         &["cave", "edit", "a", "b", "c", "--print=reports"],
         "Edit { files: Files { cave: \"a\", bind: None, output: None }, \
         log: \"b\", script: File(\"c\"), \
         editing: Editing { seed: 0, every: 50, view: Reports, strict: false, guarded: false }, \
-        aside: Aside { refusals: false, report: None } }",
+        aside: Aside { refusals: false, report: None, quiet: false } }",
     ),
     (
         &["cave", "edit", "a", "b", "c", "--print=steps"],
         "Edit { files: Files { cave: \"a\", bind: None, output: None }, \
         log: \"b\", script: File(\"c\"), \
         editing: Editing { seed: 0, every: 50, view: Steps, strict: false, guarded: false }, \
-        aside: Aside { refusals: true, report: None } }",
+        aside: Aside { refusals: true, report: None, quiet: false } }",
     ),
     (
         &["cave", "edit", "a", "b", "c", "--print=walk"],
         "Edit { files: Files { cave: \"a\", bind: None, output: None }, \
         log: \"b\", script: File(\"c\"), \
         editing: Editing { seed: 0, every: 50, view: Walk, strict: false, guarded: false }, \
-        aside: Aside { refusals: true, report: None } }",
+        aside: Aside { refusals: true, report: None, quiet: false } }",
     ),
     (
         &["cave", "edit", "--guarded", "a", "b", "c"],
         "Edit { files: Files { cave: \"a\", bind: None, output: None }, \
         log: \"b\", script: File(\"c\"), \
         editing: Editing { seed: 0, every: 50, view: Transcript, strict: false, guarded: true }, \
-        aside: Aside { refusals: false, report: None } }",
+        aside: Aside { refusals: false, report: None, quiet: false } }",
     ),
     (
         &["cave", "edit", "a", "b", "c", "-q", "--print=log"],
         "Edit { files: Files { cave: \"a\", bind: None, output: None }, \
         log: \"b\", script: File(\"c\"), \
         editing: Editing { seed: 0, every: 50, view: Log, strict: false, guarded: false }, \
-        aside: Aside { refusals: false, report: None } }",
+        aside: Aside { refusals: false, report: None, quiet: true } }",
     ),
     (
         &["cave", "edit", "a", "b", "c", "--print=table"],
         "Edit { files: Files { cave: \"a\", bind: None, output: None }, \
         log: \"b\", script: File(\"c\"), \
         editing: Editing { seed: 0, every: 50, view: Table, strict: false, guarded: false }, \
-        aside: Aside { refusals: true, report: None } }",
+        aside: Aside { refusals: true, report: None, quiet: false } }",
     ),
     (
         &[
@@ -168,7 +168,7 @@ const ANSWERS: [(&[&str], &str); 32] = [
         "Edit { files: Files { cave: \"a\", bind: None, output: Some(\"d\") }, \
         log: \"b\", script: File(\"c\"), \
         editing: Editing { seed: 0, every: 50, view: Log, strict: false, guarded: false }, \
-        aside: Aside { refusals: true, report: Some(Table) } }",
+        aside: Aside { refusals: true, report: Some(Table), quiet: false } }",
     ),
     (
         &[
@@ -185,7 +185,7 @@ const ANSWERS: [(&[&str], &str); 32] = [
         "Edit { files: Files { cave: \"a\", bind: None, output: Some(\"d\") }, \
         log: \"b\", script: File(\"c\"), \
         editing: Editing { seed: 0, every: 50, view: Log, strict: false, guarded: false }, \
-        aside: Aside { refusals: false, report: Some(Table) } }",
+        aside: Aside { refusals: false, report: Some(Table), quiet: true } }",
     ),
     (
         &[
@@ -201,7 +201,7 @@ const ANSWERS: [(&[&str], &str); 32] = [
         "Edit { files: Files { cave: \"a\", bind: None, output: Some(\"d\") }, \
         log: \"b\", script: File(\"c\"), \
         editing: Editing { seed: 0, every: 50, view: Log, strict: false, guarded: false }, \
-        aside: Aside { refusals: false, report: Some(Reports) } }",
+        aside: Aside { refusals: false, report: Some(Reports), quiet: false } }",
     ),
     (&["cave", "help", "edit"], "text DisplayHelp"),
     (&["cave", "-V"], "text DisplayVersion"),
@@ -254,7 +254,7 @@ const ANSWERS: [(&[&str], &str); 32] = [
         "Edit { files: Files { cave: \"a\", bind: Some(\"e\"), output: Some(\"d\") }, \
         log: \"b\", script: Typed(\"delete 1\\nseed 2\\n\"), \
         editing: Editing { seed: 3, every: 50, view: Log, strict: false, guarded: false }, \
-        aside: Aside { refusals: true, report: None } }",
+        aside: Aside { refusals: true, report: None, quiet: false } }",
     ),
 ];
 

@@ -72,7 +72,7 @@ fn wrong_words_are_refused(rt: HostRuntime) -> Result<(), Fail> {
 const FAULTS: [(&[&str], &str); 16] = [
     (
         &["cave", "sing"],
-        "error: unrecognized subcommand 'sing': wanted is check, play, edit, script, cover or map\n\n\
+        "error: unrecognized subcommand 'sing': expected check, play, edit, script, cover or map\n\n\
         Usage: cave <COMMAND>\n\n",
     ),
     (
@@ -81,7 +81,7 @@ const FAULTS: [(&[&str], &str); 16] = [
     ),
     (
         &["cave", "play", "a", "b", "-s", "-1"],
-        "error: invalid value '-1' for '--seed <N>': wanted are 1 to 10 digits",
+        "error: invalid value '-1' for '--seed <N>': expected 1 to 10 digits",
     ),
     (
         &["cave", "check"],
@@ -97,12 +97,12 @@ const FAULTS: [(&[&str], &str); 16] = [
     ),
     (
         &["cave", "play", "a", "b", "--seed", "+7"],
-        "error: invalid value '+7' for '--seed <N>': wanted are 1 to 10 digits, from 0 to \
+        "error: invalid value '+7' for '--seed <N>': expected 1 to 10 digits, from 0 to \
         2147483647",
     ),
     (
         &["cave", "map", "a", "--seed", "-12"],
-        "error: invalid value '-12' for '--seed <N>': wanted are 1 to 10 digits, from 0 to \
+        "error: invalid value '-12' for '--seed <N>': expected 1 to 10 digits, from 0 to \
         2147483647",
     ),
     (
@@ -115,7 +115,7 @@ const FAULTS: [(&[&str], &str); 16] = [
     ),
     (
         &["cave", "play", "a", "b", "--seed", "-"],
-        "error: invalid value '-' for '--seed <N>': wanted are 1 to 10 digits",
+        "error: invalid value '-' for '--seed <N>': expected 1 to 10 digits",
     ),
     (
         &["cave", "play", "--", "a", "b", "--seed", "-1"],
@@ -127,11 +127,11 @@ const FAULTS: [(&[&str], &str); 16] = [
     ),
     (
         &["cave", "edit", "a", "b", "c", "--every="],
-        "error: invalid value '' for '--every <K>': wanted are 1 to 10 digits, from 1 to 10000",
+        "error: invalid value '' for '--every <K>': expected 1 to 10 digits, from 1 to 10000",
     ),
     (
         &["cave", "edit", "a", "b", "c", "--print", "text"],
-        "error: invalid value 'text' for '--print <WHAT>': wanted is transcript, play, log, \
+        "error: invalid value 'text' for '--print <WHAT>': expected transcript, play, log, \
         undo, guarded, reports, table, steps, walk, score or state\n\nFor more",
     ),
     (
