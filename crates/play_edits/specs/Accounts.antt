@@ -15,7 +15,6 @@ use Rattle.play_edits.specs.Items.{game_after_item}
 use Rattle.play_edits.specs.Outcome.{ItemOutcome, lines_in, played_in, standing_of}
 use Rattle.play_edits.specs.Refusal.{refusal_line, refusal_number, shown_kept_line}
 use Rattle.play_edits.specs.declared.outcome.Standing.{Standing}
-use Rattle.base_lines.specs.declared.line_flaw.LineFlaw.{LineFlaw}
 use Rattle.base_lines.specs.declared.line_flaw.LineFlaw.TheVariants.{Byte, Long}
 use Rattle.play_edits.specs.declared.refusal.KeptLine.{KeptLine}
 use Rattle.play_edits.specs.declared.refusal.EditDetail.{EditDetail}
@@ -40,22 +39,20 @@ refusal_words (Edit at fault detail) = edit_fault_words fault
 refusal_words (NoLine at lines expected) = codes "no line"
 refusal_words (OtherLine at line expected) = codes "another line: "
 
--- what is wrong with a line that isn't allowed in a log
-abbrev pub flaw_text : LineFlaw → List ℕ
-flaw_text (Long bytes) =
-    codes "the line has " ++ (decimal bytes ++ codes " bytes, and a line of a log has at most 255")
-flaw_text (Byte byte column) =
-    codes "the byte in column " ++ (decimal column ++ (codes " is " ++ (decimal byte
-    ++ codes ", and a line of a log has printable ASCII, 32 to 126, and tabs")))
-
 abbrev pub lines_text : ℕ → List ℕ
 lines_text lines = codes ": the log has " ++ decimal lines
 
--- what is known beyond the fault of an edit
+-- what is known beyond the fault of an edit: how many lines the log has, or what is wrong with the
+-- edit's line
 abbrev pub edit_detail_text : EditDetail → List ℕ
 edit_detail_text Nothing = []
 edit_detail_text (Lines lines) = lines_text lines
-edit_detail_text (Flaw flaw) = codes ": " ++ flaw_text flaw
+edit_detail_text (Flaw (Long bytes)) =
+    codes ": the line has " ++ (decimal bytes
+    ++ codes " bytes, and a line of a log has at most 255")
+edit_detail_text (Flaw (Byte byte column)) =
+    codes ": the byte in column " ++ (decimal column ++ (codes " is " ++ (decimal byte
+    ++ codes ", and a line of a log has printable ASCII, 32 to 126, and tabs")))
 
 abbrev pub place_text : ℕ → List ℕ
 place_text place = codes ", which is at " ++ decimal place

@@ -110,11 +110,24 @@ impl Refusal {
 }
 
 impl fmt::Display for EditDetail {
+    ghost use Rattle.std.specs.Prelude.{Some};
+    ghost use Rattle.play_edits.specs.Accounts.{edit_detail_text};
+
+    ghost output = { λ detail. Some (edit_detail_text detail) };
+
     fn fmt<W: fmt::Write>(&self, f: &mut fmt::Formatter<W>) -> fmt::Result {
-        match self {
+        match *self {
             EditDetail::Nothing => Ok(()),
             EditDetail::Lines(lines) => write!(f, ": the log has {lines}"),
-            EditDetail::Flaw(flaw) => write!(f, ": {flaw}"),
+            EditDetail::Flaw(LineFlaw::Long(bytes)) => write!(
+                f,
+                ": the line has {bytes} bytes, and a line of a log has at most 255"
+            ),
+            EditDetail::Flaw(LineFlaw::Byte(byte, column)) => write!(
+                f,
+                ": the byte in column {column} is {byte}, and a line of a log has printable ASCII, \
+                 32 to 126, and tabs"
+            ),
         }
     }
 }

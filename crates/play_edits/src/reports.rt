@@ -3,9 +3,9 @@
 ghost use Rattle.std.specs.Prelude.{◌≡◌, ◌++◌, IfOk, OnOk, string_bytes};
 ghost use Rattle.replay_scripts.specs.Views.{applied_item};
 ghost use Rattle.replay_scripts.specs.ScriptText.{groups_in};
-ghost use Rattle.play_edits.specs.Accounts.{account_by, edit_detail_text, ending_text};
-ghost use Rattle.play_edits.specs.Accounts.{expected_text, expected_words, flaw_text, lines_text};
-ghost use Rattle.play_edits.specs.Accounts.{place_text, refusal_detail, refusal_text, replay_text};
+ghost use Rattle.play_edits.specs.Accounts.{account_by, ending_text, expected_text};
+ghost use Rattle.play_edits.specs.Accounts.{expected_words, lines_text, place_text};
+ghost use Rattle.play_edits.specs.Accounts.{refusal_detail, refusal_text, replay_text};
 ghost use Rattle.play_edits.specs.Accounts.{standing_text, totals_line};
 ghost use Rattle.play_edits.specs.Edits.{LogReadsBack, text_at_end, text_at_start};
 ghost use Rattle.play_edits.specs.Items.{item_report_by};
@@ -13,8 +13,7 @@ ghost use Rattle.play_tables.specs.ItemRow.{met_column};
 ghost use Rattle.play_edits.specs.Outcome.{refusal_in, standing_of};
 
 use crate::outcome::{Standing, Totals, standing_of};
-use crate::refusal::{EditDetail, ExpectedLine, KeptLine, Refusal};
-use base_lines::LineFlaw;
+use crate::refusal::{ExpectedLine, KeptLine, Refusal};
 use cave_replay::{Done, Session};
 use cave_world::Ending;
 use play_command::EditView;
@@ -179,42 +178,12 @@ fn push_replay(
     text.extend_from_slice(told.as_bytes())
 }
 
-/// Writes what is wrong with a line that isn't allowed in a log.
-fn push_flaw(alloc: Global, text: &mut Vec<u8>, flaw: LineFlaw) -> Result<(), AllocError>
-    ensures { OnOk result (text.new.items ≡ text.old.items ++ flaw_text flaw) }
-{
-    let told = match flaw {
-        LineFlaw::Long(bytes) => format!(in alloc;
-            "the line has {bytes} bytes, and a line of a log has at most 255"
-        )?,
-        LineFlaw::Byte(byte, column) => format!(in alloc;
-            "the byte in column {column} is {byte}, and a line of a log has printable ASCII, \
-             32 to 126, and tabs"
-        )?,
-    };
-    text.extend_from_slice(told.as_bytes())
-}
-
 /// Writes how many lines a log has.
 fn push_lines(alloc: Global, text: &mut Vec<u8>, lines: usize) -> Result<(), AllocError>
     ensures { OnOk result (text.new.items ≡ text.old.items ++ lines_text lines) }
 {
     let told = format!(in alloc; ": the log has {lines}")?;
     text.extend_from_slice(told.as_bytes())
-}
-
-/// Writes what is known beyond the fault of an edit.
-fn push_edit_detail(alloc: Global, text: &mut Vec<u8>, detail: EditDetail) -> Result<(), AllocError>
-    ensures { OnOk result (text.new.items ≡ text.old.items ++ edit_detail_text detail) }
-{
-    match detail {
-        EditDetail::Nothing => Ok(()),
-        EditDetail::Lines(lines) => push_lines(alloc, text, lines),
-        EditDetail::Flaw(flaw) => {
-            text.extend_from_slice(b": ")?;
-            push_flaw(alloc, text, flaw)
-        }
-    }
 }
 
 /// Writes where a line is.
@@ -261,7 +230,10 @@ fn push_detail(alloc: Global, text: &mut Vec<u8>, refusal: &Refusal) -> Result<(
     ensures { OnOk result (text.new.items ≡ text.old.items ++ refusal_detail refusal.now) }
 {
     match refusal {
-        Refusal::Edit(_, _, detail) => push_edit_detail(alloc, text, *detail),
+        Refusal::Edit(_, _, detail) => {
+            let told = format!(in alloc; "{detail}")?;
+            text.extend_from_slice(told.as_bytes())
+        }
         Refusal::NoLine(_, lines, expected) => {
             push_lines(alloc, text, *lines)?;
             push_expected(alloc, text, expected)

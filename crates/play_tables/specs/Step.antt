@@ -52,17 +52,14 @@ line_columns place line s t =
     decimal place ++ (codes "\t" ++ (without_tabs line ++ (codes "\t"
     ++ (decimal s.trail.here ++ (codes "\t" ++ (decimal t.trail.here ++ codes "\t"))))))
 
--- the turns up to the line, the score, what the lamp still burns, and how many objects are in the
--- hands
-unfoldable pub count_columns : CaveView → ℕ → State → List ℕ
-count_columns cave turns t =
-    decimal turns ++ (codes "\t" ++ (decimal (score_of cave t) ++ (codes "\t"
-    ++ (signed_decimal t.lamp.charge ++ (codes "\t" ++ (decimal (holding t) ++ codes "\t"))))))
-
+-- the turns up to the line, the score, what the lamp still burns, how many objects are in the hands,
 -- how many random numbers the line drew, and where the stream is after it
-unfoldable pub chance_columns : List ℕ → State → State → List ℕ
-chance_columns line s t =
-    decimal (draws_at line s.stream t.stream) ++ (codes "\t" ++ (decimal t.stream ++ codes "\t"))
+unfoldable pub count_columns : CaveView → List ℕ → ℕ → State → State → List ℕ
+count_columns cave line turns s t =
+    decimal turns ++ (codes "\t" ++ (decimal (score_of cave t) ++ (codes "\t"
+    ++ (signed_decimal t.lamp.charge ++ (codes "\t" ++ (decimal (holding t) ++ (codes "\t"
+    ++ (decimal (draws_at line s.stream t.stream) ++ (codes "\t"
+    ++ (decimal t.stream ++ codes "\t"))))))))))
 
 -- the question that is open, how the game has ended, and what happened
 unfoldable pub outcome_columns : CaveView → State → State → List ℕ
@@ -72,5 +69,4 @@ outcome_columns cave s t =
 
 unfoldable pub step_row : CaveView → ℕ → List ℕ → ℕ → State → State → List ℕ
 step_row cave place line turns s t =
-    line_columns place line s t ++ (count_columns cave turns t
-    ++ (chance_columns line s t ++ outcome_columns cave s t))
+    line_columns place line s t ++ (count_columns cave line turns s t ++ outcome_columns cave s t)

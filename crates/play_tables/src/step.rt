@@ -2,7 +2,7 @@
 
 ghost use Rattle.std.specs.Prelude.{◌≡◌, ◌++◌, OnOk};
 ghost use Rattle.turn_scene.specs.Scene.{cave_of};
-ghost use Rattle.play_tables.specs.Step.{step_head_row, line_columns, count_columns, chance_columns};
+ghost use Rattle.play_tables.specs.Step.{step_head_row, line_columns, count_columns};
 ghost use Rattle.play_tables.specs.Step.{outcome_columns, step_row};
 
 use crate::columns::{ending_column, push_question_column, push_without_tabs};
@@ -59,32 +59,21 @@ fn push_count_columns(
     alloc: Global,
     text: &mut Vec<u8>,
     rules: &Rules<'_>,
-    turns: u32,
-    after: &State,
+    step: &StepRow<'_>,
 ) -> Result<(), AllocError>
-    ensures { OnOk result (text.new.items ≡ text.old.items
-        ++ count_columns (cave_of rules.now) turns after.now) }
+    ensures { OnOk result (text.new.items ≡ text.old.items ++ count_columns (cave_of rules.now)
+        step.now.line.now step.now.turns step.now.before.now step.now.after.now) }
 {
+    let (turns, after) = (step.turns, step.after);
     let points = score(rules, after);
     let charge = after.lamp.charge.turns();
     let carried = after.holding();
-    let counts = format!(in alloc; "{turns}\t{points}\t{charge}\t{carried}\t")?;
+    let drawn = draws_at(step.line, step.before.stream, after.stream);
+    let position = after.stream.position();
+    let counts = format!(in alloc;
+        "{turns}\t{points}\t{charge}\t{carried}\t{drawn}\t{position}\t"
+    )?;
     text.extend_from_slice(counts.as_bytes())
-}
-
-#[tactic(auto, unfolding(crate::specs::Step::chance_columns))]
-fn push_chance_columns(
-    alloc: Global,
-    text: &mut Vec<u8>,
-    step: &StepRow<'_>,
-) -> Result<(), AllocError>
-    ensures { OnOk result (text.new.items ≡ text.old.items
-        ++ chance_columns step.now.line.now step.now.before.now step.now.after.now) }
-{
-    let drawn = draws_at(step.line, step.before.stream, step.after.stream);
-    let position = step.after.stream.position();
-    let chance = format!(in alloc; "{drawn}\t{position}\t")?;
-    text.extend_from_slice(chance.as_bytes())
 }
 
 #[tactic(auto, unfolding(crate::specs::Step::outcome_columns))]
@@ -119,7 +108,6 @@ pub fn push_step_row(
         step.now.before.now step.now.after.now) }
 {
     push_line_columns(alloc, text, step)?;
-    push_count_columns(alloc, text, rules, step.turns, step.after)?;
-    push_chance_columns(alloc, text, step)?;
+    push_count_columns(alloc, text, rules, step)?;
     push_outcome_columns(alloc, text, rules, step.before, step.after)
 }

@@ -12,7 +12,7 @@ use Rattle.cave_world.specs.declared.state.State.{State}
 use Rattle.play_tables.specs.Draws.{draws_at}
 use Rattle.play_tables.specs.Events.{each_event, event_happens, event_name, event_text, events_text}
 use Rattle.play_tables.specs.Events.{without_comma}
-use Rattle.play_tables.specs.Step.{chance_columns, count_columns, ending_column, line_columns}
+use Rattle.play_tables.specs.Step.{count_columns, ending_column, line_columns}
 use Rattle.play_tables.specs.Step.{outcome_columns, question_column, step_head_row, step_row}
 use Rattle.play_tables.specs.Step.{without_tabs}
 use Rattle.play_tables.specs.declared.events.Event.{Event}
@@ -68,9 +68,9 @@ module _ (cave : CaveView) (s t : State) where
 regrouped : (tab end place line from to turns score lamp carried draws stream question ended
     happened : List ℕ)
     → (place ++ (tab ++ (line ++ (tab ++ (from ++ (tab ++ (to ++ tab)))))))
-    ++ ((turns ++ (tab ++ (score ++ (tab ++ (lamp ++ (tab ++ (carried ++ tab)))))))
-    ++ ((draws ++ (tab ++ (stream ++ tab)))
-    ++ (question ++ (tab ++ (ended ++ (tab ++ (happened ++ end)))))))
+    ++ ((turns ++ (tab ++ (score ++ (tab ++ (lamp ++ (tab ++ (carried ++ (tab ++ (draws
+    ++ (tab ++ (stream ++ tab)))))))))))
+    ++ (question ++ (tab ++ (ended ++ (tab ++ (happened ++ end))))))
     ≡ place ++ (tab ++ (line ++ (((tab ++ from) ++ ((tab ++ to) ++ ((tab ++ turns)
     ++ ((tab ++ score) ++ ((tab ++ lamp) ++ ((tab ++ carried) ++ ((tab ++ draws)
     ++ ((tab ++ stream) ++ ((tab ++ question) ++ ((tab ++ ended) ++ ((tab ++ happened)
@@ -88,7 +88,7 @@ row_shown : (cave : CaveView) (place : ℕ) (line : List ℕ) (turns : ℕ) (s t
     → step_row cave place line turns s t
     ≡ decimal place ++ (codes "\t" ++ (without_tabs line
     ++ (flat_map tabbed_column (figures cave line turns s t) ++ codes "\n")))
-unfolding step_row line_columns count_columns chance_columns outcome_columns
+unfolding step_row line_columns count_columns outcome_columns
     figures place_figures count_figures chance_figures outcome_figures
 row_shown cave place line turns s t =
     let row : List ℕ → List ℕ → List ℕ → List ℕ = λ question ended happened.

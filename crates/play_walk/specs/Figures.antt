@@ -16,7 +16,7 @@ use Rattle.play_tables.specs.declared.events.Event.{Event}
 use Rattle.turn_ends.specs.Score.{score_of}
 use Rattle.world_objects.specs.Objects.{objects_in_hands}
 use Rattle.play_walk.specs.Json.{Member, json_list, next_member, next_value, quoted}
-use Rattle.play_walk.specs.Objects.{carried_object}
+use Rattle.play_walk.specs.Objects.{listed_object}
 
 -- what a figure is: a number, a word or none, words, or objects, with how each is written
 pub data Figure : Type 0 where
@@ -69,7 +69,7 @@ unfoldable pub count_figures : CaveView → ℕ → State → List (List ℕ × 
 count_figures cave turns t =
     (codes "turns", Count turns) ∷ (codes "score", Count (score_of cave t))
     ∷ (codes "lamp", Signed t.lamp.charge)
-    ∷ (codes "carried", SomeObjects (carried_object cave) (objects_in_hands t.objects)) ∷ []
+    ∷ (codes "carried", SomeObjects (listed_object cave None) (objects_in_hands t.objects)) ∷ []
 
 -- how many random numbers the line drew, and where the stream is after it
 unfoldable pub chance_figures : List ℕ → State → State → List (List ℕ × Figure)

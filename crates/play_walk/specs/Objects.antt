@@ -1,5 +1,5 @@
 -- Objects as JSON: those that are carried, and those that have moved.
-use Rattle.std.specs.Prelude.{ℕ, ◌+◌, Bool, not, ◌&&◌, List, [], ◌∷◌, codes}
+use Rattle.std.specs.Prelude.{ℕ, ◌+◌, Bool, not, ◌&&◌, List, [], ◌∷◌, codes, Option, None, Some}
 use Rattle.std.specs.Fmt.{decimal}
 use Rattle.std.specs.List.{filter, range_with_len}
 use Rattle.base_lines.specs.Numbers.{LAST_OBJECT}
@@ -18,9 +18,6 @@ use Rattle.play_walk.specs.Json.{Member, json_list, json_object, string_or_null}
 abbrev pub name_member : CaveView → ℕ → Member
 name_member cave x = (codes "name", string_or_null (first_word cave.words (OBJECT_WORDS + x)))
 
-unfoldable pub carried_object : CaveView → ℕ → List ℕ
-carried_object cave x = json_object (codes "object", decimal x) (name_member cave x ∷ [])
-
 -- where the first half of an object is, by the number of the place: 0 is nowhere, and -1 in the
 -- hands
 abbrev pub spot_number : Spot → List ℕ
@@ -34,11 +31,15 @@ anchor_number anchor.Loose = codes "0"
 anchor_number anchor.Fixed = codes "-1"
 anchor_number (anchor.At place) = decimal place
 
-unfoldable pub moved_object : CaveView → Layout → ℕ → List ℕ
-moved_object cave o x =
-    json_object (codes "object", decimal x)
-    (name_member cave x ∷ (codes "first", spot_number (spot_of o x))
-    ∷ (codes "second", anchor_number (anchor_of o x)) ∷ [])
+-- where both are in a layout, if there is one
+abbrev pub half_members : Option Layout → ℕ → List Member
+half_members None x = []
+half_members (Some o) x =
+    (codes "first", spot_number (spot_of o x)) ∷ (codes "second", anchor_number (anchor_of o x)) ∷ []
+
+unfoldable pub listed_object : CaveView → Option Layout → ℕ → List ℕ
+listed_object cave among x =
+    json_object (codes "object", decimal x) (name_member cave x ∷ half_members among x)
 
 -- an object is elsewhere in the second layout than in the first
 unfoldable pub is_moved : Layout → Layout → ℕ → Bool
@@ -51,5 +52,8 @@ unfoldable pub moved_up_to : Layout → Layout → ℕ → List ℕ
 moved_up_to before after n = filter (is_moved before after) (range_with_len 1 n)
 
 unfoldable pub moved_member : CaveView → Layout → Layout → Member
-moved_member cave before after =
-    (codes "moved", json_list (moved_object cave after) (moved_up_to before after LAST_OBJECT))
+moved_member cave before after = (
+  codes "moved",
+  json_list (listed_object cave (Some after))
+      (moved_up_to before after LAST_OBJECT),
+)

@@ -1,6 +1,6 @@
 //! The figures of a line as members of an object of JSON.
 
-ghost use Rattle.std.specs.Prelude.{◌≡◌, ◌++◌, OnOk, codes, drop};
+ghost use Rattle.std.specs.Prelude.{◌≡◌, ◌++◌, None, OnOk, codes, drop};
 ghost use Rattle.std.specs.List.{flat_map};
 ghost use Rattle.turn_scene.specs.Scene.{cave_of};
 ghost use Rattle.world_objects.specs.Objects.{objects_in_hands};
@@ -9,10 +9,10 @@ ghost use Rattle.play_walk.specs.Figures.{chance_figures, count_figures, ending_
 ghost use Rattle.play_walk.specs.Figures.{happened_words, next_event, next_figure, outcome_figures};
 ghost use Rattle.play_walk.specs.Figures.{place_figures, question_word};
 ghost use Rattle.play_walk.specs.Json.{next_value, quoted};
-ghost use Rattle.play_walk.specs.Objects.{carried_object};
+ghost use Rattle.play_walk.specs.Objects.{listed_object};
 
 use crate::json::{push_next_key, push_number, push_signed};
-use crate::objects::push_carried_list;
+use crate::objects::push_object_list;
 use cave_data::Cave;
 use cave_world::{Ending, Question, State};
 use play_tables::StepRow;
@@ -47,11 +47,11 @@ fn push_lamp(text: &mut Vec<u8>, charge: i32) -> Result<(), AllocError>
 fn push_carried(text: &mut Vec<u8>, cave: &Cave, state: &State) -> Result<(), AllocError>
     ensures { let held = objects_in_hands state.now.objects in
         OnOk result (text.new.items ≡ text.old.items
-        ++ next_figure (codes "carried", SomeObjects (carried_object cave.now) held)) }
+        ++ next_figure (codes "carried", SomeObjects (listed_object cave.now None) held)) }
 {
     push_next_key(text, "carried")?;
     let carried = state.in_hands();
-    push_carried_list(text, cave, carried.as_slice())
+    push_object_list(text, cave, None, carried.as_slice())
 }
 
 /// Appends the question that is open.

@@ -1,12 +1,11 @@
 //! Objects as JSON: those that are carried, and those that have moved.
 
-ghost use Rattle.std.specs.Prelude.{◌≡◌, ◌++◌, OnOk, codes, decimal};
+ghost use Rattle.std.specs.Prelude.{◌≡◌, ◌++◌, OnOk, codes, decimal, option_map};
 ghost use Rattle.std.specs.List.{flat_map};
 ghost use Rattle.base_lines.specs.Numbers as defined;
-ghost use Rattle.world_objects.specs.Objects.{anchor_of, spot_of};
 ghost use Rattle.play_walk.specs.Json.{first_member, json_list, next_member, next_value};
-ghost use Rattle.play_walk.specs.Objects.{anchor_number, carried_object, is_moved, moved_member};
-ghost use Rattle.play_walk.specs.Objects.{moved_object, moved_up_to, name_member, spot_number};
+ghost use Rattle.play_walk.specs.Objects.{anchor_number, half_members, is_moved, listed_object};
+ghost use Rattle.play_walk.specs.Objects.{moved_member, moved_up_to, name_member, spot_number};
 
 use crate::json::{push_next_key, push_number, push_string_or_null};
 use arrayvec::ArrayVec;
@@ -35,48 +34,6 @@ fn push_name(text: &mut Vec<u8>, cave: &Cave, object: Object) -> Result<(), Allo
     push_string_or_null(text, cave.words().first_word(number))
 }
 
-/// Appends an object that is carried.
-#[tactic(auto, unfolding(crate::specs::Objects::carried_object))]
-fn push_carried_object(text: &mut Vec<u8>, cave: &Cave, object: Object) -> Result<(), AllocError>
-    ensures { OnOk result (text.new.items ≡ text.old.items ++ carried_object cave.now object) }
-{
-    push_object_number(text, object)?;
-    push_name(text, cave, object)?;
-    text.extend_from_slice(b"}")
-}
-
-/// Appends objects that are carried, each after a comma.
-fn push_more_carried(text: &mut Vec<u8>, cave: &Cave, objects: &[Object]) -> Result<(), AllocError>
-    ensures { OnOk result (text.new.items ≡ text.old.items
-        ++ flat_map (next_value (carried_object cave.now)) objects.now) }
-{
-    for object in objects {
-        text.push(b',')?;
-        push_carried_object(text, cave, *object)?;
-    }
-    Ok(())
-}
-
-/// Appends the list of objects that are carried.
-pub(crate) fn push_carried_list(
-    text: &mut Vec<u8>,
-    cave: &Cave,
-    objects: &[Object],
-) -> Result<(), AllocError>
-    ensures { OnOk result
-        (text.new.items ≡ text.old.items ++ json_list (carried_object cave.now) objects.now) }
-{
-    match objects {
-        [] => text.extend_from_slice(b"[]"),
-        [first, rest @ ..] => {
-            text.push(b'[')?;
-            push_carried_object(text, cave, *first)?;
-            push_more_carried(text, cave, rest)?;
-            text.extend_from_slice(b"]")
-        }
-    }
-}
-
 fn push_spot(text: &mut Vec<u8>, spot: Spot) -> Result<(), AllocError>
     ensures { OnOk result (text.new.items ≡ text.old.items ++ spot_number spot) }
 {
@@ -97,68 +54,76 @@ fn push_anchor(text: &mut Vec<u8>, anchor: Anchor) -> Result<(), AllocError>
     }
 }
 
-/// Appends where both halves of an object are.
-fn push_halves(text: &mut Vec<u8>, objects: &Objects, object: Object) -> Result<(), AllocError>
-    ensures { OnOk result (text.new.items ≡ text.old.items
-        ++ (next_member (codes "first", spot_number (spot_of objects.now object))
-        ++ next_member (codes "second", anchor_number (anchor_of objects.now object)))) }
-{
-    push_next_key(text, "first")?;
-    push_spot(text, objects.spot(object))?;
-    push_next_key(text, "second")?;
-    push_anchor(text, objects.anchor(object))
-}
-
-/// Appends an object that was moved, with where it is.
-#[tactic(auto, unfolding(crate::specs::Objects::moved_object))]
-fn push_moved_object(
+/// Appends where both halves of an object are among objects, if there are any.
+fn push_halves(
     text: &mut Vec<u8>,
-    cave: &Cave,
-    objects: &Objects,
+    among: Option<&Objects>,
     object: Object,
 ) -> Result<(), AllocError>
-    ensures { OnOk result
-        (text.new.items ≡ text.old.items ++ moved_object cave.now objects.now object) }
+    ensures { OnOk result (text.new.items ≡ text.old.items
+        ++ flat_map next_member (half_members (option_map (λ it. it.now) among.entry) object)) }
+{
+    match among {
+        None => Ok(()),
+        Some(objects) => {
+            push_next_key(text, "first")?;
+            push_spot(text, objects.spot(object))?;
+            push_next_key(text, "second")?;
+            push_anchor(text, objects.anchor(object))
+        }
+    }
+}
+
+/// Appends an object, with where it is among objects, if there are any.
+#[tactic(auto, unfolding(crate::specs::Objects::listed_object))]
+fn push_object(
+    text: &mut Vec<u8>,
+    cave: &Cave,
+    among: Option<&Objects>,
+    object: Object,
+) -> Result<(), AllocError>
+    ensures { OnOk result (text.new.items ≡ text.old.items
+        ++ listed_object cave.now (option_map (λ it. it.now) among.entry) object) }
 {
     push_object_number(text, object)?;
     push_name(text, cave, object)?;
-    push_halves(text, objects, object)?;
+    push_halves(text, among, object)?;
     text.extend_from_slice(b"}")
 }
 
-/// Appends objects that were moved, each after a comma.
-fn push_more_moved(
+/// Appends objects, each after a comma.
+fn push_more_objects(
     text: &mut Vec<u8>,
     cave: &Cave,
-    objects: &Objects,
-    moved: &[Object],
+    among: Option<&Objects>,
+    objects: &[Object],
 ) -> Result<(), AllocError>
-    ensures { OnOk result (text.new.items ≡ text.old.items
-        ++ flat_map (next_value (moved_object cave.now objects.now)) moved.now) }
+    ensures { OnOk result (text.new.items ≡ text.old.items ++ flat_map (next_value
+        (listed_object cave.now (option_map (λ it. it.now) among.entry))) objects.now) }
 {
-    for object in moved {
+    for object in objects {
         text.push(b',')?;
-        push_moved_object(text, cave, objects, *object)?;
+        push_object(text, cave, among, *object)?;
     }
     Ok(())
 }
 
-/// Appends the list of objects that were moved.
-fn push_moved_list(
+/// Appends a list of objects.
+pub(crate) fn push_object_list(
     text: &mut Vec<u8>,
     cave: &Cave,
-    objects: &Objects,
-    moved: &[Object],
+    among: Option<&Objects>,
+    objects: &[Object],
 ) -> Result<(), AllocError>
-    ensures { OnOk result (text.new.items ≡ text.old.items
-        ++ json_list (moved_object cave.now objects.now) moved.now) }
+    ensures { OnOk result (text.new.items ≡ text.old.items ++ json_list
+        (listed_object cave.now (option_map (λ it. it.now) among.entry)) objects.now) }
 {
-    match moved {
+    match objects {
         [] => text.extend_from_slice(b"[]"),
         [first, rest @ ..] => {
             text.push(b'[')?;
-            push_moved_object(text, cave, objects, *first)?;
-            push_more_moved(text, cave, objects, rest)?;
+            push_object(text, cave, among, *first)?;
+            push_more_objects(text, cave, among, rest)?;
             text.extend_from_slice(b"]")
         }
     }
@@ -200,5 +165,5 @@ pub(crate) fn push_moved(
 {
     push_next_key(text, "moved")?;
     let moved = moved(before, after);
-    push_moved_list(text, cave, after, moved.as_slice())
+    push_object_list(text, cave, Some(after), moved.as_slice())
 }
