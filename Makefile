@@ -43,11 +43,11 @@ $(BUILT): $(SOURCES)
 	@cd crates/cave && ../../tools/measure/progress cave ../../out/build.log rt run -- $(FIRST_GAME)
 	@touch $@
 
-# What takes a minute or two and needs no proof and no program: what nobody uses, imports from a crate that
-# doesn't have the item, functions that don't go by the word of their definition, what the pages
-# name and show, that the changelog has the version of the code, that the checks of pages and of
-# suites fail what they should, how scripts answer `--help`, and what shells complete. A check that
-# skips something says so in a line, and adds it to the file SKIPPED: `make test` ends with the sum.
+# What needs no proof and no program: names what nobody uses, imports from a crate that doesn't have
+# the item, functions without the word of their definition, and what pages name and isn't there.
+# Checks that the changelog has the version of the code, that the checks of pages and of suites fail
+# when they should, how scripts answer `--help`, and what shells complete. A check that skips
+# something says so in a line, and adds it to the file SKIPPED: `make test` ends with the sum.
 checks test: export SKIPPED = $(CURDIR)/out/skipped
 checks: ## checks names, imports, pages and scripts, in a minute or two, without any proof
 	@rm -f out/skipped
@@ -61,11 +61,11 @@ checks: ## checks names, imports, pages and scripts, in a minute or two, without
 	logs/tools/plant --check
 	logs/tools/check-runner
 
-# Those checks, and the lines that must not compile; then the gate: each proof from nothing, the
-# edits that must fail, each of which has to compile, the tests and the program; and then the suite
-# with the program that was proved, and what the suite leaves out; runs that are disturbed as they
-# write; cut caves, and refused memory; and last the second opinion.
-test: has-rt has-cc checks ## runs the gate: all proofs anew, wrong bodies, tests, suite and duel
+# The gate: those checks, and the lines that must not compile; each proof from nothing, the edits
+# that must fail, each of which has to compile, the tests and the program; then the suite with the
+# program that was proved, and what the suite leaves out; runs that are disturbed as they write; cut
+# caves, and refused memory; and last the second opinion.
+test: has-rt has-cc checks ## runs the gate: proofs from nothing, wrong bodies, tests, suite and duel
 	tools/check/wrong-lines
 	@mkdir -p out
 	tools/install/package --manuals out

@@ -1,7 +1,7 @@
 """Names imports of an item from a crate that hands it on, although another crate has it.
 
 A door hands on items of other crates, by `pub use` in src/lib.rt, and definitions of other crates,
-by `pub use` in specs/Lib.antt: for programs, as of other repositories. Only programs take what is
+by `pub use` in specs/Lib.antt: for programs, also of other repositories. Only programs take what is
 handed on, in a `use`, a path or an attribute, and no other crate hands on anything. A door hands on
 items that docs/LIBRARY.md names, and files of definitions that its code or that of these items
 cites. The root of a room gives, by `pub use`, what some other crate takes from there. crates.txt

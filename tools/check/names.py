@@ -10,8 +10,8 @@ those that say how a definition is read: `push_all_rows` meets `name_row`, and `
 that may differ, each with the definition that it meets first, below a line of why.
 
 A public type has a name of its own, too: no struct, enum or trait of the code and no record or data
-of the definitions has the name of one in another crate, but for those that the same file lists, as
-`type NAME CRATE CRATE`. The status is 1 if something is named, or if something listed isn't so.
+of the definitions has the name of one in another crate, except those that the same file lists, as
+`type NAME CRATE CRATE`. The status is 1 if something is named, or if what is listed doesn't differ.
 """
 
 import re
@@ -118,4 +118,4 @@ def faults() -> Iterator[str]:
             differ.add(f"{function} {met[0]}")
             if f"{function} {met[0]}" not in listed:
                 yield f"{file.path}: {function} meets {', '.join(met)}: no word is shared"
-    yield from (f"{KEPT}: {it}: it isn't so" for it in sorted(listed - differ))
+    yield from (f"{KEPT}: {it}: they share a word" for it in sorted(listed - differ))

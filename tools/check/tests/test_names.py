@@ -40,13 +40,6 @@ fn fill() -> u8
     MAX_DROPS
 }}
 """
-NUMBERS = {
-    "defined.MAX_DROPS": "",
-    "MAX_DROPS": "a clause reads the code's MAX_DROPS",
-}
-# A definition that writes the number itself, and one that takes it from the code.
-WRITTEN = "abbrev pub MAX_DROPS : ℕ\nMAX_DROPS = 9\n"
-IMPORTED = "use Rattle.oil.specs.declared.oil.TheConstants.{MAX_DROPS}\n"
 
 
 def named() -> Iterator[Case]:
@@ -74,8 +67,6 @@ def with_code(code: str, kept: str) -> Files:
 
 
 Names = tests_of("tools/check/run names", named())
-Numbers = tests_of("tools/check/run numbers", [
-    *((it, {SPECS: WRITTEN, "crates/oil/src/oil.rt": NUMBER.format(number=it)}, said)
-      for it, said in NUMBERS.items()),
-    ("written", {SPECS: WRITTEN}, ""),
-    ("imported", {SPECS: IMPORTED}, f"{SPECS}: a definition reads the code's MAX_DROPS")])
+Numbers = tests_of("tools/check/run numbers", (
+    (f"{it} {number}", {SPECS: it, "crates/oil/src/oil.rt": NUMBER.format(number=number)}, said)
+    for it, number, said in cases_in(TABLES, "Numbers")))

@@ -67,7 +67,7 @@ COUNTED: Files = {
     "logs/walk.log": "# run: play\nno\n", "logs/walk.out": "",
 } | {f"model/{it}": "" for it in """program.py cover.py cave generate.py errands.py players.py
 scripts.py worlds.py directed.py seeds.py cases.py shrink.py counts.py duel suite check-duel
-change-rows laws.py""".split()}
+change-rows prove-rows laws.py""".split()}
 LONG = "tools/page/long.py"
 FILL = {"crates/oil/src/a.rt": "pub const fn a()\n{\n}\n    pub(crate) fn b();\n fn c() {}\n" * 37}
 

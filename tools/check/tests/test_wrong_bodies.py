@@ -9,6 +9,7 @@ from common.files import cases_in
 HEADS = "| Crate | Clause |\n|---|---|\n"
 PAGE, LIST, LOG = "docs/PROVED.md", "tools/check/refused-by", "out/test.log"
 GATE, SOAK = "crates/lamps/must-fail/burns.edit", "tools/soak/loops/lamps/burns.edit"
+RULE = "model/rows/lamps/burns.edit"
 CHANGE = "file: src/wick.rt\nold:     light();\nnew:     fade();\n"
 EDIT = "file: src/lamp.rt\nold: fn wane()\nnew: fn wane() \n"
 # Three functions, wrong bodies of them, and what the gate says about these.
@@ -35,6 +36,10 @@ CHANGED = {
     (SOAK, f"by: `burn`: `value`\n{CHANGE}"): "",
     (SOAK, CHANGE): "it names no clause",
     (SOAK, f"by: `burn`: `light`\n{CHANGE}"): "there is no clause `burn`: `light`",
+    (RULE, f"by:\n{CHANGE}"): "",
+    (RULE, f"by: `lit`\n{CHANGE}"): "there is no clause `lit`",
+    (RULE, CHANGE.replace("src", "../lamps/src")): "",
+    (RULE, CHANGE.replace("    light();", "glow();")): "src/wick.rt has 'glow();' 0 times",
     (GATE, CHANGE.replace("wick.rt", "oil.rt")): "there is no src/oil.rt",
     (GATE, CHANGE.replace("    light();", "glow();")): "src/wick.rt has 'glow();' 0 times",
     (GATE, CHANGE.replace("    light();", "light")): "src/wick.rt has 'light' 2 times",
