@@ -21,11 +21,11 @@ SECTIONS = {number: Section(*of) for number, *of in [
     (3, "list", [PLACE, (0, 999_999), (1, 999)], 2,
      f"a place, a target and at least one motion, all {NUMBERS}",
      "a place is from 1 to 300, a target from 0 to 999999, and a motion from 1 to 999",
-     2000, "section 3 has at most 2000 rows, and a row at most 40 motions"),
+     2000, "section 3 has at most 2,000 rows, and a row at most 40 motions"),
     (4, "word", [(1, 999), (1001, 1100), (2001, 2099), (3001, 3499)], 1,
      "a number of 1 to 9 digits and a word",
      "a word's number is from 1 to 999, from 1001 to 1100, from 2001 to 2099 or from 3001 to 3499",
-     1000, "section 4 has at most 1000 rows"),
+     1000, "section 4 has at most 1,000 rows"),
     (5, "text", [(1, 99)], 1,
      "the number of an object, or a hundred times a prop, and a line of its text",
      "an object is from 1 to 99, a prop's line is one of 0, 100, 200 to 9900 after an object's, and"

@@ -11,7 +11,7 @@ pub enum OpenFault {
     BadEvery,
     #[error("line {0} of the log can't be played: {1}")]
     BadLine(usize, LineFlaw),
-    #[error("the log has more than 65535 lines")]
+    #[error("the log has more than 65,535 lines")]
     LogFull,
     #[error("the seed is over 2147483647")]
     BadSeed,

@@ -196,8 +196,8 @@ fn range(section: Section) -> &'static str {
 /// How many rows the section may have, and how long they may be, if there is a limit.
 fn limit(section: Section) -> Option<&'static str> {
     match section {
-        Section::Travel => Some("section 3 has at most 2000 rows, and a row at most 40 motions"),
-        Section::Words => Some("section 4 has at most 1000 rows"),
+        Section::Travel => Some("section 3 has at most 2,000 rows, and a row at most 40 motions"),
+        Section::Words => Some("section 4 has at most 1,000 rows"),
         Section::Conditions => Some("a row of section 9 has at most 40 places"),
         Section::Classes => Some("section 10 has at most 50 rows"),
         Section::LongTexts

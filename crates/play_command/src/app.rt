@@ -33,7 +33,7 @@ const STATUSES: &str = "Exit status:
 const PLAY_EXAMPLE: &str =
     "Example: cave play caves/b.txt logs/first.log --bind caves/b.bind --seed 7
 
-A log has at most 65535 lines. Each is a command of at most 255 bytes, which are printable
+A log has at most 65,535 lines. Each is a command of at most 255 bytes, which are printable
 or tabs. A line that begins with # is a comment, and a line such as this begins the random
 numbers anew:
 

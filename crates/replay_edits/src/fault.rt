@@ -12,7 +12,7 @@ pub enum EditFault {
     NoSuchPlace,
     #[error("the line is over 255 bytes or has a byte that is neither printable ASCII nor a tab")]
     BadLine,
-    #[error("the log has 65535 lines already, and no more fit in")]
+    #[error("the log has 65,535 lines already, and no more fit in")]
     LogFull,
     #[error("the seed is over 2147483647")]
     BadSeed,

@@ -200,14 +200,14 @@ const TOLD: [(Cause, usize, FaultSite, &str); 14] = [
         Cause::TooManyRows,
         2002,
         FaultSite::Section(Section::Travel),
-        "line 2002 of the database: too many rows: section 3 has at most 2000 rows, and a row \
+        "line 2002 of the database: too many rows: section 3 has at most 2,000 rows, and a row \
         at most 40 motions",
     ),
     (
         Cause::TooManyRows,
         1002,
         FaultSite::Section(Section::Words),
-        "line 1002 of the database: too many rows: section 4 has at most 1000 rows",
+        "line 1002 of the database: too many rows: section 4 has at most 1,000 rows",
     ),
     (
         Cause::TooManyRows,

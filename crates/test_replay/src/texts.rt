@@ -17,7 +17,7 @@ fn faults_of_an_opening_say_what_is_wrong(rt: HostRuntime) -> Result<(), Fail> {
             "line 12 of the log can't be played: the line has 256 bytes, and a line of a log has at \
             most 255",
         ),
-        (OpenFault::LogFull, "the log has more than 65535 lines"),
+        (OpenFault::LogFull, "the log has more than 65,535 lines"),
         (OpenFault::BadSeed, "the seed is over 2147483647"),
         (OpenFault::Memory, "there isn't enough memory"),
     ];
@@ -43,7 +43,7 @@ const TEXTS: [(EditFault, &str, &str); 7] = [
     (
         EditFault::LogFull,
         "edit 3 of the group, counted from 0: ",
-        "the log has 65535 lines already, and no more fit in",
+        "the log has 65,535 lines already, and no more fit in",
     ),
     (
         EditFault::BadSeed,
