@@ -8,7 +8,7 @@ use thiserror::Error;
 /// Why a line isn't allowed in a log.
 #[derive(Clone, Copy, Debug, PartialEq, Eq, Error)]
 pub enum LineFault {
-    #[error("the line is longer than 255 bytes")]
+    #[error("the line has over 255 bytes")]
     TooLong,
     #[error("the line has a byte that is neither printable ASCII nor a tab")]
     BadByte,

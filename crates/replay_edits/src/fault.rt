@@ -8,19 +8,19 @@ use thiserror::Error;
 /// `EmptyGroup`, which comes first.
 #[derive(Clone, Copy, Debug, Drop, PartialEq, Eq, Error)]
 pub enum EditFault {
-    #[error("the place is past the end of the log")]
+    #[error("no such line: the place is past the end of the log")]
     NoSuchPlace,
-    #[error("the line is over 255 bytes or has a byte that is neither printable ASCII nor a tab")]
+    #[error("a bad line: it has over 255 bytes, or one that is neither printable ASCII nor a tab")]
     BadLine,
-    #[error("the log has 65,535 lines already, and no more fit in")]
+    #[error("a full log: a log has at most 65,535 lines")]
     LogFull,
-    #[error("the seed is over 2147483647")]
+    #[error("a bad seed: a seed is at most 2147483647")]
     BadSeed,
-    #[error("the meter has fewer steps left than the log would have lines")]
+    #[error("a full meter: it has fewer steps left than the log would have lines")]
     MeterFull,
     #[error("there isn't enough memory")]
     Memory,
-    #[error("the group has no edit")]
+    #[error("an empty group: it has no edit")]
     EmptyGroup,
 }
 

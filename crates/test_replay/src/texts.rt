@@ -10,7 +10,7 @@ fn faults_of_an_opening_say_what_is_wrong(rt: HostRuntime) -> Result<(), Fail> {
     let texts = [
         (
             OpenFault::BadEvery,
-            "the distance of checkpoints is not from 1 to 10000",
+            "the distance of checkpoints is from 1 to 10000",
         ),
         (
             OpenFault::BadLine(12, LineFlaw::Long(256)),
@@ -18,7 +18,7 @@ fn faults_of_an_opening_say_what_is_wrong(rt: HostRuntime) -> Result<(), Fail> {
             most 255",
         ),
         (OpenFault::LogFull, "the log has more than 65,535 lines"),
-        (OpenFault::BadSeed, "the seed is over 2147483647"),
+        (OpenFault::BadSeed, "a seed is at most 2147483647"),
         (OpenFault::Memory, "there isn't enough memory"),
     ];
     for (fault, text) in texts {
@@ -33,30 +33,30 @@ const TEXTS: [(EditFault, &str, &str); 7] = [
     (
         EditFault::NoSuchPlace,
         "edit 3 of the group, counted from 0: ",
-        "the place is past the end of the log",
+        "no such line: the place is past the end of the log",
     ),
     (
         EditFault::BadLine,
         "edit 3 of the group, counted from 0: ",
-        "the line is over 255 bytes or has a byte that is neither printable ASCII nor a tab",
+        "a bad line: it has over 255 bytes, or one that is neither printable ASCII nor a tab",
     ),
     (
         EditFault::LogFull,
         "edit 3 of the group, counted from 0: ",
-        "the log has 65,535 lines already, and no more fit in",
+        "a full log: a log has at most 65,535 lines",
     ),
     (
         EditFault::BadSeed,
         "edit 3 of the group, counted from 0: ",
-        "the seed is over 2147483647",
+        "a bad seed: a seed is at most 2147483647",
     ),
     (
         EditFault::MeterFull,
         "",
-        "the meter has fewer steps left than the log would have lines",
+        "a full meter: it has fewer steps left than the log would have lines",
     ),
     (EditFault::Memory, "", "there isn't enough memory"),
-    (EditFault::EmptyGroup, "", "the group has no edit"),
+    (EditFault::EmptyGroup, "", "an empty group: it has no edit"),
 ];
 
 #[test]

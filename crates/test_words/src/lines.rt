@@ -23,7 +23,7 @@ fn lines_are_valid_or_their_fault_is_reported(rt: HostRuntime) -> Result<(), All
     let cases: [(&[u8], &str); 5] = [
         (b" ~\t", "it is valid"),
         (&long[..255], "it is valid"),
-        (&long, "the line is longer than 255 bytes"),
+        (&long, "the line has over 255 bytes"),
         (b"in\x7f", bad_byte),
         (b"\xc3\xa4", bad_byte),
     ];
