@@ -14,18 +14,19 @@ SILENT = [">$<"]
 ALWAYS = (0, 100)  # the conditions under which a way is always taken
 ENTERED = ["start", "building", "ne", "alcove", "plover"]  # places that rules bring a player to
 BROUGHT = ["CHEST", "PEARL"]  # treasures that rules put somewhere
-GIVEN = ["OYSTER", "AXE", "TROLL2", "MESSAGE", "BATTERIES", *BROUGHT]  # and others
+GIVEN = ["ROD2", "OYSTER", "AXE", "TROLL2", "MESSAGE", "BATTERIES", *BROUGHT]  # and others
 TOOLS = ["KEYS", "LAMP", "BIRD"]  # objects that players need and no rule brings
 DWARVES = [f"dwarf{it}" for it in range(1, 6)]
-# What rules ask of objects: texts for props that they set, and places of the bindings.
-PROPS = {"LAMP": [1], "GRATE": [1], "BIRD": [1], "DOOR": [1], "FISSURE": [1], "BOTTLE": [1, 2],
-         "PLANT": [2, 4], "PLANT2": [1, 2], "AXE": [1], "DRAGON": [2], "CHASM": [1], "TROLL": [1],
-         "BEAR": [1, 2, 3], "BATTERIES": [1], "VASE": [2], "CHAIN": [2]}
+# What rules ask of objects: texts for props that they set or print, and places of the bindings.
+PROPS = {"LAMP": [1], "GRATE": [1], "BIRD": [1], "DOOR": [1], "FISSURE": [1, 2], "OYSTER": [1],
+         "BOTTLE": [1, 2], "PLANT": [1, 2, 3, 4, 5], "PLANT2": [1, 2], "AXE": [1], "DRAGON": [1, 2],
+         "CHASM": [1], "TROLL": [1], "BEAR": [1, 2, 3], "BATTERIES": [1], "EGGS": [1, 2],
+         "VASE": [1, 2, 3], "CHAIN": [2]}
 FOUND = {"RUG": 1, "CHAIN": 1}  # the props that treasures get as they are found, if not 0
 ROOMS = {"ROD": ["ne", "sw"], "MAGAZINE": ["witt"], "DWARF": [*DWARVES, "dwarfalt"],
          "MESSAGE": ["message"], "CHEST": ["chest"], "PEARL": ["culdesac"]}
-NEEDERS = """LAMP GRATE ROD BIRD DOOR FISSURE MAGAZINE DWARF BOTTLE PLANT PLANT2 AXE DRAGON CHASM
-    TROLL BEAR MESSAGE BATTERIES CHEST VASE PEARL RUG CHAIN""".split()
+NEEDERS = """LAMP GRATE ROD BIRD DOOR FISSURE OYSTER MAGAZINE DWARF BOTTLE PLANT PLANT2 AXE DRAGON
+    CHASM TROLL BEAR MESSAGE BATTERIES CHEST EGGS VASE PEARL RUG CHAIN""".split()
 
 def first_line(text):
     return "" if text is None or text == SILENT else text[0]
@@ -199,7 +200,7 @@ def object_doubts(cave, it):
 def prop_doubts(cave, it, props):
     for prop in props:
         if (it, prop) not in cave.object_texts:
-            yield f"object {it} has no text for prop {prop}, which rules set"
+            yield f"object {it} has no text for prop {prop}, which rules need"
 
 def line_doubts(cave, section, line, row):
     """What is doubtful about how a line is written."""

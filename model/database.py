@@ -192,7 +192,7 @@ def bindings_of(text):
                             " from 1 to 499, in `place.NAME N` from 1 to 300, in `num.letters N`"
                             " from 5 to 8")
         if key in bound:
-            raise Fault(at, "the key was bound before: each key is bound at most once")
+            raise Fault(at, "the key was bound before: delete one of the two lines")
         if key not in KEYS:
             near = [it for it in KEYS if is_near(key, it)]
             clue = (f"did you mean {near[0]}?" if len(near) == 1 else

@@ -336,7 +336,7 @@ def run_edit(cave, file, log, script, log_ends, options, told):
     if options["print"] == "table":
         return ["\t".join(map(str, row)) for row in [edits.TABLE, *rows]]
     if replays:
-        return [*reports, f"played {played} lines; from the start it would have been {wanted}"]
+        return [*reports, f"replayed {played} lines instead of {wanted}"]
     if options["print"] == "undo":
         lines = [line for lines in reversed(backs) for line in lines]
         return small(log_ends.script_text(lines), "the script")
@@ -370,7 +370,7 @@ def run_cover(cave, names, texts, options, known):
 def check_known(name, text):
     """Ends the run if a list of what is known is too large."""
     if len(text) > MOST_BYTES:
-        large = "the list of what is known is larger than 1,048,576 bytes"
+        large = "the list of what is known is too large: it has at most 1,048,576 bytes"
         raise Stop(1, f"cave: {name}: {large}\n")
 
 def run_words(words, told):

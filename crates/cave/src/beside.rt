@@ -112,7 +112,7 @@ impl<'a> FileBeside<'a> {
     fn put(&self, draft: &DraftFile) -> io::Result<()> {
         draft.file.sync_all()?;
         if !self.is_as_read()? {
-            return Err(io::Error::other("it has changed since it was read"));
+            return Err(io::Error::other("it has changed since it was read: run this again"));
         }
         self.permit(draft)?;
         fs::rename(self.rt, draft.path.as_str(), self.path.as_str())

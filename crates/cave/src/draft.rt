@@ -56,12 +56,12 @@ fn is_draft(length: u64, permissions: u32) -> bool
 
 /// Why a file can't be written if a file that is no draft has the name of its draft.
 fn taken() -> io::Error {
-    io::Error::other("the name of its draft is taken")
+    io::Error::other("its draft has the name of another file: move that file")
 }
 
 /// Why a file can't be written if another run holds its draft.
 fn busy() -> io::Error {
-    io::Error::other("another run is writing it")
+    io::Error::other("another run is writing it: try again once it has ended")
 }
 
 /// Whether an open file is the one that has this name.
@@ -113,7 +113,10 @@ fn remove_locked(rt: &HostRuntime, file: &File, path: &str) -> io::Result<()> {
         Ok(()) => {}
         Err(TryLockError::WouldBlock) => return Err(busy()),
         Err(TryLockError::Error(_)) => {
-            return Err(io::Error::other("its draft is there, and can't be locked"));
+            return Err(io::Error::other(
+                "its draft is there, and can't be locked: remove it if no other run is writing \
+                 the file",
+            ));
         }
     }
     if !is_named(rt, file, path)? {

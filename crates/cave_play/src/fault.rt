@@ -52,7 +52,7 @@ impl fmt::Display for LineWords {
 #[derive(Clone, Copy, Debug, PartialEq, Eq, Error)]
 pub enum LogFault {
     /// It has more bytes than an input may have.
-    #[error("the log is larger than 1,048,576 bytes")]
+    #[error("the log is too large: a log has at most 1,048,576 bytes")]
     TooLarge,
     /// The line with this number, from 1, isn't allowed in a log.
     #[error("{}", LineWords {line: *.0, flaw: *.1})]
@@ -82,7 +82,7 @@ impl fmt::Display for ScriptWords {
 #[derive(Clone, Copy, Debug, PartialEq, Eq, Error)]
 pub enum ScriptFault {
     /// It has more bytes than an input may have.
-    #[error("the script is larger than 1,048,576 bytes")]
+    #[error("the script is too large: a script has at most 1,048,576 bytes")]
     TooLarge,
     /// The line with this number, from 1, is malformed.
     #[error("{}", ScriptWords {flaw: *.1})]
@@ -119,7 +119,7 @@ pub enum PlayFault {
     #[error("{}", .0.flaw)]
     Doubt(Doubt),
     /// The list of what is known has more bytes than an input may have.
-    #[error("the list of what is known is larger than 1,048,576 bytes")]
+    #[error("the list of what is known is too large: it has at most 1,048,576 bytes")]
     LargeKnown,
     /// No log shows this many things, they aren't known, and the run is strict.
     #[error("{0} left that no log shows: add logs, or list them for --known")]
@@ -128,10 +128,10 @@ pub enum PlayFault {
     #[error("place {0} isn't on the map: it has no text, and no way leads to it or from it")]
     Unmapped(u16),
     /// The seed is too great.
-    #[error("a seed is at most 2147483647")]
+    #[error("a bad seed: a seed is at most 2147483647")]
     Seed,
     /// A session may not have this distance of checkpoints.
-    #[error("the distance of checkpoints is from 1 to 10000")]
+    #[error("a bad distance of checkpoints: it is from 1 to 10000")]
     Every,
     /// The log is refused.
     #[error("{0}")]

@@ -21,7 +21,7 @@ pub enum InputFault {
     #[error("the input can't be read")]
     Unreadable,
     /// The reader gave more bytes than an input may have.
-    #[error("the input is larger than 1,048,576 bytes")]
+    #[error("the input is too large: it has at most 1,048,576 bytes")]
     TooLarge,
     /// Memory was refused.
     #[error("there isn't enough memory")]

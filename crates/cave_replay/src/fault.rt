@@ -7,13 +7,13 @@ use thiserror::Error;
 /// Why a session couldn't be opened. The first of these that holds is returned.
 #[derive(Clone, Copy, Debug, Drop, PartialEq, Eq, Error)]
 pub enum OpenFault {
-    #[error("the distance of checkpoints is from 1 to 10000")]
+    #[error("a bad distance of checkpoints: it is from 1 to 10000")]
     BadEvery,
     #[error("line {0} of the log can't be played: {1}")]
     BadLine(usize, LineFlaw),
     #[error("the log has more than 65,535 lines")]
     LogFull,
-    #[error("a seed is at most 2147483647")]
+    #[error("a bad seed: a seed is at most 2147483647")]
     BadSeed,
     #[error("there isn't enough memory")]
     Memory,

@@ -41,7 +41,7 @@ words (flaw.Unplaced object) =
     codes "no place holds object " ++ (decimal object ++ codes ", which players need")
 words (flaw.PropTextless object prop) =
     codes "object " ++ (decimal object
-    ++ (codes " has no text for prop " ++ (decimal prop ++ codes ", which rules set")))
+    ++ (codes " has no text for prop " ++ (decimal prop ++ codes ", which rules need")))
 words (flaw.PlaceUnbound role object) =
     codes "rules about object " ++ (decimal object
     ++ (codes " need place." ++ (place_role_name role ++ codes ", which is unbound")))

@@ -32,27 +32,33 @@ use Rattle.check_doubts.specs.declared.needs.Need.TheVariants.{Brought, Found, P
 use Rattle.data_bindings.specs.Marks.{is_name}
 use Rattle.data_bindings.specs.declared.mark.MarkedRow.{MarkedRow}
 
--- the props that rules set, as what is seen of the object, and the places to which they bring it or
--- at which they look for it: the store of a closed cave has the rods of both marks
+-- the props that rules set, as what is seen of the object, or whose texts they print; and the places
+-- to which they bring it or at which they look for it: the store of a closed cave has the rods of
+-- both marks
 unfoldable pub needs : List Need
 needs =
-    Placed ∷ Brought name.Oyster ∷ Brought name.Axe ∷ Brought name.SecondTroll ∷ Brought name.Message
-    ∷ Brought name.Batteries ∷ Brought name.Chest ∷ Brought name.Pearl
+    Placed ∷ Brought name.SecondRod ∷ Brought name.Oyster ∷ Brought name.Axe
+    ∷ Brought name.SecondTroll ∷ Brought name.Message ∷ Brought name.Batteries ∷ Brought name.Chest
+    ∷ Brought name.Pearl
     ∷ Prop name.Lamp 1 ∷ Prop name.Grate 1
     ∷ Role name.Rod role.Ne ∷ Role name.Rod role.Sw
-    ∷ Prop name.Bird 1 ∷ Prop name.Door 1 ∷ Prop name.Fissure 1
+    ∷ Prop name.Bird 1 ∷ Prop name.Door 1 ∷ Prop name.Fissure 1 ∷ Prop name.Fissure 2
+    ∷ Prop name.Oyster 1
     ∷ Role name.Magazine role.Witt
     ∷ Role name.Dwarf role.Dwarf1 ∷ Role name.Dwarf role.Dwarf2 ∷ Role name.Dwarf role.Dwarf3
     ∷ Role name.Dwarf role.Dwarf4 ∷ Role name.Dwarf role.Dwarf5 ∷ Role name.Dwarf role.Dwarfalt
     ∷ Prop name.Bottle 1 ∷ Prop name.Bottle 2
-    ∷ Prop name.Plant 2 ∷ Prop name.Plant 4
+    ∷ Prop name.Plant 1 ∷ Prop name.Plant 2 ∷ Prop name.Plant 3 ∷ Prop name.Plant 4
+    ∷ Prop name.Plant 5
     ∷ Prop name.SecondPlant 1 ∷ Prop name.SecondPlant 2
-    ∷ Prop name.Axe 1 ∷ Prop name.Dragon 2 ∷ Prop name.Chasm 1 ∷ Prop name.Troll 1
+    ∷ Prop name.Axe 1 ∷ Prop name.Dragon 1 ∷ Prop name.Dragon 2 ∷ Prop name.Chasm 1
+    ∷ Prop name.Troll 1
     ∷ Prop name.Bear 1 ∷ Prop name.Bear 2 ∷ Prop name.Bear 3
     ∷ Role name.Message role.Message
     ∷ Prop name.Batteries 1
     ∷ Role name.Chest role.Chest
-    ∷ Prop name.Vase 2
+    ∷ Prop name.Eggs 1 ∷ Prop name.Eggs 2
+    ∷ Prop name.Vase 1 ∷ Prop name.Vase 2 ∷ Prop name.Vase 3
     ∷ Role name.Pearl role.Culdesac
     ∷ Found name.Rug 1 ∷ Found name.Chain 1 ∷ Prop name.Chain 2 ∷ []
 

@@ -128,7 +128,7 @@ impl fmt::Display for CaveFlaw {
             CaveFlaw::PropTextless(object, prop) => {
                 write!(
                     f,
-                    "object {object} has no text for prop {prop}, which rules set"
+                    "object {object} has no text for prop {prop}, which rules need"
                 )
             }
             CaveFlaw::PlaceUnbound(role, object) => {

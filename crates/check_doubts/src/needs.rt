@@ -27,15 +27,16 @@ pub enum Need {
     Brought(Named),
     /// A text for the prop that a treasure gets as it is found.
     Found(Named, u16),
-    /// A text for a prop.
+    /// A text for a prop that rules set, or whose text they print.
     Prop(Named, u16),
     /// A place of the bindings.
     Role(Named, PlaceRole),
 }
 
 /// What rules ask of objects, by their numbers.
-const NEEDS: [Need; 43] = [
+const NEEDS: [Need; 54] = [
     Need::Placed,
+    Need::Brought(Named::SecondRod),
     Need::Brought(Named::Oyster),
     Need::Brought(Named::Axe),
     Need::Brought(Named::SecondTroll),
@@ -50,6 +51,8 @@ const NEEDS: [Need; 43] = [
     Need::Prop(Named::Bird, 1),
     Need::Prop(Named::Door, 1),
     Need::Prop(Named::Fissure, 1),
+    Need::Prop(Named::Fissure, 2),
+    Need::Prop(Named::Oyster, 1),
     Need::Role(Named::Magazine, PlaceRole::Witt),
     Need::Role(Named::Dwarf, PlaceRole::Dwarf1),
     Need::Role(Named::Dwarf, PlaceRole::Dwarf2),
@@ -59,11 +62,15 @@ const NEEDS: [Need; 43] = [
     Need::Role(Named::Dwarf, PlaceRole::Dwarfalt),
     Need::Prop(Named::Bottle, 1),
     Need::Prop(Named::Bottle, 2),
+    Need::Prop(Named::Plant, 1),
     Need::Prop(Named::Plant, 2),
+    Need::Prop(Named::Plant, 3),
     Need::Prop(Named::Plant, 4),
+    Need::Prop(Named::Plant, 5),
     Need::Prop(Named::SecondPlant, 1),
     Need::Prop(Named::SecondPlant, 2),
     Need::Prop(Named::Axe, 1),
+    Need::Prop(Named::Dragon, 1),
     Need::Prop(Named::Dragon, 2),
     Need::Prop(Named::Chasm, 1),
     Need::Prop(Named::Troll, 1),
@@ -73,7 +80,11 @@ const NEEDS: [Need; 43] = [
     Need::Role(Named::Message, PlaceRole::Message),
     Need::Prop(Named::Batteries, 1),
     Need::Role(Named::Chest, PlaceRole::Chest),
+    Need::Prop(Named::Eggs, 1),
+    Need::Prop(Named::Eggs, 2),
+    Need::Prop(Named::Vase, 1),
     Need::Prop(Named::Vase, 2),
+    Need::Prop(Named::Vase, 3),
     Need::Role(Named::Pearl, PlaceRole::Culdesac),
     Need::Found(Named::Rug, 1),
     Need::Found(Named::Chain, 1),

@@ -92,7 +92,7 @@ fn in_bindings(cause: Cause) -> Option<&'static str> {
                  `num.letters N` from 5 to 8",
             )
         }
-        Cause::BadBinding(BindingFlaw::Repeated) => Some("each key is bound at most once"),
+        Cause::BadBinding(BindingFlaw::Repeated) => Some("delete one of the two lines"),
         Cause::UnknownRole => {
             Some("expected `msg.` or `place.` with a name that the game knows, or `num.letters`")
         }

@@ -33,7 +33,7 @@ abbrev pub graph_opening : List ℕ
 graph_opening =
     codes "digraph cave {\n"
     ++ (codes "  graph [layout=neato, overlap=false, sep=\"+2\", splines=line, bgcolor=white];\n"
-    ++ (codes "  graph [outputorder=edgesfirst, size=\"16.1,11.2\", margin=0.2];\n"
+    ++ (codes "  graph [outputorder=edgesfirst, size=\"16.5,11.6\", margin=0, pad=0.3];\n"
     ++ (codes "  node [shape=box, width=0.1, height=0.1, margin=\"0.04,0.03\"];\n"
     ++ (codes "  node [style=filled, fillcolor=white, fontname=\"Helvetica\", fontsize=10];\n"
     ++ codes "  edge [dir=both, arrowsize=0.4, arrowtail=none, arrowhead=none];\n"))))

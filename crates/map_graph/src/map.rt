@@ -29,7 +29,7 @@ fn push_graph_opening(text: &mut Vec<u8>) -> Result<(), AllocError>
     text.extend_from_slice(
         b"digraph cave {\
         \n  graph [layout=neato, overlap=false, sep=\"+2\", splines=line, bgcolor=white];\
-        \n  graph [outputorder=edgesfirst, size=\"16.1,11.2\", margin=0.2];\
+        \n  graph [outputorder=edgesfirst, size=\"16.5,11.6\", margin=0, pad=0.3];\
         \n  node [shape=box, width=0.1, height=0.1, margin=\"0.04,0.03\"];\
         \n  node [style=filled, fillcolor=white, fontname=\"Helvetica\", fontsize=10];\
         \n  edge [dir=both, arrowsize=0.4, arrowtail=none, arrowhead=none];\n",

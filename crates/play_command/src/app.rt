@@ -21,7 +21,7 @@ const VERSION: &str = "1.0";
 /// What stands below the help of the program.
 const STATUSES: &str = "Exit status:
   0  done, even if edits were refused
-  1  the cave or its bindings are refused, or doubtful under --strict
+  1  the cave or its bindings are refused, or --strict finds something left
   2  the command line is wrong
   3  the log is refused
   4  the script is refused, or an edit under --strict
@@ -33,9 +33,8 @@ const STATUSES: &str = "Exit status:
 const PLAY_EXAMPLE: &str =
     "Example: cave play caves/b.txt logs/first.log --bind caves/b.bind --seed 7
 
-A log has at most 65,535 lines. Each is a command of at most 255 bytes, which are printable
-or tabs. A line that begins with # is a comment, and a line such as this begins the random
-numbers anew:
+A log has at most 65,535 lines of at most 255 bytes each, which are printable ASCII or tabs. A
+line that begins with # is a comment, and a line like this restarts the random numbers:
 
   seed 7";
 
@@ -69,7 +68,7 @@ A refused edit is reported by a number. Under --strict it ends the run:
   2  a bad line: too long, or with a byte that no line may have
   3  a full log: it has as many lines as it may
   4  a bad seed: it is too large
-  7  an empty group: nothing is between begin and end
+  7  an empty group: put an edit between begin and end
   8  another line: under --guarded, a line `expect N TEXT` found another one or none";
 
 /// The arguments of each command, in the order of its help.
@@ -205,7 +204,7 @@ fn plain_command<'a>(alloc: Global) -> Command<'a>
 {
     Command::new(alloc, "cave")
         .about(
-            "Plays logs of a text adventure, edits and replays them, and tells what they never show",
+            "Plays logs of a text adventure, edits and replays them, and reports what they never show",
         )
         .version(VERSION)
         .after_help(STATUSES)

@@ -31,7 +31,8 @@ edit_fault_words cause.LogFull = codes "a full log: a log has at most 65,535 lin
 edit_fault_words cause.BadSeed = codes "a bad seed: a seed is at most 2147483647"
 edit_fault_words cause.MeterFull = codes "a full meter"
 edit_fault_words cause.Memory = codes "no memory"
-edit_fault_words cause.EmptyGroup = codes "an empty group"
+edit_fault_words cause.EmptyGroup =
+    codes "an empty group: put an edit between `begin` and `end`"
 
 -- what is said beside the number of a refusal
 abbrev pub refusal_words : Refusal → List ℕ
@@ -122,7 +123,7 @@ text_of_items tell (item ∷ items) game (outcome ∷ outcomes) =
 -- played its log from the first line
 abbrev pub totals_line : ℕ → ℕ → List ℕ
 totals_line played lines =
-    codes "played " ++ (decimal played ++ (codes " lines; from the start it would have been "
+    codes "replayed " ++ (decimal played ++ (codes " lines instead of "
     ++ (decimal lines ++ codes "\n")))
 
 abbrev pub accounts : CaveView → List Applied → Game → List ItemOutcome → List ℕ

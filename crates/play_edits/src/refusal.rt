@@ -189,6 +189,6 @@ fn edit_words(fault: EditFault) -> &'static str
         EditFault::BadSeed => "a bad seed: a seed is at most 2147483647",
         EditFault::MeterFull => "a full meter",
         EditFault::Memory => "no memory",
-        EditFault::EmptyGroup => "an empty group",
+        EditFault::EmptyGroup => "an empty group: put an edit between `begin` and `end`",
     }
 }

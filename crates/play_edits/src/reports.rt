@@ -70,9 +70,7 @@ pub(crate) fn push_totals(
         (text.new.items ≡ text.old.items ++ totals_line totals.played totals.lines) }
 {
     let Totals { played, lines } = totals;
-    let told = format!(in alloc;
-        "played {played} lines; from the start it would have been {lines}\n"
-    )?;
+    let told = format!(in alloc; "replayed {played} lines instead of {lines}\n")?;
     text.extend_from_slice(told.as_bytes())
 }
 

@@ -155,7 +155,7 @@ impl fmt::Display for EditFlaw {
                     "the line begins with a byte order mark: save the script without one"
                 )
             }
-            EditFlaw::Indented => write!(f, "the line begins with a blank: its word comes first"),
+            EditFlaw::Indented => write!(f, "the line begins with a blank: begin it with its word"),
             EditFlaw::NoBlank(word) => {
                 write!(f, "a blank is missing after the word: expected {word}")
             }
@@ -167,21 +167,16 @@ impl fmt::Display for EditFlaw {
             ),
             EditFlaw::NoNumber(word) => write!(f, "a number is missing: expected {word}"),
             EditFlaw::TwoBlanks(word) => {
-                write!(
-                    f,
-                    "one blank follows the word, and not two: expected {word}"
-                )
+                write!(f, "two blanks follow the word: expected {word}")
             }
-            EditFlaw::Signed => write!(f, "N has a sign, and it is 1 to 10 digits alone"),
-            EditFlaw::LongNumber(digits) => {
-                write!(f, "N has {digits} digits, and it has at most 10")
-            }
-            EditFlaw::Range => write!(f, "N is one number, and no range"),
+            EditFlaw::Signed => write!(f, "N has a sign: expected 1 to 10 digits"),
+            EditFlaw::LongNumber(digits) => { write!(f, "N has {digits} digits: expected 1 to 10") }
+            EditFlaw::Range => write!(f, "N is a range: expected one number"),
             EditFlaw::NoDigit(byte, column) => write!(
                 f,
-                "the byte in column {column} is {byte}, and N is 1 to 10 digits"
+                "the byte in column {column} is {byte}: expected a digit of N"
             ),
-            EditFlaw::MoreText(word) => write!(f, "text follows {word}, which has none"),
+            EditFlaw::MoreText(word) => write!(f, "text follows {word}: nothing may follow it"),
             EditFlaw::Guard => write!(
                 f,
                 "`expect N TEXT` is a guard, and this script may have none"

@@ -14,11 +14,11 @@ pub enum ScriptFlaw {
     NoEdit(EditFlaw),
     #[error("`begin` inside a group: a group can't hold another")]
     BeginInGroup,
-    #[error("`end` without a `begin` before it")]
+    #[error("`end` without a `begin` before it: delete it")]
     EndOutsideGroup,
-    #[error("`begin` without an `end` after it")]
+    #[error("`begin` without an `end` after it: add a line `end`")]
     NoEnd,
-    #[error("`expect` without an edit or a group after it")]
+    #[error("`expect` without an edit or a group after it: add one, or delete the line")]
     NoneGuarded,
 }
 
@@ -37,7 +37,8 @@ impl fmt::Display for ScriptRefusal {
             ScriptRefusal::Malformed(line, ScriptFlaw::NoEdit(EditFlaw::NoWord)) => {
                 write!(
                     f,
-                    "line {line} of the script: expected an edit, a guard, `begin` or `end`"
+                    "line {line} of the script: unknown word: expected an edit, a guard, `begin` \
+                     or `end`"
                 )
             }
             ScriptRefusal::Malformed(line, flaw) => {

@@ -239,7 +239,7 @@ const TOLD: [(Cause, usize, FaultSite, &str); 14] = [
         REPEATED,
         2,
         FaultSite::Bindings,
-        "line 2 of the bindings: the key was bound before: each key is bound at most once",
+        "line 2 of the bindings: the key was bound before: delete one of the two lines",
     ),
     (
         Cause::UnknownRole,

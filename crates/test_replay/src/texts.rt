@@ -10,7 +10,7 @@ fn faults_of_an_opening_say_what_is_wrong(rt: HostRuntime) -> Result<(), Fail> {
     let texts = [
         (
             OpenFault::BadEvery,
-            "the distance of checkpoints is from 1 to 10000",
+            "a bad distance of checkpoints: it is from 1 to 10000",
         ),
         (
             OpenFault::BadLine(12, LineFlaw::Long(256)),
@@ -18,7 +18,10 @@ fn faults_of_an_opening_say_what_is_wrong(rt: HostRuntime) -> Result<(), Fail> {
             most 255",
         ),
         (OpenFault::LogFull, "the log has more than 65,535 lines"),
-        (OpenFault::BadSeed, "a seed is at most 2147483647"),
+        (
+            OpenFault::BadSeed,
+            "a bad seed: a seed is at most 2147483647",
+        ),
         (OpenFault::Memory, "there isn't enough memory"),
     ];
     for (fault, text) in texts {

@@ -76,7 +76,7 @@ pub const REPORTS: &str =
     "line 1: ok, from 2, met 3, played 1 of 6, score 32 of 132, turns 4, at 9\n\
 line 2: refused 1, no such line: the log has 6\n\
 line 3: ok, from 1, met none, played 4 of 5, score 32 of 132, turns 3, at 9\n\
-played 5 lines; from the start it would have been 11\n";
+replayed 5 lines instead of 11\n";
 
 /// The script that takes the edits back.
 pub const UNDO: &str = "begin\ninsert 3 take lamp\nreplace 1 in\nend\ndelete 2\n";

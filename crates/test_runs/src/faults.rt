@@ -38,7 +38,7 @@ const FAULTS: [(PlayFault, u8, &str); 17] = [
     (
         PlayFault::LargeKnown,
         1,
-        "cave: a.known: the list of what is known is larger than 1,048,576 bytes",
+        "cave: a.known: the list of what is known is too large: it has at most 1,048,576 bytes",
     ),
     (
         PlayFault::Unshown(3),
@@ -50,16 +50,20 @@ const FAULTS: [(PlayFault, u8, &str); 17] = [
         2,
         "cave: a.txt: place 77 isn't on the map: it has no text, and no way leads to it or from it",
     ),
-    (PlayFault::Seed, 2, "cave: a seed is at most 2147483647"),
+    (
+        PlayFault::Seed,
+        2,
+        "cave: a bad seed: a seed is at most 2147483647",
+    ),
     (
         PlayFault::Every,
         2,
-        "cave: the distance of checkpoints is from 1 to 10000",
+        "cave: a bad distance of checkpoints: it is from 1 to 10000",
     ),
     (
         PlayFault::Log(LogFault::TooLarge),
         3,
-        "cave: a.log: the log is larger than 1,048,576 bytes",
+        "cave: a.log: the log is too large: a log has at most 1,048,576 bytes",
     ),
     (
         PlayFault::Log(LogFault::BadLine(7, LineFlaw::Byte(127, 3))),
@@ -75,12 +79,12 @@ const FAULTS: [(PlayFault, u8, &str); 17] = [
     (
         PlayFault::Script(ScriptFault::TooLarge),
         4,
-        "cave: a.script: the script is larger than 1,048,576 bytes",
+        "cave: a.script: the script is too large: a script has at most 1,048,576 bytes",
     ),
     (
         PlayFault::Script(ScriptFault::Malformed(3, ScriptFlaw::NoEnd)),
         4,
-        "cave: a.script:3: `begin` without an `end` after it",
+        "cave: a.script:3: `begin` without an `end` after it: add a line `end`",
     ),
     (
         PlayFault::Read(Input::Cave),

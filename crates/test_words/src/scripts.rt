@@ -101,19 +101,20 @@ const GUARDED: [(&[u8], &str); 6] = [
     ),
     (
         b"delete 1\nexpect 1 a\n# x",
-        "line 2 of the script: `expect` without an edit or a group after it",
+        "line 2 of the script: `expect` without an edit or a group after it: add one, or delete \
+        the line",
     ),
     (
         b"expect 1 a\nbegin",
-        "line 2 of the script: `begin` without an `end` after it",
+        "line 2 of the script: `begin` without an `end` after it: add a line `end`",
     ),
     (
         b"expect x\ndelete 0",
-        "line 1 of the script: the byte in column 8 is 120, and N is 1 to 10 digits",
+        "line 1 of the script: the byte in column 8 is 120: expected a digit of N",
     ),
     (
         b" expect 0 x\ndelete 0",
-        "line 1 of the script: the line begins with a blank: its word comes first",
+        "line 1 of the script: the line begins with a blank: begin it with its word",
     ),
 ];
 
@@ -133,7 +134,7 @@ const FLAWS: [(&[u8], &str); 16] = [
     ),
     (
         b"\tdelete 0",
-        "the line begins with a blank: its word comes first",
+        "the line begins with a blank: begin it with its word",
     ),
     (
         b"replce 0 x",
@@ -141,25 +142,31 @@ const FLAWS: [(&[u8], &str); 16] = [
     ),
     (b"Insert 0 x", "unknown word: did you mean `insert N TEXT`?"),
     (b"END", "unknown word: did you mean `end`?"),
-    (b"send 3", "expected an edit, a guard, `begin` or `end`"),
+    (
+        b"send 3",
+        "unknown word: expected an edit, a guard, `begin` or `end`",
+    ),
     (b"delete ", "a number is missing: expected `delete N`"),
     (
         b"insert  0 x",
-        "one blank follows the word, and not two: expected `insert N TEXT`",
+        "two blanks follow the word: expected `insert N TEXT`",
     ),
-    (b"seed -1", "N has a sign, and it is 1 to 10 digits alone"),
-    (b"seed +1", "N has a sign, and it is 1 to 10 digits alone"),
-    (b"delete 1-3", "N is one number, and no range"),
+    (b"seed -1", "N has a sign: expected 1 to 10 digits"),
+    (b"seed +1", "N has a sign: expected 1 to 10 digits"),
+    (b"delete 1-3", "N is a range: expected one number"),
     (
         b"delete 1,3",
-        "the byte in column 9 is 44, and N is 1 to 10 digits",
+        "the byte in column 9 is 44: expected a digit of N",
     ),
     (
         b"insert lamp",
-        "the byte in column 8 is 108, and N is 1 to 10 digits",
+        "the byte in column 8 is 108: expected a digit of N",
     ),
-    (b"delete 1 x", "text follows `delete N`, which has none"),
-    (b"begin 1", "text follows `begin`, which has none"),
+    (
+        b"delete 1 x",
+        "text follows `delete N`: nothing may follow it",
+    ),
+    (b"begin 1", "text follows `begin`: nothing may follow it"),
     (
         b"expect 0 x",
         "`expect N TEXT` is a guard, and this script may have none",
@@ -179,11 +186,11 @@ fn a_line_that_is_no_edit_is_told_by_its_flaw(rt: HostRuntime) -> Result<(), Fai
 const FAULTS: [(&[u8], &str); 5] = [
     (
         b"delete 0\ninsert 9 a\n# x\nbegone\nend\n",
-        "line 4 of the script: expected an edit, a guard, `begin` or `end`",
+        "line 4 of the script: unknown word: expected an edit, a guard, `begin` or `end`",
     ),
     (
         b"delete 00000000000",
-        "line 1 of the script: N has 11 digits, and it has at most 10",
+        "line 1 of the script: N has 11 digits: expected 1 to 10",
     ),
     (
         b"begin\nbegin\nend\nend\n",
@@ -191,11 +198,11 @@ const FAULTS: [(&[u8], &str); 5] = [
     ),
     (
         b"begin\nend\nend",
-        "line 3 of the script: `end` without a `begin` before it",
+        "line 3 of the script: `end` without a `begin` before it: delete it",
     ),
     (
         b"delete 0\n\nbegin",
-        "line 3 of the script: `begin` without an `end` after it",
+        "line 3 of the script: `begin` without an `end` after it: add a line `end`",
     ),
 ];
 
