@@ -84,7 +84,7 @@ def table_of(block: str) -> Table | None:
     word, name, kind = found.groups()
     form, rows = "cases", re.split(rf"^(?={name} )", text, flags=re.MULTILINE)[1:]
     listed = re.fullmatch(KIND, kind) and len(rows) == 1
-    if listed or re.match(rf"{name} d = (?:answer_by_rows|\w+_by_table table\.\w+ \w+)\n", text):
+    if listed or re.match(rf"{name} d = \w+_by_table table\.\w+ \w+\n", text):
         text = text[text.index("=") :]
         form, rows = "rows", ROW.split(text)[1:]
     elif re.fullmatch(EFFECTS, kind):

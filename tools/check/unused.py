@@ -32,7 +32,10 @@ USE = {"rt": re.compile(r"^ *(?:pub |ghost )*use [^;]*;", re.MULTILINE),
 ITEM = re.compile(
     r"^ *(?:pub(?:\(crate\))? )?(?:const|static|struct|enum|type|trait) ([A-Z]\w*)", re.MULTILINE
 )
-BEGINNING = re.compile(r"^(?:pub )?([\w'-]+)( +:)?", re.MULTILINE)
+# A line of a definition: of its type, if a colon follows the name and what it is of, or of a case.
+BEGINNING = re.compile(r"^(?:(?:abbrev|unfoldable) )?(?:pub )?(?:(?:record|data) )?([\w'-]+)"
+                       r"((?:(?: +\([^)]*\)| +\{[^}]*\})*) +:)?", re.MULTILINE)
+IMPL = re.compile(r"^ *impl\b[^{]*", re.MULTILINE)
 # What is written for any type parameter, whose functions may be those of any type.
 PARAMETER = "T"
 # Traits of std that are imported for their methods.
@@ -114,23 +117,25 @@ def unimported() -> Iterator[str]:
                 yield f"{file.path}: {use.name} isn't used"
 
 
-def words_of(path: str) -> Counter[str]:
-    """How often each word stands in a file, comments left out."""
+def words_of(path: str, text: str = "") -> Counter[str]:
+    """How often each word stands in a file, or in a text of it, comments left out."""
     comment = "//" if path.endswith(".rt") else "--"
-    text = re.sub(rf"{comment}.*$", "", text_of(path), flags=re.MULTILINE)
+    text = re.sub(rf"{comment}.*$", "", text or text_of(path), flags=re.MULTILINE)
     return Counter(re.findall(r"[\w'-]+", text))
 
 
 def uncited() -> Iterator[str]:
     """Items of the code, and definitions, that no other line and no page names; lost tests."""
-    of_crates = defaultdict[str, Counter[str]](Counter)
+    of_crates, of_code = defaultdict[str, Counter[str]](Counter), Counter[str]()
     everywhere: Counter[str] = sum(map(words_of, files("docs/*.md")), Counter())
     for file in sources("src", "specs", "proofs"):
         words = words_of(file.path)
         everywhere.update(words)
         of_crates[file.crate].update(words)
+        if file.path.endswith(".rt"):
+            of_code.update(words_of(file.path, IMPL.sub("", USE["rt"].sub("", file.text))))
     for file in sources("src"):
-        unnamed = (it for it in ITEM.findall(file.text) if everywhere[it] < 2)
+        unnamed = (it for it in ITEM.findall(file.text) if of_code[it] < 2)
         yield from (f"{file.path}: nothing names {it}" for it in unnamed)
         for it in file.functions:
             is_known = it.is_public or it.owner or "#[test]" in it.attributes or it.name == "main"

@@ -190,7 +190,7 @@ declared table.Blocking = rule_table "blocked ways"
 declared table.Arrival = rule_table "arrival"
     ("the place is 0" ∷ "motion is forced at the place" ∷ "the place has bit 3" ∷ [])
 declared table.Hits = rule_table "knife deaths" ("a knife hits" ∷ "otherwise" ∷ [])
-declared table.Stops = rule_table "described anew"
+declared table.Stops = rule_table "described again"
     ("motion is forced at the place" ∷ "otherwise" ∷ [])
 declared table.Description = rule_table "description"
     ("it isn't dark" ∷ "it was dark before, in 35 of 100 cases" ∷ "otherwise" ∷ [])

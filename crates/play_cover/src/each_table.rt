@@ -162,7 +162,7 @@ macro_rules! all_tables {
             Arrival "arrival"
                 ["the place is 0", "motion is forced at the place", "the place has bit 3"]
             Hits "knife deaths" ["a knife hits", "otherwise"]
-            Stops "described anew" ["motion is forced at the place", "otherwise"]
+            Stops "described again" ["motion is forced at the place", "otherwise"]
             Description "description"
                 ["it isn't dark", "it was dark before, in 35 of 100 cases", "otherwise"]
             BearFollows "bear follows" ["BEAR is in the hands"]

@@ -1,6 +1,6 @@
 -- A game, what edits change and leave alone, and what takes them back.
 use Rattle.std.specs.Prelude.{ℕ, List, [], ◌∷◌, map, reverse, insert, remove, slice_set, ◌≤◌}
-use Rattle.std.specs.Prelude.{IsTrue, length, All, ◌-◌, min, ◌≡◌, ◌<◌, Option, MatchOption}
+use Rattle.std.specs.Prelude.{IsTrue, length, All, ◌-◌, min, ◌≡◌, ◌<◌}
 use Rattle.std.specs.List.{slice_index_or}
 use Rattle.replay_edits.specs.declared.edit.Edit.{Edit}
 use Rattle.replay_edits.specs.declared.edit.Edit.TheVariants.{Insert, Delete, Replace, Reseed}
@@ -122,10 +122,3 @@ margins_of changes log =
 pub record IsOldLine (change : Change) (log : List (List ℕ)) (place old : ℕ) : Type 0 where
   pub inside : old < length log
   pub same : line_at (log_after change log) place ≡ line_at log old
-
--- The line at a place of a log after a change is the one that was at the place `before`, or the
--- change's own if that is none.
-abbrev pub ComesFrom : Change → List (List ℕ) → ℕ → Option ℕ → Type 0
-ComesFrom change log place before =
-    MatchOption before (line_at (log_after change log) place ≡ own_line change)
-    (IsOldLine change log place)

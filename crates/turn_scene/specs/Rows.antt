@@ -129,10 +129,6 @@ nothing_but end d = act_of d.scene (end d)
 abbrev pub answer_row : {C F : Type 0} → List (Test C) → (Deed C → F) → Row C F
 answer_row tests end = row_then tests [] end
 
--- what the first row that fits says follows, or the last row
-abbrev pub answer_by_rows : {C F : Type 0} → List (Row C F) → Row C F → Deed C → F
-answer_by_rows rows last d = (first_fitting_or rows (act_of_row last) d).step
-
 -- what the first row of a table that fits does, or the last row, with a note of which row it was
 abbrev pub act_by_table : {C F : Type 0} → Table → List (Row C F) → Row C F → Deed C → Act F
 act_by_table table rows last d =

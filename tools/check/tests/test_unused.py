@@ -56,6 +56,9 @@ CHANGED = [
     (OILS, "pub fn fill", "pub struct Drop;\n\npub fn fill", "nothing names Drop"),
     (OILS, "pub fn fill", "pub fn drain() {\n}\n\npub fn fill", "nobody calls drain"),
     (LIT, "lit = true\n", "lit = true\n\npub out : Bool\nout = true\n", "nothing names out"),
+    (LIT, "lit = true\n", "lit = true\n\nabbrev pub out : Bool\nout = true\n", "nothing names out"),
+    (LIT, "lit = true\n", "lit = true\n\npub record Out : Type 0 where\n", "nothing names Out"),
+    (OILS, "pub fn fill", "pub struct Drop;\n\nimpl Drop {}\n\npub fn fill", "nothing names Drop"),
     ("crates.txt", "oil:\n", "oil:\nwick: oil\n", "wick doesn't use oil"),
 ]
 
