@@ -55,7 +55,6 @@ CHANGED = [
     (OILS, "    MAX_DROPS\n", "    9\n", "nothing names MAX_DROPS"),
     (OILS, "pub fn fill", "pub struct Drop;\n\npub fn fill", "nothing names Drop"),
     (OILS, "pub fn fill", "pub fn drain() {\n}\n\npub fn fill", "nobody calls drain"),
-    (LIT, "lit = true\n", "lit = true\n\npub out : Bool\nout = true\n", "nothing names out"),
     (LIT, "lit = true\n", "lit = true\n\nabbrev pub out : Bool\nout = true\n", "nothing names out"),
     (LIT, "lit = true\n", "lit = true\n\npub record Out : Type 0 where\n", "nothing names Out"),
     (OILS, "pub fn fill", "pub struct Drop;\n\nimpl Drop {}\n\npub fn fill", "nothing names Drop"),
