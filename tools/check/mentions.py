@@ -3,9 +3,9 @@
 - a file: a path in backquotes, from the top, from crates/, docs/ or model/, or from a crate or a
   folder that the same row or paragraph named before. NAME and its like are any word of a path;
 - a function, a type or a definition in backquotes: a word with `_` or `::` or capitals inside, or
-  any word in a column with the head Function, Call, Clause or Definition, has to be declared in
-  crates/ or in the Python of model/: below Function and Call as a function, and below a crate's
-  heading as one that the crate gives; in "`name` in `file`" and "`file`: `name`" in that file;
+  any word below the head Function, Call, Clause or Definition, has to be declared in crates/ or in
+  model/: below Function and Call as a function, below a crate's heading as one that the crate
+  gives, and in "`name` in `file`" and "`file`: `name`" in that file;
 - a public field or a variant of a type that the row of the type, below the head Type, leaves out;
 - a page or a heading that a link leads to;
 - and the cells of tables that have more characters than a reader takes in at once.

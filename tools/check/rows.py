@@ -2,18 +2,14 @@
 
 Above a table of a page stands `<!-- rows: NAME NAME -->`, with the names of the tables in specs/
 that say the same, one after another, and each side has the same number of rows. The tables of a
-file stand in the pages in the order of the file, unless one is a part of another. A table of more
-than one row that no page names, a name that no table has, a page's table with another number of
-rows than its definitions, and two that stand the other way round are named.
+file stand in the pages in the order of the file, unless one is a part of another. Each table of
+more than one row is on a page, and those whose rows are noted have a name there, and no others.
 
-So are the tables whose rows are noted, which have a name on their page: one that no page shows, or
-shows without a name, and a name of a table that is noted nowhere.
-
-On the pages the rows of all tables have numbers, from 1 on, and each but the last says in its first
-cell when it applies. A row of a page says the messages that its definition says, in their order,
-and names in its first cell each object that the tests of its definition name, or its effect if it
-is one of a list of effects: so two rows that are exchanged are noticed whenever these differ. What
-is defined by the cases of a value, and isn't noted, isn't compared.
+On the pages all rows have numbers, from 1 on, and each but the last says in its first cell when it
+applies. A row says the messages of its definition, in their order, and names the objects of its
+tests, or of an effect, in its first cell, and all its objects and numbers in any: so two rows that
+are exchanged are noticed whenever these differ. What is defined by the cases of a value, and isn't
+noted, isn't compared.
 """
 
 import re
@@ -26,6 +22,8 @@ from rule_tables import (Noted, Shown, Table, Words, noted_in, parts_of, rows_in
                          tables_defined, tables_shown)
 
 SPAN = re.compile(r"`([a-z][a-z0-9-]*)`")
+NAMES = re.compile(r"\b[A-Z]+2?\b|\b\d+\b|\b[a-z]+\b")
+NUMBERS = {"two": "2", "three": "3", "four": "4", "five": "5", "six": "6"}
 Places = dict[str, int]  # which table of the pages shows the definition of a name
 
 
@@ -62,12 +60,15 @@ def faults_of_rows(shown: Shown, defined: list[Words], roles: set[str]) -> Itera
     for (number, *cells), row in zip(shown.rows, defined):
         spans = [it.replace("-", "") for it in SPAN.findall("|".join(cells))]
         told = [it for it in spans if it in roles]
-        unnamed = sorted(row.things - set(re.findall(r"\b[A-Z]+2?\b", cells[0])))
+        unnamed = sorted(row.things - {*NAMES.findall(cells[0])})
+        lacked = sorted(row.named - {NUMBERS.get(it, it) for it in NAMES.findall(" ".join(cells))})
         head = f"{called} {number}: the definition"
         if told != row.roles:
             yield f"{head} says {' '.join(row.roles)}, and the page {' '.join(told)}"
         if unnamed:
             yield f"{head} asks of {' '.join(unnamed)}, and the page doesn't"
+        if lacked:
+            yield f"{head} has {' '.join(lacked)}, and the page doesn't"
 
 
 def faults_of_notes(noted: Noted, pages: list[Shown], places: Places) -> Iterator[str]:

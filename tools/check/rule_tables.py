@@ -4,13 +4,11 @@
     for table in tables_shown(): table.page, table.labels, table.names, table.rows
 
 In a definition a table is a list of rows, what follows by such a list and a last row, a list of
-effects, or what is said case by case. Its rows are noted if it has `noted table.NAME ROWS`, or
-`by_table` like that, or if it is a table itself: `ROWS d = .._by_table table.NAME`. If it notes
-cases by their numbers, the table is one of `BY_CASES`.
+effects, or what is said case by case. Its rows are noted by `noted table.NAME ROWS`, by `by_table`
+like that, or by `ROWS d = .._by_table table.NAME`; by the numbers of cases if it is in `BY_CASES`.
 
-On a page a comment with the names of its definitions stands right above a table. If its rows are
-noted, its name is before that, in bold; one that is two tables has both names. The rows of all
-tables begin with their numbers. The rows of a short table may be a list: `1. WHEN → WHAT.`
+Right above a table of a page stands a comment with the names of its definitions, and before that
+its name, or two, in bold, if its rows are noted. A short table may be a list: `1. WHEN → WHAT.`
 """
 
 import re
@@ -41,6 +39,7 @@ NAME = re.compile(r"(?<![.\w])[a-z]\w*")
 SHORT_NAME = re.compile(r"^ *(\w+) = the name\.(\w+)$", re.MULTILINE)
 THING = re.compile(r"\bname\.(\w+)|(?<![.\w])([a-z]\w*)")
 ROLE = re.compile(r"\brole\.(\w+)")
+NUMBER = re.compile(r"(?<![\w.])(?!1\b|100\b)[1-9]\d*")
 Noted = dict[str, dict[str, None]]  # the names of the rows of each table that is noted
 Tables = dict[str, tuple[str, Sequence[str]]]  # each with its name and the words of its rows
 
@@ -67,10 +66,11 @@ class Shown(NamedTuple):
 
 
 class Words(NamedTuple):
-    """What a row says and asks: roles of messages, and names of things."""
+    """What a row says and asks: roles of messages, names of things, and these and numbers of all."""
 
     roles: list[str]
     things: set[str]
+    named: set[str]
 
 
 # ---- the definitions
@@ -145,8 +145,10 @@ def things_in(text: str, short_names: dict[str, str]) -> set[str]:
 
 
 def rows_in_words(defined: dict[str, list[Table]]) -> dict[str, list[Words]]:
-    """For each table, and each of its rows, the roles that the row says, in order, and the objects
-    of its tests; for a list of effects, the objects of each."""
+    """For each table, and each of its rows, the roles that the row says, in order, the objects of
+    its tests, or of an effect of a list, and all objects and numbers above 1 that it has, without
+    those of a list that has a table of its own."""
+    shown = {name for it in tables_shown() for name in it.names}
     short_names = dict(it for file in sources("specs") for it in SHORT_NAME.findall(file.text))
     effects = defaultdict[str, dict[str, str]](dict)  # of each crate
     for path, tables in defined.items():
@@ -154,11 +156,15 @@ def rows_in_words(defined: dict[str, list[Table]]) -> dict[str, list[Words]]:
     found = dict[str, list[Words]]()
     for path, table in ((path, it) for path, tables in defined.items() for it in tables):
         if table.form == "effects":
-            found[table.name] = [Words([], things_in(row, short_names)) for row in table.rows]
-        else:
-            written = [with_effects(row, effects[path.split("/")[1]]).lower() for row in table.rows]
-            found[table.name] = [Words(ROLE.findall(said), things_in(tests_of(row), short_names))
-                                 for said, row in zip(written, table.rows)]
+            found[table.name] = [Words([], things_in(row, short_names), set()) for row in table.rows]
+            continue
+        lists = effects[path.split("/")[1]]
+        own = {name: text for name, text in lists.items() if name not in shown}
+        found[table.name] = [
+            Words(ROLE.findall(with_effects(row, lists).lower()),
+                  things_in(tests_of(row), short_names),
+                  things_in(said := with_effects(row, own), short_names) | {*NUMBER.findall(said)})
+            for row in table.rows]
     return found
 
 

@@ -2,13 +2,11 @@
 items and definitions that no line names, private functions that their crate doesn't name, such as
 tests that lost their attribute, and crates that crates.txt gives to a crate that doesn't use them.
 
-A public function has a caller if code that isn't a test of its own crate has its name; code of
-another crate may be a test. A function of a type, `Type::name`, is a function by itself, even if
-another type has one of the same name: `Other::name` is no call of it, nor is `self.name` in the
-other type. What else is called by a dot may be any type's. Methods of public traits count as public
-functions. Laws have no caller: their functions do nothing. Other programs call what docs/LIBRARY.md
-lists for a door. An import is a name in a `use` of specs/ or proofs/, or in a `ghost use` or a
-`use` of src/; a trait may be imported for its methods. Lemmas may be found by search, so only
+A public function, or method of a public trait, has a caller if code that isn't a test of its own
+crate has its name. `Type::name` is a function by itself: `Other::name` is no call of it, nor is
+`self.name` in another type; what else is called by a dot may be any type's. Laws have no caller,
+and other programs call what docs/LIBRARY.md lists for a door. An import is a name in a `use`, also
+a ghost one; a trait may be imported for its methods. Lemmas may be found by search, so only
 definitions, those of specs/, need a line that names them.
 """
 

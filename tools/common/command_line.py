@@ -21,7 +21,7 @@ from typing import NoReturn
 # The packages of Debian that have the programs, if they have other names.
 PACKAGES = {"cc": "gcc", "dot": "graphviz", "gnuplot": "gnuplot-nox",
             "chromedriver": "chromium-driver", "dpkg-deb": "dpkg", "strip": "binutils",
-            "man": "man-db", "pyflakes3": "pyflakes3"}
+            "man": "man-db", "sha256sum": "coreutils"}
 OLDEST = (3, 10)  # Python
 
 if sys.version_info < OLDEST:
@@ -81,7 +81,8 @@ def missing(*programs: str) -> str | None:
         return f"there is no program {lost}: `make play` builds it"
     if lost == "rt":
         return "there is no `rt` on the path: install the Rattle toolchain, which has it"
-    return f"there is no `{lost}`: install it, as by `apt-get install {PACKAGES.get(lost, lost)}`"
+    package = PACKAGES.get(lost, lost)
+    return f"there is no `{lost}`: install it, for example with `apt-get install {package}`"
 
 
 def demand(*programs: str) -> None:

@@ -51,9 +51,10 @@ def tables_in(page: str) -> Iterator[list[list[str]]]:
 
 
 def cases_in(page: str, heading: str) -> list[list[str]]:
-    """The rows of the table below a heading: cases of a test, in which ` / ` is between lines."""
+    """The rows of the table below a heading: cases of a test, in which ` / ` or `\\n` is between
+    lines, and `\\|` is a bar."""
     _, *rows = next(tables_in(section_of(page, heading)))
-    return [[cell.replace(" / ", "\n") for cell in row] for row in rows]
+    return [[re.sub(r" / |\\n", "\n", it).replace(r"\|", "|") for it in row] for row in rows]
 
 
 def write(path: str, content: str | bytes) -> str:

@@ -22,7 +22,7 @@ def run(name: str, checks: Checks, console: Callable[[], list[str]]) -> tuple[in
         for what, got, wanted in checks:
             count += 1
             if got != wanted:
-                wrong.append(f"{what}: {brief(got)}, and wanted is {brief(wanted)}")
+                wrong.append(f"{what}: {brief(got)}, expected {brief(wanted)}")
     except Exception as failed:  # of the program, of a server or of a browser
         wrong.append(f"after {count} checks: {brief(failed)}")
     wrong += ["nothing is checked"] * (not count)

@@ -24,7 +24,9 @@ FUNCTION = re.compile(
 CITED = re.compile(
     r"^ *(pub |ghost )?use Rattle\.([\w.+-]*\w)(?:\.\{([^}]*)\}| as (\w+))?;?(?: *--.*)?$",
     re.MULTILINE)
-CLAUSE = re.compile(r"^ *(requires|ensures\*?) (?:(\w+) )?\{", re.MULTILINE)
+# A clause of a contract: its kind, its label, and what it says, up to the next one.
+CLAUSE = re.compile(
+    r"^ *(requires|ensures)\*? (?:(\w+) )?\{(.*?)(?=^ *(?:requires|ensures)\b|\Z)", re.M | re.S)
 
 
 class Use(NamedTuple):
@@ -57,7 +59,7 @@ class Function(NamedTuple):
 
     def labels(self, *kinds: str) -> list[str]:
         """The labels of its clauses of these kinds, each an empty word if it has none."""
-        return [label for kind, label in CLAUSE.findall(self.contract) if kind.strip("*") in kinds]
+        return [label for kind, label, _ in CLAUSE.findall(self.contract) if kind in kinds]
 
 
 class Source:

@@ -10,12 +10,13 @@ import subprocess
 import sys
 import tempfile
 import unittest
-from collections.abc import Callable, Iterable, Mapping
+from collections.abc import Iterable, Mapping, Sequence
 
 TOP = os.path.abspath(f"{os.path.dirname(__file__)}/../../..")
 sys.path += [f"{TOP}/tools/check", f"{TOP}/tools"]
 
 from common.files import write  # of the folder that is on the path now
+from common.tests import Test, class_of
 
 # What a repository has: the texts of files by their paths.
 Files = dict[str, str]
@@ -23,31 +24,29 @@ Files = dict[str, str]
 Case = tuple[str, Files, str]
 
 
-def run(files: Files, command: str) -> tuple[int, str]:
+def run(files: Files, command: str, **env: str) -> tuple[int, str]:
     """The status of a command over a repository of these files, and what it says."""
     with tempfile.TemporaryDirectory() as folder:
         for path, text in files.items():
             os.chmod(write(f"{folder}/{path}", text), 0o755)
         tool, *words = shlex.split(command)
         ran = subprocess.run([f"{TOP}/{tool}", *words], cwd=folder, capture_output=True, text=True,
-                             env=os.environ | {"REPOSITORY": folder})
+                             env=os.environ | {"REPOSITORY": folder} | env)
     return ran.returncode, ran.stdout + ran.stderr
 
 
-def tests_of(command: str, cases: Iterable[Case]) -> type[unittest.TestCase]:
-    """A class with one test for each case, so that one can be run alone by its name."""
-    def one(files: Files, said: str) -> Callable[[unittest.TestCase], None]:
+def tests_of(command: str, cases: Iterable[Case], wrong: int = 1,
+             **env: str) -> type[unittest.TestCase]:
+    """A class with a test for each case, which runs this command; `wrong` is the status if it has
+    to say something."""
+    def one(files: Files, said: str) -> Test:
         def test(self: unittest.TestCase) -> None:
-            status, told = run(files, command)
+            status, told = run(files, command, **env)
             self.assertIn(said, told)
-            self.assertEqual(status, int(bool(said)), told)
+            self.assertEqual(status, wrong if said else 0, told)
         return test
 
-    tests: dict[str, object] = {}
-    for at, (name, files, said) in enumerate(cases):
-        plain = re.sub(r"\W+", "_", name).strip("_")[:60]
-        tests[f"test_{at:02}_{plain}"] = one(files, said)
-    return type(re.sub(r"\W", "_", command).title(), (unittest.TestCase,), tests)
+    return class_of(command, ((name, one(files, said)) for name, files, said in cases))
 
 
 def changed(right: Files, cases: Mapping[tuple[str, str], str]) -> Iterable[Case]:
@@ -55,7 +54,12 @@ def changed(right: Files, cases: Mapping[tuple[str, str], str]) -> Iterable[Case
     return ((f"{path} {text}", right | {path: text}, said) for (path, text), said in cases.items())
 
 
-def edited(right: Files, cases: Iterable[tuple[str, str, str, str]]) -> Iterable[Case]:
+def edited(right: Files, cases: Iterable[Sequence[str]]) -> Iterable[Case]:
     """A case for each path, in whose file one text is replaced by another."""
     return ((f"{path} {old} {new}", right | {path: right[path].replace(old, new)}, said)
             for path, old, new, said in cases)
+
+
+def written_out(text: str, parts: Mapping[str, str]) -> str:
+    """A text of a table of cases, with what some words of it stand for."""
+    return re.sub("|".join(parts), lambda it: parts[it[0]], text)

@@ -1,7 +1,11 @@
 """What checks that run the program have to refuse, such as one that crashes or says nothing; and
 what `logs/tools/check-documents` and `tools/measure/progress` have to say."""
 
-from small import Files, edited, tests_of
+import sys
+
+from small import Files, edited, tests_of  # first: it finds the scripts
+
+from common.files import cases_in
 
 CAVE: Files = {"caves/a.txt": "1\nno number\n", "logs/first.log": "no\n"}
 EDIT = "# run: edit caves/a.txt logs/first.log logs/first.script\n"
@@ -16,6 +20,18 @@ Crashes = tests_of("logs/tools/check-undo /bin/false", [
     ("no edit", CAVE | {"logs/first.log": "# run: play\n", "logs/first.out": ""}, "0 scripts of"),
 ])
 Maps = tests_of("logs/tools/check-maps /bin/false", [("no map", CAVE, "0 maps")])
+# A path with python3 alone.
+BARE = {"bin/python3": f'#!/bin/sh\nexec {sys.executable} "$@"\n'}
+MAPPED = {"logs/a.log": "# run: map caves/a.txt\n", "logs/a.out": ""}
+Undrawn = tests_of("logs/tools/check-maps /bin/false", [
+    ("no dot", BARE | MAPPED, "1 maps skipped")], wrong=0, PATH="bin")
+Coverage = tests_of("logs/tools/check-coverage /bin/false", [("no log", CAVE, "Traceback")])
+Large = tests_of("logs/tools/check-large-cave /bin/false", [("one that fails", {}, "FAILED")])
+Duel = tests_of("model/duel /bin/true --count 0 --databases 0",
+                [("no game", {}, "nothing is compared")], wrong=2)
+Stack = tests_of("tools/measure/stack no-such", [("no program", {}, "is no program")], wrong=2)
+Suite = tests_of("model/suite", [
+    ("no log", CAVE | {"docs/DUEL.md": "", "docs/FORMATS.md": ""}, "0 passed, ")])
 
 CRATES: Files = {"crates.txt": "oil:\nlamps: oil\n"}
 Fails = tests_of("tools/measure/progress lamps out/it.log sh -c 'echo the wick is wet; exit 1'",
@@ -26,19 +42,13 @@ Passes = tests_of("tools/measure/progress all out/it.log true",
 DOCUMENTS: Files = {
     "crates/play_command/src/app.rt": "", "logs/map/tour.out": '  1 [label="Oil"]\n',
     "docs/shoal.svg": "<text x='1'>Oil</text>\n",
+    "crates/cave_play/src/fault.rt": '#[error("a can is empty")]\n',
+    "docs/MESSAGES.md": "| `a can is empty` | |\n| `No oil.` | `logs/walk` |\n",
     "caves/skeleton.bind": "# msg.oil\n# place.well\n", "caves/shoal.bind": "msg.oil 1\n",
     "docs/DATABASE.md":
         "The names of places are `well`. The names of messages are these:\n\n    oil\n",
     "logs/walk.log": "# run: play logs/walk.log\nno\n", "logs/walk.out": "\n> no\nNo oil.\n",
     "README.md": "# It\n\n    $ cave play logs/walk.log\n\n    > no\n    ...\n",
 }
-# What stands on a page, what stands there instead, and what is then said.
-CHANGED = [
-    ("README.md", "no\n", "no\n", ""),
-    ("README.md", "> no", "> yes", "README.md: logs/walk.out isn't what is shown of"),
-    ("README.md", "cave play", "cave edit", "no log of the suite is run by: cave edit"),
-    ("docs/shoal.svg", "Oil", "Water", "docs/shoal.svg isn't drawn of logs/map/tour.out"),
-    ("caves/skeleton.bind", "msg.oil", "msg.wick", "skeleton.bind and docs/DATABASE.md differ in"),
-    ("caves/shoal.bind", "msg.oil", "msg.wick", "the shoal binds no message to oil"),
-]
-Documents = tests_of("logs/tools/check-documents", edited(DOCUMENTS, CHANGED))
+Documents = tests_of("logs/tools/check-documents", edited(DOCUMENTS, cases_in(
+    "tools/check/tests/documents.md", "Documents")))

@@ -42,26 +42,9 @@ USED = {
     "#[test]\nfn a_lamp_is_lit() {\n    light();\n    check();\n}\n\nfn check() {\n"
     "}\n\nfn main() {\n    light();\n}\n",
 }
-LIGHTS, OILS = "crates/lamps/src/lib.rt", "crates/oil/src/lib.rt"
-LIT = "crates/lamps/specs/Lamp.antt"
-# In which file what is replaced by what, and what is then said.
-CHANGED = [
-    (LIGHTS, "", "", ""),
-    (LIGHTS, "#[test]\n", "", "nothing calls a_lamp_is_lit, which is no test"),
-    (LIGHTS, "    check();\n", "", "nothing calls check, which is no test"),
-    (LIGHTS, "    fill()\n", "    1\n", "nobody calls fill"),
-    (LIGHTS, "use oil::fill;", "use oil::{drain, fill};", "drain isn't used"),
-    (LIGHTS, "ensures value { lit }", "ensures value { true }", "lit of Rattle.lamps.specs.Lamp"),
-    (OILS, "    MAX_DROPS\n", "    9\n", "nothing names MAX_DROPS"),
-    (OILS, "pub fn fill", "pub struct Drop;\n\npub fn fill", "nothing names Drop"),
-    (OILS, "pub fn fill", "pub fn drain() {\n}\n\npub fn fill", "nobody calls drain"),
-    (LIT, "lit = true\n", "lit = true\n\nabbrev pub out : Bool\nout = true\n", "nothing names out"),
-    (LIT, "lit = true\n", "lit = true\n\npub record Out : Type 0 where\n", "nothing names Out"),
-    (OILS, "pub fn fill", "pub struct Drop;\n\nimpl Drop {}\n\npub fn fill", "nothing names Drop"),
-    ("crates.txt", "oil:\n", "oil:\nwick: oil\n", "wick doesn't use oil"),
-]
 
-Unused = tests_of("tools/check/run unused", edited(USED, CHANGED))
+Unused = tests_of("tools/check/run unused", edited(USED, cases_in(
+    "tools/check/tests/unused.md", "Changes")))
 
 MEASURED = "docs/MEASURED.md"
 COUNTED: Files = {
