@@ -14,6 +14,8 @@ has-%:
 PREFIX ?= $(HOME)/.local
 BUILT = crates/cave/out/cave
 PROGRAM = $(BUILT)
+# What has to be built first: nothing, if PROGRAM is another program.
+MADE = $(filter $(BUILT),$(PROGRAM))
 SOURCES = crates.txt \
 	$(shell find crates -name out -prune -o -type f \( -name '*.rt' -o -name '*.antt' \) -print)
 FIRST_GAME = play '$(CURDIR)/caves/shoal.txt' '$(CURDIR)/logs/tour.log' \
@@ -33,8 +35,8 @@ try: has-rt ## plays a shipped log within a minute or two, unproved, and keeps n
 	@echo "That was unproved, and is kept nowhere. \`make play\` proves it all and plays the same."
 
 # Plays the same with the program that was proved, and proves and builds first what isn't built.
-play: $(PROGRAM) ## proves and builds the program, and plays that log with it
-	@$(PROGRAM) $(FIRST_GAME)
+play: $(MADE) ## proves and builds the program, and plays that log with it
+	@'$(PROGRAM)' $(FIRST_GAME)
 
 # Proves the program with all that it is built on, and builds it. What was said is in out/build.log.
 $(BUILT): $(SOURCES)
@@ -73,38 +75,38 @@ test: has-rt has-cc checks ## runs the gate: proofs from nothing, wrong bodies, 
 	@tail -n 1 out/test.log
 	@! grep 'BAD EDIT' out/test.log
 	tools/check/wrong-bodies out/test.log
-	logs/run $(PROGRAM)
-	logs/tools/check-large-cave $(PROGRAM)
-	logs/tools/check-coverage $(PROGRAM)
-	logs/tools/check-maps $(PROGRAM)
-	logs/tools/check-undo $(PROGRAM)
-	logs/tools/check-drafts $(PROGRAM)
-	tools/page/test server $(PROGRAM)
-	logs/tools/check-script $(PROGRAM)
-	tools/check/prefixes --lines $(PROGRAM)
-	tools/check/prefixes $(PROGRAM)
+	logs/run '$(PROGRAM)'
+	logs/tools/check-large-cave '$(PROGRAM)'
+	logs/tools/check-coverage '$(PROGRAM)'
+	logs/tools/check-maps '$(PROGRAM)'
+	logs/tools/check-undo '$(PROGRAM)'
+	logs/tools/check-drafts '$(PROGRAM)'
+	tools/page/test server '$(PROGRAM)'
+	logs/tools/check-script '$(PROGRAM)'
+	tools/check/prefixes --lines '$(PROGRAM)'
+	tools/check/prefixes '$(PROGRAM)'
 	tools/check/memory
 	model/suite
-	model/duel $(PROGRAM) --count 3000 --databases 10000 --seed 1 --quiet
+	model/duel '$(PROGRAM)' --count 3000 --databases 10000 --seed 1 --quiet
 	@touch out/skipped
 	@cat out/skipped
 	@awk '{ sum += $$1 } END { print "parts of checks that were skipped:", sum + 0 }' out/skipped
 
 # What takes too long for the gate, after it: cut inputs, each allocation refused in turn, small
 # wrong bodies, the example of a new rule, and the long duel. It prints a line for each part.
-soak: $(PROGRAM) ## runs what takes longer: refused memory, small wrong bodies, a long duel
+soak: $(MADE) ## runs what takes longer: refused memory, small wrong bodies, a long duel
 	tools/soak/soak
 
 # Plays each log of logs/ with the program, and compares what it says with the transcript beside it;
 # and then those that the model can play with the model.
-suite: checks $(PROGRAM) ## plays the logs of logs/, and compares them with their transcripts
-	@logs/run $(PROGRAM)
-	@logs/tools/check-large-cave $(PROGRAM)
-	@logs/tools/check-coverage $(PROGRAM)
-	@logs/tools/check-maps $(PROGRAM)
-	@logs/tools/check-undo $(PROGRAM)
-	@logs/tools/check-drafts $(PROGRAM)
-	@logs/tools/check-script $(PROGRAM)
+suite: checks $(MADE) ## plays the logs of logs/, and compares them with their transcripts
+	@logs/run '$(PROGRAM)'
+	@logs/tools/check-large-cave '$(PROGRAM)'
+	@logs/tools/check-coverage '$(PROGRAM)'
+	@logs/tools/check-maps '$(PROGRAM)'
+	@logs/tools/check-undo '$(PROGRAM)'
+	@logs/tools/check-drafts '$(PROGRAM)'
+	@logs/tools/check-script '$(PROGRAM)'
 	@model/suite
 
 # Plays directed and random games, and reads mutated databases, with the program and with the model
@@ -113,52 +115,52 @@ COUNT ?= 300
 DATABASES ?= 1000
 SEED ?= 1
 JOBS ?= $(shell nproc)
-duel: $(PROGRAM) ## plays random games with the program and the model, and compares them
-	@model/duel $(PROGRAM) --count $(COUNT) --databases $(DATABASES) --seed $(SEED) --jobs $(JOBS)
+duel: $(MADE) ## plays random games with the program and the model, and compares them
+	@model/duel '$(PROGRAM)' --count $(COUNT) --databases $(DATABASES) --seed $(SEED) --jobs $(JOBS)
 
 # Draws the map of the shoal with what the tour sees of it, by Graphviz, into docs/shoal.svg.
 MAP = map caves/shoal.txt logs/tour.log --bind caves/shoal.bind --seed 3
-map: has-dot $(PROGRAM) ## draws the map of the shoal, by Graphviz, into docs/shoal.svg
+map: has-dot $(MADE) ## draws the map of the shoal, by Graphviz, into docs/shoal.svg
 	@mkdir -p out
-	@$(PROGRAM) $(MAP) > out/shoal.dot
+	@'$(PROGRAM)' $(MAP) > out/shoal.dot
 	@dot -Tsvg out/shoal.dot -o docs/shoal.svg
 	@echo "docs/shoal.svg is drawn."
 
 # Draws the score and the lamp of the tour over its lines, by gnuplot, into docs/tour.svg.
-chart: has-gnuplot $(PROGRAM) ## draws score and lamp of the tour, by gnuplot, into docs/tour.svg
+chart: has-gnuplot $(MADE) ## draws score and lamp of the tour, by gnuplot, into docs/tour.svg
 	@mkdir -p out
-	@$(PROGRAM) $(FIRST_GAME) --print steps > out/tour.steps
+	@'$(PROGRAM)' $(FIRST_GAME) --print steps > out/tour.steps
 	@tools/page/chart out/tour.steps --output docs/tour.svg
 	@echo "docs/tour.svg is drawn."
 
 # Makes a page for a browser, docs/tour.html: the tour as it goes without the pillow, and the tour.
 TOUR = caves/shoal.txt logs/tour.log
 HOW = --bind caves/shoal.bind --seed 3
-page: has-dot $(PROGRAM) ## makes a page of two walks for a browser, docs/tour.html
+page: has-dot $(MADE) ## makes a page of two walks for a browser, docs/tour.html
 	@mkdir -p out
-	@$(PROGRAM) edit $(TOUR) logs/edit-tour.script $(HOW) --print log > out/tour-without-pillow.log
+	@'$(PROGRAM)' edit $(TOUR) logs/edit-tour.script $(HOW) --print log > out/tour-without-pillow.log
 	@tools/page/page caves/shoal.txt out/tour-without-pillow.log --against logs/tour.log $(HOW) \
-		--program $(PROGRAM) --output docs/tour.html
+		--program '$(PROGRAM)' --output docs/tour.html
 	@echo "docs/tour.html is made: open it in a browser."
 
 # Serves a copy of the tour, out/live/tour.log, as a page on which its lines are edited. A copy that
 # is there stays as it was edited.
-live: has-dot $(PROGRAM) ## edits a copy of that log in a browser: out/live/tour.log
+live: has-dot $(MADE) ## edits a copy of that log in a browser: out/live/tour.log
 	@mkdir -p out/live
 	@test -e out/live/tour.log || cp logs/tour.log out/live
-	@tools/page/live caves/shoal.txt out/live/tour.log $(HOW) --program $(PROGRAM)
+	@tools/page/live caves/shoal.txt out/live/tour.log $(HOW) --program '$(PROGRAM)'
 
 # Takes the pictures of both pages that the pages of docs/ show, by a headless chromium.
 picture: has-chromium has-chromedriver page ## takes the pictures of pages in docs/
-	@tools/page/pictures $(PROGRAM)
+	@tools/page/pictures '$(PROGRAM)'
 
 # Puts the program into PREFIX, with cave-suite, cave-live, cave-page, cave-chart, manuals,
 # completions, the shipped caves and first logs.
-install: $(PROGRAM) ## puts program, tools, manuals and completions into ~/.local
-	@tools/install/package $(PROGRAM) $(GIVEN) --into '$(PREFIX)'
+install: $(MADE) ## puts program, tools, manuals and completions into ~/.local
+	@tools/install/package '$(PROGRAM)' $(GIVEN) --into '$(PREFIX)'
 
 # Packs the same as an archive and as a Debian package, into out/package. Another program than the
 # one that is built here is PROGRAM=FILE; the packages then say that it was handed over.
 GIVEN = $(if $(filter-out $(BUILT),$(PROGRAM)),--given)
-package: has-dpkg-deb has-strip $(PROGRAM) ## packs the program as an archive and for Debian
-	@tools/install/package $(PROGRAM) $(GIVEN)
+package: has-dpkg-deb has-strip $(MADE) ## packs the program as an archive and for Debian
+	@tools/install/package '$(PROGRAM)' $(GIVEN)

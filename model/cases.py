@@ -79,8 +79,9 @@ def database_cases(rng, number, kept):
     texts = dict(zip(FILES, kept))
     name = "bindings.txt" if rng.random() < 0.2 else "cave.txt"
     texts[name] = mutated(rng, texts[name])
-    prints = ["bindings", "names", "unused", "doubts"]
+    prints = ["bindings", "names", "unused", "words", "doubts"]
     what = ["--print", rng.choice(prints)] if rng.random() < 0.3 else []
+    what += ["--strict"] * (rng.random() < 0.1)
     call = ["check", "cave.txt", "--bind", "bindings.txt", *what]
     return [Case(f"database-{number}", texts, call)]
 

@@ -8,22 +8,19 @@ from small_suites import REPEAT, Case, Files, Folder, answers, walk  # first: it
 from common.files import cases_in, section_of
 
 TABLES = "logs/tools/runner-tables.md"
-NO_LOG = "there is no log of this name"
+NO_RUN = ["first", "small/dragon-between", "small/forced-chain"]  # logs of the suite
 RIGHT = {"right.log": "# A walk.\n# run: play\nno\n", "right.out": ""}
 PLAYED = "# run: play\n"
+TEXTS = {"log": PLAYED, "out": "", "script": "delete 0\n"}
 QUIET = {"other.log": "# no run: it is here for others.\nno\n", "other.script": "delete 0\n"}
 EDITED = QUIET | {"edit.log": "# run: edit CAVE logs/other.log logs/other.script\n", "edit.out": ""}
 # What is added to a right suite, and what is then said.
 ADDED: list[tuple[Files, str]] = [
     *(({"other.log": f"{log}\n", "other.out": ""}, said)
       for log, said in cases_in(TABLES, "Heads")),
-    ({"other.log": PLAYED, "other.out": "", "other.script": "delete 0\n"},
-     "there is a script of this name, and the log isn't edited by it"),
-    ({"other.out": ""}, f"FAILED other\n  {NO_LOG}"),
-    ({"edits.script": "delete 0\n"}, f"FAILED edits\n  {NO_LOG}"),
-    ({"folder/other.out": ""}, f"FAILED folder/other\n  {NO_LOG}"),
+    *(({it: TEXTS[it.rpartition(".")[2]] for it in names.split()}, said)
+      for names, said in cases_in(TABLES, "Files")),
     (QUIET, "the log is meant for no run, and no other log names it"),
-    ({"other.log": PLAYED}, "there is no logs/other.out"),
     ({"other.log": PLAYED, "other.out": "Something was said.\n"}, "logs/other.out:1:\n"),
 ]
 FOLDERS = {f"{folder}/{name}": text for folder in "ab" for name, text in RIGHT.items()}
@@ -51,7 +48,7 @@ SHOWN: list[tuple[str, Files, str, int, str]] = [
     (TWO_WRONG, {}, "", 1, f"FAILED walk\n{FIRST}{MORE}"),
     (TWO_WRONG, {}, "--all", 1, f"FAILED walk\n{FIRST}{SECOND}0 passed, 1 failed\n"),
     (SAID, {"a#b.out": ""}, "--tap", 1, "TAP version 13\n1..2\nnot ok 1 - a\\#b\n  ---\n"
-     f"  message: |\n    {NO_LOG}\n  ...\nok 2 - walk\n# 1 passed, 1 failed\n"),
+     "  message: |\n    there is no log of this name\n  ...\nok 2 - walk\n# 1 passed, 1 failed\n"),
     (SAID, {}, "--tap", 0, "TAP version 13\n1..1\nok 1 - walk\n# 1 passed, 0 failed\n"),
     (TWO_WRONG, {}, "--tap --all", 1, "TAP version 13\n1..1\nnot ok 1 - walk\n  ---\n"
      f"  message: |\n{TAP}  ...\n# 0 passed, 1 failed\n"),
@@ -68,14 +65,6 @@ SHOWN: list[tuple[str, Files, str, int, str]] = [
 REPORTS = [Case({"walk.log": WALK, "walk.out": transcript} | files, words, status, said, REPEAT)
            for transcript, files, words, status, said in SHOWN]
 
-# What a program does after it repeats a log, and what a runner then has to say.
-ENDS = {
-    "echo 'Mind the gap.' >&2": "    + Mind the gap.\n",
-    "echo": "    +\n",
-    "kill -SEGV $$": "status -11, expected 0",
-    "exit 3": "status 3, expected 0",
-    "exec sleep 5": "the run takes longer than 2 s",
-}
 # Transcripts that have the lines of what is printed, but differ from it.
 ALIKE = [
     "".join(sorted(SAID.splitlines(True))),
@@ -87,7 +76,7 @@ ALIKE = [
 ]
 DIFFERENT = [
     *(Case({"walk.log": WALK, "walk.out": SAID}, "--seconds 2" * ("sleep" in line), 1, said,
-           f"{REPEAT}{line}\n") for line, said in ENDS.items()),
+           f"{REPEAT}{line}\n") for line, said in cases_in(TABLES, "Ends")),
     *(Case({"walk.log": WALK, "walk.out": it}, "", 1, "FAILED walk", REPEAT) for it in ALIKE),
 ]
 
@@ -95,9 +84,9 @@ DIFFERENT = [
 # the program finds the cave.
 FINDS = "#!/bin/sh\n[ -f \"$2\" ] && [ -f \"$3\" ] || exit 5\n"
 BIRD = {"bird.log": "# cave: caves/CAVE\nno\n", "bird.out": ""}
-GAMES = {"a/caves/CAVE": "", "b/caves/CAVE": "", "c/caves/CAVE": ""}
-GAMES |= {f"{top}/logs/shoal/{name}": text for name, text in BIRD.items() for top in "ac"}
-GAMES |= {f"b/walks/deep/{name}": text for name, text in BIRD.items()}
+GAMES = {f"{top}/caves/CAVE": "" for top in "abc"} | {
+    f"{folder}/{name}": text for name, text in BIRD.items()
+    for folder in ("a/logs/shoal", "b/walks/deep", "c/logs/shoal")}
 PLACES = [Case(GAMES, words, int(status), said, FINDS, at=at, kind=Folder)
           for at, words, status, said in cases_in(TABLES, "Games")]
 
@@ -107,7 +96,7 @@ DIFFERS = {"a.out": IN_WRONG, "b.out": IN_WRONG, "c.out": SAID, "d.out": TWO_WRO
 OF = {it: (FIRST.replace("walk", it), SECOND.replace("walk", it)) for it in "abd"}
 SAME = [
     Case(ALL_WALK | DIFFERS, "", 1, f"FAILED a\n{OF['a'][0]}FAILED b, with what differs in a\n"
-         f"FAILED d\n{OF['d'][1]}{MORE}1 passed, 3 failed\n", REPEAT),
+         f"FAILED d, with what differs in a\n{OF['d'][1]}{MORE}1 passed, 3 failed\n", REPEAT),
     Case(ALL_WALK | DIFFERS, "--all", 1, f"FAILED a\n{OF['a'][0]}FAILED b\n{OF['b'][0]}"
          f"FAILED d\n{OF['d'][0]}{OF['d'][1]}1 passed, 3 failed\n", REPEAT),
 ]

@@ -5,18 +5,16 @@ import re
 import subprocess
 import sys
 import tempfile
-from collections.abc import Sequence
-from concurrent.futures import ThreadPoolExecutor
+import unittest
 from typing import NamedTuple
 
 from suite import TOP
 
 from common.files import text_of, write
-from common.parts import Checks
+from common.tests import Test
 
 PYTHON = [sys.executable, "-S"]  # only the standard library: nothing else is needed
 TIME = re.compile(r"(\d (?:failed|known to fail)), in \d+\.\d s$", re.MULTILINE)
-AT_ONCE = 4  # cases
 # A program that says each line of a script, if there is one, and then of a log, but no comment.
 REPEAT = """\
 #!/bin/sh
@@ -89,17 +87,12 @@ class Case(NamedTuple):
     at: str = ""  # the folder of the call
     kind: type[Folder] = Suite
 
-
-def play(case: Case) -> tuple[str, object, object]:
-    folder = case.kind(case.files, case.program)
-    status, told = folder.run(*case.words.replace("@", folder.top).split(), at=case.at)
-    wanted = case.said.replace("@", folder.top)
-    after = None if case.after is None else folder.read("logs/a.out")
-    got = status, wanted if wanted in told else told, after
-    what = f"{', '.join(case.files)} with `{case.words}` in `{case.at}`"
-    return what, got, (case.status, wanted, case.after)
-
-
-def played(cases: Sequence[Case]) -> Checks:
-    with ThreadPoolExecutor(AT_ONCE) as pool:
-        yield from pool.map(play, cases)
+    def named(self) -> tuple[str, Test]:
+        """What the case is, and a test that plays its suite."""
+        def test(running: unittest.TestCase) -> None:
+            folder = self.kind(self.files, self.program)
+            status, told = folder.run(*self.words.replace("@", folder.top).split(), at=self.at)
+            after = None if self.after is None else folder.read("logs/a.out")
+            running.assertIn(self.said.replace("@", folder.top), told)
+            running.assertEqual((status, after), (self.status, self.after), told)
+        return f"{', '.join(self.files)} with {self.words} in {self.at}", test

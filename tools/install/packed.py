@@ -98,16 +98,9 @@ class Build:
         if self.packed != self.built:
             rows += [("as built", f"SHA-256 {hashlib.sha256(self.built).hexdigest()}"),
                      ("", "The packed program is the built one without its symbols.")]
-        how = (
-            "The program was handed to `make package`: whether it was built from this commit, and"
-            " by this toolchain, isn't known here."
-            if self.is_given else
-            "The program was built by `make`, which first has that toolchain prove all contracts of"
-            " the crates that the program is made of, and stops if one isn't proved. What they say,"
-            " and what is trusted, is in README.md and docs/PROVED.md of that commit.")
         told = [f"{name:10}{said}" for name, said in rows]
-        head = f"cave {self.version}, {SYSTEM}"
-        return "\n".join([head, "", *told, "", *textwrap.wrap(how, 78), ""])
+        how = filled("given" if self.is_given else "built").decode()
+        return "\n".join([f"cave {self.version}, {SYSTEM}", "", *told, "", how])
 
 
 def filled(path: str, **words: object) -> bytes:
@@ -158,6 +151,7 @@ def manuals() -> dict[str, bytes]:
     rules = {name: text_of(f"docs/{name}") for name in ("TURN.md", "PLAY.md", "VERBS.md")}
     return {"cave.1": manual.of_page(text_of("docs/PROGRAM.md")),
             "cave-formats.5": manual.of_page(text_of("docs/FORMATS.md")),
+            "cave-messages.7": manual.of_page(text_of("docs/MESSAGES.md")),
             "cave-rules.7": manual.of_pages(RULES, rules),
             **{f"{name}.1": manual_of_tool(name) for name in TOOLS}}
 

@@ -1,6 +1,4 @@
-"""What a server of `tools/page/live` answers over HTTP; used by tools/page/test.
-
-Each part gives, one after another, what it looks at, what is found there, and what is expected."""
+"""What a server of `tools/page/live` answers over HTTP; used by tools/page/test."""
 
 import os
 import random
@@ -231,7 +229,7 @@ def ends(program: str) -> Checks:
 
 def quietly_changed(server: Served) -> None:
     """A change on a server that may end before it answers."""
-    with suppress(Exception):  # whatever is left of an answer
+    with suppress(Exception):  # of what is left of an answer
         pillow(server)
 
 

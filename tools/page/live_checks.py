@@ -1,6 +1,4 @@
-"""What is done on a page of `tools/page/live`, and what it shows; used by tools/page/test.
-
-Each part gives, one after another, what it looks at, what is found there, and what is expected."""
+"""What is done on a page of `tools/page/live`, and what it shows; used by tools/page/test."""
 
 import json
 import os

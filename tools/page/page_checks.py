@@ -1,7 +1,4 @@
-"""What a page shows and what moves it, checked in a browser; used by tools/page/test.
-
-Each part gives, one after another, what it looks at, what is found there, and what is expected.
-"""
+"""What a page shows and what moves it, checked in a browser; used by tools/page/test."""
 
 from collections.abc import Callable
 

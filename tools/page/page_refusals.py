@@ -9,6 +9,7 @@ import subprocess
 import sys
 import xml.etree.ElementTree as tree
 
+from cave_walk.steps import NO_PROGRAM
 from common.files import TOP, text_of
 from common.parts import Checks
 from pages import Pages
@@ -43,11 +44,11 @@ def refusals(pages: Pages) -> Checks:
             ("a folder that isn't there", 6, good, "page: ", f"{pages.room}/nowhere/page.html"),
             ("a pipe to put the page into", 6, good, f"page: {pipe}", pipe),
             ("no program", 2, [*good, "--program", f"{pages.room}/no-program"],
-             "page: there is no program", ""),
+             f"page: {NO_PROGRAM.format(f'{pages.room}/no-program')}\n", ""),
             ("a pipe", 2, [CAVE, pipe, *BIND], f"page: {pipe}: a pipe", "")]:
         yield from stopped(pages, what, status, words, line, output)
-    yield from stopped(pages, "no `dot`", 2, good, "page: there is no `dot`: install it, as by"
-                       " `apt-get install graphviz`", env=without_programs(pages))
+    yield from stopped(pages, "no `dot`", 2, good, "page: there is no `dot`: install it, for"
+                       " example with `apt-get install graphviz`", env=without_programs(pages))
     with open(CAVE, "rb") as file:
         ran = pages.ran("/dev/stdin", TOUR, *BIND, "--output", f"{pages.room}/in.html", stdin=file)
     yield "a cave from standard input", (ran.returncode, ran.stderr), (0, "")
@@ -106,23 +107,16 @@ def charts(pages: Pages) -> Checks:
                         ("no steps", "a\n"), ("a row that is short", f"{head}\n0\tno\n"),
                         ("no line", f"{head}\n")])]
     for what, status, given, env in refused:
-        ran = chart_of(given, output, env)
+        ran = pages.ran(given, "--output", output, tool="chart", env=env)
         yield f"a chart of {what}: the status", ran.returncode, status
         yield f"a chart of {what}: {ran.stderr!r}", ran.stderr.startswith("chart: "), True
         yield f"a chart of {what}: nothing is written", os.path.exists(output), False
     axes = ["lamp", "lamp", "place in the log", "score", "score"]  # with what stands for the lines
     for text, events in ((deaths, ["died"]), (table, ["treasure found", "treasure home"])):
         if shutil.which("gnuplot"):
-            ran = chart_of(pages.file("drawn.steps", text), output)
+            ran = pages.ran(pages.file("drawn.steps", text), "--output", output, tool="chart")
             yield "a chart: the status", ran.returncode, 0
             words = [str(it.text).strip() for it in tree.parse(output).iter()
                      if it.tag.endswith(("}text", "}tspan"))]
             found = sorted(it for it in words if re.match("[a-z]", it))
             yield "a chart: what it names", found, sorted(axes + events)
-
-
-def chart_of(steps: str, output: str,
-             env: dict[str, str] | None = None) -> subprocess.CompletedProcess[str]:
-    """A run of tools/page/chart."""
-    return subprocess.run([sys.executable, f"{TOP}/tools/page/chart", steps, "--output", output],
-                          capture_output=True, text=True, env=env)

@@ -41,10 +41,11 @@ class Pages:
     def log(self, name: str, lines: list[str]) -> str:
         return self.file(name, "".join(f"{it}\n" for it in lines))
 
-    def ran(self, *words: str, stdin: int | BinaryIO = subprocess.DEVNULL,
+    def ran(self, *words: str, tool: str = "", stdin: int | BinaryIO = subprocess.DEVNULL,
             env: dict[str, str] | None = None) -> subprocess.CompletedProcess[str]:
-        """A run of tools/page/page."""
-        command = [sys.executable, f"{TOP}/tools/page/page", "--program", self.program, *words]
+        """A run of tools/page/page, or of another tool of that folder."""
+        named = [tool] if tool else ["page", "--program", self.program]
+        command = [sys.executable, f"{TOP}/tools/page/{named[0]}", *named[1:], *words]
         return subprocess.run(command, capture_output=True, text=True, stdin=stdin, env=env)
 
     def printed(self, *words: str) -> str:

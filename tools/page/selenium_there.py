@@ -10,7 +10,6 @@ import sys
 from common import command_line
 
 DEBIAN = "/usr/bin/python3"  # which has the modules of Debian's packages
-LOST = "there is no module `selenium`: install it, as by `apt-get install python3-selenium`"
 
 
 def missing(*programs: str) -> str | None:
@@ -22,4 +21,5 @@ def missing(*programs: str) -> str | None:
         return None
     if os.path.realpath(sys.executable) != os.path.realpath(DEBIAN) and os.path.exists(DEBIAN):
         os.execv(DEBIAN, [DEBIAN, *sys.argv])
-    return LOST
+    return ("there is no module `selenium`:"
+            " install it, for example with `apt-get install python3-selenium`")

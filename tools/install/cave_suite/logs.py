@@ -8,7 +8,7 @@ from difflib import get_close_matches
 from functools import cached_property
 from io import StringIO
 from itertools import takewhile
-from shlex import split as words_in
+from shlex import split
 from typing import Iterator, Protocol
 
 KINDS = (".log", ".out", ".script")
@@ -33,6 +33,14 @@ class Place(Protocol):
 def lines_of(text: bytes) -> list[str]:
     """The lines of a text. Only a line feed ends one."""
     return [*StringIO(text.decode("latin-1"), newline="\n")]
+
+
+def words_in(text: str, is_run: bool) -> list[str] | None:
+    """The words of a text, or those of a run as a shell reads them; None if no shell can."""
+    try:
+        return split(text) if is_run else text.split()
+    except ValueError:
+        return None
 
 
 def content(path: str) -> bytes:
@@ -68,17 +76,17 @@ class Log:
         except OSError:
             return []  # `misplaced` says so
 
-    def said(self) -> Iterator[tuple[str, str, list[str]]]:
+    def said(self) -> Iterator[tuple[str, str, list[str] | None]]:
         """Each of these comments with a word before a colon, that word, and what is after it. The
-        words of a run may be in quotes, as in a shell."""
+        words of a run may be in quotes, as in a shell; they are None if a quote isn't closed."""
         for line in self.comments:
             if said := SAID.match(line):
-                yield line, said[1], words_in(said[2]) if said[1] == "run" else said[2].split()
+                yield line, said[1], words_in(said[2], said[1] == "run")
 
     @cached_property
     def head(self) -> Head:
         """What the first comments say: {"cave": [..], "status": [..], ..}."""
-        return {key: words for _, key, words in self.said() if key in KEYS}
+        return {key: words or [] for _, key, words in self.said() if key in KEYS}
 
     @cached_property
     def line_count(self) -> int:
@@ -134,6 +142,8 @@ class Log:
             return "the log can't be read"
         if line := self.misspelt():
             return f"a key is there twice, or has a letter wrong: `{line}`"
+        if line := next((it for it, _, words in self.said() if words is None), None):
+            return f"a quote isn't closed, or a backslash is at the end: `{line}`"
         if empty := next((it for it in self.head if not self.head[it] and it not in EMPTY), None):
             return f"`# {empty}:` has nothing after it"
         runs = self.head.keys() & {"cave", "run"}

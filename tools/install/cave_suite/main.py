@@ -18,6 +18,8 @@ from .suites import NAME, Suite, Suites, shards
 from .updates import Asked, write
 
 SECONDS = 60.0  # that a run may take
+NO_PROGRAM = ("there is no program `{}`:"
+              " install the package `cave-logs`, or build it by `make play`")
 CLOSED, STOPPED = 141, 130  # the status after SIGPIPE, and after SIGINT
 
 
@@ -83,13 +85,6 @@ def show_commands(logs: list[Log], said: argparse.Namespace, here: str) -> int:
         else:
             print(before + command_line(said.program, log))
     return 1 if any(it.misplaced for it in logs) else 0
-
-
-def program(text: str) -> str:
-    """The program's file: a command on the PATH, or, with a slash in the name, that file."""
-    if not (found := shutil.which(text)):
-        raise argparse.ArgumentTypeError(f"{text} is no program: is it installed, or built?")
-    return os.path.abspath(found)
 
 
 def shard(text: str) -> tuple[int, int]:
@@ -196,10 +191,9 @@ def run(words: list[str], doc: str, top: str | None) -> int:
             asks.error("PROGRAM is missing: a file, or a command on the PATH")
         said.program, *said.words = said.words
         said.top = top
-    try:
-        said.program = program(said.program)
-    except argparse.ArgumentTypeError as error:
-        asks.error(str(error))
+    if not (found := shutil.which(said.program)):  # on the PATH, or a file with a slash in its name
+        asks.exit(2, f"{asks.prog}: {NO_PROGRAM.format(said.program)}\n")
+    said.program = os.path.abspath(found)
     settle(asks, said)
     place = os.path.abspath(said.top or here)
     has_logs = os.path.isdir(os.path.join(place, NAME))

@@ -78,7 +78,8 @@ class Progress:
 
 
 class ForReaders:
-    """Of a log that failed its name and its first difference that no other log has shown."""
+    """Of a log that failed its name, the logs that have shown a difference of it before, and its
+    first difference that none has shown."""
 
     def __init__(self, is_all: bool) -> None:
         self.is_all = is_all
@@ -93,12 +94,11 @@ class ForReaders:
         name, hunks = result.log.name, result.hunks
         shown = [None if self.is_all else self.first.get(it.change) for it in hunks]
         fresh = [it for it, first in zip(hunks, shown) if first is None]
-        if not fresh:
-            names = ", ".join(dict.fromkeys(it for it in shown if it is not None))
-            return [f"FAILED {name}, with what differs in {names}"]
+        names = ", ".join(dict.fromkeys(it for it in shown if it is not None))
+        lines = [f"FAILED {name}" + f", with what differs in {names}" * bool(names)]
         for hunk in fresh if self.is_all else fresh[:1]:
             self.first.setdefault(hunk.change, name)
-        return [f"FAILED {name}", *(f"  {it}" for it in result.shown(fresh, self.is_all))]
+        return lines + [f"  {it}" for it in result.shown(fresh, self.is_all) if fresh]
 
     def end(self, sums: Sums) -> list[str]:
         return [str(sums)]

@@ -16,7 +16,7 @@ from common import command_line
 from . import drawing
 from .beside import alike_at_end, alike_at_start, same_lines
 from .filled import BUILT, WALK, page_of, part
-from .steps import NONE, Stop, put, text
+from .steps import NO_PROGRAM, NONE, Stop, put, text
 
 NUMBERS = "from to turns score lamp draws stream".split()
 NAMED = ["question", "ended", "happened"]  # columns of few words
@@ -42,9 +42,9 @@ class Progress:
 
 def program_of(named: str) -> str:
     """The program that is run."""
-    found = shutil.which(named or (BUILT if os.access(BUILT, os.X_OK) else "cave"))
-    if not found:
-        raise Stop(f"there is no program {named or '`cave`'}: `make play` builds it")
+    asked = named or (BUILT if os.access(BUILT, os.X_OK) else "cave")
+    if not (found := shutil.which(asked)):
+        raise Stop(NO_PROGRAM.format(asked))
     return found
 
 

@@ -12,6 +12,8 @@ from typing import Any
 COLUMNS = """place line from to turns score lamp carried draws stream question ended
 happened""".split()
 NUMBERS = "place from to turns score lamp carried draws stream".split()
+NO_PROGRAM = ("there is no program `{}`:"
+              " install the package `cave-logs`, or build it by `make play`")
 NONE = "-"  # of a column that has nothing to say
 Steps = dict[str, list[Any]]  # the columns by their names, those of NUMBERS as numbers
 
@@ -47,7 +49,7 @@ def columns_of(table: str) -> Steps:
     try:
         return columns | {it: [int(cell) for cell in columns[it]] for it in NUMBERS}
     except ValueError as wrong:
-        raise Stop(f"a column has a word where a number is wanted: {wrong}") from None
+        raise Stop(f"a column has a word where a number is expected: {wrong}") from None
 
 
 def events_of(happened: str) -> list[str]:

@@ -14,6 +14,8 @@ from collections.abc import Callable
 from queue import SimpleQueue
 from types import FrameType
 
+from cave_walk.steps import NO_PROGRAM
+
 from . import words
 from .answers import Server
 from .held import Log
@@ -62,7 +64,7 @@ def program_of(named: str | None, built: str) -> str:
     found = named or (built if os.access(built, os.X_OK) else "cave")
     path = shutil.which(found)
     if not path:
-        raise Stop(f"there is no program {found}: `make play` builds it", 2)
+        raise Stop(NO_PROGRAM.format(found), 2)
     return path
 
 
