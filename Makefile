@@ -93,7 +93,7 @@ test: has-rt has-cc checks ## runs the gate: proofs from nothing, wrong bodies, 
 	@awk '{ sum += $$1 } END { print "parts of checks that were skipped:", sum + 0 }' out/skipped
 
 # What takes too long for the gate, after it: cut inputs, each allocation refused in turn, small
-# wrong bodies, the example of a new rule, and the long duel. It prints a line for each part.
+# wrong bodies, the how-to pages, and the long duel. It prints a line for each part.
 soak: $(MADE) ## runs what takes longer: refused memory, small wrong bodies, a long duel
 	tools/soak/soak
 
