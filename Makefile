@@ -11,6 +11,9 @@ help: ## lists what `make` can do
 has-%:
 	@tools/common/command_line.py $*
 
+# The tree that tests of scripts name in place of this one (tools/common/files.py).
+unexport RACKSHOAL_TREE_OF_A_TEST
+
 PREFIX ?= $(HOME)/.local
 BUILT = crates/cave/out/cave
 PROGRAM = $(BUILT)
@@ -46,7 +49,8 @@ $(BUILT): $(SOURCES)
 	@touch $@
 
 # What needs no proof and no program: names what nobody uses, imports from a crate that doesn't have
-# the item, functions without the word of their definition, and what pages name and isn't there.
+# the item, functions without the word of their definition, and what pages name and isn't there:
+# files, names, commands, options, numbers, and what rows of rules do.
 # Checks that the changelog has the version of the code, that the checks of pages and of suites fail
 # when they should, how scripts answer `--help`, and what shells complete. A check that skips
 # something says so in a line, and adds it to the file SKIPPED: `make test` ends with the sum.
@@ -80,6 +84,7 @@ test: has-rt has-cc checks ## runs the gate: proofs from nothing, wrong bodies, 
 	logs/tools/check-coverage '$(PROGRAM)'
 	logs/tools/check-maps '$(PROGRAM)'
 	logs/tools/check-undo '$(PROGRAM)'
+	logs/tools/check-slips '$(PROGRAM)'
 	logs/tools/check-drafts '$(PROGRAM)'
 	tools/page/test server '$(PROGRAM)'
 	logs/tools/check-script '$(PROGRAM)'
@@ -105,6 +110,7 @@ suite: checks $(MADE) ## plays the logs of logs/, and compares them with their t
 	@logs/tools/check-coverage '$(PROGRAM)'
 	@logs/tools/check-maps '$(PROGRAM)'
 	@logs/tools/check-undo '$(PROGRAM)'
+	@logs/tools/check-slips '$(PROGRAM)'
 	@logs/tools/check-drafts '$(PROGRAM)'
 	@logs/tools/check-script '$(PROGRAM)'
 	@model/suite

@@ -3,14 +3,18 @@
 import random
 from collections import Counter, namedtuple
 
+import checks
+import cover
 import directed
 import generate
 from database import Cave, bindings_of, sections_of
 from errands import stage_of
+from lines import Fault
 from players import Player
-from scripts import mutated, script_for
+from scripts import known_list, mutated, script_for, script_words
 
 FILES = ("cave.txt", "bindings.txt", "log.txt", "script.txt")
+KNOWN = ["--known", "known.txt"]
 STATE = ["--print", "state"]
 KINDS = {"directed": "directed game", "game": "game", "database": "database"}
 
@@ -26,15 +30,23 @@ def cave_of(texts):
     return Cave(sections_of(texts["cave.txt"]), bindings_of(texts["bindings.txt"]))
 
 
+def head_of(rng, start):
+    """A head of a log, which says how the log is played, or something else."""
+    says = rng.choice(["cave.txt", "other.txt", "play cave.txt --bind=bindings.txt"])
+    return f"# cave: {says} --seed {start + rng.choice([0, 1])}"
+
+
 def calls_of(rng, call, options, is_edited):
     """A call of a game that prints something other than its transcript, at random."""
     if is_edited:
-        what = rng.choice(["play", "log", "undo", "guarded", "steps", "score", "reports", "table"])
+        what = rng.choice(["play", "log", "undo", "guarded", "steps", "walk", "score", "reports",
+                           "table"])
         every = "1" if what in ("reports", "table") else rng.choice(["1", "2", "7", "50", "10000"])
-        call = [*call, "--every", every]
+        call = [*call, "--every", every, *["--quiet"] * (rng.random() < 0.2)]
         return call, [*call, "--print", what, *["--strict"] * (rng.random() < 0.1)]
     covers = ["cover", "cave.txt", "log.txt", *options]
-    views = [[*call, "--print", it] for it in ("steps", "score")]
+    covers += ["--strict"] * (rng.random() < 0.3) + KNOWN * (rng.random() < 0.5)
+    views = [[*call, "--print", it] for it in ("steps", "walk", "score")]
     return call, rng.choice([*views, covers, [*covers, "--print", "texts"]])
 
 
@@ -46,6 +58,7 @@ def game_cases(rng, seed, number, counts):
     cave = cave_of(texts)
     start = rng.choice([0, 1, rng.randrange(1 << 20), rng.randrange(1 << 31)])
     log = Player(rng, cave, start, counts, stage).make()
+    log = [head_of(rng, start)] * (rng.random() < 0.1) + log
     texts["log.txt"] = text_of(log)
     if rng.random() < 0.02:
         texts["log.txt"] = mutated(rng, texts["log.txt"])
@@ -55,9 +68,11 @@ def game_cases(rng, seed, number, counts):
         others = [Player(rng, cave, start, counts).candidate() for _ in range(4)]
         guarded = rng.random() < 0.4
         texts["script.txt"] = script_for(rng, log, others, guarded)
-        call = ["edit", *call[1:], "script.txt"]
+        call = ["edit", *call[1:], *script_words(rng, texts["script.txt"])]
         options += ["--guarded"] * guarded
     call, other = calls_of(rng, call + options, options, is_edited)
+    if KNOWN[0] in other:
+        texts["known.txt"] = known_list(rng, cover.report(cave, set(), 1, "texts")[0])
     return [Case(f"game-{number}", texts, it) for it in (call, [*call, *STATE], other)]
 
 
@@ -71,6 +86,15 @@ def directed_cases(number):
     return [Case(f"directed-{game.name}", texts, it) for it in calls]
 
 
+def doubts_of(texts):
+    """The doubts about a cave as lists of what is known have them; none if it is refused."""
+    names = ["cave.txt", texts["cave.txt"], "bindings.txt", texts["bindings.txt"]]
+    try:
+        return [checks.entry_of(it) for it in checks.doubts(cave_of(texts), *names)]
+    except Fault:
+        return []
+
+
 def database_cases(rng, number, kept):
     """A mutated database, or bindings; the text that is changed stays for some cases."""
     if number % 10 == 0 or not kept:
@@ -82,6 +106,9 @@ def database_cases(rng, number, kept):
     prints = ["bindings", "names", "unused", "words", "doubts"]
     what = ["--print", rng.choice(prints)] if rng.random() < 0.3 else []
     what += ["--strict"] * (rng.random() < 0.1)
+    if what[1:2] in ([], ["doubts"]) and rng.random() < 0.2:
+        what += KNOWN
+        texts["known.txt"] = known_list(rng, doubts_of(texts))
     call = ["check", "cave.txt", "--bind", "bindings.txt", *what]
     return [Case(f"database-{number}", texts, call)]
 

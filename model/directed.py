@@ -1,33 +1,12 @@
 """Directed games: for each number of the rules one below it, one at it, and one above.
 
-They are made by code, and each run of the duel that plays random games plays them all. A name says
-the rule, and after it where the game is.
+They are made by code, and each run of the duel that plays random games plays them all, and those of
+`seldom.py`. A name says the rule, and after it where the game is.
 """
 
-from seeds import seed_at, seed_where, seeds_about
-from worlds import NUMBERS, Directed, World
-
-GAMES = []
-NAMES_OF_SEEDS = ("below", "at")
-
-
-def game(name, lines, is_long=False, welcome="no", **of_world):
-    """Adds a game; its first line answers the welcome, and a number is a seed line."""
-    world = World(**of_world)
-    lines = [it if isinstance(it, str) else f"seed {it}" for it in lines]
-    GAMES.append(Directed(name, world.database(), world.bindings(), [welcome, *lines], is_long))
-
-
-def wait(turns):
-    return ["nothing"] * turns
-
-
-def with_draws(name, border, below, make, before=0, **of_world):
-    """Two games in which a draw falls just below a border and on it; `make` puts a seed among the
-    lines."""
-    for where, seed in zip(NAMES_OF_SEEDS, seeds_about(border, below, before)):
-        game(f"{name}-{where}", make(seed), **of_world)
-
+from seeds import seed_at, seed_where
+from seldom import SELDOM
+from worlds import CLOSING, NUMBERS, game, games_of, wait, with_draws
 
 # ---- The lamp. It burns 35 turns at most from when only lost treasures are left to be seen: one is
 # lost as the bird is killed near the snake, and the other one is seen at 10.
@@ -224,7 +203,6 @@ def bridge_games():
 
 # ---- The closing cave. All treasures are seen from the start, so that the first clock runs.
 
-CLOSING = {"deep": 1, "ne": 17, "sw": 18}
 STORED: dict = {name: 9 for name in NUMBERS if not 50 <= NUMBERS[name] <= 79}
 STORED.update({"ROD2": 9, "DWARF": 9, "KNIFE": 0, "MIRROR": (9, 10), "GRATE": (9, 10)})
 
@@ -338,6 +316,5 @@ def liquid_games():
                  numbers={liquid: NUMBERS[name]}, homes={**STORED, name: 9}, bound=CLOSING)
 
 
-for add in (lamp_games, dwarf_games, pirate_games, travel_games, bridge_games, closing_games,
-            score_games, verb_games, liquid_games, long_counts):
-    add()
+GAMES = games_of(lamp_games, dwarf_games, pirate_games, travel_games, bridge_games, closing_games,
+                 score_games, verb_games, liquid_games, long_counts, *SELDOM)

@@ -142,6 +142,8 @@ def judged_options(command, files, options):
     if prints not in names:
         raise wrong(f"invalid value '{prints}' for '--print <WHAT>':"
                     f" {wanted(prints, names, near_name(prints, names))}")
+    if command == "check" and asks_left and prints != "doubts":
+        raise wrong("'--strict' and '--known <FILE>' are for '--print doubts'")
     if command == "edit" and len(files) == 3 and "--edit" in options:
         raise wrong("only one of SCRIPT, '--edit <EDIT>' and '--to <FILE>' can be used")
     if command == "edit" and len(files) == 2 and "--edit" not in options:
@@ -149,10 +151,10 @@ def judged_options(command, files, options):
     if "--report" in options:
         raise wrong("'--report <WHAT>' is for '--output <FILE>': without it, '--print <WHAT>'"
                     " prints reports")
-    known = options.get("--known") if prints == "doubts" or command == "cover" else None
     return {"edit": options.get("--edit"), "bind": options.get("--bind"), "print": prints,
             "strict": "--strict" in options, "guarded": "--guarded" in options,
-            "quiet": "--quiet" in options, "seed": seed, "known": known}
+            "quiet": "--quiet" in options, "seed": seed,
+            "known": options.get("--known")}
 
 def number_in(option, text, least, most):
     """The number of an option, of 1 to 10 digits."""
@@ -343,6 +345,9 @@ def run_edit(cave, file, log, script, log_ends, options, told):
     if options["print"] == "guarded":
         return small(log_ends.script_text(with_guards), "the script")
     if options["print"] == "log":
+        lost = (f"cave: the edits set the seed {seed}, and a log holds none:"
+                f" play this one with --seed {seed}\n")
+        told += [lost] * (seed != options["seed"] and not options["quiet"])
         return small(log_ends.log_text(log), "the edited log")
     if options["print"] == "steps":
         return edits.steps(cave, seed, log)

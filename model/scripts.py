@@ -1,4 +1,4 @@
-"""Random scripts for the duel, and texts with a few changes."""
+"""Random scripts for the duel, lists of what is known, and texts with a few changes."""
 
 
 def script_for(rng, log, suggestions, guarded):
@@ -31,6 +31,22 @@ def script_for(rng, log, suggestions, guarded):
             lines.append(rng.choice(["# a comment", "", "  ", "begin", "end", "insert", "delete x",
                                      "insert  1 x", "seed 1 ", "delete 0 0", "expect 0 x"]))
     return "".join(it + "\n" for it in lines + ["end"] * is_open)
+
+
+def script_words(rng, script):
+    """The words by which a run gets a script: its file, or now and then each line of it."""
+    if script and script.isascii() and rng.random() < 0.3:
+        return [f"--edit={it}" for it in script.split("\n")[:-1]]
+    return ["script.txt"]
+
+
+def known_list(rng, entries):
+    """A list of what is known that has some of these entries, all, or none, and perhaps others."""
+    share = rng.choice([0, 0.9, 1])
+    some = [it for it in entries if rng.random() < share]
+    rng.shuffle(some)
+    text = "".join(f"{rng.choice(['', '', '  '])}{it}\n" for it in some)
+    return mutated(rng, text) if rng.random() < 0.2 else text
 
 
 # ---- Mutated texts

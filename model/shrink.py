@@ -22,7 +22,7 @@ KEPT_VIEWS = ("state", "steps", "score")  # what a play prints too, so that an e
 
 # Which files are made small, and how long the runs of lines are at least that are taken out.
 PASSES = [("script.txt", 1), ("log.txt", 1), ("cave.txt", 8), ("log.txt", 1), ("cave.txt", 1),
-          ("bindings.txt", 1), ("log.txt", 1)]
+          ("bindings.txt", 1), ("known.txt", 1), ("log.txt", 1)]
 
 BOTH = ("program", "model")
 Said = namedtuple("Said", "status output errors")  # what one of both said
@@ -129,12 +129,11 @@ def as_play(case):
     """A case with the edited log in the place of log and script, if it is one of edits."""
     if case.words[0] != "edit":
         return case
-    words, view = list(case.words), ""
-    if "--print" in words:
-        at = words.index("--print")
-        view, words[at:at + 2] = words[at + 1], []
-    options = words[4:words.index("--every")]
-    status, log, _ = program.run([*words[:4], *options, "--print", "log"])
+    words, view = case.words[:case.words.index("--every")], ""
+    if "--print" in case.words:
+        view = case.words[case.words.index("--print") + 1]
+    options = words[words.index("--bind"):]
+    status, log, _ = program.run([*words, "--print", "log"])
     if status:
         return case
     texts = {**case.texts, "log.txt": log.decode("latin-1")}

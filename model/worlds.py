@@ -1,4 +1,4 @@
-"""Small caves for directed games, in which there is little but what a game is about.
+"""Small caves for directed games, in which there is little but what a game is about, and the games.
 
 From each place a word leads to each other one: `g16` to place 16. Nothing is anywhere, no treasure
 is known, each place is lit, dwarves sleep and no clock runs, unless a game says otherwise.
@@ -8,6 +8,7 @@ from collections import namedtuple
 
 from database import NAMES, SECONDS
 from generate import DIRECTIONS, GO, MAGIC, TREASURES
+from seeds import seeds_about
 from verbs import ACTIONS
 
 Directed = namedtuple("Directed", "name database bindings lines is_long")
@@ -92,3 +93,35 @@ class World:
         """The text of the bindings."""
         return "".join(f"{'num' if role == 'letters' else 'place'}.{role} {number}\n"
                        for role, number in self.bound.items() if number)
+
+
+# ---- Games
+
+GAMES: list = []
+NAMES_OF_SEEDS = ("below", "at")
+CLOSING = {"deep": 1, "ne": 17, "sw": 18}  # in a cave that closes, which has only treasures seen
+
+
+def game(name, lines, is_long=False, welcome="no", **of_world):
+    """Adds a game; its first line answers the welcome, and a number is a seed line."""
+    world = World(**of_world)
+    lines = [it if isinstance(it, str) else f"seed {it}" for it in lines]
+    GAMES.append(Directed(name, world.database(), world.bindings(), [welcome, *lines], is_long))
+
+
+def wait(turns):
+    return ["nothing"] * turns
+
+
+def with_draws(name, border, below, make, before=0, **of_world):
+    """Two games in which a draw falls just below a border and on it; `make` puts a seed among the
+    lines."""
+    for where, seed in zip(NAMES_OF_SEEDS, seeds_about(border, below, before)):
+        game(f"{name}-{where}", make(seed), **of_world)
+
+
+def games_of(*functions):
+    """All games, after these functions added theirs."""
+    for add in functions:
+        add()
+    return GAMES

@@ -102,7 +102,9 @@ SAME = [
 ]
 
 # Logs that are played by a program that ends with a status of its own, and their transcripts.
-LOGS = {"walk": (WALK, ""), "known": (KNOWN, ""), "status": (f"{WALK}# status: 3\n", "exit 3\n")}
+LOGS = {"walk": (WALK, ""), "known": (KNOWN, ""), "status": (f"{WALK}# status: 3\n", "exit 3\n"),
+        "known crash": (KNOWN, "kill -SEGV $$\n"), "known status": (KNOWN, "exit 3\n"),
+        "known wait": (KNOWN, "exec sleep 5\n")}
 OUTS = {"right": SAID, "wrong": TWO_WRONG, "in wrong": IN_WRONG,
         "up wrong": SAID.replace("So up.", "So upwards.")}
 WRITTEN = {part: [

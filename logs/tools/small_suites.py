@@ -10,7 +10,7 @@ from typing import NamedTuple
 
 from suite import TOP
 
-from common.files import text_of, write
+from common.files import bytes_of, text_of, write
 from common.tests import Test
 
 PYTHON = [sys.executable, "-S"]  # only the standard library: nothing else is needed
@@ -51,6 +51,11 @@ class Folder:
 
     def read(self, name: str) -> str:
         return text_of(f"{self.top}/{name}")
+
+    def all(self) -> dict[str, bytes]:
+        """What each file has."""
+        paths = (os.path.join(folder, it) for folder, _, files in os.walk(self.top) for it in files)
+        return {os.path.relpath(it, self.top): bytes_of(it) for it in paths}
 
     def command(self, *words: str) -> list[str]:
         return [*PYTHON, f"{TOP}/tools/install/cave-suite", "--program", self.program, *words]

@@ -8,8 +8,9 @@ more than one row is on a page, and those whose rows are noted have a name there
 On the pages all rows have numbers, from 1 on, and each but the last says in its first cell when it
 applies. A row says the messages of its definition, in their order, and names the objects of its
 tests, or of an effect, in its first cell, and all its objects and numbers in any: so two rows that
-are exchanged are noticed whenever these differ. What is defined by the cases of a value, and isn't
-noted, isn't compared.
+are exchanged are noticed whenever these differ. It does what its definition does, in that order, as
+far as `row_effects` reads both sides. What is defined by the cases of a value, and isn't noted,
+isn't compared.
 """
 
 import re
@@ -18,12 +19,17 @@ from collections.abc import Iterator
 from itertools import combinations
 
 from common.files import text_of
+from row_effects import Effects, effects_in, effects_shown
 from rule_tables import (Noted, Shown, Table, Words, noted_in, parts_of, rows_in_words,
                          tables_defined, tables_shown)
 
 SPAN = re.compile(r"`([a-z][a-z0-9-]*)`")
 NAMES = re.compile(r"\b[A-Z]+2?\b|\b\d+\b|\b[a-z]+\b")
 NUMBERS = {"two": "2", "three": "3", "four": "4", "five": "5", "six": "6"}
+# Rows of which the page says elsewhere what else they do, and in which order.
+ELSEWHERE = {("clocks", "1"): "the cave begins to close", ("waking", "3"): "they wake"}
+IDLE = re.compile("nothing(?:[,:]|$)|$")
+ABOVE = {"POUR": "BOTTLE gets prop 1"}  # what the page says above a table of most of its rows
 Places = dict[str, int]  # which table of the pages shows the definition of a name
 
 
@@ -71,6 +77,20 @@ def faults_of_rows(shown: Shown, defined: list[Words], roles: set[str]) -> Itera
             yield f"{head} has {' '.join(lacked)}, and the page doesn't"
 
 
+def faults_of_effects(shown: Shown, defined: list[Effects], roles: set[str]) -> Iterator[str]:
+    """Rows of a page that do something other than those of the definition, or in another order."""
+    called, before = ", ".join(shown.labels or shown.names), list[str]()
+    for (number, *cells), (done, about, is_idle) in zip(shown.rows, defined):
+        told = [*effects_shown(cells, roles, about, before)]
+        due, before = [it for it in done if it != ABOVE.get(called)], done
+        words = ELSEWHERE.get((called, number))
+        if (told != due) != bool(words) or words and words not in " ".join(cells):
+            yield (f"{called} {number}: the definition does: {'; '.join(due) or 'nothing'},"
+                   f" and the page: {'; '.join(told) or 'nothing'}")
+        if is_idle is not None and is_idle != (IDLE.match(cells[1]) is not None):
+            yield f"{called} {number}: the definition does {'nothing' if is_idle else 'something'}"
+
+
 def faults_of_notes(noted: Noted, pages: list[Shown], places: Places) -> Iterator[str]:
     """What is wrong with the tables that are noted, and with those of the pages that have names."""
     found = defaultdict[int, list[str]](list)
@@ -90,7 +110,7 @@ def faults_of_notes(noted: Noted, pages: list[Shown], places: Places) -> Iterato
 def faults() -> Iterator[str]:
     files, pages = tables_defined(), [*tables_shown()]
     defined = {it.name: it for tables in files.values() for it in tables}
-    words = rows_in_words(files)
+    words, effects = rows_in_words(files), effects_in(files)
     places = {name: at for at, shown in enumerate(pages) for name in shown.names}
     roles = {role for name in places for row in words.get(name, []) for role in row.roles}
     for shown in pages:
@@ -98,6 +118,9 @@ def faults() -> Iterator[str]:
         are_cases = any(defined[it].form == "cases" for it in shown.names if it in defined)
         rows = [row for name in shown.names for row in words.get(name, [])]
         told += faults_of_rows(shown, [] if are_cases and not shown.labels else rows, roles)
+        if not are_cases:
+            done = [row for name in shown.names for row in effects.get(name, [])]
+            told += faults_of_effects(shown, done, roles)
         yield from (f"{shown.page}: {it}" for it in told)
     for name, table in sorted(defined.items()):
         if table.form == "rows" and len(table.rows) > 1 and name not in places:

@@ -141,7 +141,12 @@ def with_effects(text: str, effects: dict[str, str]) -> str:
 
 def things_in(text: str, short_names: dict[str, str]) -> set[str]:
     found = {named or short_names.get(short, "") for named, short in THING.findall(text)} - {""}
-    return {f"{it.removeprefix('Second').upper()}{'2' * it.startswith('Second')}" for it in found}
+    return {*map(object_named, found)}
+
+
+def object_named(name: str) -> str:
+    """What the pages call an object that the definitions name."""
+    return f"{name.removeprefix('Second').upper()}{'2' * name.startswith('Second')}"
 
 
 def rows_in_words(defined: dict[str, list[Table]]) -> dict[str, list[Words]]:

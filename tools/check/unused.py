@@ -4,91 +4,50 @@ tests that lost their attribute, and crates that crates.txt gives to a crate tha
 
 A public function, or method of a public trait, has a caller if code that isn't a test of its own
 crate has its name. `Type::name` is a function by itself: `Other::name` is no call of it, nor is
-`self.name` in another type; what else is called by a dot may be any type's. Laws have no caller,
-and other programs call what docs/LIBRARY.md lists for a door. An import is a name in a `use`, also
-a ghost one; a trait may be imported for its methods. Lemmas may be found by search, so only
-definitions, those of specs/, need a line that names them.
+`self.name` in another type. Laws have no caller, and other programs call what docs/LIBRARY.md lists
+for a door. What only names itself isn't named, nor are two that only name each other, and what a
+type's own methods say of it doesn't count. An import is a name in a `use`, also a ghost one; a
+trait may be imported for its methods. Lemmas may be found by search, so only definitions, those of
+specs/, need a line that names them, or a page that does so in backquotes.
 """
 
 import re
 from collections import Counter, defaultdict
 from collections.abc import Iterator
+from functools import cache
 
-from common.files import crates, files, section_of, text_of
+from called import TYPE, Graph
+from common.files import below, crates, files, text_of
 from common.sources import Source, sources
 
-LAWS = ("turn_laws/", "play_laws/", "laws.rt")
-# A call, or a function that is handed to a method or to a function by just its name.
-CALL = re.compile(
-    r"(?:(\w+)(?:::<[^>]*>)?::|(\w*\)?\??(?<!\.)\.\s*))?\b([a-z]\w*)(?=\(|::<|\)|,|;)", re.ASCII
-)
-ALIASED = re.compile(r"^ *pub type (\w+) = (\w+)", re.MULTILINE)
-# A clause ends at the brace that ends its line; a contract of several lines is indented further.
-CLAUSE = re.compile(r"^ *(?:requires|ensures)\b.*\n(?:^ {8,}[^a-z{].*\n)*", re.MULTILINE)
 USE = {"rt": re.compile(r"^ *(?:pub |ghost )*use [^;]*;", re.MULTILINE),
-       "antt": re.compile(r"^ *use .*$", re.MULTILINE)}
+       "antt": re.compile(r"^ *(?:pub )?use .*$", re.MULTILINE)}
 ITEM = re.compile(
     r"^ *(?:pub(?:\(crate\))? )?(?:const|static|struct|enum|type|trait) ([A-Z]\w*)", re.MULTILINE
 )
 # A line of a definition: of its type, if a colon follows the name and what it is of, or of a case.
-BEGINNING = re.compile(r"^(?:(?:abbrev|unfoldable) )?(?:pub )?(?:(?:record|data) )?([\w'-]+)"
+BEGINNING = re.compile(r"^(?:(?: *(?:abbrev |unfoldable )?pub |abbrev |unfoldable )?"
+                       r"(?:(?:record|data) )?)([\w'-]+)"
                        r"((?:(?: +\([^)]*\)| +\{[^}]*\})*) +:)?", re.MULTILINE)
 IMPL = re.compile(r"^ *impl\b[^{]*", re.MULTILINE)
-# What is written for any type parameter, whose functions may be those of any type.
-PARAMETER = "T"
+STRING = re.compile(r'"(?:[^"\\\n]|\\.)*"')
+IMPL_FOR = re.compile(r"impl\b[^{]*\bfor\b")
+SPAN = re.compile(r"``.+?``|`[^`]+`", re.DOTALL)
+SHOWN = re.compile(r"^    (?:pub )?([\w'-]+) :", re.MULTILINE)  # a definition in a block of a page
+WORD = re.compile(r"(?:(?<=\w)(\.))?([\w'-]+)")
 # Traits of std that are imported for their methods.
 TRAITS = {"Write", "Read", "BufRead", "OpenFile", "FromStr", "Error", "Hash", "Hasher",
           "MetadataExt", "OpenOptionsExt", "PermissionsExt"}
-Call = tuple[str, str]  # a type, or nothing, and a name; one after a dot begins with it
-
-
-def calls(owner: str, text: str, owned: set[Call], aliases: dict[str, str]) -> Iterator[Call]:
-    """What a part of a file may call: without its imports, its contracts, and the names of its
-    functions themselves."""
-    executed = re.sub(r"\bfn \w+", "fn", CLAUSE.sub("", USE["rt"].sub("", text)))
-    for path, dotted, name in CALL.findall(executed):
-        path = owner if path == "Self" or dotted == "self." else aliases.get(path, path)
-        path = PARAMETER if re.fullmatch("[A-Z]", path) else path
-        if dotted and (path, name) not in owned:
-            yield "", f".{name}"
-        else:
-            yield path if path[:1].isupper() else "", name
-
-
-def callers(code: list[Source], owned: set[Call]) -> dict[Call, set[tuple[str, bool]]]:
-    """The files that call each function, each with whether a test does."""
-    aliases = dict(pair for file in code for pair in ALIASED.findall(file.text))
-    found = defaultdict[Call, set[tuple[str, bool]]](set)
-    for file in code:
-        is_test = False
-        for owner, text in file.parts:
-            for part in re.split(r"^(?=#\[cfg\(test\)\])", text, flags=re.MULTILINE):
-                is_test = is_test or part.startswith("#[cfg(test)]")
-                for call in calls(owner, part, owned, aliases):
-                    found[call].add((file.path, is_test))
-    return found
+Definition = tuple[str, str]  # a file and a name
 
 
 def uncalled() -> Iterator[str]:
-    """Public functions that no code names but tests of their own crate."""
-    code = sources("src")
-    owned = {(it.owner, it.name) for file in code for it in file.functions if it.owner}
-    free = {(file.path, it.name) for file in code for it in file.functions if not it.owner}
-    named = callers(code, owned)
-    for file in code:
-        if any(it in file.path for it in LAWS):
-            continue
-        library = re.findall(r"`(?:\w+::)?(\w+)\(", section_of("docs/LIBRARY.md", file.crate))
-        for it in file.functions:
-            dotted = named["", f".{it.name}"] if it.takes_self else set[tuple[str, bool]]()
-            found = named[it.owner, it.name] | dotted
-            found = found | named[PARAMETER, it.name] if it.owner else {
-                (path, is_test) for path, is_test in found
-                if path == file.path or (path, it.name) not in free}
-            is_called = any(not is_test or not path.startswith(f"crates/{file.crate}/")
-                            for path, is_test in found)
-            if it.is_public and not is_called and it.name not in library:
-                yield f"{file.path}: nobody calls {it.owner}{'::' * bool(it.owner)}{it.name}"
+    """Functions that nothing calls: public ones, and lost tests."""
+    for path, _, it, *_ in Graph().uncalled():
+        if it and it.is_public:
+            yield f"{path}: nobody calls {it.owner}{'::' * bool(it.owner)}{it.name}"
+        elif it:
+            yield f"{path}: nothing calls {it.name}, which is no test"
 
 
 def is_used(name: str, text: str) -> bool:
@@ -115,36 +74,83 @@ def unimported() -> Iterator[str]:
                 yield f"{file.path}: {use.name} isn't used"
 
 
-def words_of(path: str, text: str = "") -> Counter[str]:
-    """How often each word stands in a file, or in a text of it, comments left out."""
-    comment = "//" if path.endswith(".rt") else "--"
-    text = re.sub(rf"{comment}.*$", "", text or text_of(path), flags=re.MULTILINE)
-    return Counter(re.findall(r"[\w'-]+", text))
+@cache
+def words_of(file: Source) -> dict[str, Counter[str]]:
+    """How often each word stands in the code of each type of a file, and beside the types, without
+    imports and the heads of what a type has."""
+    found = defaultdict[str, Counter[str]](Counter)
+    for owner, text in file.parts:
+        text = re.sub(r"//.*", "", IMPL.sub("", USE["rt"].sub("", text)))
+        found[owner].update(re.findall(r"\w+", text))
+    return found
 
 
-def uncited() -> Iterator[str]:
-    """Items of the code, and definitions, that no other line and no page names; lost tests."""
-    of_crates, of_code = defaultdict[str, Counter[str]](Counter), Counter[str]()
-    everywhere: Counter[str] = sum(map(words_of, files("docs/*.md")), Counter())
-    for file in sources("src", "specs", "proofs"):
-        words = words_of(file.path)
-        everywhere.update(words)
-        of_crates[file.crate].update(words)
-        if file.path.endswith(".rt"):
-            of_code.update(words_of(file.path, IMPL.sub("", USE["rt"].sub("", file.text))))
-    for file in sources("src"):
-        unnamed = (it for it in ITEM.findall(file.text) if of_code[it] < 2)
-        yield from (f"{file.path}: nothing names {it}" for it in unnamed)
-        for it in file.functions:
-            is_known = it.is_public or it.owner or "#[test]" in it.attributes or it.name == "main"
-            if not is_known and of_crates[file.crate][it.name] < 2:
-                yield f"{file.path}: nothing calls {it.name}, which is no test"
-    for file in sources("specs"):
-        found = BEGINNING.findall(file.text)
-        own = Counter(name for name, _ in found)
-        for name in sorted({name for name, is_declared in found if is_declared}):
-            if everywhere[name] <= own[name]:
+def unnamed_items() -> Iterator[str]:
+    """Items of the code that nothing else names that can mean them."""
+    code = sources("src")
+    items = {file.path: declared_items(file) for file in code}
+    for file in code:
+        bodies = Counter(name for name, body in TYPE.findall(file.code)
+                         for _ in re.findall(rf"\b{name}\b", body))
+        above = [it for it in code if file.crate in below(it.crate)]
+        for name, own in items[file.path].items():
+            others = sum(words[name] for it in above if it == file or name not in items[it.path]
+                         for owner, words in words_of(it).items() if owner != name)
+            if others <= own + bodies[name]:
                 yield f"{file.path}: nothing names {name}"
+
+
+def declared_items(file: Source) -> dict[str, int]:
+    """The items that a file declares, each with how often beside its own parts; a trait stands in
+    such a part. Those of impls of traits are none."""
+    found = Counter[str]()
+    for owner, text in file.parts:
+        if text.startswith(("pub trait", "trait")):
+            found[owner] += 0
+        elif not IMPL_FOR.match(text):
+            found.update(ITEM.findall(text))
+    return found
+
+
+def definitions_in(file: Source) -> tuple[dict[str, str], str]:
+    """The definitions of a file, each with its text, in which a case follows a case; and what
+    stands beside them."""
+    text = USE["antt"].sub("", re.sub("--.*", "", STRING.sub("", file.text)))
+    declared = {it[1] for it in BEGINNING.finditer(text) if it[2]}
+    found, name = defaultdict[str, str](str), ""
+    for line in text.splitlines(True):
+        begun = BEGINNING.match(line)
+        if line.strip() and not line.startswith(" ") or begun and begun[2]:
+            name = begun[1] if begun and begun[1] in declared else ""
+        found[name] += line
+    return found, found.pop("", "")
+
+
+def unnamed_definitions() -> Iterator[str]:
+    """Definitions that neither code nor a proof nor a page names, nor one that these name."""
+    homes, texts = defaultdict[str, list[str]](list), dict[Definition, str]()
+    others = [STRING.sub("", USE[it.path.rpartition(".")[2]].sub("", it.code))
+              for it in sources("src", "proofs")]
+    for file in sources("specs"):
+        own, beside = definitions_in(file)
+        others.append(beside)
+        for name, text in own.items():
+            homes[name].append(file.path)
+            texts[file.path, name] = text
+
+    def named_in(text: str, path: str = "") -> set[Definition]:
+        """What words mean: without a module before them, what the file has of that name."""
+        return {(home, name) for dot, name in WORD.findall(text) for home in homes.get(name, ())
+                if home == path or dot or path not in homes[name]}
+
+    pages = [re.sub(r"(?ms)^```.*?^```", "", text_of(it)) for it in files("*.md", "docs/*.md")]
+    pages = [" ".join(SPAN.findall(it) + SHOWN.findall(it)) for it in pages]
+    found, more = set[Definition](), set().union(*map(named_in, others + pages))
+    while more:
+        found |= more
+        more = set().union(*(named_in(texts[it], it[0]) for it in more)) - found
+    yield from (f"{path}: nothing names {name}" for path, name in texts
+                if (path, name) not in found)
 
 
 def unnamed() -> Iterator[str]:
@@ -157,4 +163,4 @@ def unnamed() -> Iterator[str]:
 
 
 def faults() -> list[str]:
-    return [*uncalled(), *uncited(), *unimported(), *unnamed()]
+    return [*uncalled(), *unnamed_items(), *unnamed_definitions(), *unimported(), *unnamed()]

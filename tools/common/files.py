@@ -15,8 +15,10 @@ from typing import Any
 
 from common import command_line
 
-# The repository that is read: this one, unless a test of a script names another.
-TOP = os.environ.get("REPOSITORY") or os.path.abspath(f"{os.path.dirname(__file__)}/../..")
+# The repository that is read: this one, unless a test of a script names another. `make` drops the
+# name, so that nothing else does.
+OTHER_TOP = "RACKSHOAL_TREE_OF_A_TEST"
+TOP = os.environ.get(OTHER_TOP) or os.path.abspath(f"{os.path.dirname(__file__)}/../..")
 BUILT = f"{TOP}/crates/cave/out/cave"
 MADE = {"out", "__pycache__"}  # folders that aren't read
 

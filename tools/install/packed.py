@@ -36,7 +36,7 @@ NEIGHBOUR = 'sys.path.append(f"{sys.path[0]}/..")  # for `common`\n\n'  # is bes
 COPIED = {
     (".", SHARE): ["caves/*.txt", "caves/*.bind", "logs/*.log", "logs/*.out", "logs/*.script",
                    "logs/shown/play.*", "logs/shown/edit.*", "logs/shown/edit-reports.*"],
-    ("tools", SHARE): ["common/__init__.py", "common/command_line.py"],
+    ("tools", SHARE): [f"common/{it}.py" for it in ("__init__", "command_line", "outputs")],
     ("tools/install", SHARE): ["cave_suite/*.py"],
     ("tools/page", SHARE): ["cave_walk/*.py", "walk_page/*", "live_server/*.py", "live_page/*"],
     ("recipes", f"{DOCS}/examples"): ["*.yml"],
@@ -206,13 +206,17 @@ def sums_of(tree: dict[str, File], kind: str = "sha256") -> bytes:
 
 
 def put(tree: dict[str, File], folder: str) -> None:
-    """Puts a tree into a folder, with permissions of its own."""
-    for path, it in tree.items():
-        to = f"{folder}/{path}"
-        os.makedirs(os.path.dirname(to), exist_ok=True)
-        with suppress(FileNotFoundError):
-            os.remove(to)
-        if it.mode == LINK:
-            os.symlink(it.content, to)
-        else:
-            os.chmod(write(to, it.content), it.mode)
+    """Puts a tree into a folder, with permissions of its own: all may enter a folder that is new."""
+    mask = os.umask(0o022)
+    try:
+        for path, it in tree.items():
+            to = f"{folder}/{path}"
+            os.makedirs(os.path.dirname(to), exist_ok=True)
+            with suppress(FileNotFoundError):
+                os.remove(to)
+            if it.mode == LINK:
+                os.symlink(it.content, to)
+            else:
+                os.chmod(write(to, it.content), it.mode)
+    finally:
+        os.umask(mask)

@@ -3,9 +3,12 @@
 import os
 import random
 import signal
+import socket
 import subprocess
 import threading
+import time
 from contextlib import suppress
+from http.client import HTTPException
 from typing import Any
 
 from common.files import bytes_of, write
@@ -19,7 +22,10 @@ DELETE = b'{"number":0,"edits":[{"kind":"delete","place":0}]}'
 MALFORMED = [b"", b"[]", b"{", b"[" * 100_000, b'{"number":0}', b'{"number":0,"edits":[]}',
              DELETE.replace(b"delete", b"eat"), DELETE.replace(b"0}", b"-1}"),
              DELETE.replace(b"0}", b"true}"), DELETE.replace(b":0,", b':"0",'),
-             b'{"number":0,"edits":[{"kind":"insert","place":1,"text":"a\\nb"}]}']
+             *(b'{"number":0,"edits":[{"kind":"insert","place":1,"text":"%s","was":"%s"}]}' % it
+               for it in ((b"a\\nb", b""), (b"\\ud800", b""), (b"", b"a\\udfffb"),
+                          (b"\xed\xa0\x80", b"")))]  # halves of a character
+HELD_ON, LONGEST = 40, 8.0  # connections, and seconds until they are all closed
 
 
 def pillow(server: Served) -> tuple[int, Head]:
@@ -56,6 +62,44 @@ def strangers(server: Served) -> Checks:
     for name in ("../walk", "walk/", "static/x", "Walk", "%2e%2e/walk"):
         yield f"{name} isn't there", server.ask("GET", name)[0].status, 404
     yield "the log is as it was", server.got("log"), server.file()
+
+
+def holding_on(server: Served) -> Checks:
+    """Those who send a byte now and then, and never the token, lock no page out."""
+    host, _, port = server.host.partition(":")
+    held, begun = dict[socket.socket, bytes](), time.monotonic()
+    for at in range(HELD_ON):
+        head = b"GET /" if at % 2 else b"GET /x HTTP/1.1\r\n"
+        held[socket.create_connection((host, int(port)))] = head
+    page = b""
+    while (held or not page) and time.monotonic() - begun < 2 * LONGEST:
+        for it in [*held]:
+            try:
+                it.sendall(held[it])
+                held[it] = b"x" if held[it][-1:] != b"\n" else b"x: y\r\n"
+                it.settimeout(0.01)
+                is_closed = it.recv(1) == b""
+            except TimeoutError:
+                continue
+            except OSError:
+                is_closed = True
+            if is_closed:
+                it.close()
+                del held[it]
+        with suppress(OSError, HTTPException):
+            page = page or server.got("")
+        time.sleep(0.2)
+    yield "all of them are closed in time", [len(held), time.monotonic() - begun < LONGEST], [
+        0, True]
+    yield "a page is answered", b"tour.log" in page, True
+    waiting = threading.Thread(target=server.got, args=[f"news?after={server.walk.number}"])
+    waiting.start()
+    waiting.join(LONGEST)
+    yield "whoever has the token may wait longer", waiting.is_alive(), True
+    yield "and gets what another page does", pillow(server)[0], 200
+    waiting.join(LONGEST)
+    yield "then", waiting.is_alive(), False
+    yield "nothing is said of it", [server.end(), server.errors.count("\n")], [0, 1]
 
 
 def wrong_requests(server: Served) -> Checks:
@@ -249,6 +293,6 @@ def beginnings(program: str) -> Checks:
         server.room.cleanup()
 
 
-TOURS = {"strangers": strangers, "wrong requests": wrong_requests, "changes": changes,
-         "refusals": refusals, "two pages": two_pages, "saving": saving}
+TOURS = {"strangers": strangers, "holding on": holding_on, "wrong requests": wrong_requests,
+         "changes": changes, "refusals": refusals, "two pages": two_pages, "saving": saving}
 PARTS = {"line ends": line_ends, "ends": ends, "beginnings": beginnings}

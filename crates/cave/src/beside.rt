@@ -5,7 +5,7 @@ ghost use Rattle.std.specs.Prelude.{None};
 use crate::draft::DraftFile;
 use crate::seen::{SeenFile, Stamp};
 use play_program::Target;
-use std::fs::{File, Permissions};
+use std::fs::{File, Metadata, Permissions};
 use std::io::ErrorKind;
 use std::path::Path;
 use std::{fs, io};
@@ -55,6 +55,17 @@ fn folder_of(path: &str) -> &str {
     }
 }
 
+/// The name by which the system knows where standard output goes.
+const STANDARD_OUTPUT: &str = "/dev/stdout";
+
+/// Whether a file is the one that standard output goes to, which would lose what is in it.
+fn is_standard_output(rt: &HostRuntime, found: &Metadata) -> io::Result<bool> {
+    match Stamp::found(rt, STANDARD_OUTPUT)? {
+        Some(output) => Ok(output.is_of_file(Stamp::of(found))),
+        None => Ok(false),
+    }
+}
+
 impl<'a> FileBeside<'a> {
     /// The file of a name, which is a file or doesn't exist yet, with what was seen of it if it is
     /// one of those that were opened. A link is followed, so the file to which it leads is replaced
@@ -70,6 +81,11 @@ impl<'a> FileBeside<'a> {
             }
             Ok(found) if !found.is_file() => {
                 return Err(io::Error::other("is no regular file"));
+            }
+            Ok(found) if is_standard_output(rt, &found)? => {
+                return Err(io::Error::other(
+                    "it is where standard output goes: leave --output out",
+                ));
             }
             Ok(found) => (
                 fs::canonicalize(rt, name)?.into_string(),

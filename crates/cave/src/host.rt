@@ -41,6 +41,15 @@ impl System for Host<'_> {
 
     ghost calls = { λ _. None };
 
+    ghost one_file = { λ _ _ _. None };
+
+    fn is_one_file(&self, one: &str, other: &str) -> io::Result<bool> {
+        match (Stamp::found(self.rt, one)?, Stamp::found(self.rt, other)?) {
+            (Some(one), Some(other)) => Ok(one.is_of_file(other)),
+            _ => Ok(false),
+        }
+    }
+
     /// A folder can be opened, but not read, so it is refused here.
     fn open(&mut self, file: &str) -> io::Result<File> {
         let opened = File::open(self.rt, file)?;

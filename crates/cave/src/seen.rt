@@ -1,7 +1,9 @@
 //! What was seen of a file when it was opened, so that a change since then shows.
 
 use std::fs::Metadata;
+use std::io::ErrorKind;
 use std::os::unix::fs::MetadataExt;
+use std::{fs, io};
 
 /// Which file it was, how long it was, and when it and its content were last changed.
 #[derive(Clone, Copy, PartialEq, Eq)]
@@ -26,6 +28,20 @@ impl Stamp {
             modified_nanos: found.mtime_nsec(),
             changed: found.ctime(),
             changed_nanos: found.ctime_nsec(),
+        }
+    }
+
+    /// Whether both are of one file, which may have changed between them.
+    pub(crate) fn is_of_file(self, other: Stamp) -> bool {
+        self.device == other.device && self.node == other.node
+    }
+
+    /// The stamp of the file of a name, if there is one that can be looked at. A link is followed.
+    pub(crate) fn found(rt: &HostRuntime, name: &str) -> io::Result<Option<Stamp>> {
+        match fs::metadata(rt, name) {
+            Ok(found) => Ok(Some(Stamp::of(&found))),
+            Err(reason) if reason.kind() == ErrorKind::OutOfMemory => Err(reason),
+            Err(_) => Ok(None),
         }
     }
 }

@@ -3,7 +3,7 @@ use Rattle.std.specs.Prelude.{◌≡◌, ℕ, Bool, List, [], Option, None, Some
 use Rattle.std.specs.Str.Lines.{lines}
 use Rattle.cave_data.specs.CaveView.{CaveView}
 use Rattle.cave_play.specs.Ended.{IsEdited, IsEndedEditOf}
-use Rattle.cave_play.specs.Refused.{refusals_by}
+use Rattle.cave_play.specs.Refused.{refusals_by, seed_by}
 use Rattle.cave_play.specs.Views.{IsEditOf}
 use Rattle.cave_play.specs.declared.edits.EditRun.{EditRun}
 use Rattle.cave_play.specs.declared.edits.Edited.{Edited}
@@ -29,6 +29,7 @@ IsMadeOf view report cave every game guarded script before made =
     (shown_ends made.ends)
     × (made.refused.items ≡ refusals_by guarded script game)
     × IsSideReportOf report cave every game guarded script made.played made.report.items
+    × (made.seed ≡ seed_by guarded script game)
 
 -- the report is what the edit prints if it prints that alone, with as many lines played
 abbrev pub IsSideReport : Option ReportView → List ℕ → List ℕ → List ℕ → List ℕ → Editing → ℕ
@@ -37,11 +38,12 @@ IsSideReport None database bindings log script editing played text = text ≡ []
 IsSideReport (Some view) database bindings log script editing played text =
     IsEdited database bindings log script (record editing { view = edit_view_of view }) played text
 
--- the output is that of the edit, and what is returned says which items are refused, and has the
--- report, if one is asked for
+-- the output is that of the edit, and what is returned says which items are refused, has the report,
+-- if one is asked for, and the seed that is left
 abbrev pub IsEditRun : List ℕ → List ℕ → List ℕ → List ℕ → Editing → Option ReportView → EditRun
     → List ℕ → Type 0
 IsEditRun database bindings log script editing report run output =
     IsEdited database bindings log script editing run.played output
     × (run.refused.items ≡ refusals_by editing.guarded script (game_of editing.seed (lines log)))
     × IsSideReport report database bindings log script editing run.played run.report.items
+    × (run.seed ≡ seed_by editing.guarded script (game_of editing.seed (lines log)))

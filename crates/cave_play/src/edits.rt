@@ -25,7 +25,7 @@ ghost use Rattle.play_edits.specs.LogEnds.{log_ends, shown_ends};
 
 use crate::fault::PlayFault;
 use crate::judge::read_script;
-use cave_replay::{Done, Session};
+use cave_replay::{GroupReport, Session};
 use play_command::{Editing, ReportView};
 use play_edits::{
     LogEnds, Refusal, SideReport, Totals, apply_reported, keep_back, push_end, push_start,
@@ -36,7 +36,8 @@ use std::alloc::{AllocError, Global};
 use std::io::Read;
 
 /// What edits of a log made: the text of the view, how many lines were played for them, how the
-/// lines of the log end, why items were refused, and the report beside the view.
+/// lines of the log end, why items were refused, the report beside the view, and the seed that is
+/// left.
 #[derive(Drop)]
 pub(crate) struct Edited {
     pub(crate) text: Vec<u8>,
@@ -44,15 +45,18 @@ pub(crate) struct Edited {
     pub(crate) ends: LogEnds,
     pub(crate) refused: Vec<Refusal>,
     pub(crate) report: Vec<u8>,
+    pub(crate) seed: u32,
 }
 
 /// What a run of edits returns beside its output: how many lines were played for the items, why
-/// those of them were refused that were, in their order, and the report that was asked for.
+/// those of them were refused that were, in their order, the report that was asked for, and the
+/// seed of the game that is left.
 #[derive(Debug, Drop)]
 pub struct EditRun {
     pub played: u64,
     pub refused: Vec<Refusal>,
     pub report: Vec<u8>,
+    pub seed: u32,
 }
 
 /// What is kept of the items of a script, in addition to what is written of them.
@@ -106,6 +110,7 @@ pub(crate) fn edit_session<S: Read>(
         refused,
         mut report,
     } = kept;
+    let seed = session.seed();
     report.end(alloc, totals)?;
     backs.reverse();
     push_end(alloc, session, editing.view, totals, &backs, &mut text)?;
@@ -115,6 +120,7 @@ pub(crate) fn edit_session<S: Read>(
         ends,
         refused,
         report: report.text,
+        seed,
     })
 }
 
@@ -172,7 +178,7 @@ fn apply(
 fn leave_ends(
     ends: &mut LogEnds,
     item: &Item,
-    outcome: &Result<Done, Refusal>,
+    outcome: &Result<GroupReport, Refusal>,
 ) -> Result<(), AllocError>
     ensures { OnOk result (shown_ends ends.new
         ≡ ends_left (applied_item item.now) (refusal_in outcome.now) (shown_ends ends.old)) }
@@ -186,7 +192,7 @@ fn leave_ends(
 /// Keeps why an item was refused, if it was.
 fn note_refusal(
     refused: &mut Vec<Refusal>,
-    outcome: &Result<Done, Refusal>,
+    outcome: &Result<GroupReport, Refusal>,
 ) -> Result<(), AllocError>
     ensures { OnOk result (refused.new.items
         ≡ refused.old.items ++ refusal_list (refusal_in outcome.now)) }
@@ -209,7 +215,7 @@ fn apply_judged(
     editing: Editing,
     text: &mut Vec<u8>,
     report: &mut SideReport,
-) -> Result<Result<Done, Refusal>, PlayFault>
+) -> Result<Result<GroupReport, Refusal>, PlayFault>
     ensures applies { IfOk result (Applies (applied_item item.now) session.old session.new) }
     ensures back_free { IfOk result (λ outcome. IfOk outcome (λ done.
         fault_of_all (changes_of done.inverse.items) session.new.game.log 0 ≡ None)) }
@@ -231,7 +237,7 @@ fn apply_judged(
 }
 
 /// Whether a run goes on after an item: it does, unless the item was refused and the run is strict.
-fn check_strict(strict: bool, outcome: &Result<Done, Refusal>) -> Result<(), PlayFault>
+fn check_strict(strict: bool, outcome: &Result<GroupReport, Refusal>) -> Result<(), PlayFault>
     ensures { MatchResult result (λ _. strict_fault_by strict (refusal_in outcome.now) ≡ None)
         (λ found. strict_fault_by strict (refusal_in outcome.now) ≡ Some found) }
 {

@@ -81,7 +81,8 @@ pub fn run_play<C: Read, B: Read, L: Read, S: Read, W: Write>(
 /// the table of the edited log's lines, the same as JSON, the table of its score, or the state that
 /// it leads to. Each line of the edited log has the end that it has in the log. Returns how many
 /// lines were played for the items: the sum of what was played for each, which is within the bound
-/// of its replay; why items were refused, if some were; and the report, if one is asked for.
+/// of its replay; why items were refused, if some were; the report, if one is asked for; and the
+/// seed that is left.
 pub fn run_edit<C: Read, B: Read, L: Read, S: Read, W: Write>(
     alloc: Global,
     inputs: &mut Inputs<C, B, L, S>,
@@ -114,6 +115,7 @@ pub fn run_edit<C: Read, B: Read, L: Read, S: Read, W: Write>(
         ends,
         refused,
         report,
+        seed,
     } = edited;
     let text = ended_view(alloc, editing.view, &ends, text)?;
     check_size(editing.view, &text)?;
@@ -122,6 +124,7 @@ pub fn run_edit<C: Read, B: Read, L: Read, S: Read, W: Write>(
         played,
         refused,
         report,
+        seed,
     })
 }
 

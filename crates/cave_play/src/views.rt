@@ -13,7 +13,6 @@ ghost use Rattle.turn_ends.specs.Score.{max_score_of};
 use crate::fault::PlayFault;
 use crate::judge::watch_play;
 use cave_data::Cave;
-use cave_words::Lexicon;
 use check_tables::{push_names, push_unused, push_words};
 use data_bindings::push_bindings;
 use play_command::{CheckView, PlayView};
@@ -24,7 +23,6 @@ use play_tables::push_score_table;
 use std::alloc::{AllocError, Global};
 use std::io::Read;
 use turn_ends::max_score;
-use turn_scene::Rules;
 
 pub(crate) fn check_text(alloc: Global, cave: &Cave, view: CheckView) -> Result<Vec<u8>, PlayFault>
     ensures told { MatchResult result (λ text. text.items ≡ check_text view cave.now)
@@ -46,8 +44,7 @@ fn push_maximum(alloc: Global, cave: &Cave, text: &mut Vec<u8>) -> Result<(), Al
     ensures { OnOk result
         (text.new.items ≡ text.old.items ++ cave_line (max_score_of cave.now)) }
 {
-    let lexicon = Lexicon::build(alloc, cave)?;
-    let most = max_score(&Rules::of(cave, &lexicon));
+    let most = max_score(cave);
     let line = format!(in alloc; "cave ok, maximum {most}\n")?;
     text.extend_from_slice(line.as_bytes())
 }

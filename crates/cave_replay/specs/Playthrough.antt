@@ -25,22 +25,22 @@ pub record IsPlaythrough {State S T : Type 0} (meaning : State → S) (is_state 
   pub states : AreStates meaning is_state (state_at rules game) checkpoints.places
       checkpoints.states
 
-abbrev pub kept_game : {Machine State Kept Piece Meter Scratch : Type 0}
-    → Playthrough Machine State Kept Piece Meter Scratch → Game
+abbrev pub kept_game : {Machine Kept Scratch State Piece Meter : Type 0}
+    → Playthrough Machine Kept Scratch State Piece Meter → Game
 kept_game kept = game_of kept.seed (log_of kept.log.items)
 
 -- What is kept is the play of the kept game, with the states at its checkpoints; the game and their
 -- distance are valid.
-abbrev pub KeepsPlay : {Machine State Kept Piece Meter Scratch Meaning Text : Type 0}
+abbrev pub KeepsPlay : {Machine Kept Scratch State Piece Meter Meaning Text : Type 0}
     → (State → Meaning) → (State → Type 0) → (Piece → Text) → MachineRules Meaning Text
-    → Playthrough Machine State Kept Piece Meter Scratch → Type 0
+    → Playthrough Machine Kept Scratch State Piece Meter → Type 0
 KeepsPlay meaning is_state text rules kept =
     IsPlaythrough meaning is_state rules (kept_game kept) (text kept.opening)
     (map text kept.pieces.items) kept.ticked.each.items kept.state kept.checkpoints
 
 -- A copy keeps the same, by what the pieces say.
-pub record IsCopyOf {Machine State Kept Piece Meter Scratch T : Type 0} (text : Piece → T)
-    (kept copy : Playthrough Machine State Kept Piece Meter Scratch) : Type 0 where
+pub record IsCopyOf {Machine Kept Scratch State Piece Meter T : Type 0} (text : Piece → T)
+    (kept copy : Playthrough Machine Kept Scratch State Piece Meter) : Type 0 where
   pub seed : copy.seed ≡ kept.seed
   pub log : log_of copy.log.items ≡ log_of kept.log.items
   pub opening : text copy.opening ≡ text kept.opening
@@ -53,8 +53,8 @@ pub record IsCopyOf {Machine State Kept Piece Meter Scratch T : Type 0} (text : 
   pub state : copy.state ≡ kept.state
 
 -- Only capacity has changed: all that is kept is as it was.
-pub record KeepsAll {Machine State Kept Piece Meter Scratch : Type 0}
-    (old new : Playthrough Machine State Kept Piece Meter Scratch) : Type 0 where
+pub record KeepsAll {Machine Kept Scratch State Piece Meter : Type 0}
+    (old new : Playthrough Machine Kept Scratch State Piece Meter) : Type 0 where
   pub seed : new.seed ≡ old.seed
   pub log : new.log.items ≡ old.log.items
   pub opening : new.opening ≡ old.opening

@@ -40,17 +40,17 @@ abbrev pub MayReplay : {Kept State S T : Type 0} → (State → S) → (State �
 MayReplay meaning is_state rules old ready marks =
     MayBegin meaning is_state (ready_revision rules old ready) old.checkpoints.now marks
 
-abbrev pub IsReplayed : {Machine State Kept Piece Meter Scratch S T : Type 0} → (State → S)
+abbrev pub IsReplayed : {Machine Kept Scratch State Piece Meter S T : Type 0} → (State → S)
     → (State → Type 0) → (Piece → T) → MachineRules S T → OldPlay Kept State → ReadyEdits
-    → MarksView State → Segment Machine State Kept Piece Meter Scratch → Type 0
+    → MarksView State → Segment Machine Kept Scratch State Piece Meter → Type 0
 IsReplayed meaning is_state text rules old ready marks played =
     IsPlayedOn meaning is_state (ready_revision rules old ready) old.checkpoints.now.places marks
     (segment_view text played)
 
-abbrev pub IsRerunOf : {Machine State Kept Piece Meter Scratch S T : Type 0} → (State → S)
+abbrev pub IsRerunOf : {Machine Kept Scratch State Piece Meter S T : Type 0} → (State → S)
     → (State → Type 0) → (Piece → T) → MachineRules S T → List Change
-    → Playthrough Machine State Kept Piece Meter Scratch
-    → Rerun Machine State Kept Piece Meter Scratch → Type 0
+    → Playthrough Machine Kept Scratch State Piece Meter
+    → Rerun Machine Kept Scratch State Piece Meter → Type 0
 IsRerunOf meaning is_state text rules changes kept rerun =
     let old = kept_game kept in
     let revision = revision_to rules changes old (new_game rerun.ready old.log) in

@@ -139,8 +139,8 @@ pub record SegmentView (State T : Type 0) : Type 0 where
   pub marks : MarksView State
   pub met : Option ℕ
 
-abbrev pub segment_view : {Machine State Kept Piece Meter Scratch T : Type 0}
-    → (Piece → T) → Segment Machine State Kept Piece Meter Scratch → SegmentView State T
+abbrev pub segment_view : {Machine Kept Scratch State Piece Meter T : Type 0}
+    → (Piece → T) → Segment Machine Kept Scratch State Piece Meter → SegmentView State T
 segment_view text played = record {
   pieces = map text played.pieces.items;
   ticks = played.ticked.items;
@@ -241,8 +241,8 @@ pub record RerunView (State T : Type 0) : Type 0 where
   pub marks : MarksView State
   pub met : Option ℕ
 
-abbrev pub rerun_view : {Machine State Kept Piece Meter Scratch T : Type 0}
-    → (Piece → T) → Rerun Machine State Kept Piece Meter Scratch → RerunView State T
+abbrev pub rerun_view : {Machine Kept Scratch State Piece Meter T : Type 0}
+    → (Piece → T) → Rerun Machine Kept Scratch State Piece Meter → RerunView State T
 rerun_view text rerun = record {
   at = rerun.at;
   opening = option_map text rerun.opening;

@@ -19,8 +19,8 @@ pub record SessionView (Machine Piece State : Type 0) : Type 0 where
   pub checkpoints : List ℕ
 
 -- what a session with this machine shows of what it keeps
-abbrev pub session_view : {Machine State Kept Piece Meter Scratch : Type 0}
-    → Machine → Playthrough Machine State Kept Piece Meter Scratch → SessionView Machine Piece State
+abbrev pub session_view : {Machine Kept Scratch State Piece Meter : Type 0}
+    → Machine → Playthrough Machine Kept Scratch State Piece Meter → SessionView Machine Piece State
 session_view machine kept = record {
   machine = machine;
   game = kept_game kept;

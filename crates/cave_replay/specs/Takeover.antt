@@ -44,17 +44,17 @@ FitsMarks checkpoints marks at count =
     length checkpoints.places + length marks.places + (at - 1) ≤ checkpoints.room + count
 
 -- each line that is kept has a piece, and ticked or not, and the checkpoints are of all the lines
-pub record IsWhole {Machine State Kept Piece Meter Scratch : Type 0}
-    (kept : Playthrough Machine State Kept Piece Meter Scratch) : Type 0 where
+pub record IsWhole {Machine Kept Scratch State Piece Meter : Type 0}
+    (kept : Playthrough Machine Kept Scratch State Piece Meter) : Type 0 where
   pub pieces : length kept.pieces.items ≡ length kept.log.items
   pub ticked : length kept.ticked.each.items ≡ length kept.log.items
   pub lines : kept.checkpoints.lines ≡ length kept.log.items
 
 -- There is room for the lines of the edits of a rerun, and for what it played, if the lines and the
 -- checkpoints that it passed go.
-pub record HasRoomFor {Machine State Kept Piece Meter Scratch : Type 0}
-    (kept : Playthrough Machine State Kept Piece Meter Scratch)
-    (rerun : Rerun Machine State Kept Piece Meter Scratch) :
+pub record HasRoomFor {Machine Kept Scratch State Piece Meter : Type 0}
+    (kept : Playthrough Machine Kept Scratch State Piece Meter)
+    (rerun : Rerun Machine Kept Scratch State Piece Meter) :
     Type 0 where
   pub log : IsOpenAt kept.log rerun.ready.head rerun.ready.rest (vec_len rerun.ready.middle)
   pub pieces : IsOpenAt kept.pieces (slice_index kept.checkpoints.places rerun.at)
@@ -80,9 +80,9 @@ new_state state marks (Some index) = state
 
 -- What is kept after a rerun is taken over: the new game of its edits, and what it played in the
 -- place of what was there.
-pub record IsTakenOver {Machine State Kept Piece Meter Scratch : Type 0}
-    (old new : Playthrough Machine State Kept Piece Meter Scratch)
-    (rerun : Rerun Machine State Kept Piece Meter Scratch) :
+pub record IsTakenOver {Machine Kept Scratch State Piece Meter : Type 0}
+    (old new : Playthrough Machine Kept Scratch State Piece Meter)
+    (rerun : Rerun Machine Kept Scratch State Piece Meter) :
     Type 0 where
   pub game : kept_game new ≡ new_game rerun.ready (kept_game old).log
   pub opening_is : MatchOption rerun.opening (new.opening ≡ old.opening)

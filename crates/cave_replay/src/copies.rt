@@ -2,14 +2,14 @@ ghost use Rattle.std.specs.Prelude.{◌≡◌, map, IfOk};
 ghost use Rattle.replay_edits.specs.Edit.{log_of};
 ghost use Rattle.cave_replay.specs.Playthrough.{IsCopyOf};
 
-use crate::machine::Machine;
+use crate::machine::Playable;
 use crate::playthrough::Playthrough;
 use replay_checkpoints::Blocks;
 use replay_edits::LineText;
 use std::alloc::{AllocError, Global};
 
 /// A copy of what a session keeps.
-pub(crate) fn copy_kept<M: Machine>(
+pub(crate) fn copy_kept<M: Playable>(
     alloc: Global,
     machine: &M,
     kept: &Playthrough<M>,
@@ -42,7 +42,7 @@ fn copy_lines(alloc: Global, lines: &Blocks<LineText>) -> Result<Blocks<LineText
     Blocks::of(alloc, copy)
 }
 
-fn copy_pieces<M: Machine>(
+fn copy_pieces<M: Playable>(
     alloc: Global,
     machine: &M,
     pieces: &Blocks<M::Piece>,

@@ -5,7 +5,7 @@ ghost use Rattle.cave_replay.specs.Agreement.{BoundedByFirst};
 ghost use Rattle.cave_replay.specs.Table.{ByTable};
 ghost use Rattle.cave_replay.specs.Tails.{AgreedTails, HaveEqualTails, PrefixesPlayAlike};
 
-use crate::machine::Machine;
+use crate::machine::Playable;
 
 /// What a group of one edit leaves alone is what the table says of its kind.
 pub fn by_table()
@@ -20,7 +20,7 @@ pub fn bounded_by_first<S, T>()
 
 /// Whether two states of a machine are equal. From equal states any lines lead to equal states, get
 /// the same answers and tick alike.
-pub fn equal_states_have_equal_tails<M: Machine>(
+pub fn equal_states_have_equal_tails<M: Playable>(
     machine: &M,
     one: &M::State,
     other: &M::State,

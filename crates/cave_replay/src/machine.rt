@@ -13,9 +13,18 @@ pub struct Started<S, P> {
     pub piece: P,
 }
 
-/// What a machine answers to one line: the piece that it says, and whether the line ticked.
+/// What a machine answers to one line: the state after it, the piece that it says, and whether the
+/// line ticked.
 #[derive(Drop)]
-pub struct Stepped<P> {
+pub struct Stepped<S, P> {
+    pub state: S,
+    pub piece: P,
+    pub ticked: bool,
+}
+
+/// The answer to a line that was played in the state itself.
+#[derive(Drop)]
+pub struct PlayedInPlace<P> {
     pub piece: P,
     pub ticked: bool,
 }
@@ -26,18 +35,11 @@ pub trait Machine: Drop {
     /// The state from which the machine goes on.
     type State: Copy + Eq;
 
-    /// How a checkpoint keeps a state: whole, as `Whole<Self::State>`, or in a smaller form.
-    type Kept: KeptState<State = Self::State>;
-
     /// What it says at the start and to each line.
     type Piece: Drop;
 
     /// What counts the lines that it plays.
     type Meter: Steps;
-
-    /// What it works in at a step. It is made once for all steps, and no answer depends on what is
-    /// left in it.
-    type Scratch: Drop;
 
     /// What a state means, and what a piece says.
     ghost Meaning: { Type 0 };
@@ -63,31 +65,25 @@ pub trait Machine: Drop {
         ensures state { IfOk result (λ made. meaning made.state ≡ (rules self.now).begun seed) }
         ensures piece { IfOk result (λ made. text made.piece ≡ (rules self.now).greeting seed) };
 
-    /// What the machine works in.
-    fn scratch(&self, alloc: Global) -> Result<Self::Scratch, AllocError>;
-
-    /// Plays one line in the state itself, so no state is copied for it. The meter counts the line,
-    /// even if memory is refused; then the state is of no more use to its owner. The answer is the
-    /// same for anything that earlier steps left in the scratch.
+    /// Plays one line. The meter counts it, even if memory is refused.
     fn step(
         &self,
         alloc: Global,
-        scratch: &mut Self::Scratch,
-        state: &mut Self::State,
+        state: &Self::State,
         line: &[u8],
         meter: &mut Self::Meter,
-    ) -> Result<Stepped<Self::Piece>, AllocError>
-        requires known { is_state state.old }
+    ) -> Result<Stepped<Self::State, Self::Piece>, AllocError>
+        requires known { is_state state.now }
         requires line { IsTrue (is_line line.now) }
         requires room { Self.Meter.count meter.old + 1 < 2 ^ 64 }
         ensures counted { Self.Meter.count meter.new ≡ Self.Meter.count meter.old + 1 }
-        ensures made { OnOk result (is_state state.new) }
-        ensures state { OnOk result (meaning state.new
-            ≡ (rules self.now).after (meaning state.old) line.now) }
+        ensures made { IfOk result (λ made. is_state made.state) }
+        ensures state { IfOk result (λ made. meaning made.state
+            ≡ (rules self.now).after (meaning state.now) line.now) }
         ensures piece { IfOk result (λ made. text made.piece
-            ≡ (rules self.now).said (meaning state.old) line.now) }
+            ≡ (rules self.now).said (meaning state.now) line.now) }
         ensures ticked { IfOk result (λ made. made.ticked
-            ≡ (rules self.now).ticked (meaning state.old) line.now) };
+            ≡ (rules self.now).ticked (meaning state.now) line.now) };
 
     /// A piece that says the same.
     fn copy_piece(&self, alloc: Global, piece: &Self::Piece) -> Result<Self::Piece, AllocError>
@@ -96,4 +92,48 @@ pub trait Machine: Drop {
     /// States are equal exactly if their meanings are.
     ghost exact: { (a b : Self.State) → is_state a → is_state b
         → IsTrue (Self.State.eq a b) ↔ (meaning a ≡ meaning b) };
+}
+
+/// How a session plays a machine: what it keeps of states, and what the machine works in.
+pub trait Playable: Machine {
+    /// How a checkpoint keeps a state: whole, as `Whole<Self::State>`, or in a smaller form.
+    type Kept: KeptState<State = Self::State>;
+
+    /// What it works in at a step. It is made once for all steps, and no answer depends on what is
+    /// left in it.
+    type Scratch: Drop;
+
+    /// What the machine works in.
+    fn scratch(&self, alloc: Global) -> Result<Self::Scratch, AllocError>;
+
+    /// Plays one line in the state itself, so a machine may copy no state for it. If memory is
+    /// refused, the state is of no more use to its owner. The answer is the same for anything that
+    /// earlier steps left in the scratch.
+    fn step_in_place(
+        &self,
+        alloc: Global,
+        _scratch: &mut Self::Scratch,
+        state: &mut Self::State,
+        line: &[u8],
+        meter: &mut Self::Meter,
+    ) -> Result<PlayedInPlace<Self::Piece>, AllocError>
+        requires known { Self.is_state state.old }
+        requires line { IsTrue (is_line line.now) }
+        requires room { Self.Meter.count meter.old + 1 < 2 ^ 64 }
+        ensures counted { Self.Meter.count meter.new ≡ Self.Meter.count meter.old + 1 }
+        ensures made { OnOk result (Self.is_state state.new) }
+        ensures state { OnOk result (Self.meaning state.new
+            ≡ (Self.rules self.now).after (Self.meaning state.old) line.now) }
+        ensures piece { IfOk result (λ made. Self.text made.piece
+            ≡ (Self.rules self.now).said (Self.meaning state.old) line.now) }
+        ensures ticked { IfOk result (λ made. made.ticked
+            ≡ (Self.rules self.now).ticked (Self.meaning state.old) line.now) }
+    {
+        let stepped = self.step(alloc, state, line, meter)?;
+        *state = stepped.state;
+        Ok(PlayedInPlace {
+            piece: stepped.piece,
+            ticked: stepped.ticked,
+        })
+    }
 }

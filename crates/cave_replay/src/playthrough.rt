@@ -4,7 +4,7 @@ ghost use Rattle.replay_edits.specs.Edit.{IsGame, game_in};
 ghost use Rattle.cave_replay.specs.Playthrough.{IsDistance, kept_game, KeepsPlay};
 ghost use Rattle.cave_replay.specs.Report.{RisesByAtMost};
 
-use crate::machine::Machine;
+use crate::machine::Playable;
 use crate::segment::{Segment, play_line};
 use crate::ticked_lines::TickedLines;
 use crate::workspace::Workspace;
@@ -14,7 +14,7 @@ use std::alloc::AllocError;
 
 /// A game, its play, and the states at its checkpoints and at its end.
 #[derive(Drop)]
-pub(crate) struct Playthrough<M: Machine> {
+pub(crate) struct Playthrough<M: Playable> {
     pub(crate) seed: u32,
     pub(crate) log: Blocks<LineText>,
     pub(crate) opening: M::Piece,
@@ -25,7 +25,7 @@ pub(crate) struct Playthrough<M: Machine> {
 }
 
 /// Plays a game from its first line to its last.
-pub(crate) fn play_game<M: Machine>(
+pub(crate) fn play_game<M: Playable>(
     workspace: &mut Workspace<M>,
     machine: &M,
     seed: u32,

@@ -10,10 +10,10 @@ ghost use Rattle.cave_replay.specs.Playthrough.{kept_game, KeepsPlay, KeepsAll};
 ghost use Rattle.cave_replay.specs.Replay.{MarksBegin};
 ghost use Rattle.cave_replay.specs.Report.{IsReport, AreGroupSteps};
 
-use crate::machine::Machine;
+use crate::machine::Playable;
 use crate::playthrough::Playthrough;
 use crate::ready_edits::{ReadyEdits, prepare};
-use crate::report::Done;
+use crate::report::GroupReport;
 use crate::segment::{OldPlay, Segment, play_changed};
 use crate::takeover::{make_room, take_over};
 use crate::workspace::Workspace;
@@ -23,13 +23,13 @@ use replay_edits::{Edit, GroupFault};
 use std::alloc::{AllocError, Global};
 
 /// Makes the edits in the kept game, and replays it once. It makes all of them, or none.
-pub(crate) fn edit_kept<M: Machine>(
+pub(crate) fn edit_kept<M: Playable>(
     workspace: &mut Workspace<M>,
     machine: &M,
     kept: &mut Playthrough<M>,
     edits: &[Edit],
     meter: &mut M::Meter,
-) -> Result<Done, GroupFault>
+) -> Result<GroupReport, GroupFault>
     requires kept { KeepsPlay M.meaning M.is_state M.text (M.rules machine.now) kept.old }
     ensures kept { KeepsPlay M.meaning M.is_state M.text (M.rules machine.now) kept.new }
     ensures game { OnOk result (kept_game kept.new
@@ -62,7 +62,7 @@ pub(crate) fn edit_kept<M: Machine>(
     let inverse = take_over(kept, rerun, state);
     let played = end - from;
     let lines = kept.checkpoints.lines();
-    Ok(Done {
+    Ok(GroupReport {
         from,
         met,
         played,
@@ -73,7 +73,7 @@ pub(crate) fn edit_kept<M: Machine>(
 
 /// A changed game, replayed from the checkpoint of the index `at` on.
 #[derive(Drop)]
-pub(crate) struct Rerun<M: Machine> {
+pub(crate) struct Rerun<M: Playable> {
     pub(crate) ready: ReadyEdits,
     pub(crate) opening: Option<M::Piece>,
     pub(crate) played: Segment<M>,
@@ -81,7 +81,7 @@ pub(crate) struct Rerun<M: Machine> {
 }
 
 /// Plays the game that the edits make of the kept one, which stays as it is.
-fn replay<M: Machine>(
+fn replay<M: Playable>(
     workspace: &mut Workspace<M>,
     machine: &M,
     kept: &Playthrough<M>,
@@ -125,14 +125,14 @@ fn replay<M: Machine>(
 /// Where a replay begins: what the machine says if the game starts again, and the marks at the
 /// first place.
 #[derive(Drop)]
-pub(crate) struct ReplayStart<M: Machine> {
+pub(crate) struct ReplayStart<M: Playable> {
     pub(crate) opening: Option<M::Piece>,
     pub(crate) marks: Marks<M::Kept>,
 }
 
 /// Begins the replay of a game of `end` lines at the checkpoint of the index `at`, or with another
 /// seed at the start.
-fn begin<M: Machine>(
+fn begin<M: Playable>(
     alloc: Global,
     machine: &M,
     old: &OldPlay<'_, M::Kept>,

@@ -15,7 +15,7 @@ pub struct Report {
 
 /// What was done for a group of edits.
 #[derive(Debug, Drop)]
-pub struct Done {
+pub struct GroupReport {
     /// The place at which the replay began.
     pub from: u32,
     /// The place at which the replay met the old play, if it did.

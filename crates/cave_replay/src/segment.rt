@@ -9,7 +9,7 @@ ghost use Rattle.cave_replay.specs.Replay.{IsWithinBound, segment_view};
 ghost use Rattle.cave_replay.specs.Report.{RisesByAtMost};
 ghost use Rattle.base_lines.specs.Limits.{MAX_LOG_LINES};
 
-use crate::machine::Machine;
+use crate::machine::Playable;
 use crate::ready_edits::ReadyEdits;
 use crate::workspace::Workspace;
 use replay_checkpoints::{Blocks, Checkpoints, KeptState, Marks, first_from};
@@ -21,7 +21,7 @@ use std::alloc::AllocError;
 ///
 /// `met` is the index of the old checkpoint at which the play met the old one.
 #[derive(Drop)]
-pub(crate) struct Segment<M: Machine> {
+pub(crate) struct Segment<M: Playable> {
     pub(crate) pieces: Vec<M::Piece>,
     pub(crate) ticked: Vec<bool>,
     pub(crate) marks: Marks<M::Kept>,
@@ -38,7 +38,7 @@ pub(crate) struct OldPlay<'a, K: KeptState> {
 
 /// Plays a changed game from the open place of the marks on, until the play meets the old one at a
 /// checkpoint, or to the end.
-pub(crate) fn play_changed<M: Machine>(
+pub(crate) fn play_changed<M: Playable>(
     workspace: &mut Workspace<M>,
     machine: &M,
     old: &OldPlay<'_, M::Kept>,
@@ -86,7 +86,7 @@ pub(crate) fn play_changed<M: Machine>(
 /// The index of the checkpoint to look at after the open place of the marks, if `index` is the
 /// first that isn't before that place; none if the plays agree there. The old place `old` is now
 /// `new`.
-fn pass<M: Machine>(
+fn pass<M: Playable>(
     checkpoints: &Checkpoints<M::Kept>,
     index: usize,
     old: usize,
@@ -121,7 +121,7 @@ fn comes_to(places: &[u32], index: usize, old: usize, new: usize, place: usize) 
 }
 
 /// Whether the state at the old checkpoint of this index is the one at the open place of the marks.
-fn agrees<M: Machine>(
+fn agrees<M: Playable>(
     checkpoints: &Checkpoints<M::Kept>,
     index: usize,
     marks: &Marks<M::Kept>,
@@ -135,7 +135,7 @@ fn agrees<M: Machine>(
     checkpoints.state(index) == *marks.state()
 }
 
-pub(crate) fn play_line<M: Machine>(
+pub(crate) fn play_line<M: Playable>(
     workspace: &mut Workspace<M>,
     machine: &M,
     line: &[u8],
@@ -157,7 +157,7 @@ pub(crate) fn play_line<M: Machine>(
     let place = played.marks.next() + 1;
     played.marks.advance(place)?;
     let Workspace { alloc, scratch } = workspace;
-    let stepped = machine.step(*alloc, scratch, played.marks.state_mut(), line, meter)?;
+    let stepped = machine.step_in_place(*alloc, scratch, played.marks.state_mut(), line, meter)?;
     played.pieces.push(stepped.piece)?;
     played.ticked.push(stepped.ticked)?;
     Ok(())

@@ -18,11 +18,11 @@ ghost use Rattle.base_lines.specs.Limits.{MAX_LOG_LINES};
 use crate::copies::copy_kept;
 use crate::fault::OpenFault;
 use crate::log::{push_lines, read_lines};
-use crate::machine::Machine;
+use crate::machine::Playable;
 use crate::played_lines::PlayedLines;
 use crate::playthrough::{Playthrough, play_game};
 use crate::replay::edit_kept;
-use crate::report::{Done, Report};
+use crate::report::{GroupReport, Report};
 use crate::tick_counts::TickCounts;
 use crate::workspace::Workspace;
 use base_lines::Steps;
@@ -36,13 +36,13 @@ use std::slice;
 ///
 /// The states at its checkpoints and the last state are kept, and what was said at each line.
 #[derive(Drop)]
-pub struct Session<M: Machine> {
+pub struct Session<M: Playable> {
     workspace: Workspace<M>,
     machine: M,
     kept: Playthrough<M>,
 }
 
-impl<M: Machine> Model for Session<M> {
+impl<M: Playable> Model for Session<M> {
     ghost use Rattle.cave_replay.specs.Playthrough.{KeepsPlay};
     ghost use Rattle.cave_replay.specs.Session.{SessionView, session_view};
 
@@ -53,7 +53,7 @@ impl<M: Machine> Model for Session<M> {
     ghost invariant = { λ s. KeepsPlay M.meaning M.is_state M.text (M.rules s.machine) s.kept };
 }
 
-impl<M: Machine> Session<M> {
+impl<M: Playable> Session<M> {
     /// Plays a log from its first line to its last and holds the play.
     pub fn open(
         alloc: Global,
@@ -93,7 +93,11 @@ impl<M: Machine> Session<M> {
 
     /// Edits the held game by each of the edits in turn, and plays it once. It makes all of them,
     /// or none.
-    pub fn edit_group(&mut self, edits: &[Edit], meter: &mut M::Meter) -> Result<Done, GroupFault>
+    pub fn edit_group(
+        &mut self,
+        edits: &[Edit],
+        meter: &mut M::Meter,
+    ) -> Result<GroupReport, GroupFault>
         ensures game { OnOk result (self.new.game
             ≡ apply_all (changes_of edits.now) self.old.game) }
         ensures kept { OnOk result (KeepsSettings self.old self.new) }

@@ -8,7 +8,7 @@ ghost use Rattle.cave_replay.specs.Takeover.{end_of_stretch, checkpoints_passed}
 ghost use Rattle.cave_replay.specs.Takeover.{FitsMarks, HasRoomFor, IsStretch, IsTakenOver};
 ghost use Rattle.cave_replay.specs.Takeover.{IsWhole, MarksEnd, new_places, new_states, new_state};
 
-use crate::machine::Machine;
+use crate::machine::Playable;
 use crate::playthrough::Playthrough;
 use crate::replay::Rerun;
 use crate::segment::Segment;
@@ -17,7 +17,7 @@ use replay_edits::Edit;
 use std::alloc::AllocError;
 
 /// Reserves room for what a rerun brings, before it is taken over. What is kept stays as it is.
-pub(crate) fn make_room<M: Machine>(
+pub(crate) fn make_room<M: Playable>(
     kept: &mut Playthrough<M>,
     rerun: &Rerun<M>,
 ) -> Result<(), AllocError>
@@ -50,7 +50,7 @@ pub(crate) fn make_room<M: Machine>(
 /// Makes the edits of a rerun, and puts what was played in the place of what was there, without
 /// taking memory. Returns the edits that take these back. `state` is kept for the open place of the
 /// marks.
-pub(crate) fn take_over<M: Machine>(
+pub(crate) fn take_over<M: Playable>(
     kept: &mut Playthrough<M>,
     rerun: Rerun<M>,
     state: M::Kept,

@@ -27,12 +27,12 @@ use Rattle.turn_scene.specs.Rows.{otherwise, answer_row, otherwise_row, always, 
 use Rattle.turn_scene.specs.Rows.{act_by_table}
 use Rattle.turn_scene.specs.Tests.{percent}
 use Rattle.turn_scene.specs.Effects.{say, change}
-use Rattle.cave_verbs.specs.Rows.{command_of}
+use Rattle.cave_verbs.specs.Rows.{task_of}
 use Rattle.cave_verbs.specs.Effects.{after_default}
 use Rattle.cave_verbs.specs.Verbs.{verb_of}
 use Rattle.cave_verbs.specs.declared.next.Next.{Next}
 use Rattle.cave_verbs.specs.declared.next.Next.TheVariants as next_is
-use Rattle.cave_verbs.specs.declared.command.Command.{Command}
+use Rattle.cave_verbs.specs.declared.task.Task.{Task}
 use Rattle.cave_verbs.specs.declared.verb.Verb.{Verb}
 use Rattle.cave_verbs.specs.Acting.{act, next_of_step}
 use Rattle.turn_clocks.specs.Clocks.{run_clocks}
@@ -102,14 +102,14 @@ after_next cave (next_is.End how) p = after_end cave how p
 after_next cave _ p = p
 
 -- a verb is done by the first of its rows that fits, and then what follows
-unfoldable pub do_verb : CaveView → Command → Scene → Act Next
+unfoldable pub do_verb : CaveView → Task → Scene → Act Next
 do_verb cave command p =
     let a = act cave command p in let next = next_of_step a.step in
     act_of (after_next cave next a.scene) next
 
 -- an action is done by its rules, if it has any; otherwise the game says what the cave says of it
 abbrev pub do_action : CaveView → Option Verb → ℕ → ℕ → List ℕ → Scene → Act Next
-do_action cave (Some v) number x word p = do_verb cave (command_of v x word) p
+do_action cave (Some v) number x word p = do_verb cave (task_of v x word) p
 do_action cave None number x word p = act_of (after_default cave number p) next_is.Stay
 
 -- what was read is done

@@ -16,7 +16,8 @@ use Rattle.cave_world.specs.declared.motion.Motion.TheVariants as motion
 use Rattle.cave_world.specs.declared.part.Part.TheVariants as part
 use Rattle.cave_world.specs.declared.part.WordLine.TheVariants as line
 use Rattle.cave_world.specs.declared.talk.Talk.{Talk}
-use Rattle.turn_scene.specs.Scene.{Scene, or_no_object}
+use Rattle.cave_world.specs.Called.{or_no_object}
+use Rattle.turn_scene.specs.Scene.{Scene}
 use Rattle.cave_world.specs.declared.tables.Table.TheVariants as table
 use Rattle.turn_scene.specs.Rows.{Deed, Test, Effect, deed, row_then, answer_row, otherwise_row}
 use Rattle.turn_scene.specs.Rows.{Act, Row, act_of, answer_by_table}

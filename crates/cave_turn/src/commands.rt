@@ -19,7 +19,7 @@ ghost use Rattle.cave_data.specs.CaveView.{CaveView};
 
 use crate::finish::end_turn;
 use crate::request::{HalfCommand, Request, Understood, read_words};
-use cave_verbs::{Command, Next, Verb, act, tell_default};
+use cave_verbs::{Next, Task, Verb, act_in_scene, tell_default};
 use cave_words::{Named, Word, Words};
 use cave_world::{Ending, Knife, Magic, Out, Part, RowNotes, State, Table, WordLine};
 use data_rows::Role;
@@ -148,13 +148,13 @@ fn do_next<N: RowNotes>(rules: &Rules<'_>, next: &Next, scene: &mut Scene<'_, N>
 
 /// Does a verb by the first of its rows that fits, and then what follows, which is returned.
 #[tactic(auto, unfolding(crate::specs::Commands::do_verb))]
-fn do_verb<N: RowNotes>(rules: &Rules<'_>, command: Command, scene: &mut Scene<'_, N>) -> Next
+fn do_verb<N: RowNotes>(rules: &Rules<'_>, task: Task, scene: &mut Scene<'_, N>) -> Next
     requires { HasRoom (room_of_request scene.old.left) scene.old }
     ensures scene { act_of (scene_of N.rows scene.new) result
-        ≡ do_verb (cave_of rules.now) command (scene_of N.rows scene.old) }
+        ≡ do_verb (cave_of rules.now) task (scene_of N.rows scene.old) }
     ensures says { MovesOnSaying (parts_of_request scene.old.left) scene.old scene.new }
 {
-    let next = act(rules, command, scene);
+    let next = act_in_scene(rules, task, scene);
     do_next(rules, &next, scene);
     next
 }
@@ -174,7 +174,7 @@ fn do_action<N: RowNotes>(
     ensures says { MovesOnSaying (parts_of_request scene.old.left) scene.old scene.new }
 {
     match Verb::try_from(number) {
-        Ok(verb) => do_verb(rules, Command::of(verb, object, word), scene),
+        Ok(verb) => do_verb(rules, Task::of(verb, object, word), scene),
         Err(_) => {
             tell_default(rules, number, scene);
             Next::Stay

@@ -11,9 +11,9 @@ ghost use Rattle.cave_turn.specs.Request.{pours_over, pour_in, word_entered, two
 use crate::object_words::{NamedObject, ObjectWord, is_verb_of, object_word};
 use cave_verbs::Verb;
 use cave_words::{Class, Meaning, Named, Word};
-use cave_world::{Motion, Part, RowNotes, Table, Talk, WordLine};
+use cave_world::{Motion, Part, RowNotes, Table, Talk, WordLine, or_no_object};
 use data_rows::Role;
-use turn_scene::{Rules, Scene, is_liquid, lake, or_no_object};
+use turn_scene::{Rules, Scene, is_liquid, lake};
 use world_objects::Object;
 
 /// Half a command: what was said of it before its other half.

@@ -1,6 +1,7 @@
 ghost use Rattle.std.specs.Prelude.{◌≡◌, ◌+◌, ◌^◌, ◌<◌, ◌≤◌, [], false, IsTrue};
 ghost use Rattle.arrayvec.specs.ArrayVec.{array_vec_len};
 ghost use Rattle.base_lines.specs.Line.{is_line};
+ghost use Rattle.cave_words.specs.Lexicon.{IsLexiconOf};
 ghost use Rattle.turn_scene.specs.Bounds.{parts_of_turn};
 ghost use Rattle.turn_scene.specs.Scene.{cave_of};
 ghost use Rattle.cave_turn.specs.Turns.{start_of_game, turn_on_line, turn_of_input, rows_on_line};
@@ -10,7 +11,7 @@ use crate::answers::{answers, close_question, take_answer};
 use crate::commands::command;
 use base_lines::{LogLine, Meter};
 use cave_data::Cave;
-use cave_words::Stream;
+use cave_words::{Lexicon, Stream};
 use cave_world::{Out, Part, RowNotes, State, Unnoted};
 use data_rows::Role;
 use turn_ends::begun_state;
@@ -77,23 +78,25 @@ pub struct Turned {
 
 /// Plays a line of a log, and leaves the state as it was before the line to the caller.
 pub fn turn(
-    rules: &Rules<'_>,
+    cave: &Cave,
+    lexicon: &Lexicon,
     state: &State,
     line: &[u8],
     out: &mut Out,
     meter: &mut Meter,
 ) -> Turned
+    requires words { IsLexiconOf cave.now lexicon.now }
     requires line { IsTrue (is_line line.now) }
     requires empty { out.old.items ≡ [] }
     requires room { meter.old + 1 < 2 ^ 64 }
 
     ensures turn { record { state = result.state; parts = out.new.items; ticked = result.ticked }
-        ≡ turn_on_line (cave_of rules.now) state.now line.now }
+        ≡ turn_on_line cave.now state.now line.now }
     ensures few { array_vec_len out.new ≤ parts_of_turn }
     ensures counted { meter.new ≡ meter.old + 1 }
 {
     let mut state = *state;
-    let ticked = take_line(rules, &mut state, line, out, meter);
+    let ticked = take_line(&Rules::of(cave, lexicon), &mut state, line, out, meter);
     Turned { state, ticked }
 }
 

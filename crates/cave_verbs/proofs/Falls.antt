@@ -7,7 +7,8 @@ use Rattle.cave_data.specs.CaveView.{CaveView}
 use Rattle.cave_words.specs.Named.{object_named, object_of_word, next_object, word_of_name}
 use Rattle.cave_words.specs.declared.named.Named.TheVariants as name
 use Rattle.cave_world.specs.declared.state.State.{State}
-use Rattle.turn_scene.specs.Scene.{or_no_object, thing, object_called, is_called}
+use Rattle.cave_world.specs.Called.{or_no_object, object_called}
+use Rattle.turn_scene.specs.Scene.{thing, is_called}
 use Rattle.turn_scene.specs.Reach.{is_carried, is_near}
 use Rattle.turn_scene.specs.Liquids.{liquid_of, is_liquid}
 use Rattle.world_objects.specs.Objects.{is_in_hands, is_first_at, spot_of}

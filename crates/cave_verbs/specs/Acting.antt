@@ -8,7 +8,7 @@ use Rattle.cave_verbs.specs.declared.next.Next.{Next}
 use Rattle.cave_verbs.specs.declared.next.Next.TheVariants.{Stay}
 use Rattle.cave_verbs.specs.declared.next.VerbStep.{VerbStep}
 use Rattle.cave_verbs.specs.declared.next.VerbStep.TheVariants.{Done, GoOn}
-use Rattle.cave_verbs.specs.declared.command.Command.{Command}
+use Rattle.cave_verbs.specs.declared.task.Task.{Task}
 use Rattle.cave_verbs.specs.declared.verb.Verb.{Verb}
 use Rattle.cave_verbs.specs.declared.verb.Verb.TheVariants as verb
 use Rattle.cave_world.specs.declared.tables.Table.TheVariants as table
@@ -60,18 +60,18 @@ rows_of verb.Read = (noted table.BareRead bare_read_rows, noted table.Read read_
 rows_of verb.Break = (bare_rows, noted table.Break break_rows)
 rows_of verb.Wake = (bare_rows, noted table.Wake wake_rows)
 
-unfoldable pub act_bare : Deed Command → Act VerbStep
+unfoldable pub act_bare : Deed Task → Act VerbStep
 act_bare d = first_fitting (rows_of d.about.verb).0 d
 
-unfoldable pub act_on : Deed Command → Act VerbStep
+unfoldable pub act_on : Deed Task → Act VerbStep
 act_on d = first_fitting (rows_of d.about.verb).1 d
 
 -- what a verb does by its own rules
-abbrev pub act_once : Deed Command → Act VerbStep
+abbrev pub act_once : Deed Task → Act VerbStep
 act_once d = if d.about.object == 0 then act_bare d else act_on d
 
 -- what a verb does with those that it goes on with, at most this many
-unfoldable pub act_within : ℕ → Deed Command → Act VerbStep
+unfoldable pub act_within : ℕ → Deed Task → Act VerbStep
 act_within zero d = act_once d
 act_within (suc left) d =
     let a = act_once d in
@@ -86,5 +86,5 @@ next_of_step (Done next) = next
 next_of_step (GoOn v x) = Stay
 
 -- what a command says is done; no verb goes on more than three times
-unfoldable pub act : CaveView → Command → Scene → Act VerbStep
-act cave command p = act_within 3 (deed cave command p)
+unfoldable pub act : CaveView → Task → Scene → Act VerbStep
+act cave task p = act_within 3 (deed cave task p)

@@ -16,10 +16,10 @@ use Rattle.cave_verbs.specs.Effects.{default, ask_what}
 use Rattle.cave_verbs.specs.Rows.{VerbRow, row, keeps, does, stays}
 use Rattle.cave_verbs.specs.declared.verb.Verb.TheVariants as verb
 use Rattle.cave_verbs.specs.Tests.{x, is}
-use Rattle.cave_verbs.specs.declared.command.Command.{Command}
+use Rattle.cave_verbs.specs.declared.task.Task.{Task}
 use Rattle.cave_verbs.specs.Things.{axe, bird, food}
 
-abbrev pub is_any : List Named → Test Command
+abbrev pub is_any : List Named → Test Task
 is_any names d = is_one_of d.cave d.about.object names
 
 unfoldable pub bare_eat_rows : List VerbRow

@@ -15,7 +15,7 @@ use Rattle.turn_scene.specs.Tests.{carried, is_here, dwarf, cave_closed, in_bott
 use Rattle.cave_verbs.specs.Rows.{VerbRow, row, stays}
 use Rattle.cave_verbs.specs.Effects.{default}
 use Rattle.cave_verbs.specs.Tests.{x, is}
-use Rattle.cave_verbs.specs.declared.command.Command.{Command}
+use Rattle.cave_verbs.specs.declared.task.Task.{Task}
 use Rattle.cave_world.specs.declared.tables.Table.TheVariants as table
 use Rattle.cave_verbs.specs.Things.{bear, bottle}
 
@@ -39,23 +39,23 @@ unfoldable pub listed_up_to : CaveView → State → ℕ → List ℕ
 listed_up_to cave s n = filter (is_in_inventory cave s) (range_with_len 1 n)
 
 -- the objects that the inventory lists, ascending
-abbrev pub objects_listed : Deed Command → List ℕ
+abbrev pub objects_listed : Deed Task → List ℕ
 objects_listed d = listed_up_to d.cave d.scene.state LAST_OBJECT
 
-abbrev pub is_inventory_empty : Test Command
+abbrev pub is_inventory_empty : Test Task
 is_inventory_empty d = length (objects_listed d) == 0
 
 abbrev pub after_naming : List ℕ → Scene → Scene
 after_naming objects p = record p { parts = p.parts ++ map part.Name objects }
 
-abbrev pub name_them : Effect Command
+abbrev pub name_them : Effect Task
 name_them d = in_scene (after_naming (objects_listed d) d.scene) d
 
 -- the game says that the bear follows, if the player has it
-unfoldable pub bear_along_rows : List (Row Command (Unit {0}))
+unfoldable pub bear_along_rows : List (Row Task (Unit {0}))
 bear_along_rows = plain_row (carried bear ∷ []) (say role.BearFollows ∷ []) ∷ []
 
-abbrev pub tell_bear : Effect Command
+abbrev pub tell_bear : Effect Task
 tell_bear = by_table table.BearAlong bear_along_rows
 
 unfoldable pub bare_inventory_rows : List VerbRow

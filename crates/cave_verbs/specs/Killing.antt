@@ -17,14 +17,14 @@ use Rattle.cave_verbs.specs.Verbs.{is_verb}
 use Rattle.cave_verbs.specs.declared.verb.Verb.{Verb}
 use Rattle.cave_verbs.specs.declared.verb.Verb.TheVariants as verb
 use Rattle.cave_verbs.specs.Tests.{x, is}
-use Rattle.cave_verbs.specs.declared.command.Command.{Command}
+use Rattle.cave_verbs.specs.declared.task.Task.{Task}
 use Rattle.cave_verbs.specs.Things.{bear, bird, clam, dragon, oyster, snake, troll}
 
 -- the player's own verb, which may have gone on to this one
-abbrev pub is_typed : Verb → Test Command
+abbrev pub is_typed : Verb → Test Task
 is_typed v d = is_verb d.about.commanded v
 
-abbrev pub foes : Deed Command → List ℕ
+abbrev pub foes : Deed Task → List ℕ
 foes = objects_meant
     (candidate name.Dwarf dwarf
     ∷ candidate name.Snake (near snake)
@@ -34,7 +34,7 @@ foes = objects_meant
     ∷ [])
 
 -- what is killed if there is no foe
-abbrev pub prey : Deed Command → List ℕ
+abbrev pub prey : Deed Task → List ℕ
 prey = objects_meant
     (candidate name.Bird (both (near bird) (no (is_typed verb.Throw)))
     ∷ candidate name.Clam (either (near clam) (near oyster))

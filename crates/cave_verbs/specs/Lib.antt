@@ -1,6 +1,7 @@
 pub mod Acting
 pub mod Blasting
 pub mod Breaking
+pub mod Command
 pub mod Dropping
 pub mod Feeding
 pub mod Finding

@@ -8,7 +8,7 @@ use Rattle.turn_scene.specs.Rows.{Row, plain_row, row_then, otherwise_then, by_t
 use Rattle.turn_scene.specs.Tests.{no, near, lamp_dead, was_dark, in_the_dark}
 use Rattle.cave_verbs.specs.Effects.{default}
 use Rattle.cave_verbs.specs.Rows.{VerbRow, row, describes, stays}
-use Rattle.cave_verbs.specs.declared.command.Command.{Command}
+use Rattle.cave_verbs.specs.declared.task.Task.{Task}
 use Rattle.cave_world.specs.declared.tables.Table.TheVariants as table
 use Rattle.cave_verbs.specs.Things.{lamp}
 
@@ -20,7 +20,7 @@ on_rows =
     ∷ otherwise_then (set_prop lamp LAMP_ON ∷ say role.LampOn ∷ []) stays
 
 -- the game says that it is dark, if it is so now
-unfoldable pub darkened_rows : List (Row Command (Unit {0}))
+unfoldable pub darkened_rows : List (Row Task (Unit {0}))
 darkened_rows = plain_row (in_the_dark ∷ []) (say role.Dark ∷ []) ∷ []
 
 unfoldable pub off_rows : List VerbRow

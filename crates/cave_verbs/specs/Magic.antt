@@ -13,48 +13,48 @@ use Rattle.turn_scene.specs.Effects.{in_state, say, set_prop, look, move}
 use Rattle.turn_scene.specs.Tests.{no, either, there_is, carried, prop, nowhere, at_home}
 use Rattle.turn_scene.specs.Tests.{player_at_home, home_of, near}
 use Rattle.cave_verbs.specs.Rows.{VerbRow, row, stays}
-use Rattle.cave_verbs.specs.declared.command.Command.{Command}
+use Rattle.cave_verbs.specs.declared.task.Task.{Task}
 use Rattle.cave_world.specs.declared.tables.Table.TheVariants as table
 use Rattle.cave_verbs.specs.Things.{eggs, troll}
 
 -- the number of the word that was just read among the special words; 0 if it isn't one of them
-abbrev pub k : Deed Command → ℕ
+abbrev pub k : Deed Task → ℕ
 k d = special d.cave d.about.word
 
 -- how far the player has come with the magic words
-abbrev pub foo : Deed Command → ℤ
+abbrev pub foo : Deed Task → ℤ
 foo d = d.scene.state.talk.magic
 
 -- the word isn't a special one
-abbrev pub is_plain : Test Command
+abbrev pub is_plain : Test Task
 is_plain d = k d == 0
 
-abbrev pub is_out_of_turn : Test Command
+abbrev pub is_out_of_turn : Test Task
 is_out_of_turn d = not (int_eq (foo d) (pos 1 -ℤ pos (k d)))
 
 -- no magic word was said
-abbrev pub is_unbegun : Test Command
+abbrev pub is_unbegun : Test Task
 is_unbegun d = int_eq (foo d) (pos 0)
 
 -- how many magic words there are
 abbrev pub LAST_MAGIC_WORD : ℕ
 LAST_MAGIC_WORD = 4
 
-abbrev pub is_last : Test Command
+abbrev pub is_last : Test Task
 is_last d = k d == LAST_MAGIC_WORD
 
 abbrev pub with_magic : ℤ → State → State
 with_magic v s = with_talk (record (s.talk) { magic = v }) s
 
 -- the word is remembered as the last that was said
-abbrev pub remember : Effect Command
+abbrev pub remember : Effect Task
 remember d = in_state (with_magic (pos (k d)) d.scene.state) d
 
-abbrev pub begin_anew : Effect Command
+abbrev pub begin_anew : Effect Task
 begin_anew d = in_state (with_magic (pos 0) d.scene.state) d
 
 -- which text of the eggs is printed as they go home
-unfoldable pub eggs_rows : List (Row Command (Unit {0}))
+unfoldable pub eggs_rows : List (Row Task (Unit {0}))
 eggs_rows =
     plain_row (player_at_home eggs ∷ []) (look eggs EGGS_APPEARING ∷ [])
     ∷ plain_row (near eggs ∷ []) (look eggs EGGS_VANISHING ∷ [])

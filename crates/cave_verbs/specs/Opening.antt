@@ -19,22 +19,22 @@ use Rattle.cave_verbs.specs.Tests.{x, is}
 use Rattle.cave_verbs.specs.Verbs.{is_verb}
 use Rattle.cave_verbs.specs.declared.next.VerbStep.{VerbStep}
 use Rattle.cave_verbs.specs.declared.next.VerbStep.TheVariants.{GoOn}
-use Rattle.cave_verbs.specs.declared.command.Command.{Command}
+use Rattle.cave_verbs.specs.declared.task.Task.{Task}
 use Rattle.cave_verbs.specs.Things.{bear, chain, clam, door, grate, keys, oyster, pearl, trident}
 
-abbrev pub is_opening : Test Command
+abbrev pub is_opening : Test Task
 is_opening d = is_verb d.about.verb verb.Open
 
-abbrev pub is_locking : Test Command
+abbrev pub is_locking : Test Task
 is_locking d = is_verb d.about.verb verb.Lock
 
 -- it goes on with the same verb and an object
-abbrev pub does_it_to : Thing Command → Deed Command → VerbStep
+abbrev pub does_it_to : Thing Task → Deed Task → VerbStep
 does_it_to t d = GoOn d.about.verb (t d)
 
 -- what a command that names nothing could mean, of which the first counts: the grate or the door
 -- that is here, or the oyster or the clam at hand
-abbrev pub locks : Deed Command → List ℕ
+abbrev pub locks : Deed Task → List ℕ
 locks = objects_meant
     (candidate name.Grate (is_here grate)
     ∷ candidate name.Door (is_here door)

@@ -20,7 +20,7 @@ use Rattle.cave_verbs.specs.Effects.{default, ask_what}
 use Rattle.cave_verbs.specs.Rows.{VerbRow, row, keeps, again, does, stays}
 use Rattle.cave_verbs.specs.declared.verb.Verb.TheVariants as verb
 use Rattle.cave_verbs.specs.Tests.{x, no_object, is}
-use Rattle.cave_verbs.specs.declared.command.Command.{Command}
+use Rattle.cave_verbs.specs.declared.task.Task.{Task}
 use Rattle.cave_verbs.specs.Things.{bottle, door, oil, plant, second_plant, water}
 
 -- what is poured: what is in the bottle, if the bottle or nothing is named; 0 for a liquid without
@@ -29,34 +29,34 @@ abbrev pub poured_of : CaveView → State → ℕ → ℕ
 poured_of cave s y =
     if y == 0 || is_called cave y name.Bottle then unwrap_or (liquid_of cave s) 0 else y
 
-abbrev pub what_is_poured : Thing Command
+abbrev pub what_is_poured : Thing Task
 what_is_poured d = poured_of d.cave d.scene.state d.about.object
 
 -- what is poured has a name
-abbrev pub pours : Named → Test Command
+abbrev pub pours : Named → Test Task
 pours n d = is_called d.cave (what_is_poured d) n
 
-abbrev pub empty_bottle : Effect Command
+abbrev pub empty_bottle : Effect Task
 empty_bottle d = set_prop bottle BOTTLE_EMPTY d
 
-abbrev pub look_above : Thing Command → Effect Command
+abbrev pub look_above : Thing Task → Effect Task
 look_above t d = look t (prop_of d.scene.state.objects (t d) +ℤ pos 1) d
 
 -- a prop goes up by two, around from 5 to 0
-abbrev pub grow : Thing Command → Effect Command
+abbrev pub grow : Thing Task → Effect Task
 grow t d = set_prop t (int_rem_euclid (prop_of d.scene.state.objects (t d) +ℤ pos 2) (pos 6)) d
 
 -- one object's prop becomes half of another's
-abbrev pub halve : Thing Command → Thing Command → Effect Command
+abbrev pub halve : Thing Task → Thing Task → Effect Task
 halve t of d = set_prop t (int_div (prop_of d.scene.state.objects (of d)) (pos 2)) d
 
 -- the plant and its upper part grow with the water
-abbrev pub plant_watered : List (Effect Command)
+abbrev pub plant_watered : List (Effect Task)
 plant_watered =
     look_above plant ∷ grow plant
     ∷ halve second_plant plant ∷ []
 
-abbrev pub water_at_hand : Test Command
+abbrev pub water_at_hand : Test Task
 water_at_hand = both (in_bottle water) (near bottle)
 
 unfoldable pub pour_rows : List VerbRow

@@ -14,14 +14,14 @@ use Rattle.cave_verbs.specs.Rows.{VerbRow, row, keeps, poses, does, stays}
 use Rattle.cave_verbs.specs.Effects.{default, ask_what}
 use Rattle.cave_verbs.specs.declared.verb.Verb.TheVariants as verb
 use Rattle.cave_verbs.specs.Tests.{x, is}
-use Rattle.cave_verbs.specs.declared.command.Command.{Command}
+use Rattle.cave_verbs.specs.declared.task.Task.{Task}
 use Rattle.cave_verbs.specs.Things.{magazine, message, oyster, tablet}
 
 -- the game says that it doesn't see here what the word that was just read names
-abbrev pub not_seen : Effect Command
+abbrev pub not_seen : Effect Task
 not_seen d = tell (part.Word line.NotSeen d.about.word) d
 
-abbrev pub papers : Deed Command → List ℕ
+abbrev pub papers : Deed Task → List ℕ
 papers = objects_meant
     (candidate name.Magazine (near magazine)
     ∷ candidate name.Tablet (near tablet)

@@ -13,48 +13,48 @@ use Rattle.cave_verbs.specs.declared.next.Next.{Next}
 use Rattle.cave_verbs.specs.declared.next.Next.TheVariants as next_is
 use Rattle.cave_verbs.specs.declared.next.VerbStep.{VerbStep}
 use Rattle.cave_verbs.specs.declared.next.VerbStep.TheVariants.{Done, GoOn}
-use Rattle.cave_verbs.specs.declared.command.Command.{Command}
+use Rattle.cave_verbs.specs.declared.task.Task.{Task}
 use Rattle.cave_verbs.specs.declared.verb.Verb.{Verb}
 
 -- what a player commands
-abbrev pub command_of : Verb → ℕ → List ℕ → Command
-command_of v x word = record { verb = v; object = x; commanded = v; word = word }
+abbrev pub task_of : Verb → ℕ → List ℕ → Task
+task_of v x word = record { verb = v; object = x; commanded = v; word = word }
 
 -- the command that a verb goes on with: what the player commands stays
-abbrev pub going_on : Command → Verb → ℕ → Command
-going_on command v x =
-    record { verb = v; object = x; commanded = command.commanded; word = command.word }
+abbrev pub going_on : Task → Verb → ℕ → Task
+going_on task v x =
+    record { verb = v; object = x; commanded = task.commanded; word = task.word }
 
 abbrev pub VerbRow : Type 0
-VerbRow = Row Command VerbStep
+VerbRow = Row Task VerbStep
 
 -- nothing follows
-abbrev pub stays : Deed Command → VerbStep
+abbrev pub stays : Deed Task → VerbStep
 stays d = Done next_is.Stay
 
 -- the verb is kept for the next line
-abbrev pub keeps : Deed Command → VerbStep
+abbrev pub keeps : Deed Task → VerbStep
 keeps d = Done next_is.Keep
 
-abbrev pub describes : Deed Command → VerbStep
+abbrev pub describes : Deed Task → VerbStep
 describes d = Done next_is.Describe
 
 -- the player arrives again where the player is
-abbrev pub again : Deed Command → VerbStep
+abbrev pub again : Deed Task → VerbStep
 again d = Done (next_is.Arrive d.scene.state.trail.here)
 
-abbrev pub poses : Question → Deed Command → VerbStep
+abbrev pub poses : Question → Deed Task → VerbStep
 poses question d = Done (next_is.Ask question)
 
-abbrev pub ends : Ending → Deed Command → VerbStep
+abbrev pub ends : Ending → Deed Task → VerbStep
 ends how d = Done (next_is.End how)
 
 -- it goes on with a verb and an object
-abbrev pub does : Verb → Thing Command → Deed Command → VerbStep
+abbrev pub does : Verb → Thing Task → Deed Task → VerbStep
 does verb x d = GoOn verb (x d)
 
 -- a row after which nothing follows
-abbrev pub row : List (Test Command) → List (Effect Command) → VerbRow
+abbrev pub row : List (Test Task) → List (Effect Task) → VerbRow
 row tests effects = row_then tests effects stays
 
 -- the rows of a table after this many, by the numbers that they have in it
@@ -62,27 +62,27 @@ abbrev pub noted_after : Table → ℕ → List VerbRow → List VerbRow
 noted_after table n rows = noted_from table (n + 1) (drop n rows)
 
 -- what the first row that fits does, and nothing if none does
-abbrev pub first_fitting : List VerbRow → Deed Command → Act VerbStep
+abbrev pub first_fitting : List VerbRow → Deed Task → Act VerbStep
 first_fitting rows d = first_fitting_or rows (nothing_but stays) d
 
 -- the code has done in the same turn what a rule says of a command, and returns what follows
-abbrev pub ActsBy : {N : Type 0} → (N → List RuleRow) → (Deed Command → Act VerbStep) → Rules
-    → Command → OpenScene N → OpenScene N → VerbStep → Type 0
-ActsBy noted_rows f rules command old new step =
-    PlaysBy noted_rows f (parts_by step) rules command old new step
+abbrev pub ActsBy : {N : Type 0} → (N → List RuleRow) → (Deed Task → Act VerbStep) → Rules
+    → Task → OpenScene N → OpenScene N → VerbStep → Type 0
+ActsBy noted_rows f rules task old new step =
+    PlaysBy noted_rows f (parts_by step) rules task old new step
 
-abbrev pub ByRows : {N : Type 0} → (N → List RuleRow) → List VerbRow → Rules → Command
+abbrev pub ByRows : {N : Type 0} → (N → List RuleRow) → List VerbRow → Rules → Task
     → OpenScene N → OpenScene N → VerbStep → Type 0
-ByRows noted_rows rows rules command old new step =
-    ActsBy noted_rows (first_fitting rows) rules command old new step
+ByRows noted_rows rows rules task old new step =
+    ActsBy noted_rows (first_fitting rows) rules task old new step
 
 -- nothing is gone on with
-abbrev pub DoneByRow : {N : Type 0} → (N → List RuleRow) → VerbRow → Rules → Command
+abbrev pub DoneByRow : {N : Type 0} → (N → List RuleRow) → VerbRow → Rules → Task
     → OpenScene N → OpenScene N → Next → Type 0
-DoneByRow noted_rows r rules command old new next =
-    ActsBy noted_rows (act_of_row r) rules command old new (Done next)
+DoneByRow noted_rows r rules task old new next =
+    ActsBy noted_rows (act_of_row r) rules task old new (Done next)
 
-abbrev pub DoneByRows : {N : Type 0} → (N → List RuleRow) → List VerbRow → Rules → Command
+abbrev pub DoneByRows : {N : Type 0} → (N → List RuleRow) → List VerbRow → Rules → Task
     → OpenScene N → OpenScene N → Next → Type 0
-DoneByRows noted_rows rows rules command old new next =
-    ByRows noted_rows rows rules command old new (Done next)
+DoneByRows noted_rows rows rules task old new next =
+    ByRows noted_rows rows rules task old new (Done next)

@@ -14,7 +14,7 @@ use Rattle.cave_verbs.specs.Effects.{default, ask_what}
 use Rattle.cave_verbs.specs.Rows.{VerbRow, row, keeps, does, stays}
 use Rattle.cave_verbs.specs.declared.verb.Verb.TheVariants as verb
 use Rattle.cave_verbs.specs.Tests.{x, is}
-use Rattle.cave_verbs.specs.declared.command.Command.{Command}
+use Rattle.cave_verbs.specs.declared.task.Task.{Task}
 use Rattle.cave_verbs.specs.Things.{bear, bird, bottle, cage, rod}
 
 -- the object of the only half that is here; 0 if there are more halves, or none
@@ -22,7 +22,7 @@ abbrev pub lone_object : List Half → ℕ
 lone_object (half ∷ []) = object_of half
 lone_object _ = 0
 
-abbrev pub lone : Thing Command
+abbrev pub lone : Thing Task
 lone d = lone_object (halves_at d.scene.state.trail.here d.scene.state.objects.lists)
 
 unfoldable pub bare_take_rows : List VerbRow

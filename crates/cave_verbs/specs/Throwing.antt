@@ -19,7 +19,7 @@ use Rattle.cave_verbs.specs.Rows.{VerbRow, row, again, does}
 use Rattle.cave_verbs.specs.Effects.{default}
 use Rattle.cave_verbs.specs.declared.verb.Verb.TheVariants as verb
 use Rattle.cave_verbs.specs.Tests.{x, is}
-use Rattle.cave_verbs.specs.declared.command.Command.{Command}
+use Rattle.cave_verbs.specs.declared.task.Task.{Task}
 use Rattle.cave_verbs.specs.Things.{bear, dragon, second_rod, troll}
 
 abbrev pub killed_dwarf : Dwarf → Dwarf
@@ -40,11 +40,11 @@ with_one_killed s = let dwarves = s.dwarves in
     with_dwarves (record dwarves { kills = min (dwarves.kills + 1) MAX_KILLS; each = each }) s
 
 -- the first dwarf that is here is killed
-abbrev pub strike : Effect Command
+abbrev pub strike : Effect Task
 strike d = in_state (with_one_killed d.scene.state) d
 
 -- no dwarf was killed yet
-abbrev pub is_first_kill : Test Command
+abbrev pub is_first_kill : Test Task
 is_first_kill d = d.scene.state.dwarves.kills == 0
 
 -- an axe that is thrown at a dwarf misses in one of three cases

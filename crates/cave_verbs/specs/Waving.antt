@@ -9,15 +9,15 @@ use Rattle.turn_scene.specs.Tests.{no, both, carried, is_here, cave_closing}
 use Rattle.cave_verbs.specs.Effects.{default}
 use Rattle.cave_verbs.specs.Rows.{VerbRow, row, stays}
 use Rattle.cave_verbs.specs.Tests.{x, is}
-use Rattle.cave_verbs.specs.declared.command.Command.{Command}
+use Rattle.cave_verbs.specs.declared.task.Task.{Task}
 use Rattle.cave_verbs.specs.Things.{fissure, rod, second_rod}
 
 -- a prop becomes 1 less what it was
-abbrev pub flip : Thing Command → Effect Command
+abbrev pub flip : Thing Task → Effect Task
 flip t d = set_prop t (pos 1 -ℤ prop_of d.scene.state.objects (t d)) d
 
 -- the text for 2 less the prop, which is 1 more than the prop was before it was flipped
-abbrev pub look_at_flip : Thing Command → Effect Command
+abbrev pub look_at_flip : Thing Task → Effect Task
 look_at_flip t d = look t (pos 2 -ℤ prop_of d.scene.state.objects (t d)) d
 
 unfoldable pub wave_rows : List VerbRow

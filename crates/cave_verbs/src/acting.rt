@@ -11,7 +11,6 @@ ghost use Rattle.cave_verbs.specs.Ranks.{rank, rank_of};
 
 use crate::blasting::blast;
 use crate::breaking::{break_object, wake};
-use crate::command::Command;
 use crate::dropping::drop_object;
 use crate::feeding::{eat, eat_what_is_here, feed};
 use crate::finding::{find, inventory};
@@ -24,6 +23,7 @@ use crate::pouring::{drink, fill, fill_what, pour};
 use crate::reading::{read, read_what_is_here};
 use crate::small::brief;
 use crate::taking::{take, take_what_is_here};
+use crate::task::Task;
 use crate::throwing::throw;
 use crate::verb::Verb;
 use crate::waving::{rub, wave};
@@ -31,45 +31,45 @@ use cave_world::{Question, RowNotes};
 use data_rows::Role;
 use turn_scene::{Rules, Scene};
 
-/// Does what a command says, and returns what follows.
+/// Does a task in a turn that is played, and returns what follows.
 #[tactic(auto, using(crate::proofs::Falls::few_ranks), unfolding(crate::specs::Acting::act))]
-pub fn act<N: RowNotes>(rules: &Rules<'_>, command: Command, scene: &mut Scene<'_, N>) -> Next
+pub fn act_in_scene<N: RowNotes>(rules: &Rules<'_>, task: Task, scene: &mut Scene<'_, N>) -> Next
     requires { HasRoom parts_of_verb scene.old }
     ensures rules { act_of (scene_of N.rows scene.new) (Done result)
-        ≡ act (cave_of rules.now) command (scene_of N.rows scene.old) }
+        ≡ act (cave_of rules.now) task (scene_of N.rows scene.old) }
     ensures says { GoesOnSaying (parts_of_goings_on 3 + parts_by (Done result)) scene.old
         scene.new }
 {
-    act_within(rules, 3, command, scene)
+    act_within(rules, 3, task, scene)
 }
 
 /// Does a verb that is done to no object.
 #[tactic(auto, unfolding(crate::specs::Acting::act_bare, crate::specs::Small::bare_rows, crate::specs::Small::nothing_rows, crate::specs::Small::bare_quit_rows, crate::specs::Small::bare_score_rows))]
-fn act_bare<N: RowNotes>(rules: &Rules<'_>, command: Command, scene: &mut Scene<'_, N>) -> VerbStep
-    requires bare { command.object ≡ 0 }
+fn act_bare<N: RowNotes>(rules: &Rules<'_>, task: Task, scene: &mut Scene<'_, N>) -> VerbStep
+    requires bare { task.object ≡ 0 }
     requires room { HasRoom parts_of_inventory scene.old }
-    ensures rules { ActsBy N.rows act_bare rules.now command scene.old scene.new result }
+    ensures rules { ActsBy N.rows act_bare rules.now task scene.old scene.new result }
     ensures ranks { rank_of (cave_of rules.now) result
-        ≤ rank (cave_of rules.now) command.verb command.object }
+        ≤ rank (cave_of rules.now) task.verb task.object }
 {
-    match command.verb {
-        Verb::Take => take_what_is_here(rules, command, scene),
-        Verb::Open | Verb::Lock => open_what_is_here(rules, command, scene),
+    match task.verb {
+        Verb::Take => take_what_is_here(rules, task, scene),
+        Verb::Open | Verb::Lock => open_what_is_here(rules, task, scene),
         Verb::Nothing => VerbStep::Done(Next::say(Role::Ok, scene)),
-        Verb::On => VerbStep::Done(turn_on(rules, command, scene)),
-        Verb::Off => VerbStep::Done(turn_off(rules, command, scene)),
-        Verb::Kill => kill_what_is_here(rules, command, scene),
-        Verb::Pour => VerbStep::Done(pour(rules, command, scene)),
-        Verb::Eat => eat_what_is_here(rules, command, scene),
-        Verb::Drink => VerbStep::Done(drink(rules, command, scene)),
+        Verb::On => VerbStep::Done(turn_on(rules, task, scene)),
+        Verb::Off => VerbStep::Done(turn_off(rules, task, scene)),
+        Verb::Kill => kill_what_is_here(rules, task, scene),
+        Verb::Pour => VerbStep::Done(pour(rules, task, scene)),
+        Verb::Eat => eat_what_is_here(rules, task, scene),
+        Verb::Drink => VerbStep::Done(drink(rules, task, scene)),
         Verb::Quit => VerbStep::Done(Next::Ask(Question::Quit)),
-        Verb::Inventory => VerbStep::Done(inventory(rules, command, scene)),
-        Verb::Fill => fill_what(rules, command, scene),
-        Verb::Blast => VerbStep::Done(blast(rules, command, scene)),
+        Verb::Inventory => VerbStep::Done(inventory(rules, task, scene)),
+        Verb::Fill => fill_what(rules, task, scene),
+        Verb::Blast => VerbStep::Done(blast(rules, task, scene)),
         Verb::Score => VerbStep::Done(Next::Ask(Question::ScoreQuit)),
-        Verb::Foo => VerbStep::Done(foo(rules, command, scene)),
-        Verb::Brief => VerbStep::Done(brief(rules, command, scene)),
-        Verb::Read => read_what_is_here(rules, command, scene),
+        Verb::Foo => VerbStep::Done(foo(rules, task, scene)),
+        Verb::Brief => VerbStep::Done(brief(rules, task, scene)),
+        Verb::Read => read_what_is_here(rules, task, scene),
         Verb::Drop
         | Verb::Say
         | Verb::Wave
@@ -79,57 +79,57 @@ fn act_bare<N: RowNotes>(rules: &Rules<'_>, command: Command, scene: &mut Scene<
         | Verb::Find
         | Verb::Feed
         | Verb::Break
-        | Verb::Wake => VerbStep::Done(command.ask_what(rules, scene)),
+        | Verb::Wake => VerbStep::Done(task.ask_what(rules, scene)),
     }
 }
 
 /// Does a verb that is done to an object.
 #[tactic(auto, unfolding(crate::specs::Acting::act_on, crate::specs::Small::nothing_rows, crate::specs::Small::other_rows))]
-fn act_on<N: RowNotes>(rules: &Rules<'_>, command: Command, scene: &mut Scene<'_, N>) -> VerbStep
-    requires object { 0 < command.object }
+fn act_on<N: RowNotes>(rules: &Rules<'_>, task: Task, scene: &mut Scene<'_, N>) -> VerbStep
+    requires object { 0 < task.object }
     requires room { HasRoom parts_of_inventory scene.old }
-    ensures rules { ActsBy N.rows act_on rules.now command scene.old scene.new result }
+    ensures rules { ActsBy N.rows act_on rules.now task scene.old scene.new result }
     ensures ranks { rank_of (cave_of rules.now) result
-        ≤ rank (cave_of rules.now) command.verb command.object }
+        ≤ rank (cave_of rules.now) task.verb task.object }
 {
-    match command.verb {
-        Verb::Take => take(rules, command, scene),
-        Verb::Drop => drop_object(rules, command, scene),
-        Verb::Open | Verb::Lock => VerbStep::Done(open(rules, command, scene)),
+    match task.verb {
+        Verb::Take => take(rules, task, scene),
+        Verb::Drop => drop_object(rules, task, scene),
+        Verb::Open | Verb::Lock => VerbStep::Done(open(rules, task, scene)),
         Verb::Nothing => VerbStep::Done(Next::say(Role::Ok, scene)),
-        Verb::On => VerbStep::Done(turn_on(rules, command, scene)),
-        Verb::Off => VerbStep::Done(turn_off(rules, command, scene)),
-        Verb::Wave => VerbStep::Done(wave(rules, command, scene)),
-        Verb::Kill => VerbStep::Done(kill(rules, command, scene)),
-        Verb::Pour => VerbStep::Done(pour(rules, command, scene)),
-        Verb::Eat => VerbStep::Done(eat(rules, command, scene)),
-        Verb::Drink => VerbStep::Done(drink(rules, command, scene)),
-        Verb::Rub => VerbStep::Done(rub(rules, command, scene)),
-        Verb::Throw => throw(rules, command, scene),
-        Verb::Find | Verb::Inventory => VerbStep::Done(find(rules, command, scene)),
-        Verb::Feed => VerbStep::Done(feed(rules, command, scene)),
-        Verb::Fill => VerbStep::Done(fill(rules, command, scene)),
-        Verb::Blast => VerbStep::Done(blast(rules, command, scene)),
-        Verb::Read => VerbStep::Done(read(rules, command, scene)),
-        Verb::Break => VerbStep::Done(break_object(rules, command, scene)),
-        Verb::Wake => VerbStep::Done(wake(rules, command, scene)),
+        Verb::On => VerbStep::Done(turn_on(rules, task, scene)),
+        Verb::Off => VerbStep::Done(turn_off(rules, task, scene)),
+        Verb::Wave => VerbStep::Done(wave(rules, task, scene)),
+        Verb::Kill => VerbStep::Done(kill(rules, task, scene)),
+        Verb::Pour => VerbStep::Done(pour(rules, task, scene)),
+        Verb::Eat => VerbStep::Done(eat(rules, task, scene)),
+        Verb::Drink => VerbStep::Done(drink(rules, task, scene)),
+        Verb::Rub => VerbStep::Done(rub(rules, task, scene)),
+        Verb::Throw => throw(rules, task, scene),
+        Verb::Find | Verb::Inventory => VerbStep::Done(find(rules, task, scene)),
+        Verb::Feed => VerbStep::Done(feed(rules, task, scene)),
+        Verb::Fill => VerbStep::Done(fill(rules, task, scene)),
+        Verb::Blast => VerbStep::Done(blast(rules, task, scene)),
+        Verb::Read => VerbStep::Done(read(rules, task, scene)),
+        Verb::Break => VerbStep::Done(break_object(rules, task, scene)),
+        Verb::Wake => VerbStep::Done(wake(rules, task, scene)),
         Verb::Say | Verb::Calm | Verb::Quit | Verb::Score | Verb::Foo | Verb::Brief => {
-            VerbStep::Done(command.say_default(rules, scene))
+            VerbStep::Done(task.say_default(rules, scene))
         }
     }
 }
 
 /// Does a verb by its own rules.
-fn act_once<N: RowNotes>(rules: &Rules<'_>, command: Command, scene: &mut Scene<'_, N>) -> VerbStep
+fn act_once<N: RowNotes>(rules: &Rules<'_>, task: Task, scene: &mut Scene<'_, N>) -> VerbStep
     requires room { HasRoom parts_of_inventory scene.old }
-    ensures rules { ActsBy N.rows act_once rules.now command scene.old scene.new result }
+    ensures rules { ActsBy N.rows act_once rules.now task scene.old scene.new result }
     ensures ranks { rank_of (cave_of rules.now) result
-        ≤ rank (cave_of rules.now) command.verb command.object }
+        ≤ rank (cave_of rules.now) task.verb task.object }
 {
-    if command.object.is_none() {
-        act_bare(rules, command, scene)
+    if task.object.is_none() {
+        act_bare(rules, task, scene)
     } else {
-        act_on(rules, command, scene)
+        act_on(rules, task, scene)
     }
 }
 
@@ -138,31 +138,31 @@ fn act_once<N: RowNotes>(rules: &Rules<'_>, command: Command, scene: &mut Scene<
 fn act_within<N: RowNotes>(
     rules: &Rules<'_>,
     left: u8,
-    command: Command,
+    task: Task,
     scene: &mut Scene<'_, N>,
 ) -> Next
-    requires rank { rank (cave_of rules.now) command.verb command.object ≤ left }
+    requires rank { rank (cave_of rules.now) task.verb task.object ≤ left }
     requires room { HasRoom (parts_of_goings_on left + parts_of_inventory) scene.old }
     ensures rules { act_of (scene_of N.rows scene.new) (Done result)
-        ≡ act_within left (deed (cave_of rules.now) command (scene_of N.rows scene.old)) }
+        ≡ act_within left (deed (cave_of rules.now) task (scene_of N.rows scene.old)) }
     ensures says { GoesOnSaying (parts_of_goings_on left + parts_by (Done result)) scene.old
         scene.new }
 {
-    let Command {
+    let Task {
         commanded,
         word,
         ..
-    } = command;
-    match act_once(rules, command, scene) {
+    } = task;
+    match act_once(rules, task, scene) {
         VerbStep::Done(next) => next,
         VerbStep::GoOn(verb, object) => {
-            let command = Command {
+            let task = Task {
                 verb,
                 object,
                 commanded,
                 word,
             };
-            act_within(rules, left - 1, command, scene)
+            act_within(rules, left - 1, task, scene)
         }
     }
 }

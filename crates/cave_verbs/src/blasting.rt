@@ -4,8 +4,8 @@ ghost use Rattle.turn_scene.specs.Rows.{noted};
 ghost use Rattle.cave_world.specs.declared.tables.Table.TheVariants as table;
 ghost use Rattle.cave_verbs.specs.Blasting.{blast_rows};
 
-use crate::command::Command;
 use crate::next::Next;
+use crate::task::Task;
 use cave_words::Named;
 use cave_world::{Ending, RowNotes, Table};
 use data_rows::{PlaceRole, Role};
@@ -14,19 +14,19 @@ use turn_scene::{Rules, Scene, has_prop_up_to, is_near, is_place, place_named};
 
 /// BLAST, with an object or without one.
 #[tactic(auto, unfolding(crate::specs::Blasting::blast_rows))]
-pub fn blast<N: RowNotes>(rules: &Rules<'_>, command: Command, scene: &mut Scene<'_, N>) -> Next
+pub fn blast<N: RowNotes>(rules: &Rules<'_>, task: Task, scene: &mut Scene<'_, N>) -> Next
     requires { HasRoom 1 scene.old }
-    ensures row { DoneByRows N.rows (noted table.Blast blast_rows) rules.now command scene.old
+    ensures row { DoneByRows N.rows (noted table.Blast blast_rows) rules.now task scene.old
         scene.new result }
 {
     let rod = rules.thing(Named::SecondRod);
     if !scene.state.closing.is_closed {
         scene.note(Table::Blast, 1);
-        return command.say_default(rules, scene);
+        return task.say_default(rules, scene);
     }
     if has_prop_up_to(scene.state, rod, UNSEEN) {
         scene.note(Table::Blast, 2);
-        return command.say_default(rules, scene);
+        return task.say_default(rules, scene);
     }
     if is_near(rules, scene.state, rod) {
         scene.note(Table::Blast, 3);

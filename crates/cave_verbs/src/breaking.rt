@@ -4,8 +4,8 @@ ghost use Rattle.turn_scene.specs.Rows.{noted};
 ghost use Rattle.cave_world.specs.declared.tables.Table.TheVariants as table;
 ghost use Rattle.cave_verbs.specs.Breaking.{break_rows, wake_rows};
 
-use crate::command::Command;
 use crate::next::Next;
+use crate::task::Task;
 use cave_words::Named;
 use cave_world::{RowNotes, Table};
 use data_rows::Role;
@@ -15,16 +15,12 @@ use world_objects::{Anchor, Prop};
 
 /// BREAK an object.
 #[tactic(auto, unfolding(crate::specs::Breaking::break_rows))]
-pub fn break_object<N: RowNotes>(
-    rules: &Rules<'_>,
-    command: Command,
-    scene: &mut Scene<'_, N>,
-) -> Next
+pub fn break_object<N: RowNotes>(rules: &Rules<'_>, task: Task, scene: &mut Scene<'_, N>) -> Next
     requires { HasRoom parts_of_row scene.old }
-    ensures row { DoneByRows N.rows (noted table.Break break_rows) rules.now command scene.old
+    ensures row { DoneByRows N.rows (noted table.Break break_rows) rules.now task scene.old
         scene.new result }
 {
-    let x = command.object;
+    let x = task.object;
     if rules.is(x, Named::Vase) && has_prop(scene.state, x, VASE_WHOLE) {
         scene.note(Table::Break, 1);
         lay_down(rules, x, scene);
@@ -34,7 +30,7 @@ pub fn break_object<N: RowNotes>(
     }
     if !rules.is(x, Named::Mirror) {
         scene.note(Table::Break, 4);
-        return command.say_default(rules, scene);
+        return task.say_default(rules, scene);
     }
     if scene.state.closing.is_closed {
         scene.note(Table::Break, 2);
@@ -47,16 +43,16 @@ pub fn break_object<N: RowNotes>(
 
 /// WAKE an object.
 #[tactic(auto, unfolding(crate::specs::Breaking::wake_rows))]
-pub fn wake<N: RowNotes>(rules: &Rules<'_>, command: Command, scene: &mut Scene<'_, N>) -> Next
+pub fn wake<N: RowNotes>(rules: &Rules<'_>, task: Task, scene: &mut Scene<'_, N>) -> Next
     requires { HasRoom parts_of_row scene.old }
-    ensures row { DoneByRows N.rows (noted table.Wake wake_rows) rules.now command scene.old
+    ensures row { DoneByRows N.rows (noted table.Wake wake_rows) rules.now task scene.old
         scene.new result }
 {
-    if rules.is(command.object, Named::Dwarf) && scene.state.closing.is_closed {
+    if rules.is(task.object, Named::Dwarf) && scene.state.closing.is_closed {
         scene.note(Table::Wake, 1);
         scene.say(Role::WakeDwarf);
         return Next::disturb(scene);
     }
     scene.note(Table::Wake, 2);
-    command.say_default(rules, scene)
+    task.say_default(rules, scene)
 }

@@ -1,74 +1,59 @@
-ghost use Rattle.std.specs.Prelude.{◌≡◌, [], ◌∷◌};
-ghost use Rattle.turn_scene.specs.Bounds.{GoesOnSaying, HasRoom};
-ghost use Rattle.turn_scene.specs.Scene.{scene_of, cave_of};
-ghost use Rattle.turn_scene.specs.Rows.{row_then};
-ghost use Rattle.cave_verbs.specs.Effects.{after_default, default, ask_what};
-ghost use Rattle.cave_verbs.specs.Rows.{DoneByRow, keeps, row};
+ghost use Rattle.std.specs.Prelude.{◌+◌, ◌≤◌};
+ghost use Rattle.arrayvec.specs.ArrayVec.{array_vec_len};
+ghost use Rattle.cave_words.specs.Lexicon.{IsLexiconOf};
+ghost use Rattle.cave_verbs.specs.Command.{IsDone, act_on_command};
 
+use crate::acting::act_in_scene;
 use crate::next::Next;
+use crate::task::Task;
 use crate::verb::Verb;
-use cave_words::Word;
-use cave_world::{Part, RowNotes, WordLine};
+use cave_data::Cave;
+use cave_words::{Lexicon, Word};
+use cave_world::{Out, State, Unnoted};
+use turn_scene::scene::MAX_FORCED_MOTIONS;
 use turn_scene::{Rules, Scene};
 use world_objects::Object;
 
-/// What a verb is to do: what the player commands, or what a row goes on with.
+/// What a player commands.
 #[derive(Clone, Copy, Debug, PartialEq, Eq)]
 pub struct Command {
     pub verb: Verb,
-    /// The object that it is done to; object 0 is none.
+    /// The object that the verb is done to; object 0 is none.
     pub object: Object,
-    /// The verb that the player commands.
-    pub commanded: Verb,
     /// The word that was just read.
     pub word: Word,
+    /// Whether it was dark as the turn began.
+    pub was_dark: bool,
 }
 
-/// Says the message that the cave gives an action, if there is one.
-pub fn tell_default<N: RowNotes>(rules: &Rules<'_>, number: u16, scene: &mut Scene<'_, N>)
-    requires { HasRoom 1 scene.old }
-    ensures scene { scene_of N.rows scene.new
-        ≡ after_default (cave_of rules.now) number (scene_of N.rows scene.old) }
-    ensures says { GoesOnSaying 1 scene.old scene.new }
+/// Does what a command says in a state, appends what is said, and returns what follows.
+pub fn act(
+    cave: &Cave,
+    lexicon: &Lexicon,
+    state: &mut State,
+    command: Command,
+    out: &mut Out,
+) -> Next
+    requires words { IsLexiconOf cave.now lexicon.now }
+    requires room { array_vec_len out.old ≤ 390 }
+    ensures rules { IsDone (act_on_command cave.now command state.old out.old.items)
+        state.new out.new.items result }
+    ensures few { array_vec_len out.new ≤ array_vec_len out.old + 110 }
 {
-    let message = rules.cave.default_of(number);
-    if message != 0 {
-        scene.tell(Part::Message(message));
-    }
-}
-
-impl Command {
-    ghost use Rattle.cave_verbs.specs.Rows.{command_of};
-
-    /// What a player commands.
-    pub fn of(verb: Verb, object: Object, word: Word) -> Command
-        ensures { result ≡ command_of verb object word }
-    {
-        Command {
-            verb,
-            object,
-            commanded: verb,
-            word,
-        }
-    }
-
-    /// Says the message that the cave gives the verb, if there is one.
-    pub fn say_default<N: RowNotes>(self, rules: &Rules<'_>, scene: &mut Scene<'_, N>) -> Next
-        requires { HasRoom 1 scene.old }
-        ensures row { DoneByRow N.rows (row [] (default ∷ [])) rules.now self scene.old scene.new
-            result }
-    {
-        tell_default(rules, self.verb.number(), scene);
-        Next::Stay
-    }
-
-    /// The word that was just read is asked back, and the verb is kept for the next line.
-    pub fn ask_what<N: RowNotes>(self, rules: &Rules<'_>, scene: &mut Scene<'_, N>) -> Next
-        requires { HasRoom 1 scene.old }
-        ensures row { DoneByRow N.rows (row_then [] (ask_what ∷ []) keeps) rules.now self scene.old
-            scene.new result }
-    {
-        scene.tell(Part::Word(WordLine::What, self.word));
-        Next::Keep
-    }
+    let rules = Rules::of(cave, lexicon);
+    let Command {
+        verb,
+        object,
+        word,
+        was_dark,
+    } = command;
+    let mut notes = Unnoted::new();
+    let mut scene = Scene {
+        state,
+        out,
+        notes: &mut notes,
+        was_dark,
+        left: MAX_FORCED_MOTIONS,
+    };
+    act_in_scene(&rules, Task::of(verb, object, word), &mut scene)
 }

@@ -13,8 +13,8 @@ ghost use Rattle.cave_world.specs.declared.tables.Table.TheVariants as table;
 ghost use Rattle.cave_verbs.specs.Ranks.{rank_of, drop_rank};
 ghost use Rattle.cave_verbs.specs.Dropping.{drop_rows};
 
-use crate::command::Command;
 use crate::next::{Next, VerbStep};
+use crate::task::Task;
 use crate::verb::Verb;
 use cave_words::Named;
 use cave_world::{RowNotes, Table};
@@ -31,16 +31,12 @@ use world_objects::{Anchor, Prop};
 
 /// The bird drives the snake away; in the closed cave it wakes the dwarves.
 #[tactic(auto, unfolding(crate::specs::Dropping::drop_rows))]
-fn drop_bird_by_snake<N: RowNotes>(
-    rules: &Rules<'_>,
-    command: Command,
-    scene: &mut Scene<'_, N>,
-) -> Next
+fn drop_bird_by_snake<N: RowNotes>(rules: &Rules<'_>, task: Task, scene: &mut Scene<'_, N>) -> Next
     requires room { HasRoom parts_of_row scene.old }
-    requires bird { IsTrue (is_called (cave_of rules.now) command.object name.Bird) }
+    requires bird { IsTrue (is_called (cave_of rules.now) task.object name.Bird) }
     requires snake { let cave = cave_of rules.now in
         IsTrue (is_near cave scene.old.state.now (thing cave name.Snake)) }
-    ensures row { DoneByRows N.rows (noted_after table.Drop 2 drop_rows) rules.now command
+    ensures row { DoneByRows N.rows (noted_after table.Drop 2 drop_rows) rules.now task
         scene.old scene.new result }
 {
     if scene.state.closing.is_closed {
@@ -53,21 +49,21 @@ fn drop_bird_by_snake<N: RowNotes>(
     let snake = rules.thing(Named::Snake);
     scene.state.destroy(snake);
     scene.state.objects.set_prop(snake, Prop::new(SNAKE_GONE));
-    put_down(rules, command.object, scene);
+    put_down(rules, task.object, scene);
     Next::Stay
 }
 
 /// A vase that is put down away from the pillow's home breaks without the pillow.
 #[tactic(auto, unfolding(crate::specs::Dropping::drop_rows))]
-fn drop_vase<N: RowNotes>(rules: &Rules<'_>, command: Command, scene: &mut Scene<'_, N>) -> Next
+fn drop_vase<N: RowNotes>(rules: &Rules<'_>, task: Task, scene: &mut Scene<'_, N>) -> Next
     requires room { HasRoom parts_of_row scene.old }
-    requires vase { IsTrue (is_called (cave_of rules.now) command.object name.Vase) }
+    requires vase { IsTrue (is_called (cave_of rules.now) task.object name.Vase) }
     requires away { let cave = cave_of rules.now in
         IsTrue (is_home_elsewhere cave scene.old.state.now (thing cave name.Pillow)) }
-    ensures row { DoneByRows N.rows (noted_after table.Drop 7 drop_rows) rules.now command
+    ensures row { DoneByRows N.rows (noted_after table.Drop 7 drop_rows) rules.now task
         scene.old scene.new result }
 {
-    let x = command.object;
+    let x = task.object;
     if scene.state.at(rules.thing(Named::Pillow)) {
         scene.note(Table::Drop, 8);
         scene.state.objects.set_prop(x, Prop::new(VASE_WHOLE));
@@ -84,17 +80,17 @@ fn drop_vase<N: RowNotes>(rules: &Rules<'_>, command: Command, scene: &mut Scene
 
 /// The coins are spent on batteries.
 #[tactic(auto, unfolding(crate::specs::Dropping::drop_rows))]
-fn drop_coins<N: RowNotes>(rules: &Rules<'_>, command: Command, scene: &mut Scene<'_, N>) -> Next
+fn drop_coins<N: RowNotes>(rules: &Rules<'_>, task: Task, scene: &mut Scene<'_, N>) -> Next
     requires room { HasRoom parts_of_row scene.old }
-    requires coins { IsTrue (is_called (cave_of rules.now) command.object name.Coins) }
+    requires coins { IsTrue (is_called (cave_of rules.now) task.object name.Coins) }
     requires vending { let cave = cave_of rules.now in
         IsTrue (is_near cave scene.old.state.now (thing cave name.Vending)) }
-    ensures row { DoneByRows N.rows (noted_after table.Drop 4 drop_rows) rules.now command
+    ensures row { DoneByRows N.rows (noted_after table.Drop 4 drop_rows) rules.now task
         scene.old scene.new result }
 {
     scene.note(Table::Drop, 5);
     let batteries = rules.thing(Named::Batteries);
-    scene.state.destroy(command.object);
+    scene.state.destroy(task.object);
     let here = scene.state.trail.here;
     scene.state.move_to(batteries, here);
     scene.look(batteries, BATTERIES_FRESH);
@@ -103,20 +99,16 @@ fn drop_coins<N: RowNotes>(rules: &Rules<'_>, command: Command, scene: &mut Scen
 
 /// The dragon burns the bird.
 #[tactic(auto, unfolding(crate::specs::Dropping::drop_rows))]
-fn drop_bird_by_dragon<N: RowNotes>(
-    rules: &Rules<'_>,
-    command: Command,
-    scene: &mut Scene<'_, N>,
-) -> Next
+fn drop_bird_by_dragon<N: RowNotes>(rules: &Rules<'_>, task: Task, scene: &mut Scene<'_, N>) -> Next
     requires room { HasRoom parts_of_row scene.old }
-    requires bird { IsTrue (is_called (cave_of rules.now) command.object name.Bird) }
+    requires bird { IsTrue (is_called (cave_of rules.now) task.object name.Bird) }
     requires dragon { IsTrue (all_hold
         (is_here dragon ∷ prop dragon defined_props.DRAGON_ALIVE ∷ [])
-        (deed (cave_of rules.now) command (scene_of N.rows scene.old))) }
-    ensures row { DoneByRows N.rows (noted_after table.Drop 5 drop_rows) rules.now command
+        (deed (cave_of rules.now) task (scene_of N.rows scene.old))) }
+    ensures row { DoneByRows N.rows (noted_after table.Drop 5 drop_rows) rules.now task
         scene.old scene.new result }
 {
-    let x = command.object;
+    let x = task.object;
     scene.note(Table::Drop, 6);
     scene.say(Role::BirdDragon);
     scene.state.destroy(x);
@@ -127,24 +119,24 @@ fn drop_bird_by_dragon<N: RowNotes>(
 
 /// DROP an object that is carried.
 #[tactic(auto, unfolding(crate::specs::Dropping::drop_rows))]
-fn drop_held<N: RowNotes>(rules: &Rules<'_>, command: Command, scene: &mut Scene<'_, N>) -> Next
+fn drop_held<N: RowNotes>(rules: &Rules<'_>, task: Task, scene: &mut Scene<'_, N>) -> Next
     requires { HasRoom parts_of_row scene.old }
-    ensures row { DoneByRows N.rows (noted_after table.Drop 2 drop_rows) rules.now command
+    ensures row { DoneByRows N.rows (noted_after table.Drop 2 drop_rows) rules.now task
         scene.old scene.new result }
 {
-    let x = command.object;
+    let x = task.object;
     if rules.is(x, Named::Bird) && is_near(rules, scene.state, rules.thing(Named::Snake)) {
-        return drop_bird_by_snake(rules, command, scene);
+        return drop_bird_by_snake(rules, task, scene);
     }
     if rules.is(x, Named::Coins) && is_near(rules, scene.state, rules.thing(Named::Vending)) {
-        return drop_coins(rules, command, scene);
+        return drop_coins(rules, task, scene);
     }
     let dragon = rules.thing(Named::Dragon);
     if rules.is(x, Named::Bird)
         && scene.state.at(dragon)
         && has_prop(scene.state, dragon, DRAGON_ALIVE)
     {
-        return drop_bird_by_dragon(rules, command, scene);
+        return drop_bird_by_dragon(rules, task, scene);
     }
     let troll = rules.thing(Named::Troll);
     let pillow = rules.thing(Named::Pillow);
@@ -154,7 +146,7 @@ fn drop_held<N: RowNotes>(rules: &Rules<'_>, command: Command, scene: &mut Scene
         remove_troll(rules, scene);
         scene.state.objects.set_prop(troll, Prop::new(TROLL_FLED));
     } else if rules.is(x, Named::Vase) && is_home_elsewhere(rules, scene.state, pillow) {
-        return drop_vase(rules, command, scene);
+        return drop_vase(rules, task, scene);
     } else {
         scene.note(Table::Drop, 10);
         scene.say(Role::Ok);
@@ -165,20 +157,16 @@ fn drop_held<N: RowNotes>(rules: &Rules<'_>, command: Command, scene: &mut Scene
 
 /// DROP an object.
 #[tactic(auto, unfolding(crate::specs::Dropping::drop_rows), using(crate::proofs::Falls::drop_falls))]
-pub fn drop_object<N: RowNotes>(
-    rules: &Rules<'_>,
-    command: Command,
-    scene: &mut Scene<'_, N>,
-) -> VerbStep
+pub fn drop_object<N: RowNotes>(rules: &Rules<'_>, task: Task, scene: &mut Scene<'_, N>) -> VerbStep
     requires { HasRoom parts_of_row scene.old }
-    ensures row { ByRows N.rows (noted table.Drop drop_rows) rules.now command scene.old scene.new
+    ensures row { ByRows N.rows (noted table.Drop drop_rows) rules.now task scene.old scene.new
         result }
     ensures ranks { let cave = cave_of rules.now in
-        rank_of cave result ≤ drop_rank cave command.object }
+        rank_of cave result ≤ drop_rank cave task.object }
 {
-    let x = command.object;
+    let x = task.object;
     if is_carried(rules, scene.state, x) {
-        return VerbStep::Done(drop_held(rules, command, scene));
+        return VerbStep::Done(drop_held(rules, task, scene));
     }
     let second_rod = rules.thing(Named::SecondRod);
     if rules.is(x, Named::Rod) && is_carried(rules, scene.state, second_rod) {
@@ -186,5 +174,5 @@ pub fn drop_object<N: RowNotes>(
         return VerbStep::GoOn(Verb::Drop, second_rod);
     }
     scene.note(Table::Drop, 2);
-    VerbStep::Done(command.say_default(rules, scene))
+    VerbStep::Done(task.say_default(rules, scene))
 }

@@ -8,8 +8,8 @@ ghost use Rattle.cave_world.specs.declared.tables.Table.TheVariants as table;
 ghost use Rattle.cave_verbs.specs.Ranks.{rank_of};
 ghost use Rattle.cave_verbs.specs.Feeding.{feed_rows, bare_eat_rows, eat_rows};
 
-use crate::command::Command;
 use crate::next::{Next, VerbStep};
+use crate::task::Task;
 use crate::verb::Verb;
 use cave_words::Named;
 use cave_world::{RowNotes, Table};
@@ -32,12 +32,12 @@ const LIVING: [Named; 8] = [
 
 /// FEED an object.
 #[tactic(auto, unfolding(crate::specs::Feeding::feed_rows))]
-pub fn feed<N: RowNotes>(rules: &Rules<'_>, command: Command, scene: &mut Scene<'_, N>) -> Next
+pub fn feed<N: RowNotes>(rules: &Rules<'_>, task: Task, scene: &mut Scene<'_, N>) -> Next
     requires { HasRoom parts_of_row scene.old }
-    ensures row { DoneByRows N.rows (noted table.Feed feed_rows) rules.now command scene.old
+    ensures row { DoneByRows N.rows (noted table.Feed feed_rows) rules.now task scene.old
         scene.new result }
 {
-    let x = command.object;
+    let x = task.object;
     let bird = rules.thing(Named::Bird);
     let food = rules.thing(Named::Food);
     let (row, role) = if rules.is(x, Named::Bird) {
@@ -61,9 +61,9 @@ pub fn feed<N: RowNotes>(rules: &Rules<'_>, command: Command, scene: &mut Scene<
         (6, Role::DwarfFeed)
     } else if rules.is(x, Named::Dwarf) {
         scene.note(Table::Feed, 7);
-        return command.say_default(rules, scene);
+        return task.say_default(rules, scene);
     } else if rules.is(x, Named::Bear) {
-        return feed_bear(rules, command, scene);
+        return feed_bear(rules, task, scene);
     } else {
         (12, Role::FeedWhat)
     };
@@ -73,13 +73,13 @@ pub fn feed<N: RowNotes>(rules: &Rules<'_>, command: Command, scene: &mut Scene<
 
 /// FEED the bear.
 #[tactic(auto, unfolding(crate::specs::Feeding::feed_rows))]
-fn feed_bear<N: RowNotes>(rules: &Rules<'_>, command: Command, scene: &mut Scene<'_, N>) -> Next
+fn feed_bear<N: RowNotes>(rules: &Rules<'_>, task: Task, scene: &mut Scene<'_, N>) -> Next
     requires room { HasRoom parts_of_row scene.old }
-    requires bear { IsTrue (is_called (cave_of rules.now) command.object name.Bear) }
-    ensures row { DoneByRows N.rows (noted_after table.Feed 7 feed_rows) rules.now command
+    requires bear { IsTrue (is_called (cave_of rules.now) task.object name.Bear) }
+    ensures row { DoneByRows N.rows (noted_after table.Feed 7 feed_rows) rules.now task
         scene.old scene.new result }
 {
-    let bear = command.object;
+    let bear = task.object;
     let food = rules.thing(Named::Food);
     if is_near(rules, scene.state, food) {
         scene.note(Table::Feed, 8);
@@ -99,18 +99,18 @@ fn feed_bear<N: RowNotes>(rules: &Rules<'_>, command: Command, scene: &mut Scene
         return Next::say(Role::Ridiculous, scene);
     }
     scene.note(Table::Feed, 11);
-    command.say_default(rules, scene)
+    task.say_default(rules, scene)
 }
 
 /// EAT without an object.
 #[tactic(auto, using(crate::proofs::Near::is_something), unfolding(crate::specs::Feeding::bare_eat_rows))]
 pub fn eat_what_is_here<N: RowNotes>(
     rules: &Rules<'_>,
-    command: Command,
+    task: Task,
     scene: &mut Scene<'_, N>,
 ) -> VerbStep
     requires { HasRoom parts_of_row scene.old }
-    ensures row { ByRows N.rows (noted table.BareEat bare_eat_rows) rules.now command scene.old
+    ensures row { ByRows N.rows (noted table.BareEat bare_eat_rows) rules.now task scene.old
         scene.new result }
     ensures ranks { rank_of (cave_of rules.now) result ≤ 1 }
 {
@@ -120,17 +120,17 @@ pub fn eat_what_is_here<N: RowNotes>(
         return VerbStep::GoOn(Verb::Eat, food);
     }
     scene.note(Table::BareEat, 2);
-    VerbStep::Done(command.ask_what(rules, scene))
+    VerbStep::Done(task.ask_what(rules, scene))
 }
 
 /// EAT an object.
 #[tactic(auto, unfolding(crate::specs::Feeding::eat_rows))]
-pub fn eat<N: RowNotes>(rules: &Rules<'_>, command: Command, scene: &mut Scene<'_, N>) -> Next
+pub fn eat<N: RowNotes>(rules: &Rules<'_>, task: Task, scene: &mut Scene<'_, N>) -> Next
     requires { HasRoom parts_of_row scene.old }
-    ensures row { DoneByRows N.rows (noted table.Eat eat_rows) rules.now command scene.old scene.new
+    ensures row { DoneByRows N.rows (noted table.Eat eat_rows) rules.now task scene.old scene.new
         result }
 {
-    let x = command.object;
+    let x = task.object;
     if rules.is(x, Named::Food) {
         scene.note(Table::Eat, 1);
         scene.state.destroy(x);
@@ -141,5 +141,5 @@ pub fn eat<N: RowNotes>(rules: &Rules<'_>, command: Command, scene: &mut Scene<'
         return Next::say(Role::NoAppetite, scene);
     }
     scene.note(Table::Eat, 3);
-    command.say_default(rules, scene)
+    task.say_default(rules, scene)
 }

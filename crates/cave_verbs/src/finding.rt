@@ -8,8 +8,8 @@ ghost use Rattle.cave_world.specs.declared.tables.Table.TheVariants as table;
 ghost use Rattle.cave_verbs.specs.Finding.{find_rows, bare_inventory_rows, is_in_inventory};
 ghost use Rattle.cave_verbs.specs.Finding.{listed_up_to, after_naming, tell_bear};
 
-use crate::command::Command;
 use crate::next::Next;
+use crate::task::Task;
 use arrayvec::ArrayVec;
 use cave_words::Named;
 use cave_world::{Part, RowNotes, State, Table};
@@ -20,12 +20,12 @@ use world_objects::object::OBJECTS;
 
 /// FIND an object, or INVENTORY of one.
 #[tactic(auto, unfolding(crate::specs::Finding::find_rows))]
-pub fn find<N: RowNotes>(rules: &Rules<'_>, command: Command, scene: &mut Scene<'_, N>) -> Next
+pub fn find<N: RowNotes>(rules: &Rules<'_>, task: Task, scene: &mut Scene<'_, N>) -> Next
     requires { HasRoom 1 scene.old }
-    ensures row { DoneByRows N.rows (noted table.Find find_rows) rules.now command scene.old
+    ensures row { DoneByRows N.rows (noted table.Find find_rows) rules.now task scene.old
         scene.new result }
 {
-    let x = command.object;
+    let x = task.object;
     let (row, role) = if is_carried(rules, scene.state, x) {
         (1, Role::HeldIt)
     } else if scene.state.closing.is_closed {
@@ -42,7 +42,7 @@ pub fn find<N: RowNotes>(rules: &Rules<'_>, command: Command, scene: &mut Scene<
         (6, Role::HereIt)
     } else {
         scene.note(Table::Find, 7);
-        return command.say_default(rules, scene);
+        return task.say_default(rules, scene);
     };
     scene.note(Table::Find, row);
     Next::say(role, scene)
@@ -82,9 +82,9 @@ fn name_all<N: RowNotes>(objects: &[Object], scene: &mut Scene<'_, N>)
 
 /// Says that the bear follows, if it does, and does nothing more.
 #[tactic(auto, unfolding(crate::specs::Finding::bear_along_rows))]
-fn tell_bear<N: RowNotes>(rules: &Rules<'_>, command: Command, scene: &mut Scene<'_, N>) -> Next
+fn tell_bear<N: RowNotes>(rules: &Rules<'_>, task: Task, scene: &mut Scene<'_, N>) -> Next
     requires { HasRoom 1 scene.old }
-    ensures row { DoneByRow N.rows (row [] (tell_bear ∷ [])) rules.now command scene.old scene.new
+    ensures row { DoneByRow N.rows (row [] (tell_bear ∷ [])) rules.now task scene.old scene.new
         result }
 {
     if is_carried(rules, scene.state, rules.thing(Named::Bear)) {
@@ -96,19 +96,19 @@ fn tell_bear<N: RowNotes>(rules: &Rules<'_>, command: Command, scene: &mut Scene
 
 /// INVENTORY without an object.
 #[tactic(auto, unfolding(crate::specs::Finding::bare_inventory_rows, crate::specs::Finding::bear_along_rows))]
-pub fn inventory<N: RowNotes>(rules: &Rules<'_>, command: Command, scene: &mut Scene<'_, N>) -> Next
+pub fn inventory<N: RowNotes>(rules: &Rules<'_>, task: Task, scene: &mut Scene<'_, N>) -> Next
     requires { HasRoom parts_of_inventory scene.old }
     ensures row { DoneByRows N.rows (noted table.BareInventory bare_inventory_rows) rules.now
-        command scene.old scene.new result }
+        task scene.old scene.new result }
 {
     let listed = listed(rules, scene.state);
     if listed.is_empty() {
         scene.note(Table::BareInventory, 1);
         scene.say(Role::Empty);
-        return tell_bear(rules, command, scene);
+        return tell_bear(rules, task, scene);
     }
     scene.note(Table::BareInventory, 2);
     scene.say(Role::Holding);
     name_all(listed.as_slice(), scene);
-    tell_bear(rules, command, scene)
+    tell_bear(rules, task, scene)
 }

@@ -8,8 +8,8 @@ ghost use Rattle.cave_verbs.specs.Ranks.{rank_of};
 ghost use Rattle.cave_verbs.specs.Killing.{foes, prey, bare_kill_rows, kill_rows};
 
 use crate::choice::{Meant, add_meant, first, several};
-use crate::command::Command;
 use crate::next::{Next, VerbStep};
+use crate::task::Task;
 use crate::verb::Verb;
 use arrayvec::ArrayVec;
 use cave_words::Named;
@@ -20,9 +20,9 @@ use turn_scene::{Rules, Scene, has_prop, is_dwarf_here, is_near, lose_to_snake};
 use world_objects::Prop;
 
 /// The foes that the player could mean.
-fn foes<N: RowNotes>(rules: &Rules<'_>, command: &Command, scene: &Scene<'_, N>) -> Meant
+fn foes<N: RowNotes>(rules: &Rules<'_>, task: &Task, scene: &Scene<'_, N>) -> Meant
     ensures { result.items
-        ≡ foes (deed (cave_of rules.now) command.now (scene_of N.rows scene.now)) }
+        ≡ foes (deed (cave_of rules.now) task.now (scene_of N.rows scene.now)) }
 {
     let dwarf = rules.thing(Named::Dwarf);
     let snake = rules.thing(Named::Snake);
@@ -41,14 +41,14 @@ fn foes<N: RowNotes>(rules: &Rules<'_>, command: &Command, scene: &Scene<'_, N>)
 }
 
 /// What the player could mean if there is no foe.
-fn prey<N: RowNotes>(rules: &Rules<'_>, command: &Command, scene: &Scene<'_, N>) -> Meant
+fn prey<N: RowNotes>(rules: &Rules<'_>, task: &Task, scene: &Scene<'_, N>) -> Meant
     ensures { result.items
-        ≡ prey (deed (cave_of rules.now) command.now (scene_of N.rows scene.now)) }
+        ≡ prey (deed (cave_of rules.now) task.now (scene_of N.rows scene.now)) }
 {
     let bird = rules.thing(Named::Bird);
     let clam = rules.thing(Named::Clam);
     let oyster = rules.thing(Named::Oyster);
-    let is_bird_meant = is_near(rules, scene.state, bird) && !command.commanded.is(Verb::Throw);
+    let is_bird_meant = is_near(rules, scene.state, bird) && !task.commanded.is(Verb::Throw);
     let is_shell_near = is_near(rules, scene.state, clam) || is_near(rules, scene.state, oyster);
     let mut prey = ArrayVec::new();
     add_meant(is_bird_meant, bird, &mut prey);
@@ -60,28 +60,28 @@ fn prey<N: RowNotes>(rules: &Rules<'_>, command: &Command, scene: &Scene<'_, N>)
 #[tactic(auto, unfolding(crate::specs::Killing::bare_kill_rows))]
 pub fn kill_what_is_here<N: RowNotes>(
     rules: &Rules<'_>,
-    command: Command,
+    task: Task,
     scene: &mut Scene<'_, N>,
 ) -> VerbStep
     requires { HasRoom parts_of_row scene.old }
-    ensures row { ByRows N.rows (noted table.BareKill bare_kill_rows) rules.now command scene.old
+    ensures row { ByRows N.rows (noted table.BareKill bare_kill_rows) rules.now task scene.old
         scene.new result }
     ensures ranks { rank_of (cave_of rules.now) result ≤ 1 }
 {
-    let foes = foes(rules, &command, scene);
+    let foes = foes(rules, &task, scene);
     if several(foes.as_slice()) {
         scene.note(Table::BareKill, 1);
-        return VerbStep::Done(command.ask_what(rules, scene));
+        return VerbStep::Done(task.ask_what(rules, scene));
     }
     let foe = first(foes.as_slice());
     if !foe.is_none() {
         scene.note(Table::BareKill, 2);
         return VerbStep::GoOn(Verb::Kill, foe);
     }
-    let prey = prey(rules, &command, scene);
+    let prey = prey(rules, &task, scene);
     if several(prey.as_slice()) {
         scene.note(Table::BareKill, 3);
-        return VerbStep::Done(command.ask_what(rules, scene));
+        return VerbStep::Done(task.ask_what(rules, scene));
     }
     let game = first(prey.as_slice());
     if !game.is_none() {
@@ -94,12 +94,12 @@ pub fn kill_what_is_here<N: RowNotes>(
 
 /// KILL an object.
 #[tactic(auto, unfolding(crate::specs::Killing::kill_rows))]
-pub fn kill<N: RowNotes>(rules: &Rules<'_>, command: Command, scene: &mut Scene<'_, N>) -> Next
+pub fn kill<N: RowNotes>(rules: &Rules<'_>, task: Task, scene: &mut Scene<'_, N>) -> Next
     requires { HasRoom parts_of_row scene.old }
-    ensures row { DoneByRows N.rows (noted table.Kill kill_rows) rules.now command scene.old
+    ensures row { DoneByRows N.rows (noted table.Kill kill_rows) rules.now task scene.old
         scene.new result }
 {
-    let x = command.object;
+    let x = task.object;
     let is_closed = scene.state.closing.is_closed;
     let (row, role) = if rules.is(x, Named::Bird) && is_closed {
         (1, Role::BirdNo)
@@ -133,7 +133,7 @@ pub fn kill<N: RowNotes>(rules: &Rules<'_>, command: Command, scene: &mut Scene<
         (12, Role::BearFriend)
     } else {
         scene.note(Table::Kill, 13);
-        return command.say_default(rules, scene);
+        return task.say_default(rules, scene);
     };
     scene.note(Table::Kill, row);
     Next::say(role, scene)

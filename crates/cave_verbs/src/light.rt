@@ -4,8 +4,8 @@ ghost use Rattle.turn_scene.specs.Rows.{noted};
 ghost use Rattle.cave_world.specs.declared.tables.Table.TheVariants as table;
 ghost use Rattle.cave_verbs.specs.Light.{on_rows, off_rows};
 
-use crate::command::Command;
 use crate::next::Next;
+use crate::task::Task;
 use cave_words::Named;
 use cave_world::{LAMP_ON, RowNotes, Table};
 use data_rows::Role;
@@ -15,15 +15,15 @@ use world_objects::Prop;
 
 /// ON, with any object.
 #[tactic(auto, unfolding(crate::specs::Light::on_rows))]
-pub fn turn_on<N: RowNotes>(rules: &Rules<'_>, command: Command, scene: &mut Scene<'_, N>) -> Next
+pub fn turn_on<N: RowNotes>(rules: &Rules<'_>, task: Task, scene: &mut Scene<'_, N>) -> Next
     requires { HasRoom parts_of_row scene.old }
-    ensures row { DoneByRows N.rows (noted table.On on_rows) rules.now command scene.old scene.new
+    ensures row { DoneByRows N.rows (noted table.On on_rows) rules.now task scene.old scene.new
         result }
 {
     let lamp = rules.thing(Named::Lamp);
     if !is_near(rules, scene.state, lamp) {
         scene.note(Table::On, 1);
-        return command.say_default(rules, scene);
+        return task.say_default(rules, scene);
     }
     if scene.state.lamp.charge.turns() < 0 {
         scene.note(Table::On, 2);
@@ -41,15 +41,15 @@ pub fn turn_on<N: RowNotes>(rules: &Rules<'_>, command: Command, scene: &mut Sce
 
 /// OFF, with any object.
 #[tactic(auto, unfolding(crate::specs::Light::off_rows, crate::specs::Light::darkened_rows))]
-pub fn turn_off<N: RowNotes>(rules: &Rules<'_>, command: Command, scene: &mut Scene<'_, N>) -> Next
+pub fn turn_off<N: RowNotes>(rules: &Rules<'_>, task: Task, scene: &mut Scene<'_, N>) -> Next
     requires { HasRoom parts_of_row scene.old }
-    ensures row { DoneByRows N.rows (noted table.Off off_rows) rules.now command scene.old scene.new
+    ensures row { DoneByRows N.rows (noted table.Off off_rows) rules.now task scene.old scene.new
         result }
 {
     let lamp = rules.thing(Named::Lamp);
     if !is_near(rules, scene.state, lamp) {
         scene.note(Table::Off, 1);
-        return command.say_default(rules, scene);
+        return task.say_default(rules, scene);
     }
     scene.note(Table::Off, 2);
     scene.state.objects.set_prop(lamp, Prop::new(LAMP_OFF));

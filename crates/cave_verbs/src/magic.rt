@@ -12,8 +12,8 @@ ghost use Rattle.cave_world.specs.declared.tables.Table.TheVariants as table;
 ghost use Rattle.cave_verbs.specs.Magic.{bare_foo_rows, eggs_rows, with_magic};
 ghost use Rattle.cave_verbs.specs.Things.{eggs};
 
-use crate::command::Command;
 use crate::next::Next;
+use crate::task::Task;
 use cave_words::Named;
 use cave_world::{Magic, RowNotes, State, Table};
 use data_rows::Role;
@@ -57,9 +57,9 @@ fn remember(state: &mut State, k: u16)
 
 /// A text of the eggs is printed: they appear, vanish, or do neither here.
 #[tactic(auto, unfolding(crate::specs::Magic::eggs_rows))]
-fn look_at_eggs<N: RowNotes>(rules: &Rules<'_>, command: &Command, scene: &mut Scene<'_, N>)
+fn look_at_eggs<N: RowNotes>(rules: &Rules<'_>, task: &Task, scene: &mut Scene<'_, N>)
     requires { HasRoom 1 scene.old }
-    ensures rows { Does N.rows (by_table table.Eggs eggs_rows ∷ []) 1 rules.now command.now
+    ensures rows { Does N.rows (by_table table.Eggs eggs_rows ∷ []) 1 rules.now task.now
         scene.old scene.new }
 {
     let eggs = rules.thing(Named::Eggs);
@@ -76,27 +76,23 @@ fn look_at_eggs<N: RowNotes>(rules: &Rules<'_>, command: &Command, scene: &mut S
 }
 
 /// Prints a text of the eggs, and moves them home.
-fn send_eggs_home<N: RowNotes>(
-    rules: &Rules<'_>,
-    command: &Command,
-    scene: &mut Scene<'_, N>,
-) -> Next
+fn send_eggs_home<N: RowNotes>(rules: &Rules<'_>, task: &Task, scene: &mut Scene<'_, N>) -> Next
     requires { HasRoom 1 scene.old }
     ensures scene { Does N.rows (by_table table.Eggs eggs_rows ∷ move eggs (home_of eggs) ∷ []) 1
-        rules.now command.now scene.old scene.new }
+        rules.now task.now scene.old scene.new }
     ensures next { result ≡ Stay }
 {
     let eggs = rules.thing(Named::Eggs);
-    look_at_eggs(rules, command, scene);
+    look_at_eggs(rules, task, scene);
     scene.state.move_to(eggs, home(rules, eggs));
     Next::Stay
 }
 
 /// The eggs go home, and a troll that went away with them comes back for them.
 #[tactic(auto, unfolding(crate::specs::Magic::bare_foo_rows))]
-fn call_eggs<N: RowNotes>(rules: &Rules<'_>, command: Command, scene: &mut Scene<'_, N>) -> Next
+fn call_eggs<N: RowNotes>(rules: &Rules<'_>, task: Task, scene: &mut Scene<'_, N>) -> Next
     requires { HasRoom 1 scene.old }
-    ensures row { DoneByRows N.rows (noted_after table.BareFoo 6 bare_foo_rows) rules.now command
+    ensures row { DoneByRows N.rows (noted_after table.BareFoo 6 bare_foo_rows) rules.now task
         scene.old scene.new result }
 {
     let eggs = rules.thing(Named::Eggs);
@@ -114,14 +110,14 @@ fn call_eggs<N: RowNotes>(rules: &Rules<'_>, command: Command, scene: &mut Scene
     } else {
         scene.note(Table::BareFoo, 8);
     }
-    send_eggs_home(rules, &command, scene)
+    send_eggs_home(rules, &task, scene)
 }
 
 /// The last of the magic words is said in its turn.
 #[tactic(auto, unfolding(crate::specs::Magic::bare_foo_rows))]
-fn say_last_word<N: RowNotes>(rules: &Rules<'_>, command: Command, scene: &mut Scene<'_, N>) -> Next
+fn say_last_word<N: RowNotes>(rules: &Rules<'_>, task: Task, scene: &mut Scene<'_, N>) -> Next
     requires { HasRoom 1 scene.old }
-    ensures row { DoneByRows N.rows (noted_after table.BareFoo 3 bare_foo_rows) rules.now command
+    ensures row { DoneByRows N.rows (noted_after table.BareFoo 3 bare_foo_rows) rules.now task
         scene.old scene.new result }
 {
     let eggs = rules.thing(Named::Eggs);
@@ -132,7 +128,7 @@ fn say_last_word<N: RowNotes>(rules: &Rules<'_>, command: Command, scene: &mut S
     } else if is_carried(rules, scene.state, eggs) && is_home_here(rules, scene.state, eggs) {
         6
     } else {
-        return call_eggs(rules, command, scene);
+        return call_eggs(rules, task, scene);
     };
     scene.note(Table::BareFoo, row);
     set_magic(scene.state, 0);
@@ -141,12 +137,12 @@ fn say_last_word<N: RowNotes>(rules: &Rules<'_>, command: Command, scene: &mut S
 
 /// FOO without an object.
 #[tactic(auto, unfolding(crate::specs::Magic::bare_foo_rows))]
-pub fn foo<N: RowNotes>(rules: &Rules<'_>, command: Command, scene: &mut Scene<'_, N>) -> Next
+pub fn foo<N: RowNotes>(rules: &Rules<'_>, task: Task, scene: &mut Scene<'_, N>) -> Next
     requires { HasRoom 1 scene.old }
-    ensures row { DoneByRows N.rows (noted table.BareFoo bare_foo_rows) rules.now command scene.old
+    ensures row { DoneByRows N.rows (noted table.BareFoo bare_foo_rows) rules.now task scene.old
         scene.new result }
 {
-    let k = special(rules, command.word);
+    let k = special(rules, task.word);
     let (row, role) = if k == 0 || is_out_of_turn(scene.state, k) {
         if magic_of(scene.state) == 0 {
             (1, Role::Magic)
@@ -157,7 +153,7 @@ pub fn foo<N: RowNotes>(rules: &Rules<'_>, command: Command, scene: &mut Scene<'
         remember(scene.state, k);
         (3, Role::Ok)
     } else {
-        return say_last_word(rules, command, scene);
+        return say_last_word(rules, task, scene);
     };
     scene.note(Table::BareFoo, row);
     Next::say(role, scene)

@@ -12,8 +12,8 @@ ghost use Rattle.cave_verbs.specs.Ranks.{rank_of};
 ghost use Rattle.cave_verbs.specs.Opening.{bare_open_rows, locks, open_rows};
 
 use crate::choice::{Meant, add_meant, first};
-use crate::command::Command;
 use crate::next::{Next, VerbStep};
+use crate::task::Task;
 use crate::verb::Verb;
 use arrayvec::ArrayVec;
 use cave_words::Named;
@@ -31,9 +31,9 @@ use world_objects::{Anchor, Object, Place, Prop};
 
 /// What a player who names nothing could mean: the grate or the door that is here, or the oyster or
 /// the clam at hand.
-fn locks<N: RowNotes>(rules: &Rules<'_>, command: &Command, scene: &Scene<'_, N>) -> Meant
+fn locks<N: RowNotes>(rules: &Rules<'_>, task: &Task, scene: &Scene<'_, N>) -> Meant
     ensures { result.items
-        ≡ locks (deed (cave_of rules.now) command.now (scene_of N.rows scene.now)) }
+        ≡ locks (deed (cave_of rules.now) task.now (scene_of N.rows scene.now)) }
 {
     let grate = rules.thing(Named::Grate);
     let door = rules.thing(Named::Door);
@@ -51,30 +51,30 @@ fn locks<N: RowNotes>(rules: &Rules<'_>, command: &Command, scene: &Scene<'_, N>
 #[tactic(auto, using(crate::proofs::Near::is_something, crate::proofs::Falls::lock_falls), unfolding(crate::specs::Opening::bare_open_rows))]
 pub fn open_what_is_here<N: RowNotes>(
     rules: &Rules<'_>,
-    command: Command,
+    task: Task,
     scene: &mut Scene<'_, N>,
 ) -> VerbStep
     requires room { HasRoom parts_of_row scene.old }
-    requires verb { IsTrue (is_verb command.verb verb_is.Open
-        || is_verb command.verb verb_is.Lock) }
-    ensures row { ByRows N.rows (noted table.BareOpen bare_open_rows) rules.now command scene.old
+    requires verb { IsTrue (is_verb task.verb verb_is.Open
+        || is_verb task.verb verb_is.Lock) }
+    ensures row { ByRows N.rows (noted table.BareOpen bare_open_rows) rules.now task scene.old
         scene.new result }
     ensures ranks { rank_of (cave_of rules.now) result ≤ 1 }
 {
-    let meant = first(locks(rules, &command, scene).as_slice());
+    let meant = first(locks(rules, &task, scene).as_slice());
     let chain = rules.thing(Named::Chain);
     let is_chain_near = is_near(rules, scene.state, chain);
     if !meant.is_none() && is_chain_near {
         scene.note(Table::BareOpen, 1);
-        return VerbStep::Done(command.ask_what(rules, scene));
+        return VerbStep::Done(task.ask_what(rules, scene));
     }
     if !meant.is_none() {
         scene.note(Table::BareOpen, 2);
-        return VerbStep::GoOn(command.verb, meant);
+        return VerbStep::GoOn(task.verb, meant);
     }
     if is_chain_near {
         scene.note(Table::BareOpen, 3);
-        return VerbStep::GoOn(command.verb, chain);
+        return VerbStep::GoOn(task.verb, chain);
     }
     scene.note(Table::BareOpen, 4);
     VerbStep::Done(Next::say(Role::NoLock, scene))
@@ -92,17 +92,17 @@ fn send(object: Object, place: Option<Place>, state: &mut State)
 
 /// OPEN or LOCK the clam or the oyster.
 #[tactic(auto, unfolding(crate::specs::Opening::open_rows))]
-fn open_shell<N: RowNotes>(rules: &Rules<'_>, command: Command, scene: &mut Scene<'_, N>) -> Next
+fn open_shell<N: RowNotes>(rules: &Rules<'_>, task: Task, scene: &mut Scene<'_, N>) -> Next
     requires room { HasRoom parts_of_row scene.old }
-    requires shell { IsTrue (is_called (cave_of rules.now) command.object name.Clam
-        || is_called (cave_of rules.now) command.object name.Oyster) }
-    ensures row { DoneByRows N.rows (noted table.Open open_rows) rules.now command scene.old
+    requires shell { IsTrue (is_called (cave_of rules.now) task.object name.Clam
+        || is_called (cave_of rules.now) task.object name.Oyster) }
+    ensures row { DoneByRows N.rows (noted table.Open open_rows) rules.now task scene.old
         scene.new result }
 {
-    let x = command.object;
+    let x = task.object;
     let is_clam = rules.is(x, Named::Clam);
     let has_trident = is_carried(rules, scene.state, rules.thing(Named::Trident));
-    let (row, role) = if command.verb.is(Verb::Lock) {
+    let (row, role) = if task.verb.is(Verb::Lock) {
         (1, Role::LockWhat)
     } else if is_clam && !has_trident {
         (2, Role::ClamTool)
@@ -128,18 +128,14 @@ fn open_shell<N: RowNotes>(rules: &Rules<'_>, command: Command, scene: &mut Scen
 
 /// OPEN or LOCK the grate, with the keys.
 #[tactic(auto, unfolding(crate::specs::Opening::open_rows))]
-fn open_or_lock_grate<N: RowNotes>(
-    rules: &Rules<'_>,
-    command: Command,
-    scene: &mut Scene<'_, N>,
-) -> Next
+fn open_or_lock_grate<N: RowNotes>(rules: &Rules<'_>, task: Task, scene: &mut Scene<'_, N>) -> Next
     requires room { HasRoom parts_of_row scene.old }
-    requires grate { IsTrue (is_called (cave_of rules.now) command.object name.Grate) }
-    ensures row { DoneByRows N.rows (noted_after table.Open 12 open_rows) rules.now command scene.old
+    requires grate { IsTrue (is_called (cave_of rules.now) task.object name.Grate) }
+    ensures row { DoneByRows N.rows (noted_after table.Open 12 open_rows) rules.now task scene.old
         scene.new result }
 {
-    let x = command.object;
-    let is_opening = command.verb.is(Verb::Open);
+    let x = task.object;
+    let is_opening = task.verb.is(Verb::Open);
     let (row, role) = if scene.state.closing.is_closing {
         scene.note(Table::Open, 13);
         scene.say(Role::ClosingExit);
@@ -162,15 +158,15 @@ fn open_or_lock_grate<N: RowNotes>(
 
 /// OPEN or LOCK the chain, with the keys.
 #[tactic(auto, unfolding(crate::specs::Opening::open_rows))]
-fn open_chain<N: RowNotes>(rules: &Rules<'_>, command: Command, scene: &mut Scene<'_, N>) -> Next
+fn open_chain<N: RowNotes>(rules: &Rules<'_>, task: Task, scene: &mut Scene<'_, N>) -> Next
     requires room { HasRoom parts_of_row scene.old }
-    requires chain { IsTrue (is_called (cave_of rules.now) command.object name.Chain) }
-    ensures row { DoneByRows N.rows (noted_after table.Open 17 open_rows) rules.now command
+    requires chain { IsTrue (is_called (cave_of rules.now) task.object name.Chain) }
+    ensures row { DoneByRows N.rows (noted_after table.Open 17 open_rows) rules.now task
         scene.old scene.new result }
 {
-    let x = command.object;
+    let x = task.object;
     let bear = rules.thing(Named::Bear);
-    let is_opening = command.verb.is(Verb::Open);
+    let is_opening = task.verb.is(Verb::Open);
     let (row, role) = if is_opening && has_prop(scene.state, x, CHAIN_UNLOCKED) {
         (18, Role::WasUnlocked)
     } else if is_opening && has_prop(scene.state, bear, BEAR_WILD) {
@@ -203,17 +199,17 @@ fn open_chain<N: RowNotes>(rules: &Rules<'_>, command: Command, scene: &mut Scen
 
 /// OPEN or LOCK an object.
 #[tactic(auto, unfolding(crate::specs::Opening::open_rows))]
-pub fn open<N: RowNotes>(rules: &Rules<'_>, command: Command, scene: &mut Scene<'_, N>) -> Next
+pub fn open<N: RowNotes>(rules: &Rules<'_>, task: Task, scene: &mut Scene<'_, N>) -> Next
     requires { HasRoom parts_of_row scene.old }
-    ensures row { DoneByRows N.rows (noted table.Open open_rows) rules.now command scene.old
+    ensures row { DoneByRows N.rows (noted table.Open open_rows) rules.now task scene.old
         scene.new result }
 {
-    let x = command.object;
+    let x = task.object;
     let is_grate = rules.is(x, Named::Grate);
     let is_chain = rules.is(x, Named::Chain);
     let has_keys = is_near(rules, scene.state, rules.thing(Named::Keys));
     let (row, role) = if rules.is(x, Named::Clam) || rules.is(x, Named::Oyster) {
-        return open_shell(rules, command, scene);
+        return open_shell(rules, task, scene);
     } else if rules.is(x, Named::Door) && has_prop(scene.state, x, DOOR_OILED) {
         (8, Role::Ok)
     } else if rules.is(x, Named::Door) {
@@ -225,12 +221,12 @@ pub fn open<N: RowNotes>(rules: &Rules<'_>, command: Command, scene: &mut Scene<
     } else if (is_grate || is_chain) && !has_keys {
         (12, Role::NoKeys)
     } else if is_grate {
-        return open_or_lock_grate(rules, command, scene);
+        return open_or_lock_grate(rules, task, scene);
     } else if is_chain {
-        return open_chain(rules, command, scene);
+        return open_chain(rules, task, scene);
     } else {
         scene.note(Table::Open, 25);
-        return command.say_default(rules, scene);
+        return task.say_default(rules, scene);
     };
     scene.note(Table::Open, row);
     Next::say(role, scene)

@@ -9,8 +9,8 @@ ghost use Rattle.cave_verbs.specs.Ranks.{rank_of};
 ghost use Rattle.cave_verbs.specs.Pouring.{poured_of, plant_watered, pour_rows, drink_rows};
 ghost use Rattle.cave_verbs.specs.Pouring.{bare_fill_rows, fill_rows};
 
-use crate::command::Command;
 use crate::next::{Next, VerbStep};
+use crate::task::Task;
 use crate::verb::Verb;
 use cave_words::Named;
 use cave_world::{RowNotes, State, Table};
@@ -53,9 +53,9 @@ fn half(prop: Prop) -> Prop
 }
 
 /// The plant is watered, and the player arrives again where the player is.
-fn water_plant<N: RowNotes>(rules: &Rules<'_>, command: Command, scene: &mut Scene<'_, N>) -> Next
+fn water_plant<N: RowNotes>(rules: &Rules<'_>, task: Task, scene: &mut Scene<'_, N>) -> Next
     requires { HasRoom 1 scene.old }
-    ensures row { DoneByRow N.rows (row_then [] plant_watered again) rules.now command scene.old
+    ensures row { DoneByRow N.rows (row_then [] plant_watered again) rules.now task scene.old
         scene.new result }
 {
     let plant = rules.thing(Named::Plant);
@@ -70,21 +70,21 @@ fn water_plant<N: RowNotes>(rules: &Rules<'_>, command: Command, scene: &mut Sce
 
 /// POUR, with an object or without one.
 #[tactic(auto, unfolding(crate::specs::Pouring::pour_rows))]
-pub fn pour<N: RowNotes>(rules: &Rules<'_>, command: Command, scene: &mut Scene<'_, N>) -> Next
+pub fn pour<N: RowNotes>(rules: &Rules<'_>, task: Task, scene: &mut Scene<'_, N>) -> Next
     requires { HasRoom parts_of_row scene.old }
-    ensures row { DoneByRows N.rows (noted table.Pour pour_rows) rules.now command scene.old
+    ensures row { DoneByRows N.rows (noted table.Pour pour_rows) rules.now task scene.old
         scene.new result }
 {
-    if (command.object.is_none() || rules.is(command.object, Named::Bottle))
+    if (task.object.is_none() || rules.is(task.object, Named::Bottle))
         && liquid(rules, scene.state).is_none()
     {
         scene.note(Table::Pour, 1);
-        return command.ask_what(rules, scene);
+        return task.ask_what(rules, scene);
     }
-    let x = poured(rules, scene.state, command.object);
+    let x = poured(rules, scene.state, task.object);
     if !is_carried(rules, scene.state, x) {
         scene.note(Table::Pour, 2);
-        return command.say_default(rules, scene);
+        return task.say_default(rules, scene);
     }
     let is_water = rules.is(x, Named::Water);
     let is_oil = rules.is(x, Named::Oil);
@@ -108,7 +108,7 @@ pub fn pour<N: RowNotes>(rules: &Rules<'_>, command: Command, scene: &mut Scene<
         (5, Role::DoorWet)
     } else if is_at_plant && is_water {
         scene.note(Table::Pour, 6);
-        return water_plant(rules, command, scene);
+        return water_plant(rules, task, scene);
     } else if is_at_plant {
         (7, Role::PlantOil)
     } else {
@@ -120,19 +120,19 @@ pub fn pour<N: RowNotes>(rules: &Rules<'_>, command: Command, scene: &mut Scene<
 
 /// DRINK, with an object or without one.
 #[tactic(auto, unfolding(crate::specs::Pouring::drink_rows))]
-pub fn drink<N: RowNotes>(rules: &Rules<'_>, command: Command, scene: &mut Scene<'_, N>) -> Next
+pub fn drink<N: RowNotes>(rules: &Rules<'_>, task: Task, scene: &mut Scene<'_, N>) -> Next
     requires { HasRoom parts_of_row scene.old }
-    ensures row { DoneByRows N.rows (noted table.Drink drink_rows) rules.now command scene.old
+    ensures row { DoneByRows N.rows (noted table.Drink drink_rows) rules.now task scene.old
         scene.new result }
 {
-    let x = command.object;
+    let x = task.object;
     let water = rules.thing(Named::Water);
     let bottle = rules.thing(Named::Bottle);
     let has_water = is_liquid(water, liquid(rules, scene.state))
         && is_near(rules, scene.state, bottle);
     if x.is_none() && !is_liquid(water, lake(rules, scene.state)) && !has_water {
         scene.note(Table::Drink, 1);
-        return command.ask_what(rules, scene);
+        return task.ask_what(rules, scene);
     }
     if !x.is_none() && !rules.is(x, Named::Water) {
         scene.note(Table::Drink, 2);
@@ -147,18 +147,14 @@ pub fn drink<N: RowNotes>(rules: &Rules<'_>, command: Command, scene: &mut Scene
         return Next::say(Role::Drunk, scene);
     }
     scene.note(Table::Drink, 4);
-    command.say_default(rules, scene)
+    task.say_default(rules, scene)
 }
 
 /// FILL without an object.
 #[tactic(auto, unfolding(crate::specs::Pouring::bare_fill_rows), using(crate::proofs::Falls::fill_falls))]
-pub fn fill_what<N: RowNotes>(
-    rules: &Rules<'_>,
-    command: Command,
-    scene: &mut Scene<'_, N>,
-) -> VerbStep
+pub fn fill_what<N: RowNotes>(rules: &Rules<'_>, task: Task, scene: &mut Scene<'_, N>) -> VerbStep
     requires { HasRoom parts_of_row scene.old }
-    ensures row { ByRows N.rows (noted table.BareFill bare_fill_rows) rules.now command scene.old
+    ensures row { ByRows N.rows (noted table.BareFill bare_fill_rows) rules.now task scene.old
         scene.new result }
     ensures ranks { rank_of (cave_of rules.now) result ≤ 1 }
 {
@@ -168,17 +164,17 @@ pub fn fill_what<N: RowNotes>(
         return VerbStep::GoOn(Verb::Fill, bottle);
     }
     scene.note(Table::BareFill, 2);
-    VerbStep::Done(command.ask_what(rules, scene))
+    VerbStep::Done(task.ask_what(rules, scene))
 }
 
 /// FILL an object.
 #[tactic(auto, unfolding(crate::specs::Pouring::fill_rows))]
-pub fn fill<N: RowNotes>(rules: &Rules<'_>, command: Command, scene: &mut Scene<'_, N>) -> Next
+pub fn fill<N: RowNotes>(rules: &Rules<'_>, task: Task, scene: &mut Scene<'_, N>) -> Next
     requires { HasRoom parts_of_row scene.old }
-    ensures row { DoneByRows N.rows (noted table.Fill fill_rows) rules.now command scene.old
+    ensures row { DoneByRows N.rows (noted table.Fill fill_rows) rules.now task scene.old
         scene.new result }
 {
-    let x = command.object;
+    let x = task.object;
     let is_vase = rules.is(x, Named::Vase);
     let lake_here = lake(rules, scene.state);
     let (row, role) = if is_vase && lake_here.is_none() {
@@ -193,7 +189,7 @@ pub fn fill<N: RowNotes>(rules: &Rules<'_>, command: Command, scene: &mut Scene<
         (3, Role::VaseBreak)
     } else if !rules.is(x, Named::Bottle) {
         scene.note(Table::Fill, 4);
-        return command.say_default(rules, scene);
+        return task.say_default(rules, scene);
     } else if liquid(rules, scene.state).is_some() {
         (5, Role::BottleFull)
     } else if lake_here.is_none() {

@@ -8,8 +8,8 @@ ghost use Rattle.cave_verbs.specs.Ranks.{rank_of};
 ghost use Rattle.cave_verbs.specs.Reading.{papers, bare_read_rows, read_rows};
 
 use crate::choice::{Meant, add_meant, only};
-use crate::command::Command;
 use crate::next::{Next, VerbStep};
+use crate::task::Task;
 use crate::verb::Verb;
 use arrayvec::ArrayVec;
 use cave_words::Named;
@@ -18,9 +18,9 @@ use data_rows::Role;
 use turn_scene::{Rules, Scene, is_carried, is_near};
 
 /// The papers that the player could mean.
-fn papers<N: RowNotes>(rules: &Rules<'_>, command: &Command, scene: &Scene<'_, N>) -> Meant
+fn papers<N: RowNotes>(rules: &Rules<'_>, task: &Task, scene: &Scene<'_, N>) -> Meant
     ensures { result.items
-        ≡ papers (deed (cave_of rules.now) command.now (scene_of N.rows scene.now)) }
+        ≡ papers (deed (cave_of rules.now) task.now (scene_of N.rows scene.now)) }
 {
     let magazine = rules.thing(Named::Magazine);
     let tablet = rules.thing(Named::Tablet);
@@ -36,43 +36,43 @@ fn papers<N: RowNotes>(rules: &Rules<'_>, command: &Command, scene: &Scene<'_, N
 #[tactic(auto, using(crate::proofs::Falls::read_falls), unfolding(crate::specs::Reading::bare_read_rows))]
 pub fn read_what_is_here<N: RowNotes>(
     rules: &Rules<'_>,
-    command: Command,
+    task: Task,
     scene: &mut Scene<'_, N>,
 ) -> VerbStep
     requires { HasRoom parts_of_row scene.old }
-    ensures row { ByRows N.rows (noted table.BareRead bare_read_rows) rules.now command scene.old
+    ensures row { ByRows N.rows (noted table.BareRead bare_read_rows) rules.now task scene.old
         scene.new result }
     ensures ranks { rank_of (cave_of rules.now) result ≤ 1 }
 {
     if scene.state.dark(rules.cave, rules.thing(Named::Lamp)) {
         scene.note(Table::BareRead, 1);
-        return VerbStep::Done(command.ask_what(rules, scene));
+        return VerbStep::Done(task.ask_what(rules, scene));
     }
     let oyster = rules.thing(Named::Oyster);
     if scene.state.closing.is_closed && is_carried(rules, scene.state, oyster) {
         scene.note(Table::BareRead, 2);
         return VerbStep::GoOn(Verb::Read, oyster);
     }
-    let paper = only(papers(rules, &command, scene).as_slice());
+    let paper = only(papers(rules, &task, scene).as_slice());
     if !paper.is_none() {
         scene.note(Table::BareRead, 3);
         return VerbStep::GoOn(Verb::Read, paper);
     }
     scene.note(Table::BareRead, 4);
-    VerbStep::Done(command.ask_what(rules, scene))
+    VerbStep::Done(task.ask_what(rules, scene))
 }
 
 /// READ an object.
 #[tactic(auto, unfolding(crate::specs::Reading::read_rows))]
-pub fn read<N: RowNotes>(rules: &Rules<'_>, command: Command, scene: &mut Scene<'_, N>) -> Next
+pub fn read<N: RowNotes>(rules: &Rules<'_>, task: Task, scene: &mut Scene<'_, N>) -> Next
     requires { HasRoom parts_of_row scene.old }
-    ensures row { DoneByRows N.rows (noted table.Read read_rows) rules.now command scene.old
+    ensures row { DoneByRows N.rows (noted table.Read read_rows) rules.now task scene.old
         scene.new result }
 {
-    let x = command.object;
+    let x = task.object;
     if scene.state.dark(rules.cave, rules.thing(Named::Lamp)) {
         scene.note(Table::Read, 1);
-        scene.tell(Part::Word(WordLine::NotSeen, command.word));
+        scene.tell(Part::Word(WordLine::NotSeen, task.word));
         return Next::Stay;
     }
     let is_oyster_held = rules.is(x, Named::Oyster) && is_carried(rules, scene.state, x);
@@ -89,7 +89,7 @@ pub fn read<N: RowNotes>(rules: &Rules<'_>, command: Command, scene: &mut Scene<
         return Next::Ask(Question::Oyster);
     } else {
         scene.note(Table::Read, 7);
-        return command.say_default(rules, scene);
+        return task.say_default(rules, scene);
     };
     scene.note(Table::Read, row);
     Next::say(role, scene)

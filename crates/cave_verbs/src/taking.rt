@@ -7,8 +7,8 @@ ghost use Rattle.cave_world.specs.declared.tables.Table.TheVariants as table;
 ghost use Rattle.cave_verbs.specs.Ranks.{rank_of, take_rank};
 ghost use Rattle.cave_verbs.specs.Taking.{bare_take_rows, take_rows, lone_object};
 
-use crate::command::Command;
 use crate::next::{Next, VerbStep};
+use crate::task::Task;
 use crate::verb::Verb;
 use cave_words::Named;
 use cave_world::{RowNotes, Table};
@@ -36,11 +36,11 @@ fn lone_object(halves: &[Half]) -> Object
 #[tactic(auto, unfolding(crate::specs::Taking::bare_take_rows))]
 pub fn take_what_is_here<N: RowNotes>(
     rules: &Rules<'_>,
-    command: Command,
+    task: Task,
     scene: &mut Scene<'_, N>,
 ) -> VerbStep
     requires { HasRoom 1 scene.old }
-    ensures row { ByRows N.rows (noted table.BareTake bare_take_rows) rules.now command scene.old
+    ensures row { ByRows N.rows (noted table.BareTake bare_take_rows) rules.now task scene.old
         scene.new result }
     ensures ranks { rank_of (cave_of rules.now) result ≤ 3 }
 {
@@ -51,23 +51,23 @@ pub fn take_what_is_here<N: RowNotes>(
         return VerbStep::GoOn(Verb::Take, lone);
     }
     scene.note(Table::BareTake, 2);
-    VerbStep::Done(command.ask_what(rules, scene))
+    VerbStep::Done(task.ask_what(rules, scene))
 }
 
 /// TAKE an object.
 #[tactic(auto, unfolding(crate::specs::Taking::take_rows))]
-pub fn take<N: RowNotes>(rules: &Rules<'_>, command: Command, scene: &mut Scene<'_, N>) -> VerbStep
+pub fn take<N: RowNotes>(rules: &Rules<'_>, task: Task, scene: &mut Scene<'_, N>) -> VerbStep
     requires { HasRoom 1 scene.old }
-    ensures row { ByRows N.rows (noted table.Take take_rows) rules.now command scene.old scene.new
+    ensures row { ByRows N.rows (noted table.Take take_rows) rules.now task scene.old scene.new
         result }
     ensures ranks { let cave = cave_of rules.now in
-        rank_of cave result ≤ take_rank cave command.object }
+        rank_of cave result ≤ take_rank cave task.object }
 {
-    let x = command.object;
+    let x = task.object;
     let bottle = rules.thing(Named::Bottle);
     let (row, role) = if is_carried(rules, scene.state, x) {
         scene.note(Table::Take, 1);
-        return VerbStep::Done(command.say_default(rules, scene));
+        return VerbStep::Done(task.say_default(rules, scene));
     } else if is_fixed(scene.state, x) {
         let bear = rules.thing(Named::Bear);
         if rules.is(x, Named::Plant) && has_prop_up_to(scene.state, x, PLANT_SMALL) {
@@ -94,7 +94,7 @@ pub fn take<N: RowNotes>(rules: &Rules<'_>, command: Command, scene: &mut Scene<
     } else if scene.state.holding() >= MAX_TAKEN {
         (10, Role::TooMuch)
     } else {
-        return VerbStep::Done(take_freely(rules, command, scene));
+        return VerbStep::Done(take_freely(rules, task, scene));
     };
     scene.note(Table::Take, row);
     VerbStep::Done(Next::say(role, scene))
@@ -102,12 +102,12 @@ pub fn take<N: RowNotes>(rules: &Rules<'_>, command: Command, scene: &mut Scene<
 
 /// TAKE an object that isn't fixed, with hands that aren't full.
 #[tactic(auto, unfolding(crate::specs::Taking::take_rows))]
-fn take_freely<N: RowNotes>(rules: &Rules<'_>, command: Command, scene: &mut Scene<'_, N>) -> Next
+fn take_freely<N: RowNotes>(rules: &Rules<'_>, task: Task, scene: &mut Scene<'_, N>) -> Next
     requires { HasRoom 1 scene.old }
-    ensures row { DoneByRows N.rows (noted_after table.Take 10 take_rows) rules.now command
+    ensures row { DoneByRows N.rows (noted_after table.Take 10 take_rows) rules.now task
         scene.old scene.new result }
 {
-    let x = command.object;
+    let x = task.object;
     let bird = rules.thing(Named::Bird);
     if rules.is(x, Named::Bird) {
         let cage = rules.thing(Named::Cage);

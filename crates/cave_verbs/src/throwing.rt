@@ -15,8 +15,8 @@ ghost use Rattle.cave_world.specs.declared.tables.Table.TheVariants as table;
 ghost use Rattle.cave_verbs.specs.Ranks.{rank_of, throw_rank};
 ghost use Rattle.cave_verbs.specs.Throwing.{with_one_killed, throw_rows};
 
-use crate::command::Command;
 use crate::next::{Next, VerbStep};
+use crate::task::Task;
 use crate::verb::Verb;
 use cave_words::Named;
 use cave_world::{Dwarf, PIRATE, RowNotes, State, Table};
@@ -61,44 +61,40 @@ fn put_here(axe: Object, state: &mut State) -> Next
 
 /// The axe is thrown at a dwarf: one number of three is drawn, and 0 is a miss.
 #[tactic(auto, unfolding(crate::specs::Throwing::throw_rows, turn_scene::specs::Reach::is_dwarf_here))]
-fn throw_axe_at_dwarf<N: RowNotes>(
-    rules: &Rules<'_>,
-    command: Command,
-    scene: &mut Scene<'_, N>,
-) -> Next
+fn throw_axe_at_dwarf<N: RowNotes>(rules: &Rules<'_>, task: Task, scene: &mut Scene<'_, N>) -> Next
     requires room { HasRoom parts_of_row scene.old }
     requires dwarf { IsTrue (is_dwarf_here scene.old.state.now) }
-    ensures row { DoneByRows N.rows (noted_after table.Throw 5 throw_rows) rules.now command scene.old
+    ensures row { DoneByRows N.rows (noted_after table.Throw 5 throw_rows) rules.now task scene.old
         scene.new result }
 {
     if scene.state.stream.draw(3) == 0 {
         scene.note(Table::Throw, 6);
         scene.say(Role::AxeMiss);
-        return put_here(command.object, scene.state);
+        return put_here(task.object, scene.state);
     }
     if scene.state.dwarves.kills.number() == 0 {
         scene.note(Table::Throw, 7);
         kill_one(scene.state);
         scene.say(Role::AxeFirst);
-        return put_here(command.object, scene.state);
+        return put_here(task.object, scene.state);
     }
     scene.note(Table::Throw, 8);
     kill_one(scene.state);
     scene.say(Role::AxeKill);
-    put_here(command.object, scene.state)
+    put_here(task.object, scene.state)
 }
 
 #[tactic(auto, unfolding(crate::specs::Throwing::throw_rows))]
-fn throw_axe<N: RowNotes>(rules: &Rules<'_>, command: Command, scene: &mut Scene<'_, N>) -> VerbStep
+fn throw_axe<N: RowNotes>(rules: &Rules<'_>, task: Task, scene: &mut Scene<'_, N>) -> VerbStep
     requires { HasRoom parts_of_row scene.old }
-    ensures row { ByRows N.rows (noted_after table.Throw 5 throw_rows) rules.now command scene.old
+    ensures row { ByRows N.rows (noted_after table.Throw 5 throw_rows) rules.now task scene.old
         scene.new result }
     ensures ranks { rank_of (cave_of rules.now) result ≤ 2 }
 {
     if is_dwarf_here(scene.state) {
-        return VerbStep::Done(throw_axe_at_dwarf(rules, command, scene));
+        return VerbStep::Done(throw_axe_at_dwarf(rules, task, scene));
     }
-    let x = command.object;
+    let x = task.object;
     let dragon = rules.thing(Named::Dragon);
     let bear = rules.thing(Named::Bear);
     if scene.state.at(dragon) && has_prop(scene.state, dragon, DRAGON_ALIVE) {
@@ -126,35 +122,31 @@ fn throw_axe<N: RowNotes>(rules: &Rules<'_>, command: Command, scene: &mut Scene
 
 /// A treasure is thrown to the troll, which goes away with it.
 #[tactic(auto, unfolding(crate::specs::Throwing::throw_rows))]
-fn pay_troll<N: RowNotes>(rules: &Rules<'_>, command: Command, scene: &mut Scene<'_, N>) -> Next
+fn pay_troll<N: RowNotes>(rules: &Rules<'_>, task: Task, scene: &mut Scene<'_, N>) -> Next
     requires room { HasRoom parts_of_row scene.old }
     requires troll { IsTrue (all_hold (treasure x ∷ is_here troll ∷ [])
-        (deed (cave_of rules.now) command (scene_of N.rows scene.old))) }
-    ensures row { DoneByRows N.rows (noted_after table.Throw 2 throw_rows) rules.now command
+        (deed (cave_of rules.now) task (scene_of N.rows scene.old))) }
+    ensures row { DoneByRows N.rows (noted_after table.Throw 2 throw_rows) rules.now task
         scene.old scene.new result }
 {
     scene.note(Table::Throw, 3);
-    scene.state.destroy(command.object);
+    scene.state.destroy(task.object);
     remove_troll(rules, scene);
     Next::say(Role::TrollPaid, scene)
 }
 
 /// THROW an object that is carried.
 #[tactic(auto, unfolding(crate::specs::Throwing::throw_rows))]
-fn throw_held<N: RowNotes>(
-    rules: &Rules<'_>,
-    command: Command,
-    scene: &mut Scene<'_, N>,
-) -> VerbStep
+fn throw_held<N: RowNotes>(rules: &Rules<'_>, task: Task, scene: &mut Scene<'_, N>) -> VerbStep
     requires { HasRoom parts_of_row scene.old }
-    ensures row { ByRows N.rows (noted_after table.Throw 2 throw_rows) rules.now command scene.old
+    ensures row { ByRows N.rows (noted_after table.Throw 2 throw_rows) rules.now task scene.old
         scene.new result }
     ensures ranks { rank_of (cave_of rules.now) result ≤ 2 }
 {
-    let object = command.object;
+    let object = task.object;
     let bear = rules.thing(Named::Bear);
     if is_treasure(object) && scene.state.at(rules.thing(Named::Troll)) {
-        return VerbStep::Done(pay_troll(rules, command, scene));
+        return VerbStep::Done(pay_troll(rules, task, scene));
     }
     if rules.is(object, Named::Food) && is_near(rules, scene.state, bear) {
         scene.note(Table::Throw, 4);
@@ -164,21 +156,21 @@ fn throw_held<N: RowNotes>(
         scene.note(Table::Throw, 5);
         return VerbStep::GoOn(Verb::Drop, object);
     }
-    throw_axe(rules, command, scene)
+    throw_axe(rules, task, scene)
 }
 
 /// THROW an object.
 #[tactic(auto, unfolding(crate::specs::Throwing::throw_rows))]
-pub fn throw<N: RowNotes>(rules: &Rules<'_>, command: Command, scene: &mut Scene<'_, N>) -> VerbStep
+pub fn throw<N: RowNotes>(rules: &Rules<'_>, task: Task, scene: &mut Scene<'_, N>) -> VerbStep
     requires { HasRoom parts_of_row scene.old }
-    ensures row { ByRows N.rows (noted table.Throw throw_rows) rules.now command scene.old scene.new
+    ensures row { ByRows N.rows (noted table.Throw throw_rows) rules.now task scene.old scene.new
         result }
     ensures ranks { let cave = cave_of rules.now in
-        rank_of cave result ≤ throw_rank cave command.object }
+        rank_of cave result ≤ throw_rank cave task.object }
 {
-    let object = command.object;
+    let object = task.object;
     if is_carried(rules, scene.state, object) {
-        return throw_held(rules, command, scene);
+        return throw_held(rules, task, scene);
     }
     let second_rod = rules.thing(Named::SecondRod);
     if rules.is(object, Named::Rod) && is_carried(rules, scene.state, second_rod) {
@@ -186,5 +178,5 @@ pub fn throw<N: RowNotes>(rules: &Rules<'_>, command: Command, scene: &mut Scene
         return VerbStep::GoOn(Verb::Throw, second_rod);
     }
     scene.note(Table::Throw, 2);
-    VerbStep::Done(command.say_default(rules, scene))
+    VerbStep::Done(task.say_default(rules, scene))
 }

@@ -5,8 +5,8 @@ ghost use Rattle.turn_scene.specs.Rows.{noted};
 ghost use Rattle.cave_world.specs.declared.tables.Table.TheVariants as table;
 ghost use Rattle.cave_verbs.specs.Waving.{wave_rows, rub_rows};
 
-use crate::command::Command;
 use crate::next::Next;
+use crate::task::Task;
 use cave_words::Named;
 use cave_world::{RowNotes, Table};
 use data_rows::Role;
@@ -27,12 +27,12 @@ fn text_of_flipped(prop: Prop) -> i8
 
 /// WAVE an object.
 #[tactic(auto, unfolding(crate::specs::Waving::wave_rows))]
-pub fn wave<N: RowNotes>(rules: &Rules<'_>, command: Command, scene: &mut Scene<'_, N>) -> Next
+pub fn wave<N: RowNotes>(rules: &Rules<'_>, task: Task, scene: &mut Scene<'_, N>) -> Next
     requires { HasRoom parts_of_row scene.old }
-    ensures row { DoneByRows N.rows (noted table.Wave wave_rows) rules.now command scene.old
+    ensures row { DoneByRows N.rows (noted table.Wave wave_rows) rules.now task scene.old
         scene.new result }
 {
-    let x = command.object;
+    let x = task.object;
     let is_rod = rules.is(x, Named::Rod);
     if !is_carried(rules, scene.state, x)
         && !(is_rod && is_carried(rules, scene.state, rules.thing(Named::SecondRod)))
@@ -54,19 +54,19 @@ pub fn wave<N: RowNotes>(rules: &Rules<'_>, command: Command, scene: &mut Scene<
         return Next::Stay;
     }
     scene.note(Table::Wave, 3);
-    command.say_default(rules, scene)
+    task.say_default(rules, scene)
 }
 
 /// RUB an object.
 #[tactic(auto, unfolding(crate::specs::Waving::rub_rows))]
-pub fn rub<N: RowNotes>(rules: &Rules<'_>, command: Command, scene: &mut Scene<'_, N>) -> Next
+pub fn rub<N: RowNotes>(rules: &Rules<'_>, task: Task, scene: &mut Scene<'_, N>) -> Next
     requires { HasRoom parts_of_row scene.old }
-    ensures row { DoneByRows N.rows (noted table.Rub rub_rows) rules.now command scene.old scene.new
+    ensures row { DoneByRows N.rows (noted table.Rub rub_rows) rules.now task scene.old scene.new
         result }
 {
-    if rules.is(command.object, Named::Lamp) {
+    if rules.is(task.object, Named::Lamp) {
         scene.note(Table::Rub, 1);
-        return command.say_default(rules, scene);
+        return task.say_default(rules, scene);
     }
     scene.note(Table::Rub, 2);
     Next::say(Role::RubOdd, scene)

@@ -95,7 +95,9 @@ object_of_word cave word =
 abbrev pub next_object : ℕ → Option ℕ
 next_object object = if nat_lt object LAST_OBJECT then Some (object + 1) else None
 
+-- the object of a name, if its word names this object
+abbrev pub object_by_name : Named → Option ℕ → Option ℕ
+object_by_name name object = if is_second name then option_and_then next_object object else object
+
 unfoldable pub object_named : CaveView → Named → Option ℕ
-object_named cave name =
-    if is_second name then option_and_then next_object (object_of_word cave (word_of_name name))
-    else object_of_word cave (word_of_name name)
+object_named cave name = object_by_name name (object_of_word cave (word_of_name name))

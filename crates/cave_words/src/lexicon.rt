@@ -11,8 +11,8 @@ ghost use Rattle.cave_words.specs.Words as defined;
 use crate::meaning::{Class, Meaning};
 use crate::meanings::Meanings;
 use crate::named::{EACH_NAME, NAME_COUNT, Named};
+use crate::walked::object_by_name;
 use crate::word::{NAME_LETTERS, Word};
-use base_lines::numbers::LAST_OBJECT;
 use cave_data::{Cave, WordTable};
 use indexmap::IndexMap;
 use std::alloc::{AllocError, Global};
@@ -118,15 +118,7 @@ fn object_named(index: &IndexMap<Word, Meanings>, name: Named) -> Option<u16>
     ensures { (cave : CaveView) → IsIndexOf defined.NAME_LETTERS cave.words index.now.entries
         → result ≡ object_named cave name }
 {
-    let object = object_of_word(index, name.word())?;
-    if !name.is_second() {
-        return Some(object);
-    }
-    if object < LAST_OBJECT {
-        Some(object + 1)
-    } else {
-        None
-    }
+    object_by_name(object_of_word(index, name.word()), name)
 }
 
 /// The object of each name, by the numbers of the names. The index has words of five letters.

@@ -7,6 +7,7 @@ pub mod meaning;
 mod meanings;
 pub mod named;
 pub mod stream;
+pub mod walked;
 pub mod word;
 pub mod words;
 
@@ -16,5 +17,6 @@ pub use lexicon::Lexicon;
 pub use meaning::{Class, Meaning};
 pub use named::Named;
 pub use stream::Stream;
+pub use walked::object_named;
 pub use word::Word;
 pub use words::Words;

@@ -1,3 +1,4 @@
+pub mod Called
 pub mod Limits
 pub mod Motions
 pub mod Part

@@ -1,6 +1,7 @@
 //! The state of a game, light, the rows that lead from place to place, and notes on the rows of rules.
 #![tactic(auto)]
 
+pub mod called;
 pub mod closing;
 pub mod count;
 pub mod dwarves;
@@ -21,6 +22,7 @@ pub mod talk;
 pub mod travel_rows;
 pub mod visits;
 
+pub use called::{object_called, or_no_object};
 pub use cave_words::{Stream, Word};
 pub use closing::Closing;
 pub use count::Count;

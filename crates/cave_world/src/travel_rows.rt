@@ -4,14 +4,18 @@ ghost use Rattle.data_rows.specs.Targets.{IsConditionWithin, EndsWithin};
 ghost use Rattle.cave_world.specs.Travel.{lists_motion, holds, after_condition, outcome_at};
 ghost use Rattle.cave_world.specs.Travel.{after_go, row_outcome, after_trying_row, from_listed};
 ghost use Rattle.cave_world.specs.Travel.{travel_by_rows, travel, row_condition, is_passed};
+ghost use Rattle.cave_words.specs.declared.named.Named.TheVariants as named;
+ghost use Rattle.cave_world.specs.Called.{object_called};
 ghost use Rattle.cave_world.specs.Travel.{count_unlisted, rows_tried_by, rows_tried_from};
 ghost use Rattle.cave_world.specs.declared.tables.RuleRow.TheVariants as rule_row;
 
+use crate::called::object_called;
 use crate::motion::Motion;
 use crate::notes::{RowNotes, Unnoted};
 use crate::state::State;
 use crate::tables::RuleRow;
 use cave_data::Cave;
+use cave_words::Named;
 use data_rows::{Condition, Destination, Row, Special};
 use world_objects::{Object, Place};
 
@@ -32,14 +36,15 @@ pub enum Outcome {
 
 /// Where a motion leads from where the player is, by the rows of the place. A row may
 /// move the emerald here on the way.
-pub fn travel(cave: &Cave, emerald: Object, state: &mut State, motion: u16) -> Outcome
+pub fn travel(cave: &Cave, state: &mut State, motion: u16) -> Outcome
     ensures { record { state = state.new; outcome = result }
-        ≡ travel cave.now emerald motion state.old }
+        ≡ travel cave.now (object_called cave.now named.Emerald) motion state.old }
 {
+    let emerald = object_called(cave, Named::Emerald);
     note_travel(cave, emerald, state, motion, &mut Unnoted::new())
 }
 
-/// The same, and notes each row that it tries.
+/// The same by the emerald that the caller knows, and notes each row that it tries.
 #[tactic(auto, unfolding(crate::specs::Travel::travel, crate::specs::Travel::rows_tried_from))]
 pub fn note_travel<N: RowNotes>(
     cave: &Cave,

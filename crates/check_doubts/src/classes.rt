@@ -39,7 +39,7 @@ fn has_class(cave: &Cave, score: u32) -> bool
 fn scores_flaw(rules: &Rules<'_>, before: &[MarkedRow]) -> Option<CaveFlaw>
     ensures { result ≡ scores_flaw (cave_of rules.now) before.now }
 {
-    let greatest = max_score(rules);
+    let greatest = max_score(rules.cave);
     if is_taken(greatest, before) {
         return Some(CaveFlaw::UnscoredClass);
     }

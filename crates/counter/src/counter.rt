@@ -1,6 +1,6 @@
 //! The machine.
 
-use cave_replay::{Machine, Meter, Started, Stepped, Whole};
+use cave_replay::{Machine, Meter, Playable, Started, Stepped, Whole};
 use std::alloc::{AllocError, Global};
 
 /// A counter of four digits.
@@ -14,13 +14,9 @@ impl Machine for Counter {
 
     type State = u32;
 
-    type Kept = Whole<u32>;
-
     type Piece = u32;
 
     type Meter = Meter;
-
-    type Scratch = ();
 
     ghost Meaning = { ℕ };
 
@@ -44,30 +40,38 @@ impl Machine for Counter {
         })
     }
 
-    fn scratch(&self, _alloc: Global) -> Result<(), AllocError> {
-        Ok(())
-    }
-
     fn step(
         &self,
         _alloc: Global,
-        _scratch: &mut (),
-        number: &mut u32,
+        number: &u32,
         line: &[u8],
         meter: &mut Meter,
-    ) -> Result<Stepped<u32>, AllocError> {
+    ) -> Result<Stepped<u32, u32>, AllocError> {
         meter.tick();
-        let clicks = line == b"click".as_slice();
-        if clicks {
-            *number = (*number + 1) % 10_000;
-        }
+        let ticked = line == b"click".as_slice();
+        let state = if ticked {
+            (*number + 1) % 10_000
+        } else {
+            *number
+        };
         Ok(Stepped {
-            piece: *number,
-            ticked: clicks,
+            state,
+            piece: state,
+            ticked,
         })
     }
 
     fn copy_piece(&self, _alloc: Global, piece: &u32) -> Result<u32, AllocError> {
         Ok(*piece)
+    }
+}
+
+impl Playable for Counter {
+    type Kept = Whole<u32>;
+
+    type Scratch = ();
+
+    fn scratch(&self, _alloc: Global) -> Result<(), AllocError> {
+        Ok(())
     }
 }

@@ -13,8 +13,8 @@ use anyhow::Result;
 use cave_data::Cave;
 use cave_play::CaveMachine;
 use cave_replay::{Edit, LineText, Session};
-use cave_turn::{Rules, Unnoted, max_score, score, start, turn};
-use cave_verbs::{Command, Scene, Verb, act};
+use cave_turn::{Rules, max_score, score, start, turn};
+use cave_verbs::{Command, Verb, act};
 use cave_words::{Lexicon, Meter, Steps, check_line};
 use cave_world::{Object, Out, Place, State};
 use std::env;
@@ -32,7 +32,14 @@ fn play(rt: &HostRuntime, rules: &Rules<'_>, lines: &[&[u8]]) -> Result<State> {
             break;
         }
         out.clear();
-        let turned = turn(rules, &state, line, &mut out, &mut meter);
+        let turned = turn(
+            rules.cave,
+            rules.lexicon,
+            &state,
+            line,
+            &mut out,
+            &mut meter,
+        );
         state = turned.state;
         turns = turns.saturating_add(u32::from(turned.ticked));
         tell(rt, rules.cave, out.as_slice(), turns)?;
@@ -46,13 +53,13 @@ fn take_lamp(rt: &HostRuntime, rules: &Rules<'_>, state: &mut State) -> Result<(
     state.drop_at(lamp, Place::new(3));
     let mut out = Out::new();
     if let Some(word) = rules.words_of(b"lamp").first {
-        let take = Command::of(Verb::Take, lamp, word);
-        let mut notes = Unnoted::new();
-        act(
-            rules,
-            take,
-            &mut Scene::open(state, &mut out, &mut notes, false),
-        );
+        let take = Command {
+            verb: Verb::Take,
+            object: lamp,
+            word,
+            was_dark: false,
+        };
+        act(rules.cave, rules.lexicon, state, take, &mut out);
     }
     tell(rt, rules.cave, out.as_slice(), 1)
 }
@@ -70,7 +77,7 @@ fn edit_and_undo(rt: &HostRuntime, session: &mut Session<CaveMachine<'_>>) -> Re
 fn play_and_edit(rt: &HostRuntime, rules: &Rules<'_>, machine: CaveMachine<'_>) -> Result<()> {
     let mut state = play(rt, rules, &[b"no", b"in"])?;
     take_lamp(rt, rules, &mut state)?;
-    let (score, most) = (score(rules, &state), max_score(rules));
+    let (score, most) = (score(rules.cave, &state), max_score(rules.cave));
     println!(rt; "score {score} of {most}")?;
     let mut session = Session::open(rt.alloc(), machine, 0, LOG, 2, &mut Meter::new())?;
     let told = edit_and_undo(rt, &mut session);

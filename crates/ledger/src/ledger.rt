@@ -3,7 +3,7 @@ ghost use Rattle.ledger.specs.Ledger.{ledger_rules, balance_of};
 
 use crate::account::Account;
 use crate::entry::BookEntry;
-use cave_replay::{Machine, Meter, Session, Started, Stepped, Whole};
+use cave_replay::{Machine, Meter, Playable, Session, Started, Stepped, Whole};
 use std::alloc::{AllocError, Global};
 
 /// A ledger of one account, which is opened with the seed as its balance.
@@ -19,13 +19,9 @@ impl Machine for Ledger {
 
     type State = Account;
 
-    type Kept = Whole<Account>;
-
     type Piece = Option<u64>;
 
     type Meter = Meter;
-
-    type Scratch = ();
 
     ghost Meaning = { Account };
 
@@ -55,23 +51,20 @@ impl Machine for Ledger {
         })
     }
 
-    fn scratch(&self, _alloc: Global) -> Result<(), AllocError> {
-        Ok(())
-    }
-
     fn step(
         &self,
         _alloc: Global,
-        _scratch: &mut (),
-        account: &mut Account,
+        account: &Account,
         line: &[u8],
         meter: &mut Meter,
-    ) -> Result<Stepped<Option<u64>>, AllocError> {
+    ) -> Result<Stepped<Account, Option<u64>>, AllocError> {
         meter.tick();
+        let mut state = *account;
         let entry = BookEntry::of(line);
-        let booked = entry.booked(account.balance);
-        account.settle(booked);
+        let booked = entry.booked(state.balance);
+        state.settle(booked);
         Ok(Stepped {
+            state,
             piece: booked,
             ticked: entry.is_payment(),
         })
@@ -79,6 +72,16 @@ impl Machine for Ledger {
 
     fn copy_piece(&self, _alloc: Global, piece: &Option<u64>) -> Result<Option<u64>, AllocError> {
         Ok(*piece)
+    }
+}
+
+impl Playable for Ledger {
+    type Kept = Whole<Account>;
+
+    type Scratch = ();
+
+    fn scratch(&self, _alloc: Global) -> Result<(), AllocError> {
+        Ok(())
     }
 }
 

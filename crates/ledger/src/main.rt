@@ -7,13 +7,13 @@ pub mod ledger;
 
 use crate::ledger::{Ledger, closing_balance};
 use anyhow::Result;
-use cave_replay::{Done, Edit, LineText, Meter, Session};
+use cave_replay::{Edit, GroupReport, LineText, Meter, Session};
 use std::str;
 
 const LOG: &[u8] = b"in 100\nout 30\n# October\nout 50\nout 40\nin 60\nout 10\nin 5\n";
 
 /// Prints what was replayed, and what is said at each line of the log as it is now.
-fn tell(rt: &HostRuntime, session: &Session<Ledger>, report: &Done) -> Result<()> {
+fn tell(rt: &HostRuntime, session: &Session<Ledger>, report: &GroupReport) -> Result<()> {
     let (from, played) = (report.from, report.played);
     match report.met {
         Some(met) => println!(rt; "from {from}, met {met}, played {played}")?,

@@ -107,7 +107,7 @@ edit_app = with_rules (new_app (codes "edit"))
     ∷ with_first_letter options (codes "edit") ∷ option (codes "to") ∷ bind_argument
     ∷ seed_argument ∷ option (codes "every") ∷ print_argument ∷ flag (codes "strict")
     ∷ flag (codes "guarded") ∷ with_first_letter flag (codes "quiet")
-    ∷ report_option (codes "report") ∷ output_argument ∷ [])
+    ∷ report_option (codes "report") ∷ output_argument ∷ flag (codes "in-place") ∷ [])
 
 abbrev pub script_app : App
 script_app = with_rules (new_app (codes "script"))

@@ -3,6 +3,7 @@ use Rattle.std.specs.Prelude.{◌≡◌, ◌&&◌, ℕ, Bool, true, false, not, 
 use Rattle.std.specs.Prelude.{if◌then◌else◌, Option, Some, None, is_some}
 use Rattle.clap.specs.Words.{Row, first_of}
 use Rattle.play_command.specs.Found.{IsUnread, is_set}
+use Rattle.play_command.specs.InPlace.{edit_output}
 use Rattle.play_command.specs.declared.aside.Aside.{Aside}
 use Rattle.play_command.specs.declared.aside.ReportView.{ReportView}
 use Rattle.play_command.specs.declared.aside.ReportView.TheVariants as report
@@ -37,7 +38,7 @@ edit_view_of report.Table = asked.Table
 abbrev pub IsReportBy : Option (List ℕ) → List Row → Option ReportView → Type 0
 IsReportBy None rows beside = beside ≡ None
 IsReportBy (Some name) rows beside =
-    (is_some (first_of (codes "output") rows) ≡ true) × (is_some beside ≡ true)
+    (is_some (edit_output rows) ≡ true) × (is_some beside ≡ true)
     × (report_named name ≡ beside)
 
 abbrev pub IsReport : List Row → Option ReportView → Type 0
@@ -53,5 +54,5 @@ abbrev pub IsBadReport : List Row → CommandFault → Type 0
 IsBadReport rows (fault_is.BadReport name) =
     IsUnread (codes "report") report_named rows name.now
 IsBadReport rows fault_is.ReportAlone =
-    (is_some (first_of (codes "report") rows) ≡ true) × (first_of (codes "output") rows ≡ None)
+    (is_some (first_of (codes "report") rows) ≡ true) × (edit_output rows ≡ None)
 IsBadReport rows _ = ⊥

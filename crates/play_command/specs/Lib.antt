@@ -2,8 +2,10 @@ pub mod App
 pub mod Aside
 pub mod BelowZero
 pub mod Found
+pub mod InPlace
 pub mod Line
 pub mod MapPart
 pub mod Number
+pub mod SameLines
 pub mod Source
 pub mod Views

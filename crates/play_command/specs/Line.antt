@@ -20,6 +20,7 @@ use Rattle.play_command.specs.declared.line.Line.TheVariants.{Check, Doubts, Pla
 use Rattle.play_command.specs.declared.line.Line.TheVariants.{Script, Text}
 use Rattle.play_command.specs.App.{cave_app}
 use Rattle.play_command.specs.Aside.{IsAside, IsBadReport}
+use Rattle.play_command.specs.InPlace.{IsViewBy, edit_output, is_in_place, is_two_outputs}
 use Rattle.play_command.specs.MapPart.{IsBadPart, IsMapPart}
 use Rattle.play_command.specs.Number.{number_in_range}
 use Rattle.play_command.specs.Found.{IsGiven, IsUnread, is_set}
@@ -34,7 +35,6 @@ use Rattle.play_command.specs.declared.views.CoverView.TheVariants.{Said}
 use Rattle.play_command.specs.declared.views.TextView.TheVariants.{Counts, Texts}
 use Rattle.play_command.specs.declared.editing.Editing.{Editing}
 use Rattle.play_command.specs.declared.editing.EditView.{EditView}
-use Rattle.play_command.specs.declared.editing.EditView.TheVariants.{Transcript}
 use Rattle.play_command.specs.declared.views.PlayView.{PlayView}
 use Rattle.play_command.specs.declared.views.PlayView.TheVariants as play
 use Rattle.base_lines.specs.Limits.{MAX_SEED, MAX_EVERY}
@@ -56,11 +56,19 @@ IsParse words answer = MatchResult answer
 abbrev pub MetCommand : Type 0
 MetCommand = Option (List ℕ × List Row)
 
--- the files of a cave and of the output are what was found for them
-pub record IsFiles (rows : List Row) (files : Files) : Type 0 where
+-- the files of a cave are what was found for them, and the output goes into this one, if into one
+pub record AreFiles (into : Option (List ℕ)) (rows : List Row) (files : Files) : Type 0 where
   pub cave : first_of (codes "cave") rows ≡ Some files.cave.now
   pub bind : first_of (codes "bind") rows ≡ option_map (λ s. s.now) files.bind
-  pub output : first_of (codes "output") rows ≡ option_map (λ s. s.now) files.output
+  pub output : into ≡ option_map (λ s. s.now) files.output
+
+-- the output goes into the file that was found for it
+abbrev pub IsFiles : List Row → Files → Type 0
+IsFiles rows files = AreFiles (first_of (codes "output") rows) rows files
+
+-- that of an edit may go over its log
+abbrev pub IsEditFiles : List Row → Files → Type 0
+IsEditFiles rows files = AreFiles (edit_output rows) rows files
 
 -- a seed is what was found for it, or 0
 abbrev pub IsSeed : List Row → ℕ → Type 0
@@ -85,9 +93,10 @@ abbrev pub IsCoverView : List Row → CoverView → Type 0
 IsCoverView rows view =
     IsGiven (codes "print") cover_view_named (usual_cover_view rows) rows view
 
--- what an edit or a play prints is what was found for it, or the transcript
+-- what an edit or a play prints is what was found for it, or the transcript; an edit in place prints
+-- the log
 abbrev pub IsView : List Row → EditView → Type 0
-IsView rows view = IsGiven (codes "print") edit_view_named Transcript rows view
+IsView rows view = IsViewBy (is_in_place rows) rows view
 
 abbrev pub IsPlayView : List Row → PlayView → Type 0
 IsPlayView rows view = IsGiven (codes "print") play_view_named play.Transcript rows view
@@ -100,17 +109,22 @@ pub record IsEditing (rows : List Row) (editing : Editing) : Type 0 where
   pub strict : editing.strict ≡ is_set (codes "strict") rows
   pub guarded : editing.guarded ≡ is_set (codes "guarded") rows
 
+-- doubts are to be judged or left out
+abbrev pub are_doubts_judged : List Row → Bool
+are_doubts_judged rows = is_set (codes "strict") rows || is_some (first_of (codes "known") rows)
+
 -- what a check prints was found to be the list of doubts; a strict check, and one with known
 -- doubts, prints it unless another is asked for
 abbrev pub are_doubts_asked : List Row → Bool
 are_doubts_asked rows =
     option_map_or (bytes_eq (codes "doubts")) (first_of (codes "print") rows)
-    (is_set (codes "strict") rows || is_some (first_of (codes "known") rows))
+    (are_doubts_judged rows)
 
 -- the run is what was found for the command of this name
 abbrev pub IsRunOf : List ℕ → List Row → Line → Type 0
 IsRunOf name rows (Check files view) =
     (name ≡ codes "check") × IsFiles rows files × IsCheckView rows view
+    × (are_doubts_asked rows ≡ false) × (are_doubts_judged rows ≡ false)
 IsRunOf name rows (Doubts files known strict) =
     (name ≡ codes "check") × IsFiles rows files × (are_doubts_asked rows ≡ true)
     × (first_of (codes "known") rows ≡ option_map (λ s. s.now) known)
@@ -119,8 +133,9 @@ IsRunOf name rows (Play files log seed view) =
     (name ≡ codes "play") × IsFiles rows files × (first_of (codes "log") rows ≡ Some log.now)
     × IsSeed rows seed × IsPlayView rows view
 IsRunOf name rows (Edit files log script editing aside) =
-    (name ≡ codes "edit") × IsFiles rows files × (first_of (codes "log") rows ≡ Some log.now)
+    (name ≡ codes "edit") × IsEditFiles rows files × (first_of (codes "log") rows ≡ Some log.now)
     × IsScriptSource rows script × IsEditing rows editing × IsAside rows editing.view aside
+    × (is_two_outputs rows ≡ false)
 IsRunOf name rows (Cover files logs seed view known strict) =
     (name ≡ codes "cover") × IsFiles rows files
     × (all_of (codes "log") rows ≡ Some (map (λ log. log.now) logs.items)) × IsSeed rows seed
@@ -204,6 +219,10 @@ IsBadOption name rows (fault_is.BadReport given) =
     (name ≡ codes "edit") × IsBadReport rows (fault_is.BadReport given)
 IsBadOption name rows fault_is.ReportAlone =
     (name ≡ codes "edit") × IsBadReport rows fault_is.ReportAlone
+IsBadOption name rows fault_is.InPlaceAlone =
+    (name ≡ codes "edit") × (is_two_outputs rows ≡ true)
+IsBadOption name rows fault_is.DoubtsAlone =
+    (name ≡ codes "check") × (are_doubts_asked rows ≡ false) × (are_doubts_judged rows ≡ true)
 IsBadOption name rows (fault_is.BadPlace given) =
     (name ≡ codes "map") × IsBadPart rows (fault_is.BadPlace given)
 IsBadOption name rows (fault_is.BadWays given) =

@@ -8,9 +8,9 @@ ghost use Rattle.play_command.specs.App.{check_play_edit_and_script_command, scr
 
 use crate::arguments::{
     Argument, BIND, CAVE, CHECK_KNOWN, CHECK_PRINT, CHECK_STRICT, COVER_KNOWN, COVER_PRINT,
-    COVER_STRICT, EDIT_PRINT, EVERY, FROM, GROUP, GUARDED, LINES, LOG, LOGS, NEW, OLD, OUTPUT,
-    PLAY_PRINT, QUIET, REPORT, SCRIPT, SEED, SEEN, SOME_LOGS, STRICT, TO, WITH_GUARDS, WITHIN,
-    with_rules,
+    COVER_STRICT, EDIT_PRINT, EVERY, FROM, GROUP, GUARDED, IN_PLACE, LINES, LOG, LOGS, NEW, OLD,
+    OUTPUT, PLAY_PRINT, QUIET, REPORT, SCRIPT, SEED, SEEN, SOME_LOGS, STRICT, TO, WITH_GUARDS,
+    WITHIN, with_rules,
 };
 use clap::Command;
 use std::alloc::{AllocError, Global};
@@ -76,9 +76,9 @@ const CHECK: [Argument; 6] = [CAVE, BIND, CHECK_PRINT, CHECK_STRICT, CHECK_KNOWN
 
 const PLAY: [Argument; 6] = [CAVE, LOG, BIND, SEED, PLAY_PRINT, OUTPUT];
 
-const EDIT: [Argument; 14] = [
+const EDIT: [Argument; 15] = [
     CAVE, LOG, SCRIPT, LINES, TO, BIND, SEED, EVERY, EDIT_PRINT, STRICT, GUARDED, QUIET, REPORT,
-    OUTPUT,
+    OUTPUT, IN_PLACE,
 ];
 
 const TWO_LOGS: [Argument; 5] = [OLD, NEW, WITH_GUARDS, GROUP, OUTPUT];

@@ -156,8 +156,11 @@ pub(crate) const EVERY: Argument = argument! { Value "every" "K"
      and more memory is used [default: 50]" };
 
 pub(crate) const OUTPUT: Argument = argument! { Value "output" 'o' "FILE"
-    "Writes the output into this file, whole or not at all, instead of standard output. It may \
-     be one of the files that are read" };
+    "Writes the output into this file, whole or not at all, instead of standard output. Of the \
+     files that are read, it may be only one of the same kind as the output" };
+
+pub(crate) const IN_PLACE: Argument = argument! { Flag "in-place" ""
+    "Writes the edited log over LOG, as `--print log --output LOG` does" };
 
 pub(crate) const EDIT_PRINT: Argument = argument! { Value "print" 'p' "WHAT"
     "What to print: `transcript` (the reports, and what the game says), `play` (only what it \
@@ -184,11 +187,11 @@ pub(crate) const COVER_PRINT: Argument = argument! { Value "print" 'p' "WHAT"
      table of the rules apply, and when the others would) [default: counts]" };
 
 pub(crate) const CHECK_STRICT: Argument = argument! { Flag "strict" ""
-    "Prints `doubts`, unless --print is given, and ends with status 1 if one is left" };
+    "Prints `doubts`, and ends with status 1 if one is left" };
 
 pub(crate) const CHECK_KNOWN: Argument = argument! { Value "known" "FILE"
-    "Prints `doubts`, unless --print is given, without those in this file, which has lines of \
-     that list without their line numbers" };
+    "Prints `doubts` without those in this file, which has lines of that list without their line \
+     numbers" };
 
 pub(crate) const COVER_STRICT: Argument = argument! { Flag "strict" ""
     "Prints `texts`, unless --print is given, and ends with status 1 if anything is left that \

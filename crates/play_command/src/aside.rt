@@ -8,6 +8,7 @@ ghost use Rattle.play_command.specs.Found.{rows_in};
 use crate::editing::EditView;
 use crate::fault::CommandFault;
 use crate::found::{is_set, value_in};
+use crate::in_place::edit_output;
 use base_slips::named;
 use clap::ArgMatches;
 
@@ -82,7 +83,7 @@ fn report_found<'a>(found: &ArgMatches<'a>) -> Result<Option<ReportView>, Comman
     let Some(name) = value_in(found, "report") else {
         return Ok(None);
     };
-    if value_in(found, "output").is_none() {
+    if edit_output(found).is_none() {
         return Err(CommandFault::ReportAlone);
     }
     match report_named(name) {

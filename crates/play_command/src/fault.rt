@@ -60,6 +60,15 @@ pub enum CommandFault<'a> {
         reports\n\n\
         For more information, try '--help'.\n")]
     ReportAlone,
+    /// An edit in place is given another file or another view.
+    #[error("error: '--in-place' can be used neither with '--output <FILE>' nor with \
+        '--print <WHAT>': it is short for '--print log --output LOG'\n\n\
+        For more information, try '--help'.\n")]
+    InPlaceAlone,
+    /// Doubts are to be judged or left out, and something else is to be printed.
+    #[error("error: '--strict' and '--known <FILE>' are for '--print doubts'\n\n\
+        For more information, try '--help'.\n")]
+    DoubtsAlone,
     #[error("error: invalid value '{0}' for '--from <PLACE>': expected 1 to 10 digits, \
         from 1 to 300\n\n\
         For more information, try '--help'.\n")]

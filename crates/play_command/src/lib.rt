@@ -8,6 +8,8 @@ mod below_zero;
 pub mod editing;
 pub mod fault;
 mod found;
+mod in_place;
+pub mod laws;
 pub mod line;
 pub mod map_part;
 mod number;

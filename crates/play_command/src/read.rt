@@ -11,7 +11,7 @@ ghost use Rattle.play_command.specs.Line.{IsParse, IsAsked, IsBadEvery, IsBadOpt
 ghost use Rattle.play_command.specs.Line.{IsCheckView, IsCoverView, IsEditing, IsEveryGiven};
 ghost use Rattle.play_command.specs.Line.{IsFiles, IsPlayView, IsRun, IsRunMet, IsRunOf, IsView};
 ghost use Rattle.play_command.specs.Line.{IsRefusal, IsRefused, IsRequest, IsSeed, IsUnmade};
-ghost use Rattle.play_command.specs.Line.{are_doubts_asked, usual_cover_view};
+ghost use Rattle.play_command.specs.Line.{are_doubts_asked, are_doubts_judged, usual_cover_view};
 
 use crate::app::cave_app;
 use crate::aside::aside_in;
@@ -19,6 +19,7 @@ use crate::below_zero::seed_below_zero;
 use crate::editing::{EditView, Editing};
 use crate::fault::CommandFault;
 use crate::found::{is_set, value_in, values_in};
+use crate::in_place::{check_in_place, edit_output, is_in_place};
 use crate::line::{Files, Line};
 use crate::map_part::part_in;
 use crate::number::number_in;
@@ -154,6 +155,9 @@ fn check_of<'a>(files: Files<'a>, found: &ArgMatches<'a>) -> Result<Line<'a>, Co
         });
     }
     let view = check_view_in(found)?;
+    if are_doubts_judged(found) {
+        return Err(CommandFault::DoubtsAlone);
+    }
     Ok(Line::Check { files, view })
 }
 
@@ -163,8 +167,15 @@ fn are_doubts_asked(found: &ArgMatches<'_>) -> bool
 {
     match value_in(found, "print") {
         Some(name) => name == "doubts",
-        None => is_set(found, "strict") || value_in(found, "known").is_some(),
+        None => are_doubts_judged(found),
     }
+}
+
+/// Whether doubts are to be judged or left out.
+fn are_doubts_judged(found: &ArgMatches<'_>) -> bool
+    ensures { result ≡ are_doubts_judged (rows_in found.now) }
+{
+    is_set(found, "strict") || value_in(found, "known").is_some()
 }
 
 /// The run of `play`, of a log in the cave that has these files.
@@ -200,9 +211,14 @@ fn edit_of<'a>(
     ensures { MatchResult result (IsRunOf (codes "edit") (rows_in found.now))
         (IsUnmade (Some (codes "edit", rows_in found.now))) }
 {
+    check_in_place(found)?;
     let editing = editing_in(found)?;
     let script = script_in(alloc, found)?;
     let aside = aside_in(found, editing.view)?;
+    let files = Files {
+        output: edit_output(found),
+        ..files
+    };
     Ok(Line::Edit {
         files,
         log,
@@ -314,6 +330,9 @@ fn edit_view_in<'a>(found: &ArgMatches<'a>) -> Result<EditView, CommandFault<'a>
     ensures { MatchResult result (IsView (rows_in found.now))
         (IsBadOption (codes "edit") (rows_in found.now)) }
 {
+    if is_in_place(found) {
+        return Ok(EditView::Log);
+    }
     match value_in(found, "print") {
         None => Ok(EditView::Transcript),
         Some(name) => EditView::named(name).ok_or(CommandFault::BadView(name)),

@@ -1,16 +1,13 @@
 //! Which texts a cave has.
 
-ghost use Rattle.std.specs.Prelude.{◌≡◌, IfOk};
+ghost use Rattle.std.specs.Prelude.{◌≡◌};
 ghost use Rattle.play_cover.specs.Texts.{has_text, is_class_reached};
 
 use cave_data::Cave;
-use cave_words::Lexicon;
 use check_tables::text_kinds::{PROPS_PER_OBJECT, TextKind};
 use data_rows::role::ROLE_NAMES;
-use std::alloc::{AllocError, Global};
 use std::marker::Model;
 use turn_ends::max_score;
-use turn_scene::Rules;
 
 /// A cave, with its greatest score, on which its classes depend.
 #[derive(Drop)]
@@ -35,12 +32,13 @@ impl<'a> Model for CaveTexts<'a> {
 
 impl<'a> CaveTexts<'a> {
     /// The texts of a cave.
-    pub fn of(alloc: Global, cave: &'a Cave) -> Result<CaveTexts<'a>, AllocError>
-        ensures { IfOk result (λ texts. texts ≡ cave.now) }
+    pub fn of(cave: &'a Cave) -> CaveTexts<'a>
+        ensures { result ≡ cave.now }
     {
-        let lexicon = Lexicon::build(alloc, cave)?;
-        let max_score = max_score(&Rules::of(cave, &lexicon));
-        Ok(CaveTexts { cave, max_score })
+        CaveTexts {
+            cave,
+            max_score: max_score(cave),
+        }
     }
 
     /// The cave.

@@ -83,7 +83,7 @@ impl PlayNotes for SaidTexts {
         logs: usize,
         text: &mut Vec<u8>,
     ) -> Result<usize, AllocError> {
-        let texts = CaveTexts::of(alloc, cave)?;
+        let texts = CaveTexts::of(cave);
         let left = push_text_report(alloc, &texts, &self.marks, view, logs, text)?;
         Ok(left)
     }

@@ -3,7 +3,7 @@ use Rattle.std.specs.Prelude.{ℕ, List, [], ◌∷◌, ◌++◌, codes, Option,
 use Rattle.std.specs.Fmt.{decimal}
 use Rattle.std.specs.List.{sum_by}
 use Rattle.cave_data.specs.CaveView.{CaveView}
-use Rattle.cave_replay.specs.declared.report.Done.{Done}
+use Rattle.cave_replay.specs.declared.report.GroupReport.{GroupReport}
 use Rattle.cave_world.specs.declared.ending.Ending.{Ending}
 use Rattle.replay_edits.specs.Edit.{Game}
 use Rattle.replay_edits.specs.declared.fault.EditFault.{EditFault}
@@ -94,7 +94,7 @@ refusal_text refusal =
     ++ (codes ", " ++ (refusal_words refusal ++ (refusal_detail refusal ++ codes "\n"))))))
 
 -- where the replay of an item began and met the old play, and how many of the lines it played
-abbrev pub replay_text : Applied → Done → List ℕ
+abbrev pub replay_text : Applied → GroupReport → List ℕ
 replay_text item done =
     codes "line " ++ (decimal item.line ++ (codes ": ok, from " ++ (decimal done.from
     ++ (codes ", met " ++ (met_column done.met ++ (codes ", played " ++ (decimal done.played

@@ -4,7 +4,7 @@ use Rattle.cave_data.specs.CaveView.{CaveView}
 use Rattle.replay_checkpoints.specs.Spacing.{IsSpaced}
 use Rattle.replay_edits.specs.Edit.{Game, changes_of, inverses_of}
 use Rattle.cave_replay.specs.Play.{state_after, ticks_of}
-use Rattle.cave_replay.specs.declared.report.Done.{Done}
+use Rattle.cave_replay.specs.declared.report.GroupReport.{GroupReport}
 use Rattle.turn_ends.specs.Score.{score_of, max_score_of}
 use Rattle.play_machine.specs.Transcript.{ticks}
 use Rattle.cave_replay.specs.Report.{IsReport}
@@ -17,7 +17,7 @@ use Rattle.play_edits.specs.declared.refusal.Refusal.{Refusal}
 
 -- the outcome of an item: what was done for it, or why it was refused
 abbrev pub ItemOutcome : Type 0
-ItemOutcome = Result Done Refusal
+ItemOutcome = Result GroupReport Refusal
 
 abbrev pub refusal_in : ItemOutcome → Option Refusal
 refusal_in (Ok done) = None
@@ -49,7 +49,7 @@ standing_of cave game =
 -- An item was accepted in the game, whose play is held with these checkpoints, and this was done
 -- for it: its log was replayed this far, has this many lines, and these edits take the item back.
 pub record IsDone (cave : CaveView) (every : ℕ) (item : Applied) (game : Game)
-    (checkpoints : List ℕ) (done : Done) : Type 0 where
+    (checkpoints : List ℕ) (done : GroupReport) : Type 0 where
   pub accepted : item_refusal item game.log ≡ None
   pub report : IsReport (cave_rules cave) item.changes game every checkpoints done.from done.met
       done.played

@@ -9,7 +9,7 @@ ghost use Rattle.play_edits.specs.Undo.{with_guards};
 
 use crate::refusal::Refusal;
 use crate::undo::backs_of;
-use cave_replay::Done;
+use cave_replay::GroupReport;
 use replay_checkpoints::Blocks;
 use replay_edits::plan::plan_edits;
 use replay_edits::{Edit, LineText};
@@ -63,7 +63,7 @@ pub(crate) fn guarded_text(
 /// Appends the text of an item, unless the item was refused.
 pub(crate) fn push_if_done(
     text: &mut Vec<u8>,
-    outcome: &Result<Done, Refusal>,
+    outcome: &Result<GroupReport, Refusal>,
     item: &[u8],
 ) -> Result<(), AllocError>
     ensures { OnOk result (text.new.items ≡ text.old.items ++ text_if_done outcome.now item.now) }

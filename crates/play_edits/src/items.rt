@@ -19,7 +19,7 @@ use crate::reports::{push_account, push_report};
 use crate::table::{last_state, push_row};
 use crate::undo::backs_of;
 use base_lines::Meter;
-use cave_replay::{Done, Session};
+use cave_replay::{GroupReport, Session};
 use play_command::{EditView, Editing};
 use play_machine::CaveMachine;
 use replay_edits::EditFault;
@@ -40,7 +40,7 @@ pub(crate) fn apply_item(
     item: &Item,
     view: EditView,
     text: &mut Vec<u8>,
-) -> Result<Result<Done, Refusal>, AllocError>
+) -> Result<Result<GroupReport, Refusal>, AllocError>
     ensures applies { IfOk result (Applies (applied_item item.now) session.old session.new) }
     ensures back_free { IfOk result (λ outcome. IfOk outcome (λ done.
         fault_of_all (changes_of done.inverse.items) session.new.game.log 0 ≡ None)) }
@@ -71,7 +71,7 @@ fn apply_with_table_row(
     session: &mut Session<CaveMachine<'_>>,
     item: &Item,
     text: &mut Vec<u8>,
-) -> Result<Result<Done, Refusal>, AllocError>
+) -> Result<Result<GroupReport, Refusal>, AllocError>
     ensures applies { IfOk result (Applies (applied_item item.now) session.old session.new) }
     ensures back_free { IfOk result (λ outcome. IfOk outcome (λ done.
         fault_of_all (changes_of done.inverse.items) session.new.game.log 0 ≡ None)) }
@@ -93,7 +93,7 @@ fn apply_guarded_item(
     session: &mut Session<CaveMachine<'_>>,
     item: &Item,
     text: &mut Vec<u8>,
-) -> Result<Result<Done, Refusal>, AllocError>
+) -> Result<Result<GroupReport, Refusal>, AllocError>
     ensures applies { IfOk result (Applies (applied_item item.now) session.old session.new) }
     ensures back_free { IfOk result (λ outcome. IfOk outcome (λ done.
         fault_of_all (changes_of done.inverse.items) session.new.game.log 0 ≡ None)) }
@@ -111,7 +111,7 @@ fn edit(
     alloc: Global,
     session: &mut Session<CaveMachine<'_>>,
     item: &Item,
-) -> Result<Result<Done, Refusal>, AllocError>
+) -> Result<Result<GroupReport, Refusal>, AllocError>
     ensures applies { IfOk result (Applies (applied_item item.now) session.old session.new) }
     ensures back_free { IfOk result (λ outcome. IfOk outcome (λ done.
         fault_of_all (changes_of done.inverse.items) session.new.game.log 0 ≡ None)) }
@@ -126,7 +126,7 @@ fn edit(
 fn edit_group(
     session: &mut Session<CaveMachine<'_>>,
     item: &Item,
-) -> Result<Result<Done, Refusal>, AllocError>
+) -> Result<Result<GroupReport, Refusal>, AllocError>
     requires { let log = session.old.game.log in
         first_unmet (changes_of item.now.edits.items) (expectations_of item.now.guards) log ≡ None }
     ensures applies { IfOk result (Applies (applied_item item.now) session.old session.new) }
@@ -149,7 +149,7 @@ pub fn keep_back(
     alloc: Global,
     session: &Session<CaveMachine<'_>>,
     editing: Editing,
-    outcome: Result<Done, Refusal>,
+    outcome: Result<GroupReport, Refusal>,
     backs: &mut Vec<Vec<BackEdit>>,
 ) -> Result<(), AllocError>
     requires { IfOk outcome (λ done.

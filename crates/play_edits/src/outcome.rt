@@ -4,7 +4,7 @@ ghost use Rattle.std.specs.Prelude.{◌≡◌, ◌+◌, ◌<◌, ◌≤◌, ◌^
 ghost use Rattle.play_edits.specs.Outcome.{lines_in, played_in, standing_of};
 
 use crate::refusal::Refusal;
-use cave_replay::{Done, Session};
+use cave_replay::{GroupReport, Session};
 use cave_world::Ending;
 use play_machine::CaveMachine;
 
@@ -46,7 +46,7 @@ pub struct Totals {
 
 impl Totals {
     /// The totals with those of one more item.
-    pub fn with(self, outcome: &Result<Done, Refusal>) -> Totals
+    pub fn with(self, outcome: &Result<GroupReport, Refusal>) -> Totals
         requires played_fits { self.played + 2 ^ 32 ≤ 2 ^ 64 }
         requires lines_fit { self.lines + 2 ^ 32 ≤ 2 ^ 64 }
         ensures played { result.played ≡ self.played + played_in outcome.now }

@@ -14,7 +14,7 @@ ghost use Rattle.play_edits.specs.Outcome.{refusal_in, standing_of};
 
 use crate::outcome::{Standing, Totals, standing_of};
 use crate::refusal::{ExpectedLine, KeptLine, Refusal};
-use cave_replay::{Done, Session};
+use cave_replay::{GroupReport, Session};
 use cave_world::Ending;
 use play_command::EditView;
 use play_machine::{CaveMachine, push_final_state, push_play, push_score, push_steps, push_walk};
@@ -79,7 +79,7 @@ pub(crate) fn push_report(
     alloc: Global,
     text: &mut Vec<u8>,
     item: &Item,
-    outcome: &Result<Done, Refusal>,
+    outcome: &Result<GroupReport, Refusal>,
 ) -> Result<(), AllocError>
     ensures { OnOk result (text.new.items ≡ text.old.items
         ++ item_report_by (applied_item item.now) (refusal_in outcome.now)) }
@@ -141,7 +141,7 @@ pub(crate) fn push_account(
     text: &mut Vec<u8>,
     session: &Session<CaveMachine<'_>>,
     item: &Item,
-    outcome: &Result<Done, Refusal>,
+    outcome: &Result<GroupReport, Refusal>,
 ) -> Result<(), AllocError>
     ensures { let standing = standing_of session.now.machine.rules.cave.now session.now.game in
         OnOk result (text.new.items ≡ text.old.items
@@ -163,7 +163,7 @@ fn push_replay(
     alloc: Global,
     text: &mut Vec<u8>,
     item: &Item,
-    done: &Done,
+    done: &GroupReport,
 ) -> Result<(), AllocError>
     ensures { OnOk result (text.new.items ≡ text.old.items
         ++ replay_text (applied_item item.now) done.now) }

@@ -12,7 +12,7 @@ use crate::outcome::Totals;
 use crate::refusal::Refusal;
 use crate::reports::{push_account, push_start, push_totals};
 use crate::table::{last_state, push_row};
-use cave_replay::{Done, Session};
+use cave_replay::{GroupReport, Session};
 use cave_world::State;
 use play_command::{EditView, ReportView};
 use play_machine::CaveMachine;
@@ -45,7 +45,7 @@ impl SideReport {
         alloc: Global,
         session: &Session<CaveMachine<'_>>,
         item: &Item,
-        outcome: &Result<Done, Refusal>,
+        outcome: &Result<GroupReport, Refusal>,
         before: &State,
     ) -> Result<(), AllocError>
         ensures view { self.new.view ≡ self.old.view }
@@ -83,7 +83,7 @@ fn apply_noted(
     view: EditView,
     text: &mut Vec<u8>,
     report: &mut SideReport,
-) -> Result<Result<Done, Refusal>, AllocError>
+) -> Result<Result<GroupReport, Refusal>, AllocError>
     ensures applies { IfOk result (Applies (applied_item item.now) session.old session.new) }
     ensures back_free { IfOk result (λ outcome. IfOk outcome (λ done.
         fault_of_all (changes_of done.inverse.items) session.new.game.log 0 ≡ None)) }
@@ -110,7 +110,7 @@ pub fn apply_reported(
     view: EditView,
     text: &mut Vec<u8>,
     report: &mut SideReport,
-) -> Result<Result<Done, Refusal>, AllocError>
+) -> Result<Result<GroupReport, Refusal>, AllocError>
     ensures applies { IfOk result (Applies (applied_item item.now) session.old session.new) }
     ensures back_free { IfOk result (λ outcome. IfOk outcome (λ done.
         fault_of_all (changes_of done.inverse.items) session.new.game.log 0 ≡ None)) }

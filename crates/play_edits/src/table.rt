@@ -7,7 +7,7 @@ ghost use Rattle.play_edits.specs.Table.{last_state, row_by};
 
 use crate::outcome::{Standing, standing_of};
 use crate::refusal::Refusal;
-use cave_replay::{Done, Session};
+use cave_replay::{GroupReport, Session};
 use cave_world::State;
 use play_machine::CaveMachine;
 use play_tables::{push_item_columns, push_refused_row, push_replay_columns, push_state_columns};
@@ -28,7 +28,7 @@ pub(crate) fn push_row(
     text: &mut Vec<u8>,
     session: &Session<CaveMachine<'_>>,
     item: &Item,
-    outcome: &Result<Done, Refusal>,
+    outcome: &Result<GroupReport, Refusal>,
     before: &State,
 ) -> Result<(), AllocError>
     ensures { let cave = session.now.machine.rules.cave.now in

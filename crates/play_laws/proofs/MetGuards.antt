@@ -10,7 +10,7 @@ use Rattle.cave_play.specs.EditRun.{IsSideReport}
 use Rattle.cave_play.specs.Ended.{ended_view, ends_after_items, IsEdited, IsEndedEdit}
 use Rattle.cave_play.specs.GuardLaws.{AreMet, HasNoGuard, NoGuardsNoOtherOutput}
 use Rattle.cave_play.specs.GuardLaws.{NoGuardsNoOtherScript}
-use Rattle.cave_play.specs.Refused.{refusals_of}
+use Rattle.cave_play.specs.Refused.{refusals_of, seed_after}
 use Rattle.cave_play.specs.Strict.{first_strict_fault}
 use Rattle.cave_play.specs.Views.{IsEditOf, IsLogOf, IsViewOf}
 use Rattle.play_command.specs.Aside.{edit_view_of}
@@ -189,6 +189,13 @@ module _ (no_other_script : NoGuardsNoOtherScript) (script blanked : List ℕ) (
         ap (refusals_of (game_of seed (lines log))) read ∙ same_now.refused
         ∙ sym (ap (refusals_of (game_of seed (lines log))) (read_now guarded))
 
+    seeds_so : (guarded : Bool) → seed_after (game_of seed (lines log)) (script_by true script)
+        ≡ seed_after (game_of seed (lines log)) (script_by guarded blanked)
+    seeds_so guarded =
+        ap (seed_after (game_of seed (lines log))) read
+        ∙ ap (λ (after : Game). after.seed) same_now.games
+        ∙ sym (ap (seed_after (game_of seed (lines log))) (read_now guarded))
+
 -- a report has no guards
 report_free : (view : ReportView) (guarded : Bool) → PrintsItSo (edit_view_of view) guarded
 report_free Reports true = tt
@@ -230,7 +237,11 @@ met_guards_no_other_run no_other_script no_other database bindings log script bl
     let side = side_so no_other_script no_other database bindings log script blanked editing guarded
     items blank read met report run.played run.report.items in
     let refused = λ (cave : CaveView). refusals_so no_other_script script blanked items blank read
+    editing.view cave editing.every log output editing.seed run.played met guarded in
+    let seeds = λ (cave : CaveView). seeds_so no_other_script script blanked items blank read
     editing.view cave editing.every log output editing.seed run.played met guarded in (
-      λ (is, refusals, told). (edited.0 is, refusals ∙ refused is.0, side.0 told),
-      λ (is, refusals, told). (edited.1 is, refusals ∙ sym (refused is.0), side.1 told),
+      λ (is, refusals, told, seed).
+      (edited.0 is, refusals ∙ refused is.0, side.0 told, seed ∙ seeds is.0),
+      λ (is, refusals, told, seed).
+      (edited.1 is, refusals ∙ sym (refused is.0), side.1 told, seed ∙ sym (seeds is.0)),
     )

@@ -11,13 +11,12 @@ use crate::packed_state::PackedState;
 use crate::piece::Piece;
 use base_lines::Meter;
 use cave_data::Cave;
-use cave_replay::{Machine, Started, Stepped};
+use cave_replay::{Machine, Playable, PlayedInPlace, Started, Stepped};
 use cave_turn::{start, take_line};
 use cave_words::Lexicon;
 use cave_world::{Out, Part, State};
 use std::alloc::{AllocError, Global};
-use turn_ends::max_score;
-use turn_ends::scores::score;
+use turn_ends::{Scorer, max_score_by, score_by};
 use turn_scene::Rules;
 
 /// What plays a log in a cave, with the words of that cave.
@@ -56,14 +55,14 @@ impl<'a> CaveMachine<'a> {
         ensures value { result ≡ score_of (cave_of self.entry.rules) state.now }
         ensures most { result ≤ max_score_of (cave_of self.entry.rules) }
     {
-        score(&self.rules, state)
+        score_by(&Scorer::of(&self.rules), state)
     }
 
     /// The greatest score that the cave has.
     pub fn max_score(self) -> u32
         ensures { result ≡ max_score_of (cave_of self.entry.rules) }
     {
-        max_score(&self.rules)
+        max_score_by(&Scorer::of(&self.rules))
     }
 }
 
@@ -81,13 +80,9 @@ impl<'a> Machine for CaveMachine<'a> {
 
     type State = State;
 
-    type Kept = PackedState;
-
     type Piece = Piece;
 
     type Meter = Meter;
-
-    type Scratch = Out;
 
     ghost Meaning = { State };
 
@@ -108,25 +103,47 @@ impl<'a> Machine for CaveMachine<'a> {
         Ok(Started { state, piece })
     }
 
+    fn step(
+        &self,
+        alloc: Global,
+        state: &State,
+        line: &[u8],
+        meter: &mut Meter,
+    ) -> Result<Stepped<State, Piece>, AllocError> {
+        let mut state = *state;
+        let played = self.step_in_place(alloc, &mut Out::new(), &mut state, line, meter)?;
+        Ok(Stepped {
+            state,
+            piece: played.piece,
+            ticked: played.ticked,
+        })
+    }
+
+    fn copy_piece(&self, alloc: Global, piece: &Piece) -> Result<Piece, AllocError> {
+        keep(alloc, piece)
+    }
+}
+
+impl<'a> Playable for CaveMachine<'a> {
+    type Kept = PackedState;
+
+    type Scratch = Out;
+
     fn scratch(&self, _alloc: Global) -> Result<Out, AllocError> {
         Ok(Out::new())
     }
 
-    fn step(
+    fn step_in_place(
         &self,
         alloc: Global,
         out: &mut Out,
         state: &mut State,
         line: &[u8],
         meter: &mut Meter,
-    ) -> Result<Stepped<Piece>, AllocError> {
+    ) -> Result<PlayedInPlace<Piece>, AllocError> {
         out.clear();
         let ticked = take_line(&self.rules, state, line, out, meter);
         let piece = keep(alloc, out.as_slice())?;
-        Ok(Stepped { piece, ticked })
-    }
-
-    fn copy_piece(&self, alloc: Global, piece: &Piece) -> Result<Piece, AllocError> {
-        keep(alloc, piece)
+        Ok(PlayedInPlace { piece, ticked })
     }
 }

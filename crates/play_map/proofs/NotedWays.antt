@@ -6,7 +6,8 @@ use Rattle.cave_data.specs.Reads.{Reads}
 use Rattle.cave_words.specs.declared.named.Named.TheVariants.{Emerald}
 use Rattle.cave_world.specs.Travel.{rows_tried_from}
 use Rattle.cave_world.specs.declared.tables.RuleRow.TheVariants.{OfPlace}
-use Rattle.turn_scene.specs.Scene.{object_called, thing}
+use Rattle.cave_world.specs.Called.{object_called}
+use Rattle.turn_scene.specs.Scene.{thing}
 use Rattle.turn_laws.proofs.NotesOfLines.{noted_ways_are_tried}
 use Rattle.turn_laws.proofs.WordLines.{no_object_is_above}
 use Rattle.map_ways.specs.Leads.{emerald_of}

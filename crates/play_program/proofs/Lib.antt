@@ -4,3 +4,4 @@ pub mod LookedLemmas
 pub mod NoticeLemmas
 pub mod BesideLemmas
 mod CoverLemmas
+pub mod ClashLemmas

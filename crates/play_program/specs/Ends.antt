@@ -9,9 +9,10 @@ use Rattle.cave_play.specs.declared.edits.EditRun.{EditRun}
 use Rattle.cave_play.specs.declared.fault.PlayFault.{PlayFault}
 use Rattle.cave_play.specs.declared.fault.PlayFault.TheVariants as fault
 use Rattle.play_command.specs.declared.line.Line.{Line}
-use Rattle.play_program.specs.Beside.{asks_refusals, report_in, told_beside}
+use Rattle.play_program.specs.Beside.{report_in, told_beside}
 use Rattle.play_program.specs.Calls.{Call, Told, and_then}
 use Rattle.play_program.specs.Calls.Call.{Puts, Tells}
+use Rattle.play_program.specs.Clash.{AreApart, IsClash}
 use Rattle.play_program.specs.Failures.{failure_status, has_output, is_silent, message_of}
 use Rattle.play_program.specs.Names.{FileNames, files_in}
 use Rattle.play_program.specs.Notice.{TellsHeads, logs_named}
@@ -19,7 +20,7 @@ use Rattle.play_program.specs.Opening.{Stops, bytes_named, opening, script_bytes
 use Rattle.play_program.specs.Runs.{RunsLine}
 use Rattle.play_program.specs.declared.failure.Failure.{Failure}
 use Rattle.play_program.specs.declared.failure.Failure.TheVariants.{Unopened, Run, Unwritten}
-use Rattle.play_program.specs.declared.failure.Failure.TheVariants.{Unprinted}
+use Rattle.play_program.specs.declared.failure.Failure.TheVariants.{Unprinted, Clash}
 
 -- the inputs are the bytes of the files of these names, if they are known
 pub record AreTextsIn (bytes_of : List ℕ → Option (List ℕ)) (names : FileNames)
@@ -63,6 +64,7 @@ IsUnput file (Unwritten name reason) = file ≡ name.now
 IsUnput file (Run found log) = (found ≡ fault.Memory) × (log ≡ None)
 IsUnput file (Unopened from name reason) = ⊥
 IsUnput file (Unprinted reason) = ⊥
+IsUnput file (Clash name view) = ⊥
 
 -- a list of bytes takes each write, unless memory runs out
 abbrev pub list_failure : PlayFault → Option ℕ → Failure
@@ -83,31 +85,66 @@ PutsFailure true file output calls called failure found =
 PutsFailure false file output calls called failure found =
     (called ≡ calls) × (found ≡ in_list failure)
 
--- an output was put into the file if the run ended well, or failed only since it is strict
-abbrev pub PutsEnd : List ℕ → List ℕ → Option (List Call) → Option (List Call)
+-- the report of a run was printed, if it has one; or a part of it was, and no more could be
+abbrev pub PrintsReport : Option EditRun → Option (List ℕ) → Option (List ℕ)
+    → Result (Option EditRun) Failure → Type 0
+PrintsReport made old new (Ok said) = (said ≡ made) × Appends old new (report_in made)
+PrintsReport made old new (Err failure) =
+    (failure ≡ Run fault.Write None) × ((length (report_in made) == 0) ≡ false)
+    × ((n : ℕ) × Appends old new (take n (report_in made)))
+
+-- once the report was printed, the output was put into the file
+abbrev pub PutsReported : List ℕ → List ℕ → Option (List Call) → Option (List Call)
     → Result (Option EditRun) Failure → Result (Option EditRun) Failure → Type 0
-PutsEnd file output calls called (Ok made) ended =
+PutsReported file output calls called (Ok made) ended =
     (called ≡ and_then calls (Puts file output ∷ []))
     × MatchResult ended (λ said. said ≡ made) (IsUnput file)
-PutsEnd file output calls called (Err failure) ended = (found : Failure) × (ended ≡ Err found)
-    × PutsFailure (has_output failure) file output calls called failure found
+PutsReported file output calls called (Err failure) ended = (called ≡ calls) × (ended ≡ Err failure)
+
+-- an output was put into the file if the run ended well and its report was printed, or if it failed
+-- only since it is strict
+abbrev pub PutsEnd : List ℕ → List ℕ → Option (List Call) → Option (List Call)
+    → Option (List ℕ) → Option (List ℕ)
+    → Result (Option EditRun) Failure → Result (Option EditRun) Failure → Type 0
+PutsEnd file output calls called old new (Ok made) ended =
+    (reported : Result (Option EditRun) Failure) × PrintsReport made old new reported
+    × PutsReported file output calls called reported ended
+PutsEnd file output calls called old new (Err failure) ended = (new ≡ old)
+    × ((found : Failure) × (ended ≡ Err found)
+    × PutsFailure (has_output failure) file output calls called failure found)
 
 -- what a run over files leaves if its output is kept until it is whole and then goes into a file
 abbrev pub RunsIntoFile : (List ℕ → Option (List ℕ)) → Line → FileNames → List ℕ
-    → Option (List Call) → Option (List Call) → Result (Option EditRun) Failure → Type 0
-RunsIntoFile bytes_of asked names file calls called ended =
+    → Option (List Call) → Option (List Call) → Option (List ℕ) → Option (List ℕ)
+    → Result (Option EditRun) Failure → Type 0
+RunsIntoFile bytes_of asked names file calls called old new ended =
     (output : List ℕ) × (opened : Option (List Call)) × (run : Result (Option EditRun) Failure)
     × RunsFiles bytes_of asked names calls opened (Some []) (Some output) run
-    × PutsEnd file output opened called run ended
+    × PutsEnd file output opened called old new run ended
+
+-- after an output that goes to a writer, its report was printed
+abbrev pub ReportsEnd : Option (List ℕ) → Option (List ℕ) → Result (Option EditRun) Failure
+    → Result (Option EditRun) Failure → Type 0
+ReportsEnd old new (Ok made) ended = PrintsReport made old new ended
+ReportsEnd old new (Err failure) ended = (new ≡ old) × (ended ≡ Err failure)
+
+-- what a run over files leaves if its output goes to a writer
+abbrev pub RunsIntoWriter : (List ℕ → Option (List ℕ)) → Line → FileNames
+    → Option (List Call) → Option (List Call) → Option (List ℕ) → Option (List ℕ)
+    → Result (Option EditRun) Failure → Type 0
+RunsIntoWriter bytes_of asked names calls called old new ended =
+    (written : Option (List ℕ)) × (run : Result (Option EditRun) Failure)
+    × RunsFiles bytes_of asked names calls called old written run
+    × ReportsEnd written new run ended
 
 -- what a run whose output goes where its line says leaves
 abbrev pub RunsTo : Option (List ℕ) → (List ℕ → Option (List ℕ)) → Line → FileNames
     → Option (List Call) → Option (List Call) → Option (List ℕ) → Option (List ℕ)
     → Result (Option EditRun) Failure → Type 0
 RunsTo None bytes_of asked names calls called old new ended =
-    RunsFiles bytes_of asked names calls called old new ended
+    RunsIntoWriter bytes_of asked names calls called old new ended
 RunsTo (Some file) bytes_of asked names calls called old new ended =
-    (new ≡ old) × RunsIntoFile bytes_of asked names file calls called ended
+    RunsIntoFile bytes_of asked names file calls called old new ended
 
 -- the output couldn't be written for this reason, if that is what failed
 abbrev pub write_failure : PlayFault → Option ℕ → Error → Failure
@@ -134,29 +171,14 @@ TellsFailure names calls called failure status =
     TellsUnless (is_silent failure) (message_of names failure) calls called
     × (status ≡ failure_status failure)
 
--- the report was printed, if there is one, and what is asked for is reported
-abbrev pub SaysBeside : Line → FileNames → Option (List Call) → Option (List Call)
-    → Option (List ℕ) → Option (List ℕ) → Option EditRun → ℕ → Type 0
-SaysBeside asked names calls called old new made status =
-    (called ≡ and_then calls (told_beside (asks_refusals asked) names made)) × (status ≡ 0)
-    × Appends old new (report_in made)
-
--- there is a report, and it couldn't be printed, for this reason if the writer gave one
-abbrev pub FailsBeside : FileNames → Option (List Call) → Option (List Call)
-    → Option (List ℕ) → Option (List ℕ) → Option EditRun → ℕ → Type 0
-FailsBeside names calls called old new made status = (reason : Option Error)
-    × TellsFailure names calls called (with_reason (Run fault.Write None) reason) status
-    × ((length (report_in made) == 0) ≡ false)
-    × ((n : ℕ) × Appends old new (take n (report_in made)))
-
--- what is left of a run that ended like this: if it ended well, what is said beside its output
+-- what is reported of a run that ended like this, and the status: of one that ended well, what is
+-- said beside its output
 abbrev pub SaysEnd : Line → FileNames → Option (List Call) → Option (List Call)
-    → Option (List ℕ) → Option (List ℕ) → Result (Option EditRun) Failure → ℕ → Type 0
-SaysEnd asked names calls called old new (Ok made) status =
-    SaysBeside asked names calls called old new made status
-    ⊎ FailsBeside names calls called old new made status
-SaysEnd asked names calls called old new (Err failure) status =
-    (new ≡ old) × TellsFailure names calls called failure status
+    → Result (Option EditRun) Failure → ℕ → Type 0
+SaysEnd asked names calls called (Ok made) status =
+    (called ≡ and_then calls (told_beside asked names made)) × (status ≡ 0)
+SaysEnd asked names calls called (Err failure) status =
+    TellsFailure names calls called failure status
 
 -- how a run ended, with the reason of a writer that failed
 abbrev pub ended_with : Result (Option EditRun) Failure → Option Error
@@ -164,11 +186,24 @@ abbrev pub ended_with : Result (Option EditRun) Failure → Option Error
 ended_with (Ok made) reason = Ok made
 ended_with (Err failure) reason = Err (with_reason failure reason)
 
--- what the run of a line leaves, with what the program reports of it
-abbrev pub EndsRun : (List ℕ → Option (List ℕ)) → Line → FileNames
-    → Option (List Call) → Option (List Call) → Option (List ℕ) → Option (List ℕ) → ℕ → Type 0
-EndsRun bytes_of asked names calls called old new status =
-    (ran : Option (List Call)) × (written : Option (List ℕ))
-    × (ended : Result (Option EditRun) Failure) × (reason : Option Error)
-    × RunsTo names.output bytes_of asked names calls ran old written ended
-    × SaysEnd asked names ran called written new (ended_with ended reason) status
+-- the output goes over no file that is read, or over one that it may replace, and the run was done;
+-- or nothing was
+abbrev pub RunsApart : (List ℕ → List ℕ → Option Bool) → (List ℕ → Option (List ℕ)) → Line
+    → FileNames → Option (List Call) → Option (List Call) → Option (List ℕ) → Option (List ℕ)
+    → Result (Option EditRun) Failure → Type 0
+RunsApart one_file bytes_of asked names calls called old new ended =
+    (AreApart one_file asked names.output (files_in names)
+    × RunsTo names.output bytes_of asked names calls called old new ended)
+    ⊎ ((failure : Failure) × (ended ≡ Err failure)
+    × IsClash one_file asked names.output (files_in names) failure
+    × (called ≡ calls) × (new ≡ old))
+
+-- what the run of a line leaves, with what the program reports of it: this is the reason that the
+-- writer of the output gave last, if it failed
+abbrev pub EndsRun : (List ℕ → List ℕ → Option Bool) → (List ℕ → Option (List ℕ)) → Line
+    → FileNames → Option (List Call) → Option (List Call) → Option (List ℕ) → Option (List ℕ)
+    → Option Error → ℕ → Type 0
+EndsRun one_file bytes_of asked names calls called old new reason status =
+    (ran : Option (List Call)) × (ended : Result (Option EditRun) Failure)
+    × RunsApart one_file bytes_of asked names calls ran old new ended
+    × SaysEnd asked names ran called (ended_with ended reason) status

@@ -1,5 +1,6 @@
 pub mod Beside
 pub mod Calls
+pub mod Clash
 pub mod Head
 pub mod Notice
 pub mod Peek

@@ -8,7 +8,7 @@ use Rattle.play_program.specs.Calls.Call.{Opens}
 use Rattle.play_program.specs.Names.{FileNames, NamedFile}
 use Rattle.play_program.specs.declared.failure.Failure.{Failure}
 use Rattle.play_program.specs.declared.failure.Failure.TheVariants.{Unopened, Run, Unwritten}
-use Rattle.play_program.specs.declared.failure.Failure.TheVariants.{Unprinted}
+use Rattle.play_program.specs.declared.failure.Failure.TheVariants.{Unprinted, Clash}
 use Rattle.play_program.specs.declared.readers.Readers.{Readers}
 
 -- the calls that open files, one after another
@@ -21,6 +21,7 @@ IsStoppedAt file (Unopened from name reason) = (file.0 ≡ from) × (file.1 ≡ 
 IsStoppedAt file (Run found log) = (found ≡ fault.Memory) × (log ≡ None)
 IsStoppedAt file (Unwritten name reason) = ⊥
 IsStoppedAt file (Unprinted reason) = ⊥
+IsStoppedAt file (Clash name view) = ⊥
 
 -- the files up to this one were opened, and it is the reason of the failure
 pub record StopsAt (files : List NamedFile) (old new : Option (List Call)) (failure : Failure)

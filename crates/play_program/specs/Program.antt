@@ -1,6 +1,6 @@
 -- What the program asks of its system for its words, and with which status it ends.
-use Rattle.std.specs.Prelude.{◌≡◌, ◌⊎◌, ℕ, List, [], ◌∷◌, Option, None, Some, Result, Ok, Err}
-use Rattle.std.specs.Prelude.{IfErr, IfOk}
+use Rattle.std.specs.Prelude.{◌≡◌, ◌⊎◌, ℕ, Bool, List, [], ◌∷◌, Option, None, Some, Result, Ok}
+use Rattle.std.specs.Prelude.{Err, IfErr, IfOk}
 use Rattle.std.specs.IoError.{error_kind}
 use Rattle.std.specs.declared.io.Error.{Error}
 use Rattle.clap.specs.Words.{fault_of, subcommand_of}
@@ -47,11 +47,13 @@ EndsRefused found calls called status =
     ⊎ TellsFault fault.Memory calls called status
 
 -- what a line that names these files, or asks for no run, leaves
-abbrev pub EndsNamed : Option FileNames → (List ℕ → Option (List ℕ)) → Line
-    → Option (List Call) → Option (List Call) → Option (List ℕ) → Option (List ℕ) → ℕ → Type 0
-EndsNamed None bytes_of asked calls called old new status = EndsText calls called status
-EndsNamed (Some names) bytes_of asked calls called old new status =
-    EndsRun bytes_of asked names calls called old new status
+abbrev pub EndsNamed : Option FileNames → (List ℕ → List ℕ → Option Bool)
+    → (List ℕ → Option (List ℕ)) → Line → Option (List Call) → Option (List Call)
+    → Option (List ℕ) → Option (List ℕ) → Option Error → ℕ → Type 0
+EndsNamed None one_file bytes_of asked calls called old new reason status =
+    EndsText calls called status
+EndsNamed (Some names) one_file bytes_of asked calls called old new reason status =
+    EndsRun one_file bytes_of asked names calls called old new reason status
 
 -- the line is what the words ask for, or the fault is why they ask for nothing
 pub record IsLineOf (words : List (List ℕ)) (line : Result Line CommandFault) : Type 0 where
@@ -61,18 +63,21 @@ pub record IsLineOf (words : List (List ℕ)) (line : Result Line CommandFault) 
       (IsRefused words (fault_of cave_app words) (subcommand_of cave_app words))
 
 -- what the program leaves for a command line
-abbrev pub EndsLine : Result Line CommandFault → (List ℕ → Option (List ℕ))
-    → Option (List Call) → Option (List Call) → Option (List ℕ) → Option (List ℕ) → ℕ → Type 0
-EndsLine (Ok asked) bytes_of calls called old new status =
-    EndsNamed (names_of asked) bytes_of asked calls called old new status
-EndsLine (Err found) bytes_of calls called old new status =
+abbrev pub EndsLine : Result Line CommandFault → (List ℕ → List ℕ → Option Bool)
+    → (List ℕ → Option (List ℕ)) → Option (List Call) → Option (List Call)
+    → Option (List ℕ) → Option (List ℕ) → Option Error → ℕ → Type 0
+EndsLine (Ok asked) one_file bytes_of calls called old new reason status =
+    EndsNamed (names_of asked) one_file bytes_of asked calls called old new reason status
+EndsLine (Err found) one_file bytes_of calls called old new reason status =
     (new ≡ old) × EndsRefused found calls called status
 
 -- what the program leaves for these words
-abbrev pub EndsWords : List (List ℕ) → (List ℕ → Option (List ℕ))
-    → Option (List Call) → Option (List Call) → Option (List ℕ) → Option (List ℕ) → ℕ → Type 0
-EndsWords words bytes_of calls called old new status = (line : Result Line CommandFault)
-    × IsLineOf words line × EndsLine line bytes_of calls called old new status
+abbrev pub EndsWords : List (List ℕ) → (List ℕ → List ℕ → Option Bool)
+    → (List ℕ → Option (List ℕ)) → Option (List Call) → Option (List Call)
+    → Option (List ℕ) → Option (List ℕ) → Option Error → ℕ → Type 0
+EndsWords words one_file bytes_of calls called old new reason status =
+    (line : Result Line CommandFault) × IsLineOf words line
+    × EndsLine line one_file bytes_of calls called old new reason status
 
 -- the words can't be read, which is reported with status 2, or memory ran out
 abbrev pub EndsUnread : Option (List Call) → Option (List Call) → ℕ → Type 0

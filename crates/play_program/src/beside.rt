@@ -2,17 +2,18 @@
 
 ghost use Rattle.std.specs.Prelude.{◌≡◌, ◌==◌, ℕ, MatchResult, false, length, take};
 ghost use Rattle.std.specs.Io.KnownBytes.{Appends};
-ghost use Rattle.play_program.specs.Beside.{asks_refusals, refusals_told, report_in};
-ghost use Rattle.play_program.specs.Beside.{told_beside};
+ghost use Rattle.play_program.specs.Beside.{asks_refusals};
+ghost use Rattle.play_program.specs.Beside.{refusals_told, report_in, seed_beside, told_beside};
 ghost use Rattle.play_program.specs.Calls.{and_then};
 ghost use Rattle.play_program.specs.Names.{names_in};
 
 use crate::failure::Failure;
+use crate::message::Message;
 use crate::names::Names;
 use crate::system::System;
 use cave_play::output::write_output;
 use cave_play::{EditRun, PlayFault};
-use play_command::Line;
+use play_command::{EditView, Line};
 use play_edits::Refusal;
 use std::io::Write;
 
@@ -62,6 +63,22 @@ pub fn print_report<W: Write>(made: &Option<EditRun>, output: &mut W) -> Result<
     write_output(output, report)
 }
 
+/// Reports a seed that the edited log doesn't hold, unless nothing is to be said beside the output.
+fn tell_seed<S: System>(system: &mut S, asked: &Line<'_>, made: &Option<EditRun>)
+    ensures { S.calls system.new
+        ≡ and_then (S.calls system.old) (seed_beside asked.now made.now) }
+{
+    match (asked, made) {
+        (Line::Edit { editing, aside, .. }, Some(run)) => {
+            let is_log = matches!(editing.view, EditView::Log);
+            if !aside.quiet && is_log && editing.seed != run.seed {
+                system.tell(Message::Reseeded(run.seed));
+            }
+        }
+        _ => {}
+    }
+}
+
 /// Says what a line asks to have said beside its output.
 pub fn tell_beside<S: System>(
     system: &mut S,
@@ -70,10 +87,11 @@ pub fn tell_beside<S: System>(
     made: &Option<EditRun>,
 )
     ensures { S.calls system.new ≡ and_then (S.calls system.old)
-        (told_beside (asks_refusals asked.now) (names_in names.entry) made.now) }
+        (told_beside asked.now (names_in names.entry) made.now) }
 {
     match (asks_refusals(asked), made) {
         (true, Some(run)) => tell_refusals(system, &run.refused, names),
         _ => {}
     }
+    tell_seed(system, asked, made);
 }

@@ -5,7 +5,7 @@ ghost use Rattle.std.specs.IoError.{error_kind};
 ghost use Rattle.cave_play.specs.declared.fault.PlayFault.TheVariants.{Memory};
 ghost use Rattle.play_program.specs.Calls.{told_of};
 ghost use Rattle.play_program.specs.Failures.{failure_status, has_output, is_closed_pipe};
-ghost use Rattle.play_program.specs.Failures.{is_left, is_silent, message_of};
+ghost use Rattle.play_program.specs.Failures.{is_silent, message_of};
 ghost use Rattle.play_program.specs.Names.{names_in};
 
 use crate::message::Message;
@@ -25,20 +25,18 @@ pub enum Failure<'a> {
     Unwritten(&'a str, io::Error),
     /// The system can't write the output, for this reason.
     Unprinted(io::Error),
+    /// The output would go over this file, which the run reads. That of the view may.
+    Clash(&'a str, Option<&'a str>),
 }
+
+/// The status of a run that would write over what it reads: its command line is wrong.
+const CLASHES: u8 = 2;
 
 /// Whether nobody reads any more what is written.
 pub fn is_closed_pipe(reason: &io::Error) -> bool
     ensures { result ≡ is_closed_pipe (error_kind reason.now) }
 {
     matches!(reason.kind(), ErrorKind::BrokenPipe)
-}
-
-/// Whether the run is done, and fails since it is strict.
-fn is_left(fault: &PlayFault) -> bool
-    ensures { result ≡ is_left fault.now }
-{
-    matches!(fault, PlayFault::Doubt(_) | PlayFault::Unshown(_))
 }
 
 impl<'a> Failure<'a> {
@@ -57,6 +55,7 @@ impl<'a> Failure<'a> {
             Failure::Run(fault, _) => fault.status(),
             Failure::Unopened(input, _, _) => PlayFault::Read(*input).status(),
             Failure::Unwritten(_, _) | Failure::Unprinted(_) => PlayFault::Write.status(),
+            Failure::Clash(_, _) => CLASHES,
         }
     }
 
@@ -65,7 +64,7 @@ impl<'a> Failure<'a> {
         ensures { result ≡ has_output self.now }
     {
         match self {
-            Failure::Run(fault, _) => is_left(fault),
+            Failure::Run(PlayFault::Doubt(_) | PlayFault::Unshown(_), _) => true,
             _ => false,
         }
     }
@@ -95,6 +94,7 @@ impl<'a> Failure<'a> {
             Failure::Unopened(_, file, reason) => Message::Unopened(file, reason),
             Failure::Unwritten(file, reason) => Message::Unwritten(file, reason),
             Failure::Unprinted(reason) => Message::Unprinted(reason),
+            Failure::Clash(file, view) => Message::Clash(file, view),
         }
     }
 }

@@ -3,6 +3,7 @@
 #![tactic(auto)]
 
 mod beside;
+mod clash;
 pub mod command;
 pub mod failure;
 pub mod head;

@@ -15,12 +15,16 @@ pub enum Message<'a> {
     Unwritten(&'a str, io::Error),
     /// The output can't be written, for this reason.
     Unprinted(io::Error),
-    /// What the parser says about the words, in two parts.
+    /// What is wrong with the words, in two parts.
     Usage(&'a str, &'a str),
     /// The words can't be read, for this reason.
     Unread(io::Error),
     /// The head of this log says this, and the words don't.
     Head(&'a str, HeadSaid<'a>),
+    /// The output may not go over this file, which the run reads, unless it is that of this view.
+    Clash(&'a str, Option<&'a str>),
+    /// Edits set this seed, and the log that they make doesn't hold it.
+    Reseeded(u32),
 }
 
 impl fmt::Display for Message<'_> {
@@ -44,6 +48,21 @@ impl fmt::Display for Message<'_> {
                 writeln!(f, "cave: the command line can't be read: {reason}")
             }
             Message::Head(log, said) => writeln!(f, "cave: {log}:1: the log's head says {said}"),
+            Message::Clash(file, Some(view)) => writeln!(
+                f,
+                "cave: {file}: the output would replace this file, which is read: \
+                add --print {view}, or write into another file"
+            ),
+            Message::Clash(file, None) => writeln!(
+                f,
+                "cave: {file}: the output would replace this file, which is read: \
+                write into another file"
+            ),
+            Message::Reseeded(seed) => writeln!(
+                f,
+                "cave: the edits set the seed {seed}, and a log holds none: \
+                play this one with --seed {seed}"
+            ),
         }
     }
 }

@@ -1,6 +1,8 @@
 //! Where the output goes.
 
-ghost use Rattle.std.specs.Prelude.{◌≡◌, None};
+ghost use Rattle.std.specs.Prelude.{◌≡◌, MatchResult, None, Some};
+ghost use Rattle.std.specs.Io.{WritesAtMost};
+ghost use Rattle.std.specs.Io.KnownBytes.{WriteAppends};
 
 use std::io;
 use std::io::Write;
@@ -29,7 +31,13 @@ impl<W> Output<W> {
 impl<W: Write> Write for Output<W> {
     ghost contents = { λ output. W.contents output.writer };
 
-    fn write(&mut self, buf: &[u8]) -> io::Result<usize> {
+    fn write(&mut self, buf: &[u8]) -> io::Result<usize>
+        ensures bound { WritesAtMost result buf.now }
+        ensures bytes { WriteAppends (W.contents self.old.writer) (W.contents self.new.writer) result
+            buf.now }
+        ensures reason { MatchResult result (λ _. self.new.reason ≡ self.old.reason)
+            (λ reason. self.new.reason ≡ Some reason) }
+    {
         match self.writer.write(buf) {
             Ok(count) => Ok(count),
             Err(reason) => {

@@ -67,9 +67,9 @@ fn answer<S: System, W: Write>(
     asked: &Line<'_>,
     output: &mut Output<W>,
 ) -> u8
-    ensures ends { EndsNamed (names_of asked.now) (S.bytes_of system.old) asked.now
-        (S.calls system.old) (S.calls system.new) (W.contents output.old.writer)
-        (W.contents output.new.writer) result }
+    ensures ends { EndsNamed (names_of asked.now) (S.one_file system.old) (S.bytes_of system.old)
+        asked.now (S.calls system.old) (S.calls system.new) (W.contents output.old.writer)
+        (W.contents output.new.writer) output.new.reason result }
 {
     match Names::in_run(asked) {
         Some(names) => run(alloc, system, asked, names, output),
@@ -110,9 +110,9 @@ fn begin<S: System, W: Write>(
     words: &[String],
     output: &mut Output<W>,
 ) -> u8
-    ensures ends { EndsWords (map string_bytes words.now) (S.bytes_of system.old)
-        (S.calls system.old) (S.calls system.new) (W.contents output.old.writer)
-        (W.contents output.new.writer) result }
+    ensures ends { EndsWords (map string_bytes words.now) (S.one_file system.old)
+        (S.bytes_of system.old) (S.calls system.old) (S.calls system.new)
+        (W.contents output.old.writer) (W.contents output.new.writer) output.new.reason result }
 {
     match command_line(alloc, words) {
         Ok(asked) => answer(alloc, system, &asked, output),
@@ -128,8 +128,8 @@ pub fn run_program<S: System, W: Write>(
     output: &mut Output<W>,
 ) -> u8
     ensures words { IfOk words (λ given. EndsWords (map string_bytes given.items)
-        (S.bytes_of system.old) (S.calls system.old) (S.calls system.new) (W.contents output.old.writer)
-        (W.contents output.new.writer) result) }
+        (S.one_file system.old) (S.bytes_of system.old) (S.calls system.old) (S.calls system.new)
+        (W.contents output.old.writer) (W.contents output.new.writer) output.new.reason result) }
     ensures unread { IfErr words (λ reason. (W.contents output.new.writer ≡ W.contents output.old.writer)
         × EndsUnread (S.calls system.old) (S.calls system.new) result) }
 {

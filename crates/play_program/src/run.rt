@@ -1,15 +1,17 @@
 //! A run over files: what it reads, and where its output goes.
 
-ghost use Rattle.std.specs.Prelude.{◌≡◌, [], ◌∷◌, IfErr, Ok, option_map};
+ghost use Rattle.std.specs.Prelude.{◌≡◌, [], ◌∷◌, IfErr};
 ghost use Rattle.play_program.specs.Calls.{and_then};
 ghost use Rattle.play_program.specs.Calls.Call.{Puts};
-ghost use Rattle.play_program.specs.Ends.{EndsRun, IsUnput, PutsFailure, RunsFiles, RunsIntoFile};
-ghost use Rattle.play_program.specs.Ends.{RunsTo};
-ghost use Rattle.play_program.specs.Ends.{SaysEnd, TellsUnless, failure_by, in_list, with_reason};
+ghost use Rattle.play_program.specs.Ends.{EndsRun, IsUnput, PrintsReport, PutsFailure, PutsReported};
+ghost use Rattle.play_program.specs.Ends.{RunsApart, RunsFiles, RunsIntoFile, RunsIntoWriter, RunsTo};
+ghost use Rattle.play_program.specs.Ends.{SaysEnd, TellsUnless, ended_with, failure_by, in_list};
+ghost use Rattle.play_program.specs.Ends.{with_reason};
 ghost use Rattle.play_program.specs.Failures.{failure_status, has_output, is_silent, message_of};
 ghost use Rattle.play_program.specs.Names.{names_in};
 
 use crate::beside::{print_report, tell_beside};
+use crate::clash::check_output;
 use crate::command::run_command;
 use crate::failure::Failure;
 use crate::names::Names;
@@ -96,25 +98,78 @@ fn put_failure<'a, S: System>(
     in_list(failure)
 }
 
+/// Prints the report of a run, if it has one, and returns the run.
+fn print_reported<'a, W: Write>(
+    made: Option<EditRun>,
+    output: &mut W,
+) -> Result<Option<EditRun>, Failure<'a>>
+    ensures prints { PrintsReport made (W.contents output.old) (W.contents output.new) result }
+{
+    match print_report(&made, output) {
+        Ok(()) => Ok(made),
+        Err(fault) => Err(Failure::Run(fault, None)),
+    }
+}
+
+/// Puts an output into a file, if the run's report was printed, and returns the run.
+fn put_reported<'a, S: System>(
+    system: &mut S,
+    file: &'a str,
+    output: &[u8],
+    reported: Result<Option<EditRun>, Failure<'a>>,
+) -> Result<Option<EditRun>, Failure<'a>>
+    ensures puts { PutsReported file.now output.now (S.calls system.old) (S.calls system.new)
+        reported.entry result }
+{
+    match reported {
+        Ok(made) => match put(system, file, output) {
+            Ok(()) => Ok(made),
+            Err(unput) => Err(unput),
+        },
+        Err(failure) => Err(failure),
+    }
+}
+
 /// Does a run whose output goes into a file. The output is kept until it is whole, so the file can
-/// be one that the run reads.
-fn run_into_file<'a, S: System>(
+/// be one that the run reads, and the report is printed first: if that fails, the file is what it
+/// was.
+fn run_into_file<'a, S: System, W: Write>(
     alloc: Global,
     system: &mut S,
     asked: &Line<'_>,
     names: Names<'a>,
     file: &'a str,
+    output: &mut W,
 ) -> Result<Option<EditRun>, Failure<'a>>
     ensures runs { RunsIntoFile (S.bytes_of system.old) asked.now (names_in names.entry) file.now
-        (S.calls system.old) (S.calls system.new) result }
+        (S.calls system.old) (S.calls system.new) (W.contents output.old) (W.contents output.new)
+        result }
 {
-    let mut output = Vec::new(alloc);
-    match run_into(alloc, system, asked, names, &mut output) {
+    let mut kept = Vec::new(alloc);
+    match run_into(alloc, system, asked, names, &mut kept) {
         Ok(made) => {
-            put(system, file, &output)?;
-            Ok(made)
+            let reported = print_reported(made, output);
+            put_reported(system, file, &kept, reported)
         }
-        Err(failure) => Err(put_failure(system, file, &output, failure)),
+        Err(failure) => Err(put_failure(system, file, &kept, failure)),
+    }
+}
+
+/// Does a run whose output goes to a writer, and then its report, if it has one.
+fn run_into_writer<'a, S: System, W: Write>(
+    alloc: Global,
+    system: &mut S,
+    asked: &Line<'_>,
+    names: Names<'a>,
+    output: &mut W,
+) -> Result<Option<EditRun>, Failure<'a>>
+    ensures runs { RunsIntoWriter (S.bytes_of system.old) asked.now (names_in names.entry)
+        (S.calls system.old) (S.calls system.new) (W.contents output.old) (W.contents output.new)
+        result }
+{
+    match run_into(alloc, system, asked, names, output) {
+        Ok(made) => print_reported(made, output),
+        Err(failure) => Err(failure),
     }
 }
 
@@ -124,16 +179,33 @@ fn run_to<'a, S: System, W: Write>(
     system: &mut S,
     asked: &Line<'_>,
     names: Names<'a>,
-    file: Option<&'a str>,
     output: &mut W,
 ) -> Result<Option<EditRun>, Failure<'a>>
-    ensures runs { RunsTo (option_map (λ s. s.now) file.entry) (S.bytes_of system.old) asked.now
+    ensures runs { RunsTo (names_in names.entry).output (S.bytes_of system.old) asked.now
         (names_in names.entry) (S.calls system.old) (S.calls system.new) (W.contents output.old)
         (W.contents output.new) result }
 {
-    match file {
-        Some(file) => run_into_file(alloc, system, asked, names, file),
-        None => run_into(alloc, system, asked, names, output),
+    match names.output {
+        Some(file) => run_into_file(alloc, system, asked, names, file, output),
+        None => run_into_writer(alloc, system, asked, names, output),
+    }
+}
+
+/// Does a run, unless its output would go over a file that it reads and may not replace.
+fn run_apart<'a, S: System, W: Write>(
+    alloc: Global,
+    system: &mut S,
+    asked: &Line<'_>,
+    names: Names<'a>,
+    output: &mut W,
+) -> Result<Option<EditRun>, Failure<'a>>
+    ensures runs { RunsApart (S.one_file system.old) (S.bytes_of system.old) asked.now
+        (names_in names.entry) (S.calls system.old) (S.calls system.new) (W.contents output.old)
+        (W.contents output.new) result }
+{
+    match check_output(system, asked, names) {
+        Ok(()) => run_to(alloc, system, asked, names, output),
+        Err(failure) => Err(failure),
     }
 }
 
@@ -172,27 +244,35 @@ fn tell_failure<S: System>(system: &mut S, failure: Failure<'_>, names: Names<'_
     status
 }
 
-/// Says what a line asks to have said beside the output of a run that ended well, and returns the
-/// status. A report that can't be printed is a failure; a file that was written stays.
-fn say_beside<S: System, W: Write>(
+/// Reports what a run that ended like this leaves to say, and returns the status.
+fn say_end<S: System>(
     system: &mut S,
     asked: &Line<'_>,
     names: Names<'_>,
-    made: &Option<EditRun>,
-    output: &mut Output<W>,
+    ended: Result<Option<EditRun>, Failure<'_>>,
 ) -> u8
     ensures { SaysEnd asked.now (names_in names.entry) (S.calls system.old) (S.calls system.new)
-        (W.contents output.old.writer) (W.contents output.new.writer) (Ok made.now) result }
+        ended.entry result }
 {
-    match print_report(made, output) {
-        Ok(()) => {
-            tell_beside(system, asked, names, made);
+    match ended {
+        Ok(made) => {
+            tell_beside(system, asked, names, &made);
             DONE
         }
-        Err(fault) => {
-            let failure = with_reason(Failure::Run(fault, None), output.reason);
-            tell_failure(system, failure, names)
-        }
+        Err(failure) => tell_failure(system, failure, names),
+    }
+}
+
+/// How a run ended, with the reason that the writer of the output gave, if it gave one.
+fn ended_with<'a>(
+    ended: Result<Option<EditRun>, Failure<'a>>,
+    reason: Option<io::Error>,
+) -> Result<Option<EditRun>, Failure<'a>>
+    ensures { result ≡ ended_with ended.entry reason }
+{
+    match ended {
+        Ok(made) => Ok(made),
+        Err(failure) => Err(with_reason(failure, reason)),
     }
 }
 
@@ -205,12 +285,10 @@ pub fn run<S: System, W: Write>(
     names: Names<'_>,
     output: &mut Output<W>,
 ) -> u8
-    ensures ends { EndsRun (S.bytes_of system.old) asked.now (names_in names.entry)
-        (S.calls system.old) (S.calls system.new) (W.contents output.old.writer)
-        (W.contents output.new.writer) result }
+    ensures ends { EndsRun (S.one_file system.old) (S.bytes_of system.old) asked.now
+        (names_in names.entry) (S.calls system.old) (S.calls system.new)
+        (W.contents output.old.writer) (W.contents output.new.writer) output.new.reason result }
 {
-    match run_to(alloc, system, asked, names, names.output, output) {
-        Ok(made) => say_beside(system, asked, names, &made, output),
-        Err(failure) => tell_failure(system, with_reason(failure, output.reason), names),
-    }
+    let ended = run_apart(alloc, system, asked, names, output);
+    say_end(system, asked, names, ended_with(ended, output.reason))
 }

@@ -1,6 +1,7 @@
 //! What a system gives a program.
 
-ghost use Rattle.std.specs.Prelude.{◌≡◌, ℕ, List, [], ◌∷◌, Option, IfOk};
+ghost use Rattle.std.specs.Prelude.{◌≡◌, ◌≢◌, ℕ, Bool, List, [], ◌∷◌, Option, IfOk, IfSome, OnErr};
+ghost use Rattle.std.specs.Prelude.{OnOk};
 ghost use Rattle.play_program.specs.Calls.{Call, and_then, told_of};
 ghost use Rattle.play_program.specs.Calls.Call.{Opens, Puts, Tells};
 
@@ -19,6 +20,15 @@ pub trait System {
     /// The calls that were made, in order, if they are known.
     ghost calls: { Self → Option (List Call) };
 
+    /// Whether two names are of one file, if that is known.
+    ghost one_file: { Self → List ℕ → List ℕ → Option Bool };
+
+    /// Whether two names are of one file, which they aren't if one of them is of none. It fails only
+    /// if memory runs out.
+    fn is_one_file(&self, one: &str, other: &str) -> io::Result<bool>
+        ensures { IfOk result (λ same.
+            IfSome (one_file self.now one.now other.now) (λ known. same ≡ known)) };
+
     /// Opens the file of a name.
     fn open(&mut self, file: &str) -> io::Result<Self::File>
         ensures file { IfOk result (λ opened.
@@ -28,9 +38,14 @@ pub trait System {
 
     /// Puts bytes into the file of a name, all of them or none.
     fn put(&mut self, file: &str, bytes: &[u8]) -> io::Result<()>
-        ensures call { calls self.new ≡ and_then (calls self.old) (Puts file.now bytes.now ∷ []) };
+        ensures call { calls self.new ≡ and_then (calls self.old) (Puts file.now bytes.now ∷ []) }
+        ensures put { OnOk result (IfSome (bytes_of self.new file.now) (λ put. put ≡ bytes.now)) }
+        ensures others { (name : List ℕ) → name ≢ file.now
+            → bytes_of self.new name ≡ bytes_of self.old name }
+        ensures failed { OnErr result (bytes_of self.new ≡ bytes_of self.old) };
 
     /// Shows the user a message, apart from the output.
     fn tell(&mut self, message: Message<'_>)
+        ensures kept { bytes_of self.new ≡ bytes_of self.old }
         ensures call { calls self.new ≡ and_then (calls self.old) (Tells (told_of message.entry) ∷ []) };
 }

@@ -150,7 +150,7 @@ fn is_brought_home(rules: &Rules<'_>, before: &State, after: &State, object: Obj
     ensures { result ≡ is_brought_home (cave_of rules.now) before.now after.now object }
 {
     is_known(rules.cave, object)
-        && (is_safe(rules, after, object) && !is_safe(rules, before, object))
+        && (is_safe(rules.cave, after, object) && !is_safe(rules.cave, before, object))
 }
 
 #[tactic(auto, using(crate::proofs::Walking::treasures_walked))]

@@ -86,7 +86,7 @@ pub(crate) fn push_end(
 ) -> Result<(), AllocError>
     ensures { OnOk result (text.new.items ≡ text.old.items ++ end_text (cave_of rules.now) score) }
 {
-    push_other(alloc, text, "score", score, max_score(rules))?;
+    push_other(alloc, text, "score", score, max_score(rules.cave))?;
     let class = rules.cave.class_of(score);
     push_class(alloc, text, class)?;
     push_next_class(alloc, text, score, class)

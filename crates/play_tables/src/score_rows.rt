@@ -15,6 +15,7 @@ use cave_data::Cave;
 use cave_world::hints::HINTS;
 use cave_world::{HintNumber, LIVES, State};
 use std::alloc::{AllocError, Global};
+use turn_ends::Scorer;
 use turn_ends::scores::{
     POINTS_OF_CLOSING, POINTS_OF_DWARVES, POINTS_OF_ENDING, POINTS_OF_LIFE, POINTS_OF_MAGAZINE,
     POINTS_OF_PLAYING, POINTS_OF_SUCCESS, closed_points, closing_points, dwarf_points,
@@ -43,8 +44,8 @@ fn home_points(rules: &Rules<'_>, state: &State, treasure: Object) -> u32
         result ≡ (score_row (worth cave treasure - 2) (is_safe cave treasure)).points state.now }
     ensures most { result ≤ 14 }
 {
-    if is_safe(rules, state, treasure) {
-        worth(rules, treasure) - POINTS_OF_SEEING
+    if is_safe(rules.cave, state, treasure) {
+        worth(&Scorer::of(rules), treasure) - POINTS_OF_SEEING
     } else {
         0
     }
@@ -55,7 +56,7 @@ fn home_points(rules: &Rules<'_>, state: &State, treasure: Object) -> u32
 fn most_points(rules: &Rules<'_>, treasure: Object) -> u32
     ensures { result ≡ most_by (treasure_rows (cave_of rules.now) treasure) }
 {
-    worth(rules, treasure)
+    worth(&Scorer::of(rules), treasure)
 }
 
 /// Appends the row of a treasure.
@@ -143,7 +144,7 @@ pub(crate) fn push_others(
     push_other(alloc, text, "closing", closing, POINTS_OF_CLOSING)?;
     let closed = closed_points(state);
     push_other(alloc, text, "closed", closed, POINTS_OF_SUCCESS)?;
-    let magazine = magazine_points(rules, state);
+    let magazine = magazine_points(&Scorer::of(rules), state);
     push_other(alloc, text, "magazine", magazine, POINTS_OF_MAGAZINE)?;
     push_other(alloc, text, "playing", POINTS_OF_PLAYING, POINTS_OF_PLAYING)
 }

@@ -10,7 +10,7 @@ use crate::score_ends::push_end;
 use crate::score_rows::{push_hints, push_others, push_treasures};
 use cave_world::State;
 use std::alloc::{AllocError, Global};
-use turn_ends::scores::score;
+use turn_ends::{Scorer, score_by};
 use turn_scene::Rules;
 
 /// Appends the names of the columns.
@@ -50,5 +50,6 @@ pub fn push_score_table(
 {
     push_score_head_row(text)?;
     push_rows(alloc, text, rules, state)?;
-    push_end(alloc, text, rules, score(rules, state))
+    let score = score_by(&Scorer::of(rules), state);
+    push_end(alloc, text, rules, score)
 }

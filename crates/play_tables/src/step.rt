@@ -10,7 +10,7 @@ use crate::draws::draws_at;
 use crate::events::push_events;
 use cave_world::State;
 use std::alloc::{AllocError, Global};
-use turn_ends::scores::score;
+use turn_ends::{Scorer, score_by};
 use turn_scene::Rules;
 
 /// A played line of a log: where it is in the log, the turns up to and including it, and the states
@@ -65,7 +65,7 @@ fn push_count_columns(
         step.now.line.now step.now.turns step.now.before.now step.now.after.now) }
 {
     let (turns, after) = (step.turns, step.after);
-    let points = score(rules, after);
+    let points = score_by(&Scorer::of(rules), after);
     let charge = after.lamp.charge.turns();
     let carried = after.holding();
     let drawn = draws_at(step.line, step.before.stream, after.stream);

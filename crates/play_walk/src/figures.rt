@@ -20,7 +20,7 @@ use play_tables::columns::{ending_column, push_question_column};
 use play_tables::draws::draws_at;
 use play_tables::events::{Event, each_event, event_name, happens};
 use std::alloc::{AllocError, Global};
-use turn_ends::scores::score;
+use turn_ends::{Scorer, score_by};
 use turn_scene::Rules;
 
 #[tactic(auto, unfolding(crate::specs::Figures::next_figure, crate::specs::Figures::figure_member))]
@@ -194,7 +194,7 @@ fn push_count_figures(
         ++ flat_map next_figure (count_figures (cave_of rules.now) turns after.now)) }
 {
     push_count(text, "turns", turns)?;
-    push_count(text, "score", score(rules, after))?;
+    push_count(text, "score", score_by(&Scorer::of(rules), after))?;
     push_lamp(text, after.lamp.charge.turns())?;
     push_carried(text, rules.cave, after)
 }

@@ -7,7 +7,7 @@ use crate::machines::rule::RowRule;
 use crate::machines::told::Told;
 use crate::row::RowState;
 use base_lines::Meter;
-use cave_replay::{Done, OpenFault, Report, Session};
+use cave_replay::{GroupReport, OpenFault, Report, Session};
 use replay_edits::{Edit, EditFault, GroupFault};
 use std::alloc::{AllocError, Global};
 
@@ -51,7 +51,7 @@ impl<'a, R: RowRule> TestSession<'a, R> {
         &mut self,
         edits: &[Edit],
         meter: &mut Meter,
-    ) -> Result<Done, GroupFault> {
+    ) -> Result<GroupReport, GroupFault> {
         self.session.edit_group(edits, meter)
     }
 

@@ -11,7 +11,7 @@ use crate::machines::counts::Counts;
 use crate::machines::told::Told;
 use crate::play::{Counting, TestSession};
 use base_lines::Meter;
-use cave_replay::{Done, OpenFault, Report};
+use cave_replay::{GroupReport, OpenFault, Report};
 use replay_edits::{Edit, EditFault};
 use std::alloc::{AllocError, Global};
 use std::process::Abort;
@@ -69,7 +69,7 @@ fn shown(alloc: Global, report: &Report) -> Result<String, AllocError> {
 }
 
 /// The report of a group as text.
-fn group_shown(alloc: Global, report: &Done) -> Result<String, AllocError> {
+fn group_shown(alloc: Global, report: &GroupReport) -> Result<String, AllocError> {
     format!(in alloc; "{report:?}")
 }
 

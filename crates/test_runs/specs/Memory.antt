@@ -4,7 +4,7 @@ use Rattle.std.specs.Prelude.{bytes_eq, if◌then◌else◌}
 use Rattle.play_program.specs.Calls.{Call, Told}
 use Rattle.play_program.specs.Calls.Call.{Opens, Puts, Tells}
 use Rattle.play_program.specs.Calls.Told.{faulty, misused, unopened, unprinted, unread}
-use Rattle.play_program.specs.Calls.Told.{headed, unwritten}
+use Rattle.play_program.specs.Calls.Told.{headed, unwritten, clashing, reseeded}
 use Rattle.test_runs.specs.declared.calls.KeptCall.{KeptCall}
 use Rattle.test_runs.specs.declared.calls.KeptCall.TheVariants as kept
 use Rattle.test_runs.specs.declared.calls.KeptMessage.{KeptMessage}
@@ -21,6 +21,8 @@ told_by (message.Unprinted reason) = unprinted reason
 told_by (message.Usage before after) = misused (string_bytes before) (string_bytes after)
 told_by (message.Unread reason) = unread reason
 told_by (message.Head log option text) = headed (string_bytes log) option.now text.items
+told_by (message.Clash file view) = clashing (string_bytes file) (option_map string_bytes view)
+told_by (message.Reseeded seed) = reseeded seed
 
 -- which call was kept
 abbrev pub call_by : KeptCall → Call

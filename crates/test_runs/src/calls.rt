@@ -19,6 +19,8 @@ pub enum KeptMessage {
     Usage(String, String),
     Unread(io::Error),
     Head(String, &'static str, Vec<u8>),
+    Clash(String, Option<String>),
+    Reseeded(u32),
 }
 
 /// A call of a system.
@@ -80,13 +82,19 @@ impl KeptMessage {
             Message::Unprinted(reason) => Ok(KeptMessage::Unprinted(*reason)),
             Message::Usage(before, after) => {
                 let before = String::from_str(alloc, *before)?;
-                Ok(KeptMessage::Usage(before, String::from_str(alloc, *after)?))
+                let after = String::from_str(alloc, *after)?;
+                Ok(KeptMessage::Usage(before, after))
             }
             Message::Unread(reason) => Ok(KeptMessage::Unread(*reason)),
             Message::Head(log, said) => {
                 let log = String::from_str(alloc, *log)?;
                 Ok(KeptMessage::Head(log, said.option, Vec::from_slice(alloc, said.text)?))
             }
+            Message::Clash(file, view) => {
+                let file = String::from_str(alloc, *file)?;
+                Ok(KeptMessage::Clash(file, copy_name(alloc, *view)?))
+            }
+            Message::Reseeded(seed) => Ok(KeptMessage::Reseeded(*seed)),
         }
     }
 }

@@ -5,7 +5,7 @@ ghost use Rattle.cave_words.specs.Lexicon.{IsLexiconOf};
 
 use base_lines::Steps;
 use cave_data::Cave;
-use cave_replay::{Done, Machine, OpenFault, Report, Session};
+use cave_replay::{GroupReport, OpenFault, Playable, Report, Session};
 use cave_words::Lexicon;
 use play_machine::{CaveMachine, Piece};
 use replay_checkpoints::Blocks;
@@ -47,18 +47,18 @@ impl TestCave {
 }
 
 /// A session over any machine.
-pub struct TestSession<M: Machine> {
+pub struct TestSession<M: Playable> {
     session: Session<M>,
 }
 
-impl<M: Machine> Drop for TestSession<M> {
+impl<M: Playable> Drop for TestSession<M> {
     fn drop(self) {
         let TestSession { session } = self;
         drop(session);
     }
 }
 
-impl<M: Machine> TestSession<M> {
+impl<M: Playable> TestSession<M> {
     /// A session with seed 0.
     pub fn open(
         rt: &impl Abort,
@@ -79,7 +79,11 @@ impl<M: Machine> TestSession<M> {
     }
 
     /// Edits the game by a group of edits.
-    pub fn edit_group(&mut self, edits: &[Edit], meter: &mut M::Meter) -> Result<Done, GroupFault> {
+    pub fn edit_group(
+        &mut self,
+        edits: &[Edit],
+        meter: &mut M::Meter,
+    ) -> Result<GroupReport, GroupFault> {
         self.session.edit_group(edits, meter)
     }
 

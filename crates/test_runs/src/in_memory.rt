@@ -1,6 +1,6 @@
 //! A system in memory, of which a contract can name the bytes of its files and the calls that it gets.
 
-ghost use Rattle.std.specs.Prelude.{◌≡◌, None, Some, option_map};
+ghost use Rattle.std.specs.Prelude.{◌≡◌, None, Some, bytes_eq, option_map};
 ghost use Rattle.test_runs.specs.Memory.{bytes_at, calls_by, file_named};
 
 use crate::calls::{KeptCall, KeptMessage, MemoryFile};
@@ -102,6 +102,12 @@ impl<R: Abort> System for MemorySystem<'_, R> {
 
     ghost calls = { λ system. Some (calls_by system.kept.items) };
 
+    ghost one_file = { λ _ one other. Some (bytes_eq one other) };
+
+    fn is_one_file(&self, one: &str, other: &str) -> io::Result<bool> {
+        Ok(one == other)
+    }
+
     fn open(&mut self, file: &str) -> io::Result<Cursor<Vec<u8>>> {
         let name = String::from_str(self.alloc, file).expect(self.rt, "memory for a call");
         self.kept
@@ -151,6 +157,12 @@ impl<'a, R: Abort> System for FailingSystem<'a, R> {
     ghost bytes_of = { λ system name. None };
 
     ghost calls = { λ system. None };
+
+    ghost one_file = { λ _ _ _. None };
+
+    fn is_one_file(&self, one: &str, other: &str) -> io::Result<bool> {
+        Ok(one == other)
+    }
 
     fn open(&mut self, file: &str) -> io::Result<TestReader<'a>> {
         let name = String::from_str(self.alloc, file).expect(self.rt, "memory for a call");

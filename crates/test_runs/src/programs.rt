@@ -1,7 +1,7 @@
 //! The program over a system in memory, of which its clauses say what was opened, put, told and
 //! written.
 
-ghost use Rattle.std.specs.Prelude.{Some, map, string_bytes};
+ghost use Rattle.std.specs.Prelude.{Some, bytes_eq, map, string_bytes};
 ghost use Rattle.play_program.specs.Program.{EndsWords};
 ghost use Rattle.test_runs.specs.Memory.{bytes_at, calls_by, file_named};
 
@@ -30,10 +30,11 @@ fn run_in_memory<R: Abort>(
     output: &mut Output<Vec<u8>>,
 ) -> u8
     ensures ends { EndsWords (map string_bytes words.items)
+        (λ one other. Some (bytes_eq one other))
         (λ name. bytes_at system.old.cave.items system.old.log.bytes.items system.old.script.items
         (file_named name)) (Some (calls_by system.old.kept.items))
         (Some (calls_by system.new.kept.items)) (Some output.old.writer.items)
-        (Some output.new.writer.items) result }
+        (Some output.new.writer.items) output.new.reason result }
 {
     run_program(alloc, system, Ok(words), output)
 }

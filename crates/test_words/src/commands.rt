@@ -21,14 +21,18 @@ pub(crate) fn shown(alloc: Global, words: &[&str]) -> Result<String, AllocError>
 }
 
 /// Words that ask for a run or a text, and what the answer to them says.
-const ANSWERS: [(&[&str], &str); 32] = [
+const ANSWERS: [(&[&str], &str); 33] = [
     (
         &["cave", "check", "a"],
         "Check { files: Files { cave: \"a\", bind: None, output: None }, view: Maximum }",
     ),
     (
-        &["cave", "check", "a", "--print", "unused", "--strict"],
+        &["cave", "check", "a", "--print", "unused"],
         "Check { files: Files { cave: \"a\", bind: None, output: None }, view: Unused }",
+    ),
+    (
+        &["cave", "check", "a", "--print", "unused", "--strict"],
+        "2 DoubtsAlone",
     ),
     (
         &["cave", "check", "a", "--print", "doubts", "--strict"],
@@ -42,7 +46,7 @@ const ANSWERS: [(&[&str], &str); 32] = [
     ),
     (
         &["cave", "check", "a", "--print", "maximum", "--known=b"],
-        "Check { files: Files { cave: \"a\", bind: None, output: None }, view: Maximum }",
+        "2 DoubtsAlone",
     ),
     (
         &["cave", "check", "--print=names", "a"],

@@ -4,4 +4,5 @@ pub mod Begin
 pub mod Placing
 pub mod Counting
 pub mod Score
+pub mod Scorer
 pub mod Treasures

@@ -9,7 +9,8 @@ ghost use Rattle.turn_scene.specs.Rows.{Does, by_table};
 ghost use Rattle.turn_ends.specs.Endings.{points_wanted, class_rows, tell_score, with_ending};
 ghost use Rattle.turn_ends.specs.Endings.{after_end};
 
-use crate::scores::{max_score, score};
+use crate::scorer::Scorer;
+use crate::scores::{max_score_by, score_by};
 use cave_data::Rating;
 use cave_world::{Ending, NumberLine, Part, RowNotes, State, Table};
 use data_rows::Role;
@@ -35,8 +36,9 @@ fn tell_score<N: RowNotes>(rules: &Rules<'_>, scene: &mut Scene<'_, N>)
     ensures scene { Does N.rows tell_score parts_of_end rules.now tt scene.old scene.new }
     ensures state { scene.new.state.now ≡ scene.old.state.now }
 {
-    let score = score(rules, scene.state);
-    scene.tell(Part::Turns(score, max_score(rules)));
+    let scorer = Scorer::of(rules);
+    let score = score_by(&scorer, scene.state);
+    scene.tell(Part::Turns(score, max_score_by(&scorer)));
     tell_class(rules, score, scene);
 }
 

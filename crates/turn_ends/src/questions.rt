@@ -9,7 +9,8 @@ ghost use Rattle.turn_scene.specs.Rows.{Does, by_table};
 ghost use Rattle.turn_ends.specs.Questions.{asking_rows, die_rows, after_offer, after_question};
 ghost use Rattle.turn_ends.specs.Questions.{with_question, after_ask, question_row};
 
-use crate::scores::{max_score, score};
+use crate::scorer::Scorer;
+use crate::scores::{max_score_by, score_by};
 use cave_data::Cave;
 use cave_world::{HintNumber, NumberLine, Part, Question, RowNotes, State, Table};
 use data_rows::Role;
@@ -107,8 +108,9 @@ fn begin_asking<N: RowNotes>(rules: &Rules<'_>, question: &Question, scene: &mut
 {
     if let Question::ScoreQuit = question {
         scene.note(Table::Asking, 1);
-        let score = score(rules, scene.state);
-        scene.tell(Part::Number(NumberLine::ScoreNow, score, max_score(rules)));
+        let scorer = Scorer::of(rules);
+        let score = score_by(&scorer, scene.state);
+        scene.tell(Part::Number(NumberLine::ScoreNow, score, max_score_by(&scorer)));
         tell_question(rules, question, scene);
         return;
     }

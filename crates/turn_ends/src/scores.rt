@@ -1,19 +1,19 @@
 ghost use Rattle.std.specs.Prelude.{◌≡◌, ◌≤◌, ◌<◌};
-ghost use Rattle.turn_scene.specs.Scene.{cave_of};
+ghost use Rattle.turn_ends.specs.Scorer.{scored_cave};
 ghost use Rattle.turn_ends.specs.Counting.{points_by, score_row};
 ghost use Rattle.turn_ends.specs.Score.{life_points, has_other_end, has_dwarves_up, is_closing};
 ghost use Rattle.turn_ends.specs.Score.{escape_points, closed_points, lies_at};
 ghost use Rattle.turn_ends.specs.Score.{has_magazine_there, score_rows, price_of, hint_costs};
 ghost use Rattle.turn_ends.specs.Score.{score_of, max_score_of, END_OF_SCORES};
 
+use crate::scorer::Scorer;
 use crate::treasures::treasure_points;
 use crate::worths::most_treasure_points;
 use cave_data::Cave;
-use cave_words::Named;
 use cave_world::hints::HINTS;
 use cave_world::{Ending, HintNumber, LIVES, State};
 use data_rows::PlaceRole;
-use turn_scene::{Rules, place_named};
+use turn_scene::place_named;
 use world_objects::{Object, Place};
 
 /// How many points each remaining life counts.
@@ -126,13 +126,13 @@ fn lies_at(state: &State, object: Object, place: Option<Place>) -> bool
 }
 
 /// How many points it counts that the magazine is at its place.
-pub fn magazine_points(rules: &Rules<'_>, state: &State) -> u32
+pub fn magazine_points(scorer: &Scorer<'_>, state: &State) -> u32
     ensures value { result
-        ≡ (score_row 1 (has_magazine_there (cave_of rules.now))).points state.now }
+        ≡ (score_row 1 (has_magazine_there (scored_cave scorer.now))).points state.now }
     ensures most { result ≤ 1 }
 {
-    let witt = place_named(rules.cave, PlaceRole::Witt);
-    if lies_at(state, rules.thing(Named::Magazine), witt) {
+    let witt = place_named(scorer.cave, PlaceRole::Witt);
+    if lies_at(state, scorer.magazine, witt) {
         POINTS_OF_MAGAZINE
     } else {
         0
@@ -141,17 +141,17 @@ pub fn magazine_points(rules: &Rules<'_>, state: &State) -> u32
 
 /// How many points a state counts before hints are paid for.
 #[tactic(auto, unfolding(crate::specs::Score::score_rows))]
-fn score_points(rules: &Rules<'_>, state: &State) -> u32
-    ensures value { result ≡ points_by (score_rows (cave_of rules.now)) state.now }
+fn score_points(scorer: &Scorer<'_>, state: &State) -> u32
+    ensures value { result ≡ points_by (score_rows (scored_cave scorer.now)) state.now }
     ensures most { result ≤ 612 }
 {
-    treasure_points(rules, state)
+    treasure_points(scorer, state)
         + life_points(state)
         + ending_points(state)
         + dwarf_points(state)
         + closing_points(state)
         + closed_points(state)
-        + magazine_points(rules, state)
+        + magazine_points(scorer, state)
         + POINTS_OF_PLAYING
 }
 
@@ -180,23 +180,23 @@ fn hint_costs(cave: &Cave, state: &State) -> u32
     costs
 }
 
-/// The score of a state.
+/// The score of a state, by a scorer that its caller keeps.
 #[tactic(auto, using(crate::proofs::Most::most), unfolding(crate::specs::Score::score_of))]
-pub fn score(rules: &Rules<'_>, state: &State) -> u32
-    ensures value { result ≡ score_of (cave_of rules.now) state.now }
-    ensures most { result ≤ max_score_of (cave_of rules.now) }
+pub fn score_by(scorer: &Scorer<'_>, state: &State) -> u32
+    ensures value { result ≡ score_of (scored_cave scorer.now) state.now }
+    ensures most { result ≤ max_score_of (scored_cave scorer.now) }
     ensures small { result < END_OF_SCORES }
 {
-    score_points(rules, state).saturating_sub(hint_costs(rules.cave, state))
+    score_points(scorer, state).saturating_sub(hint_costs(scorer.cave, state))
 }
 
-/// The greatest score that a game of a cave can have.
+/// The greatest score that a game of a cave can have, by its scorer.
 #[tactic(auto, unfolding(crate::specs::Score::max_score_of, crate::specs::Score::score_rows))]
-pub fn max_score(rules: &Rules<'_>) -> u32
-    ensures value { result ≡ max_score_of (cave_of rules.now) }
+pub fn max_score_by(scorer: &Scorer<'_>) -> u32
+    ensures value { result ≡ max_score_of (scored_cave scorer.now) }
     ensures small { result < END_OF_SCORES }
 {
-    most_treasure_points(rules)
+    most_treasure_points(scorer)
         + u32::from(LIVES) * POINTS_OF_LIFE
         + POINTS_OF_ENDING
         + POINTS_OF_DWARVES
@@ -204,4 +204,21 @@ pub fn max_score(rules: &Rules<'_>) -> u32
         + POINTS_OF_SUCCESS
         + POINTS_OF_MAGAZINE
         + POINTS_OF_PLAYING
+}
+
+/// The score of a state of a game in a cave.
+pub fn score(cave: &Cave, state: &State) -> u32
+    ensures value { result ≡ score_of cave.now state.now }
+    ensures most { result ≤ max_score_of cave.now }
+    ensures small { result < END_OF_SCORES }
+{
+    score_by(&Scorer::in_cave(cave), state)
+}
+
+/// The greatest score that a game in a cave can have.
+pub fn max_score(cave: &Cave) -> u32
+    ensures value { result ≡ max_score_of cave.now }
+    ensures small { result < END_OF_SCORES }
+{
+    max_score_by(&Scorer::in_cave(cave))
 }

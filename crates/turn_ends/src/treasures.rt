@@ -1,13 +1,15 @@
 ghost use Rattle.std.specs.Prelude.{◌≡◌, ◌≤◌};
-ghost use Rattle.turn_scene.specs.Scene.{cave_of};
+ghost use Rattle.turn_ends.specs.Scorer.{scored_cave};
 ghost use Rattle.turn_ends.specs.Counting.{points_by};
 ghost use Rattle.turn_ends.specs.Treasures.{is_seen, is_safe, treasure_rows, treasures_row};
 
+use crate::scorer::Scorer;
 use crate::worths::worth;
+use cave_data::Cave;
 use cave_world::State;
 use turn_scene::props::SEEN;
 use turn_scene::treasures::{FIRST_TREASURE, LAST_TREASURE};
-use turn_scene::{Rules, building_place, has_prop, is_known};
+use turn_scene::{building_place, has_prop, is_known};
 use world_objects::Object;
 
 /// How many points a treasure counts once it was seen.
@@ -21,18 +23,18 @@ pub fn is_seen(state: &State, treasure: Object) -> bool
 }
 
 /// Whether a treasure is in the building, as whole as it was found.
-pub fn is_safe(rules: &Rules<'_>, state: &State, treasure: Object) -> bool
-    ensures { result ≡ is_safe (cave_of rules.now) treasure state.now }
+pub fn is_safe(cave: &Cave, state: &State, treasure: Object) -> bool
+    ensures { result ≡ is_safe cave.now treasure state.now }
 {
-    let building = building_place(rules.cave);
+    let building = building_place(cave);
     state.objects.is_first_at(building, treasure) && has_prop(state, treasure, SEEN)
 }
 
 /// How many points a treasure counts.
 #[tactic(auto, unfolding(crate::specs::Treasures::treasure_rows))]
-fn points_of_treasure(rules: &Rules<'_>, state: &State, treasure: Object) -> u32
+fn points_of_treasure(scorer: &Scorer<'_>, state: &State, treasure: Object) -> u32
     ensures value { result
-        ≡ points_by (treasure_rows (cave_of rules.now) treasure) state.now }
+        ≡ points_by (treasure_rows (scored_cave scorer.now) treasure) state.now }
     ensures most { result ≤ 16 }
 {
     let seen = if is_seen(state, treasure) {
@@ -40,8 +42,8 @@ fn points_of_treasure(rules: &Rules<'_>, state: &State, treasure: Object) -> u32
     } else {
         0
     };
-    let safe = if is_safe(rules, state, treasure) {
-        worth(rules, treasure) - POINTS_OF_SEEING
+    let safe = if is_safe(scorer.cave, state, treasure) {
+        worth(scorer, treasure) - POINTS_OF_SEEING
     } else {
         0
     };
@@ -50,15 +52,15 @@ fn points_of_treasure(rules: &Rules<'_>, state: &State, treasure: Object) -> u32
 
 /// How many points the known treasures count.
 #[tactic(auto, using(crate::proofs::Sums::points))]
-pub fn treasure_points(rules: &Rules<'_>, state: &State) -> u32
-    ensures value { result ≡ (treasures_row (cave_of rules.now)).points state.now }
+pub fn treasure_points(scorer: &Scorer<'_>, state: &State) -> u32
+    ensures value { result ≡ (treasures_row (scored_cave scorer.now)).points state.now }
     ensures most { result ≤ 480 }
 {
     let mut points = 0;
     for number in FIRST_TREASURE..LAST_TREASURE + 1 {
         let treasure = Object::new(number);
-        if is_known(rules.cave, treasure) {
-            points += points_of_treasure(rules, state, treasure);
+        if is_known(scorer.cave, treasure) {
+            points += points_of_treasure(scorer, state, treasure);
         }
     }
     points

@@ -1,11 +1,11 @@
 ghost use Rattle.std.specs.Prelude.{◌≡◌, ◌≤◌};
-ghost use Rattle.turn_scene.specs.Scene.{cave_of};
+ghost use Rattle.turn_ends.specs.Scorer.{scored_cave};
 ghost use Rattle.turn_ends.specs.Counting.{most_by};
 ghost use Rattle.turn_ends.specs.Treasures.{worth, treasure_rows, treasures_row};
 
-use cave_words::Named;
+use crate::scorer::Scorer;
+use turn_scene::is_known;
 use turn_scene::treasures::{FIRST_TREASURE, LAST_TREASURE};
-use turn_scene::{Rules, is_known};
 use world_objects::Object;
 
 /// What a treasure is worth if its number is below the chest's, or if there is no chest.
@@ -19,13 +19,13 @@ const WORTH_AFTER_CHEST: u32 = 16;
 
 /// What a treasure is worth: more than the chest after it, less before it.
 #[tactic(auto, unfolding(crate::specs::Treasures::worth, crate::specs::Treasures::treasure_rows))]
-pub fn worth(rules: &Rules<'_>, treasure: Object) -> u32
-    ensures value { result ≡ worth (cave_of rules.now) treasure }
-    ensures whole { most_by (treasure_rows (cave_of rules.now) treasure) ≡ result }
+pub fn worth(scorer: &Scorer<'_>, treasure: Object) -> u32
+    ensures value { result ≡ worth (scored_cave scorer.now) treasure }
+    ensures whole { most_by (treasure_rows (scored_cave scorer.now) treasure) ≡ result }
     ensures least { 12 ≤ result }
     ensures most { result ≤ 16 }
 {
-    let chest = rules.thing(Named::Chest);
+    let chest = scorer.chest;
     if chest.is_none() || treasure.number() < chest.number() {
         WORTH_BEFORE_CHEST
     } else if treasure == chest {
@@ -37,15 +37,15 @@ pub fn worth(rules: &Rules<'_>, treasure: Object) -> u32
 
 /// The most that the treasures of a cave can count.
 #[tactic(auto, using(crate::proofs::Sums::worths))]
-pub fn most_treasure_points(rules: &Rules<'_>) -> u32
-    ensures value { result ≡ (treasures_row (cave_of rules.now)).most }
+pub fn most_treasure_points(scorer: &Scorer<'_>) -> u32
+    ensures value { result ≡ (treasures_row (scored_cave scorer.now)).most }
     ensures most { result ≤ 480 }
 {
     let mut points = 0;
     for number in FIRST_TREASURE..LAST_TREASURE + 1 {
         let treasure = Object::new(number);
-        if is_known(rules.cave, treasure) {
-            points += worth(rules, treasure);
+        if is_known(scorer.cave, treasure) {
+            points += worth(scorer, treasure);
         }
     }
     points

@@ -12,7 +12,7 @@ use Rattle.cave_world.specs.declared.part.Part.TheVariants as part
 use Rattle.cave_world.specs.declared.state.State.{State}
 use Rattle.cave_world.specs.declared.tables.Table.TheVariants as table
 use Rattle.cave_verbs.specs.Acting.{act, next_of_step}
-use Rattle.cave_verbs.specs.Rows.{command_of}
+use Rattle.cave_verbs.specs.Rows.{task_of}
 use Rattle.cave_verbs.specs.Verbs.{verb_of}
 use Rattle.cave_verbs.specs.declared.next.Next.{Next}
 use Rattle.cave_verbs.specs.declared.next.Next.TheVariants as next_is
@@ -69,10 +69,10 @@ module _ {cave : CaveView} {since : Layout} {N : Notes} {l : Line} (k : IsNoted 
       → Meets N p → Meets N (do_action cave o number x word p).scene
   unfolding do_verb
   acting_noted (Some v) number x word p calm h =
-      let a = act cave (command_of v x word) p in
+      let a = act cave (task_of v x word) p in
       following_noted (next_of_step a.step) a.scene
-      (acted_kept held cave (command_of v x word) p calm).0
-      (acted_noted k (command_of v x word) p h)
+      (acted_kept held cave (task_of v x word) p calm).0
+      (acted_noted k (task_of v x word) p h)
   acting_noted None number x word p calm h = defaulted k number p h
 
   unknown_noted : (p : Scene) → Meets N p → Meets N (after_unknown_word cave p)

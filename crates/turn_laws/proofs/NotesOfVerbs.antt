@@ -28,7 +28,7 @@ use Rattle.cave_verbs.specs.Small.{nothing_rows, other_rows}
 use Rattle.cave_verbs.specs.Taking.{bare_take_rows, take_rows}
 use Rattle.cave_verbs.specs.Throwing.{throw_rows}
 use Rattle.cave_verbs.specs.Waving.{rub_rows, wave_rows}
-use Rattle.cave_verbs.specs.declared.command.Command.{Command}
+use Rattle.cave_verbs.specs.declared.task.Task.{Task}
 use Rattle.cave_verbs.specs.declared.next.VerbStep.{VerbStep}
 use Rattle.cave_verbs.specs.declared.next.VerbStep.TheVariants.{Done, GoOn}
 use Rattle.cave_verbs.specs.declared.verb.Verb.{Verb}
@@ -54,20 +54,20 @@ use Rattle.turn_laws.proofs.NotesOfEnds.{troll_noted}
 use Rattle.turn_laws.proofs.View.{choose}
 
 module _ {cave : CaveView} {since : Layout} {N : Notes} (k : IsNoted cave since N) where
-  along_noted : (c : CaveView) (x : Command) (p : Scene) → Meets N p
+  along_noted : (c : CaveView) (x : Task) (p : Scene) → Meets N p
       → Meets N (by_table table.BearAlong bear_along_rows (deed c x p)).scene
   unfolding bear_along_rows row_numbers
   along_noted c x p h =
       noted_effects k table.BearAlong bear_along_rows refl c x (search (told k) parts 20) p h
 
-  dark_noted : (c : CaveView) (x : Command) (p : Scene) → Meets N p
+  dark_noted : (c : CaveView) (x : Task) (p : Scene) → Meets N p
       → Meets N (by_table table.Darkened darkened_rows (deed c x p)).scene
   unfolding darkened_rows row_numbers
   dark_noted c x p h =
       noted_effects k table.Darkened darkened_rows refl c x
       (search (told k) parts 20) p h
 
-  eggs_noted : (c : CaveView) (x : Command) (p : Scene) → Meets N p
+  eggs_noted : (c : CaveView) (x : Task) (p : Scene) → Meets N p
       → Meets N (by_table table.Eggs eggs_rows (deed c x p)).scene
   unfolding eggs_rows row_numbers
   eggs_noted c x p h =
@@ -75,12 +75,12 @@ module _ {cave : CaveView} {since : Layout} {N : Notes} (k : IsNoted cave since 
 
   -- the rows of a verb that has a table, and those of one that has none
   table_noted : (t : Table) (rows : List VerbRow) → length rows ≡ rows_in t → (c : CaveView)
-      (x : Command) → RowsKeep N (Noted N) c x rows → (p : Scene) → Meets N p
+      (x : Task) → RowsKeep N (Noted N) c x rows → (p : Scene) → Meets N p
       → Meets N (first_fitting (noted t rows) (deed c x p)).scene
   table_noted t rows all c x each p h =
       noted_all k (Noted N) t rows (nothing_but stays) all c x each (λ q g. g) p h
 
-  plain_noted : (rows : List VerbRow) (c : CaveView) (x : Command) → RowsKeep N (Noted N) c x rows
+  plain_noted : (rows : List VerbRow) (c : CaveView) (x : Task) → RowsKeep N (Noted N) c x rows
       → (p : Scene) → Meets N p → Meets N (first_fitting rows (deed c x p)).scene
   plain_noted rows c x each p h =
       unnoted N (Noted N) rows (nothing_but stays) c x each (λ q g. g) p h
@@ -101,7 +101,7 @@ module _ {cave : CaveView} {since : Layout} {N : Notes} (k : IsNoted cave since 
       (named xs (parts ++ part.Name x ∷ []) rows (told k parts rows (part.Name x) tt h))
 
   -- the rows of verbs without an object
-  bare_noted : (v : Verb) (x : Command) (p : Scene) → Meets N p
+  bare_noted : (v : Verb) (x : Task) (p : Scene) → Meets N p
       → Meets N (first_fitting (rows_of v).0 (deed cave x p)).scene
   unfolding bare_brief_rows bare_eat_rows bare_fill_rows bare_foo_rows bare_inventory_rows
       bare_kill_rows bare_open_rows bare_quit_rows bare_read_rows bare_rows bare_score_rows
@@ -141,7 +141,7 @@ module _ {cave : CaveView} {since : Layout} {N : Notes} (k : IsNoted cave since 
       plain_noted (rows_of v).0 cave x (search (told k, defaulted) parts 60) p h
 
   -- and with one
-  object_noted : (v : Verb) (x : Command) (p : Scene) → Meets N p
+  object_noted : (v : Verb) (x : Task) (p : Scene) → Meets N p
       → Meets N (first_fitting (rows_of v).1 (deed cave x p)).scene
   unfolding blast_rows break_rows drink_rows drop_rows eat_rows feed_rows fill_rows find_rows
       kill_rows nothing_rows off_rows on_rows open_rows other_rows pour_rows read_rows rub_rows
@@ -200,14 +200,14 @@ module _ {cave : CaveView} {since : Layout} {N : Notes} (k : IsNoted cave since 
   object_noted v x p h =
       plain_noted (rows_of v).1 cave x (search (told k, defaulted) parts 60) p h
 
-  once_noted : (x : Command) (p : Scene) → Meets N p
+  once_noted : (x : Task) (p : Scene) → Meets N p
       → Meets N (act_once (deed cave x p)).scene
   unfolding act_bare act_on
   once_noted x p h =
       choose (Noted N) (x.object == 0) (act_bare (deed cave x p)) (act_on (deed cave x p))
       (λ _. bare_noted x.verb x p h) (λ _. object_noted x.verb x p h)
 
-  within_noted : (left : ℕ) (x : Command) (p : Scene) → Meets N p
+  within_noted : (left : ℕ) (x : Task) (p : Scene) → Meets N p
       → Meets N (act_within left (deed cave x p)).scene
   unfolding act_within
   within_noted zero x p h = once_noted x p h
@@ -225,7 +225,7 @@ module _ {cave : CaveView} {since : Layout} {N : Notes} (k : IsNoted cave since 
       stepped o (Done next) here more = here
       stepped o (GoOn v y) here more = more v y
 
-  pub acted_noted : (x : Command) (p : Scene) → Meets N p → Meets N (act cave x p).scene
+  pub acted_noted : (x : Task) (p : Scene) → Meets N p → Meets N (act cave x p).scene
   unfolding act
   acted_noted x p h = within_noted 3 x p h
 

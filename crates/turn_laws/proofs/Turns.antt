@@ -38,7 +38,7 @@ use Rattle.turn_clocks.specs.Clocks.{run_clocks}
 use Rattle.turn_clocks.specs.Hints.{after_consider, guard_rows, hint_rows, offer_rows}
 use Rattle.turn_moves.specs.Journeys.{journey_by_request}
 use Rattle.turn_scene.specs.Parts.{with_objects}
-use Rattle.cave_verbs.specs.Rows.{command_of}
+use Rattle.cave_verbs.specs.Rows.{task_of}
 use Rattle.cave_verbs.specs.Verbs.{verb_of}
 use Rattle.world_objects.specs.Objects.{after_move_to, with_prop}
 use Rattle.turn_clocks.specs.declared.clocks.Clocks.TheVariants as clocks
@@ -170,8 +170,8 @@ module _ {cave : CaveView} {l : Line} {Q P : Claim} (k : IsKept cave l Q P) wher
       → On (Ready Here P) p.state → On P (do_action cave o number x word p).scene.state
   unfolding do_verb
   acting_kept (Some v) number x word p h =
-      let a = act cave (command_of v x word) p in
-      let acted = acted_kept k cave (command_of v x word) p h in
+      let a = act cave (task_of v x word) p in
+      let acted = acted_kept k cave (task_of v x word) p h in
       following_kept (next_of_step a.step) a.scene acted.1 acted.0
   acting_kept None number x word p h =
       choose (λ (q : Scene). On P q.state) (default_message cave number == 0) p

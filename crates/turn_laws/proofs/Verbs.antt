@@ -37,7 +37,7 @@ use Rattle.cave_verbs.specs.Throwing.{throw_rows, without_first_at}
 use Rattle.cave_verbs.specs.Waving.{rub_rows, wave_rows}
 use Rattle.turn_scene.specs.Reach.{is_dwarf_at, is_dwarf_here}
 use Rattle.cave_verbs.specs.Rows.{VerbRow, first_fitting, going_on, stays}
-use Rattle.cave_verbs.specs.declared.command.Command.{Command}
+use Rattle.cave_verbs.specs.declared.task.Task.{Task}
 use Rattle.cave_verbs.specs.declared.next.Next.TheVariants.{Ask}
 use Rattle.cave_verbs.specs.declared.next.VerbStep.{VerbStep}
 use Rattle.cave_verbs.specs.declared.next.VerbStep.TheVariants.{Done, GoOn}
@@ -84,7 +84,7 @@ module _ {game : CaveView} {l : Line} {Q P : Claim} (k : IsKept game l Q P) wher
   abbrev Here : ℕ → Type 0
   Here = Somewhere l
 
-  abbrev Keep : (Deed Command → Act VerbStep) → Type 0
+  abbrev Keep : (Deed Task → Act VerbStep) → Type 0
   Keep f = Leads (Ready Here P) (Ready Here P) Spared f
 
   by_rows : (rows : List _) → KeepRows Here P rows → Keep (first_fitting rows)
@@ -189,7 +189,7 @@ module _ {game : CaveView} {l : Line} {Q P : Claim} (k : IsKept game l Q P) wher
       stepped o (GoOn v x) is here more = more v x
 
   -- what a command says, which doesn't ask whether to come back
-  pub acted_kept : (cave : CaveView) (command : Command) (p : Scene) → On (Ready Here P) p.state
+  pub acted_kept : (cave : CaveView) (command : Task) (p : Scene) → On (Ready Here P) p.state
       → Left (Ready Here P) Spared (act cave command p)
   unfolding act
   acted_kept cave command p h = within_kept 3 (deed cave command p) h

@@ -10,7 +10,7 @@ use Rattle.cave_words.specs.Words.{words_of}
 use Rattle.cave_words.specs.declared.meaning.Class.TheVariants as class
 use Rattle.cave_words.specs.declared.meaning.Meaning.{Meaning}
 use Rattle.cave_words.specs.declared.named.Named.{Named}
-use Rattle.turn_scene.specs.Scene.{or_no_object}
+use Rattle.cave_world.specs.Called.{or_no_object}
 
 -- input has a first word, so no command is without one
 abbrev pub InputHasAWord : Type 0

@@ -1,6 +1,6 @@
 -- A turn while it is played, and the objects that its rules name.
 use Rattle.std.specs.Prelude.{◌≡◌, ℕ, ℤ, Bool, ◌==◌, if◌then◌else◌, List, [], ◌∷◌, ◌++◌, true}
-use Rattle.std.specs.Prelude.{false, ◌&&◌, not, nat_le, Option, Some, None}
+use Rattle.std.specs.Prelude.{false, ◌&&◌, not}
 use Rattle.std.specs.List.{list_any}
 use Rattle.data_rows.specs.declared.role.Role.{Role}
 use Rattle.cave_words.specs.Stream.{next, pct}
@@ -12,23 +12,14 @@ use Rattle.cave_world.specs.declared.tables.RuleRow.{RuleRow}
 use Rattle.cave_world.specs.declared.tables.RuleRow.TheVariants as rule_row
 use Rattle.cave_world.specs.declared.tables.Table.{Table}
 use Rattle.cave_data.specs.CaveView.{CaveView}
-use Rattle.cave_words.specs.Named.{object_named}
+use Rattle.cave_world.specs.Called.{object_called}
 use Rattle.cave_words.specs.declared.named.Named.{Named}
 use Rattle.cave_words.specs.declared.named.Named.TheVariants as named
-use Rattle.base_lines.specs.Numbers.{LAST_OBJECT}
 use Rattle.turn_scene.specs.declared.scene.Scene.{Scene as OpenScene}
 use Rattle.turn_scene.specs.declared.rules.Rules.{Rules}
 
-abbrev pub or_no_object : Option ℕ → ℕ
-or_no_object None = 0
-or_no_object (Some object) = if nat_le object LAST_OBJECT then object else 0
-
 abbrev pub cave_of : Rules → CaveView
 cave_of rules = rules.cave.now
-
--- the object that a word of the rules names
-unfoldable pub object_called : CaveView → Named → ℕ
-object_called cave name = or_no_object (object_named cave name)
 
 -- a liquid, which the bottle may hold
 abbrev pub is_liquid_name : Named → Bool

@@ -5,9 +5,9 @@ ghost use Rattle.cave_words.specs.Lexicon.{IsLexiconOf};
 ghost use Rattle.cave_words.specs.Meanings.{meaning};
 ghost use Rattle.cave_words.specs.Words.{words_of};
 
-use crate::objects::or_no_object;
 use cave_data::Cave;
 use cave_words::{Lexicon, Meaning, Named, Word, Words};
+use cave_world::or_no_object;
 use world_objects::Object;
 
 /// The rules of a cave: what its database says, and the objects that rules name.
@@ -19,7 +19,8 @@ pub struct Rules<'a> {
 }
 
 impl<'a> Rules<'a> {
-    ghost use Rattle.turn_scene.specs.Scene.{cave_of, is_liquid_name, object_called, thing};
+    ghost use Rattle.cave_world.specs.Called.{object_called};
+    ghost use Rattle.turn_scene.specs.Scene.{cave_of, is_liquid_name, thing};
     ghost use Rattle.turn_scene.specs.Scene.{is_called, is_one_of};
 
     /// The rules of a cave, with the lexicon of that cave.
@@ -45,7 +46,7 @@ impl<'a> Rules<'a> {
     }
 
     /// The object that the word of a name means.
-    #[tactic(auto, unfolding(crate::specs::Scene::object_called))]
+    #[tactic(auto, unfolding(cave_world::specs::Called::object_called))]
     fn called(&self, name: Named) -> Object
         ensures { result ≡ object_called (cave_of self.now) name }
     {

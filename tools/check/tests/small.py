@@ -15,7 +15,7 @@ from collections.abc import Iterable, Mapping, Sequence
 TOP = os.path.abspath(f"{os.path.dirname(__file__)}/../../..")
 sys.path += [f"{TOP}/tools/check", f"{TOP}/tools"]
 
-from common.files import write  # of the folder that is on the path now
+from common.files import OTHER_TOP, write  # of the folder that is on the path now
 from common.tests import Test, class_of
 
 # What a repository has: the texts of files by their paths.
@@ -25,13 +25,16 @@ Case = tuple[str, Files, str]
 
 
 def run(files: Files, command: str, **env: str) -> tuple[int, str]:
-    """The status of a command over a repository of these files, and what it says."""
+    """The status of a command over a repository of these files, and what it says. Programs of its
+    `bin` are found first. What is skipped there isn't what the gate skips."""
+    own = {name: it for name, it in os.environ.items() if name != "SKIPPED"}
     with tempfile.TemporaryDirectory() as folder:
         for path, text in files.items():
             os.chmod(write(f"{folder}/{path}", text), 0o755)
         tool, *words = shlex.split(command)
         ran = subprocess.run([f"{TOP}/{tool}", *words], cwd=folder, capture_output=True, text=True,
-                             env=os.environ | {"REPOSITORY": folder} | env)
+                             env=own | {OTHER_TOP: folder, "PATH": f"{folder}/bin:{own['PATH']}"}
+                             | env)
     return ran.returncode, ran.stdout + ran.stderr
 
 

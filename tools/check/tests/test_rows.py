@@ -25,6 +25,26 @@ after_turn = after_all (by_table table.Lamp lamp_rows ∷ by_table table.Oil fil
 
 abbrev pub oil : Thing Lamp
 oil = the name.Oil
+
+BEAR_FED = pos 3
+OIL_GONE = negsuc 1
+
+unfoldable pub bear_rows : List VerbRow
+bear_rows =
+    row (is name.Bear ∷ []) (set_prop x BEAR_FED ∷ look x BEAR_FED ∷ say role.LampLow ∷ fix x ∷ [])
+    ∷ row (no (is name.Lamp) ∷ []) (default ∷ [])
+    ∷ row_then (prop oil LOW ∷ []) (bring x ∷ loss) (ends ending.Killed)
+    ∷ row (prop oil OIL_GONE ∷ []) (lose ∷ say role.LampDead ∷ [])
+    ∷ row (prop oil LOW ∷ []) (lose ∷ say role.LampLow ∷ [])
+    ∷ row (prop oil LOW ∷ []) []
+    ∷ row_then [] (lose ∷ destroy oil ∷ bring (the name.Bear) ∷ []) (does verb.Drop oil)
+    ∷ []
+
+unfoldable pub loss : List (Effect Lamp)
+loss = loosen oil ∷ troll_goes ∷ []
+
+abbrev pub lose : Effect Lamp
+lose d = set_prop oil OIL_GONE d
 """
 HEAD = "| # | When | What happens |\n|---|---|---|\n"
 LOW = "| LAMP is low | `lamp-low`, `lamp-dead` |\n"
@@ -32,8 +52,17 @@ NO_OIL = "| OIL is low | `lamp-low` |\n"
 GLOW = "| | it glows 35 turns |\n"
 LAMP = f"**the lamp** <!-- rows: lamp_rows -->\n{HEAD}| 1 {LOW}| 2 {NO_OIL}| 3 {GLOW}\n"
 FILLING = f"**the oil** <!-- rows: fill_rows -->\n{HEAD}| 1 | | it is filled |\n\n"
+BEAR = f"""<!-- rows: bear_rows -->
+{HEAD}| 1 | x is BEAR | BEAR gets prop 3; its text for prop 3 is printed; `lamp-low`; it is fixed |
+| 2 | x isn't LAMP | the default |
+| 3 | OIL is low | x is brought here; OIL is loosened; the troll leaves; the game ends as killed |
+| 4 | OIL is gone | OIL gets prop -2; `lamp-dead` |
+| 5 | OIL is wet | the same; `lamp-low` |
+| 6 | OIL is old | nothing, and OIL stays |
+| 7 | | OIL gets prop -2 and vanishes, and BEAR is brought here; as DROP OIL |
+"""
 PAGE, SPECS = "docs/VERBS.md", "crates/lamps/specs/Lamp.antt"
-RIGHT: Files = {SPECS: TABLES_OF_ROWS, PAGE: f"# Verbs\n\n{LAMP}{FILLING}"}
+RIGHT: Files = {SPECS: TABLES_OF_ROWS, PAGE: f"# Verbs\n\n{LAMP}{FILLING}{BEAR}"}
 PARTS = {"TABLE": LAMP, "FILLING": FILLING, "LOW": LOW, "NO_OIL": NO_OIL, "GLOW": GLOW}
 WORDS: Tables = {"Lamp": ("the lamp", ("LAMP is low", "OIL is low", "otherwise")),
                  "Oil": ("the oil", ("otherwise",))}

@@ -2,10 +2,9 @@
 what has no caller, name or import, and lost tests; stale counts, too many lines of scripts or
 functions of a crate."""
 
-import shutil
-
 from small import Case, Files, changed, edited, tests_of  # first: it finds the scripts
 
+from common import command_line
 from common.files import cases_in
 
 # A door over a crate with lamps, and what others import, or hand on.
@@ -36,9 +35,10 @@ USED = {
     "crates.txt": "lamps: oil\noil:\n",
     "crates/oil/src/lib.rt": "pub const MAX_DROPS: u8 = 9;\n\npub fn fill() -> u8 {\n"
     "    MAX_DROPS\n}\n",
+    "docs/PAGE.md": "Is the oil out? It is `dim`.\n",
     "crates/lamps/specs/Lamp.antt": "pub lit : Bool\nlit = true\n",
     "crates/lamps/src/lib.rt": "use oil::fill;\n\nghost use Rattle.lamps.specs.Lamp.{lit};\n\n"
-    "pub fn light() -> u8\n    ensures value { lit }\n{\n    fill()\n}\n\n"
+    "pub fn light() -> u8\n    ensures value { lit }\n{\n    drops.push(1);\n    fill()\n}\n\n"
     "#[test]\nfn a_lamp_is_lit() {\n    light();\n    check();\n}\n\nfn check() {\n"
     "}\n\nfn main() {\n    light();\n}\n",
 }
@@ -51,8 +51,8 @@ COUNTED: Files = {
     "crates.txt": "# NAME: DEP DEP ..\n\n# Base: all.\noil:\n", MEASURED: "# Measured\n",
     "logs/walk.log": "# run: play\nno\n", "logs/walk.out": "",
 } | {f"model/{it}": "" for it in """program.py cover.py cave generate.py errands.py players.py
-scripts.py worlds.py directed.py seeds.py cases.py shrink.py counts.py duel suite check-duel
-change-rows prove-rows laws.py""".split()}
+scripts.py worlds.py directed.py seldom.py seeds.py cases.py shrink.py counts.py duel suite
+check-duel change-rows prove-rows laws.py""".split()}
 LONG = "tools/page/long.py"
 FILL = {"crates/oil/src/a.rt": "pub const fn a()\n{\n}\n    pub(crate) fn b();\n fn c() {}\n" * 37}
 
@@ -68,5 +68,5 @@ LAMPS: list[Case] = [
     ("unused", {"logs/tools/lamp.py": f"import re\n{CLEAN}"}, "logs/tools/lamp.py:1:1: 're'"),
     ("a script", {"model/lamp": f"#!/usr/bin/env python3\n{CLEAN}oil\n"}, "undefined name 'oil'"),
 ]
-if shutil.which("pyflakes3"):
+if not command_line.skips(len(LAMPS), "cases of tools/soak/scripts", "pyflakes3"):
     Flakes = tests_of("tools/soak/scripts pyflakes", LAMPS)

@@ -1,8 +1,9 @@
 """What `tools/check/wrong-bodies` has to refuse: wrong bodies that are refused by another clause
-than the list says, or by none, clauses that no function has or that say nothing, and wrong bodies
-that change a text that isn't there, or that aren't listed."""
+than the list says, or by none, clauses that no function has or that say nothing, wrong bodies that
+change a text that isn't there, or that aren't listed, and bugs of the model that can't be
+planted."""
 
-from small import Files, changed, tests_of, written_out  # first: it finds the scripts
+from small import Files, changed, edited, tests_of, written_out  # first: it finds the scripts
 
 from common.files import cases_in
 
@@ -24,12 +25,18 @@ def listed(*rows: str) -> Files:
 LAMPS: Files = {
     "crates/lamps/src/lamp.rt": "pub fn burn()\n    ensures value { result ≡ burn }\n{\n}\n\n"
     "pub fn glow()\n    ensures light { lit }\n    ensures heat { hot }\n{\n}\n\n"
-    "#[tactic(auto)]\nfn wane()\n    ensures { true }\n{\n}\n",
+    "#[tactic(auto)]\nfn wane()\n    ensures { true }\n{\n}\n\n"
+    "ghost use Rattle.lamps.specs.Lamp.{hot, lit};\n",
     "crates/lamps/src/wick.rt": "fn trim()\n{\n    light();\n    light_all();\n}\n",
     "crates/turn_laws/src/lib.rt": "ghost use Rattle.turn_laws.specs.Dark.{NeverLit};\n\n"
     "pub fn it_is_dark()\n    ensures { NeverLit }\n{\n}\n",
     "model/change-rows": "def chosen(*_):\n    chosen.told = 'lamp: row 1 is dropped'\n"
     "    yield chosen\n",
+    "tools/soak/parts": "# Small changes.\nPLANTED LONGER: oil\nPLANTED: soot\n    turn_laws\n",
+    "model/lamp.py": "burns = 30  # and not 300\nlasts = 30\n",
+    "model/check-duel": "class Bug:\n"
+    "    name, file, old = 'a short wick', 'lamp.py', 'burns = 30'\n\n\n"
+    "BUGS, DIRECTED = [Bug], []\n",
     LOG: "rt: must-fail lamps/burns_not.edit: refused, as it must be: note: "
     "src/lamp.rt:1:1: it is not proved that what the function ensures holds when it returns "
     "(`returns-then-left`)\n"
@@ -47,6 +54,10 @@ PARTS = {"CHANGE": CHANGE, "DARK": DARK, "HEADS": HEADS, "VALUE": LAMPS[PAGE],
 
 WrongBodies = tests_of("tools/check/wrong-bodies", changed(RIGHT, {
     (path, written_out(text, PARTS)): said for path, text, said in cases_in(TABLES, "Cases")}))
+LAMP = "crates/lamps/src/lamp.rt"
+Emptied = tests_of("tools/check/wrong-bodies", edited(
+    RIGHT | {PAGE: f"{LAMPS[PAGE]}| | `glow`: `light` |\n"},
+    ((LAMP, "{ lit }", f"{{ {body} }}", said) for body, said in cases_in(TABLES, "Clauses"))))
 Refused = tests_of(f"tools/check/wrong-bodies {LOG}", (
     (row, LAMPS | listed(row), said) for row, said in cases_in(TABLES, "Rows")))
 KEPT = "rt: lamps: %d of its 3 must-fail edits were tried by an earlier run on this machine\n"

@@ -18,6 +18,12 @@ EMPTY = ("run", "copies")  # keys that may have nothing after them
 ALIKE = 0.75  # a word that is this much like a key was meant to be one
 OWN = "@/"  # before the name of a file in the folder of a run
 Head = dict[str, list[str]]
+# What the keys have after them that have neither a sentence nor words of the program.
+FORMS = {"status": (r"\d+", "a number"), "stdin": (r"\S+", "a file"), "stdout": (r"\S+", "a file"),
+         "mode": ("[0-7]+", "permissions"), "link": (r"\S+ \S+", "a name and a file"),
+         "disk": (r"\d+", "a number"), "folder": ("read-only", "`read-only`")}
+OUTPUT = re.compile("(?:--output|-q*o)(?:=?(.+))?")  # a word, which may have the file in it
+DEVICES = ("/dev/null", "/dev/full")  # what is written there changes nothing
 
 
 class Place(Protocol):
@@ -25,6 +31,10 @@ class Place(Protocol):
 
     top: str
     base: str
+
+    @property
+    def files(self) -> set[str]:
+        """The files of its logs, and those that their heads name."""
 
     def is_named(self, path: str) -> bool:
         """Whether the head of some log names a file, by its path from the top."""
@@ -41,6 +51,21 @@ def words_in(text: str, is_run: bool) -> list[str] | None:
         return split(text) if is_run else text.split()
     except ValueError:
         return None
+
+
+def is_own(name: str) -> bool:
+    """Whether a word names a file in the folder of a run."""
+    return name.startswith(OWN) and is_below(name[len(OWN) :])
+
+
+def is_below(name: str) -> bool:
+    """Whether a file lies in a folder or below it, by its name from there."""
+    return not os.path.isabs(name) and ".." not in name.split("/")
+
+
+def is_lost(path: str) -> bool:
+    """Whether a link leads nowhere."""
+    return os.path.islink(path) and not os.path.exists(path)
 
 
 def content(path: str) -> bytes:
@@ -118,6 +143,27 @@ class Log:
             return ["edit", cave, f"{self.path}.log", f"{self.path}.script", *options]
         return ["play", cave, f"{self.path}.log", *options]
 
+    def outputs(self) -> Iterator[str]:
+        """The files that the words name to be written."""
+        for at, word in enumerate(self.words):
+            if found := OUTPUT.fullmatch(word):
+                yield from [found[1]] if found[1] else self.words[at + 1 :][:1]
+        if "--in-place" in self.words:
+            # The log is the second file, if no option comes before: more isn't read of the words.
+            yield from self.words[2:3] if self.words[1][:1] != "-" else ["--in-place"]
+
+    def strays(self) -> Iterator[str]:
+        """What the head names that a run would write, and isn't in its own folder. The program
+        itself refuses to write what is no regular file, and nobody can make a file in /proc."""
+        stdout, link = (self.head.get(it, []) for it in ("stdout", "link"))
+        yield from (it for it in stdout if not is_own(it) and it not in DEVICES)
+        yield from (it for it in link if not is_below(it))
+        for name in self.outputs():
+            path = os.path.join(self.suite.top, name)
+            is_kept = os.path.exists(path) and not os.path.isfile(path)
+            if not (is_own(name) or is_kept or name.startswith("/proc/") and is_below(name[1:])):
+                yield name
+
     def misspelt(self) -> str | None:
         """A line of the head with a key that is there twice, or that has a letter wrong."""
         known: set[str] = set()
@@ -133,19 +179,34 @@ class Log:
         """Whether the log is meant for a run, or something is wrong with its place."""
         return self.misplaced is not None or "no run" not in self.head
 
-    @cached_property
-    def misplaced(self) -> str | None:
-        """Why the name is that of no run; None if it is, or if the log rightly has none."""
-        if not self.has(".log"):
-            return "there is no log of this name"
-        if not os.access(f"{self.stem}.log", os.R_OK):
-            return "the log can't be read"
+    def malformed(self) -> str | None:
+        """What is wrong with the head by itself."""
         if line := self.misspelt():
             return f"a key is there twice, or has a letter wrong: `{line}`"
         if line := next((it for it, _, words in self.said() if words is None), None):
             return f"a quote isn't closed, or a backslash is at the end: `{line}`"
-        if empty := next((it for it in self.head if not self.head[it] and it not in EMPTY), None):
-            return f"`# {empty}:` has nothing after it"
+        for key, words in self.head.items():
+            form, what = FORMS.get(key, ("(?s).*", ""))
+            if not words and key not in EMPTY:
+                return f"`# {key}:` has nothing after it"
+            if not re.fullmatch(form, " ".join(words)):
+                return f"`# {key}:` has {what} after it: `{' '.join(words)}` isn't that"
+        if stray := next(self.strays(), None):
+            return f"a run writes only into its own folder, where files are {OWN}NAME: {stray}"
+        return None
+
+    @cached_property
+    def misplaced(self) -> str | None:
+        """Why the name is that of no run; None if it is, or if the log rightly has none."""
+        if not self.has(".log"):
+            if any(is_lost(self.stem + it) for it in ("", *KINDS)):
+                return "a link leads nowhere"
+            is_shut = os.path.isdir(self.stem) and not os.access(self.stem, os.R_OK | os.X_OK)
+            return "the folder can't be read" if is_shut else "there is no log of this name"
+        if not os.access(f"{self.stem}.log", os.R_OK):
+            return "the log can't be read"
+        if wrong := self.malformed():
+            return wrong
         runs = self.head.keys() & {"cave", "run"}
         if "no run" in self.head:
             if runs or self.has(".out"):

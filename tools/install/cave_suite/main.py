@@ -12,7 +12,8 @@ from shlex import quote
 from .hunks import Hunk, differences, sentence
 from .logs import Log
 from .plays import Played, all_played
-from .reports import ForReaders, Progress, Result, Sums, Tap, junit
+from .reports import (ForReaders, Progress, Result, Sums, Tap, fault_of_junit, junit, put_junit,
+                      say)
 from .runs import command_line
 from .suites import NAME, Suite, Suites, shards
 from .updates import Asked, write
@@ -30,18 +31,16 @@ def updated(log: Log, found: Played, asked: Asked | None) -> list[Hunk]:
     if not found.is_played or not found.hunks or is_known and log.has(".out"):
         return found.hunks
     if asked is None or not found.new:
-        write(log, found.new)
-        return found.hunks if is_known else []
+        return [] if write(log, found.new) and not is_known else found.hunks
     left = asked.update(log, found.old, found.new, [*differences(log, found.old, found.new)])
     return left if log.has(".out") and not is_known else found.hunks
 
 
 def result_of(log: Log, found: Played) -> Result:
-    """The outcome of a log, by whether its head says that it is known to fail."""
-    if log.misplaced or log.xfail is None or not log.has(".out"):
-        return Result(log, found.hunks, found.seconds)
-    if found.hunks:
-        return Result(log, found.hunks, found.seconds, log.xfail)
+    """The outcome of a log. Known to fail is only a run that ends as its head says, and differs."""
+    known = log.xfail if found.is_played and log.has(".out") else None
+    if known is None or found.hunks:
+        return Result(log, found.hunks, found.seconds, known)
     said = f"passes, and its head says that it fails: `# xfail: {log.xfail}`"
     return Result(log, [sentence(said)], found.seconds)
 
@@ -52,7 +51,8 @@ def run_all(logs: list[Log], said: argparse.Namespace) -> int:
     sums, progress = Sums(), Progress(len(logs))
     results: list[Result] = []
     asked = Asked() if said.is_asking else None
-    print("".join(f"{it}\n" for it in report.head(len(logs))), end="", flush=True)
+    is_stopped = False
+    say(report.head(len(logs)))
     try:
         with all_played(said.program, logs, said.seconds, said.jobs, said.update) as found:
             for at, (log, one) in enumerate(zip(logs, found), 1):
@@ -63,16 +63,16 @@ def run_all(logs: list[Log], said: argparse.Namespace) -> int:
                 sums.add(result)
                 if lines := report.of(result, at):
                     progress.clear()
-                    print("".join(f"{it}".rstrip() + "\n" for it in lines), end="", flush=True)
+                    say(lines)
                 progress.show(at, sums.failed)
                 results += [result] if said.junit else []
+    except KeyboardInterrupt:
+        is_stopped = True
     finally:
         progress.clear()
-    print("".join(f"{it}\n" for it in report.end(sums)), end="", flush=True)
-    if said.junit:
-        with open(said.junit, "w", encoding="utf-8") as file:
-            file.write(junit(results, sums, said.all))
-    return 1 if sums.failed else 0
+    say(report.end(sums.of_part(len(logs)) if is_stopped else str(sums)))
+    is_put = not said.junit or put_junit(said.junit, junit(results, sums, said.all))
+    return STOPPED if is_stopped else 1 if sums.failed or not is_put else 0
 
 
 def show_commands(logs: list[Log], said: argparse.Namespace, here: str) -> int:
@@ -83,7 +83,7 @@ def show_commands(logs: list[Log], said: argparse.Namespace, here: str) -> int:
         if log.misplaced:
             print(f"{log.name}: {log.misplaced}", file=sys.stderr)
         else:
-            print(before + command_line(said.program, log))
+            say([before + command_line(said.program, log)])
     return 1 if any(it.misplaced for it in logs) else 0
 
 
@@ -174,11 +174,8 @@ def chosen(asks: argparse.ArgumentParser, said: argparse.Namespace, suites: Suit
     logs = shards(logs, count)[number - 1] if count > 1 else logs
     if not logs:
         asks.error("the part is empty: there are fewer logs than parts")
-    if said.junit:
-        try:
-            open(said.junit, "w", encoding="utf-8").close()
-        except OSError as error:
-            asks.error(f"the file for a CI can't be written: {error}")
+    if said.junit and (wrong := fault_of_junit(said.junit, {it.suite for it in logs})):
+        asks.error(wrong)
     return logs
 
 
@@ -205,16 +202,35 @@ def run(words: list[str], doc: str, top: str | None) -> int:
 def main(doc: str, top: str | None = None) -> int:
     """Does what the command line asks. With a top its first word is the program, and the suite is
     that of the top's folder `logs`."""
+    sys.stdin = sys.stdin or open(os.devnull, encoding="utf-8")  # each is None if it is closed
+    sys.stderr = sys.stderr or open(os.devnull, "w", encoding="utf-8")
+    name = os.path.basename(sys.argv[0])
+    if not sys.stdout:
+        print(f"{name}: standard output is closed", file=sys.stderr)
+        return 2
     for stream in (sys.stdout, sys.stderr):
         if isinstance(stream, io.TextIOWrapper):
             stream.reconfigure(errors="backslashreplace")
     try:
-        return run(sys.argv[1:], doc, top)
+        try:
+            return run(sys.argv[1:], doc, top)
+        finally:
+            sys.stdout.flush()
     except BrokenPipeError:
-        os.dup2(os.open(os.devnull, os.O_WRONLY), sys.stdout.fileno())
+        drop_output()
         return CLOSED
     except KeyboardInterrupt:
         return STOPPED
     except EOFError:
         print("a process that plays logs was killed", file=sys.stderr)
         return 1
+    except OSError as error:
+        drop_output()
+        what = "" if error.filename is None else f"{error.filename}: "
+        print(f"{name}: {what}{error.strerror}", file=sys.stderr)
+        return 1
+
+
+def drop_output() -> None:
+    """Lets go of what can't be written: Python would try again as it ends."""
+    os.dup2(os.open(os.devnull, os.O_WRONLY), sys.stdout.fileno())

@@ -9,12 +9,16 @@ import sys
 import time
 from dataclasses import dataclass
 from html import escape
-from typing import Sequence
+from typing import Iterable, Sequence
+
+from common import outputs
 
 from .hunks import Hunk
-from .logs import Log
+from .logs import KINDS, Log, Place, content
 
 MOST = 20  # lines that are shown of a hunk
+JUNIT = re.compile(rb"\s*(<\?xml[^>]*>\s*)?<testsuites?[\s/>]")  # how a file for a CI begins
+NO_XML = re.compile("[^\t\n\r -\ud7ff\ue000-\ufffd\U00010000-\U0010ffff]")
 SECONDS = 0.1  # between two lines of progress
 
 
@@ -51,10 +55,25 @@ class Sums:
         self.known += result.known is not None
         self.passed += not result.hunks
 
+    def of_part(self, count: int) -> str:
+        """The sum if not all of the logs were played."""
+        played = self.passed + self.failed + self.known
+        return f"interrupted: {played} of {count} played, {self.failed} failed"
+
     def __str__(self) -> str:
         known = f", {self.known} known to fail" if self.known else ""
         seconds = time.monotonic() - self.began
         return f"{self.passed} passed, {self.failed} failed{known}, in {seconds:.1f} s"
+
+
+def say(lines: Iterable[str]) -> None:
+    """Prints lines, without blanks at their ends."""
+    try:
+        print("".join(f"{it.rstrip()}\n" for it in lines), end="", flush=True)
+    except BrokenPipeError:
+        raise
+    except OSError as error:
+        raise OSError(error.errno, error.strerror, "standard output can't be written") from None
 
 
 class Progress:
@@ -100,8 +119,8 @@ class ForReaders:
             self.first.setdefault(hunk.change, name)
         return lines + [f"  {it}" for it in result.shown(fresh, self.is_all) if fresh]
 
-    def end(self, sums: Sums) -> list[str]:
-        return [str(sums)]
+    def end(self, sums: str) -> list[str]:
+        return [sums]
 
 
 class Tap:
@@ -122,7 +141,7 @@ class Tap:
         lines = (f"    {it}" for it in result.shown(result.hunks, self.is_all))
         return [line, "  ---", "  message: |", *lines, "  ..."]
 
-    def end(self, sums: Sums) -> list[str]:
+    def end(self, sums: str) -> list[str]:
         return [f"# {sums}"]
 
 
@@ -148,4 +167,31 @@ def junit(results: Sequence[Result], sums: Sums, is_all: bool) -> str:
             text = escape("\n".join([first, *rest]), quote=False)
             lines.append(f"<failure{attributes(message=first)}>{text}</failure>")
         lines.append("</testcase>")
-    return "\n".join([*lines, "</testsuite>", "</testsuites>", ""])
+    text = "\n".join([*lines, "</testsuite>", "</testsuites>", ""])
+    return NO_XML.sub(lambda it: f"\\x{ord(it[0]) & 0xff:02x}", text)
+
+
+def fault_of_junit(path: str, suites: Iterable[Place]) -> str | None:
+    """Why a file can't become one for a CI, or None: what is there has to be one, or empty."""
+    is_of_suite = os.path.isfile(path) and any(
+        os.path.samefile(path, it) for suite in suites for it in suite.files)
+    if is_of_suite or {os.path.splitext(it)[1] for it in (path, os.path.realpath(path))} & {*KINDS}:
+        return f"{path} is a file of a suite: after --junit comes the name of a report"
+    try:
+        if wrong := outputs.unwritable(path):
+            raise wrong
+        if os.path.exists(path) and (there := content(path)) and not JUNIT.match(there):
+            return f"{path} is there, and is no report: name another file after --junit"
+    except OSError as error:
+        return f"the file for a CI can't be written: {path}: {error.strerror}"
+    return outputs.fault(path, [], "--junit")
+
+
+def put_junit(path: str, text: str) -> bool:
+    """Puts a file for a CI, whole or not at all. If it can't be written, a line says why."""
+    try:
+        outputs.put(path, text.encode())
+    except OSError as error:
+        print(f"{path} can't be written: {error.strerror}", file=sys.stderr)
+        return False
+    return True

@@ -12,7 +12,7 @@ import tempfile
 from shlex import quote
 from typing import Callable, Iterator
 
-from .logs import OWN, Head, Log
+from .logs import OWN, Head, Log, content
 
 REDIRECTED, UNDONE = {"stdin": "<", "stdout": ">"}, ("disk", "folder", "status")
 READ_ONLY = 0o555
@@ -34,17 +34,25 @@ def limits(head: Head) -> Callable[[], None] | None:
     return set_limits if head.keys() & {"disk", "folder"} else None
 
 
-def call(program: str, words: list[str], log: Log, seconds: float) -> tuple[int, bytes]:
+def read_by(head: Head, key: str, top: str) -> list[str]:
+    """The files that a head names to be read, each of which has to end."""
+    paths = [os.path.join(top, it) for it in head.get(key, [])]
+    for path in paths:
+        if os.path.exists(path) and not os.path.isfile(path):
+            raise ValueError(f"{os.path.relpath(path, top)} is no regular file")
+    return paths
+
+
+def call(program: str, log: Log, seconds: float, folder: str = "") -> tuple[int, bytes]:
     """Calls the program, and gives its status and all that it prints."""
-    head, piped = log.head, b""
-    if "stdin" in head:
-        with open(os.path.join(log.suite.top, head["stdin"][0]), "rb") as file:
-            piped = file.read()
-    path = os.path.join(log.suite.top, head["stdout"][0]) if "stdout" in head else os.devnull
-    with open(path, "wb") as file:
+    head, top = log.head, log.suite.top
+    words, stdout = ([it.replace(OWN, f"{folder}/") for it in words]
+                     for words in (log.words, head.get("stdout", [os.devnull])))
+    piped = b"".join(map(content, read_by(head, "stdin", top)))
+    with open(stdout[0], "wb") as file:
         # If the disk is full a write returns an error, and there is no signal.
         ran = subprocess.run(
-            [program, *words], cwd=log.suite.top, timeout=seconds, input=piped,
+            [program, *words], cwd=top, timeout=seconds, input=piped,
             stdout=file if "stdout" in head else subprocess.PIPE, stderr=subprocess.PIPE,
             preexec_fn=limits(head), restore_signals="disk" not in head)
     return ran.returncode, (ran.stdout or b"") + ran.stderr
@@ -52,8 +60,8 @@ def call(program: str, words: list[str], log: Log, seconds: float) -> tuple[int,
 
 def fill(folder: str, head: Head, top: str) -> None:
     """Puts into the folder of a run what the head of its log says is there."""
-    for file in head.get("copies", []):
-        copy = shutil.copy(os.path.join(top, file), folder)
+    for path in read_by(head, "copies", top):
+        copy = shutil.copy(path, folder)
         if "mode" in head:
             os.chmod(copy, int(head["mode"][0], 8))
     if "link" in head:
@@ -68,24 +76,24 @@ def left_in(folder: str, head: Head) -> Iterator[bytes]:
     for name in sorted(os.listdir(folder)):
         path = f"{folder}/{name}"
         if os.path.islink(path):
-            yield f"== {OWN}{name}, a link to {os.readlink(path)}\n".encode()
+            yield os.fsencode(f"== {OWN}{name}, a link to {os.readlink(path)}\n")
             continue
         mode = f", mode {stat.S_IMODE(os.stat(path).st_mode):o}" if "mode" in head else ""
         with open(path, "rb") as file:
-            yield f"== {OWN}{name}{mode}\n".encode() + file.read()
+            yield os.fsencode(f"== {OWN}{name}{mode}\n") + file.read()
 
 
 def play(program: str, log: Log, seconds: float) -> tuple[bytes, int]:
     """What a log's run prints, with the files that it leaves, and its status."""
-    words, head = log.words, log.head
-    if not (head.keys() & {"copies", "link", "folder"} or any(OWN in it for it in words)):
-        status, said = call(program, words, log, seconds)
+    head = log.head
+    named = [*log.words, *head.get("stdout", [])]
+    if not (head.keys() & {"copies", "link", "folder"} or any(OWN in it for it in named)):
+        status, said = call(program, log, seconds)
         return said, status
     with tempfile.TemporaryDirectory() as folder:
         try:
             fill(folder, head, log.suite.top)
-            words = [it.replace(OWN, f"{folder}/") for it in words]
-            status, said = call(program, words, log, seconds)
+            status, said = call(program, log, seconds, folder)
             said += b"".join(left_in(folder, head))
         finally:
             os.chmod(folder, stat.S_IRWXU)
@@ -96,8 +104,8 @@ def command_line(program: str, log: Log) -> str:
     """The run of a log as a line for a shell; what a shell can't do is said in a comment."""
     head, own = log.head, '"$own"'
     words = " ".join(quote(it).replace(OWN, f"{own}/") for it in [program, *log.words])
-    words += "".join(
-        f" {mark} {quote(head[it][0])}" for it, mark in REDIRECTED.items() if it in head)
+    words += "".join(f" {mark} {quote(head[it][0]).replace(OWN, f'{own}/')}"
+                     for it, mark in REDIRECTED.items() if it in head)
     steps = ["own=$(mktemp -d)"] if own in words else []
     for file in head.get("copies", []):
         steps.append(f"cp {quote(file)} {own}")

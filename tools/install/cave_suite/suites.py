@@ -5,11 +5,32 @@ from __future__ import annotations
 import heapq
 import os
 from functools import cached_property
-from typing import Iterable
+from typing import Iterable, Iterator
 
-from .logs import KINDS, Log
+from .logs import KINDS, Log, is_lost
 
 NAME = "logs"  # the folder of a suite; the files that heads name lie above it
+
+
+def files_below(root: str) -> Iterator[str]:
+    """The paths of the files of a folder and of all below it, and of folders that can't be read.
+    Links to folders are followed, after all other folders, and no folder is read twice."""
+    folders, links, known = [root], list[str](), set[str]()
+    while folders or links:
+        folder = folders.pop() if folders else links.pop(0)
+        if (real := os.path.realpath(folder)) in known:
+            continue
+        known.add(real)
+        try:
+            names = sorted(os.listdir(folder))
+        except OSError:
+            yield folder
+            continue
+        for path in (os.path.join(folder, it) for it in names):
+            if os.path.isdir(path):
+                (links if os.path.islink(path) else folders).append(path)
+            else:
+                yield path
 
 
 class Suite:
@@ -30,10 +51,20 @@ class Suite:
     def stems(self) -> list[str]:
         """The paths, without a kind, of the logs, transcripts and scripts of the folder."""
         found = set()
-        for folder, _, files in os.walk(self.root):
-            parts = [os.path.splitext(it) for it in files]
-            found |= {os.path.join(folder, stem) for stem, kind in parts if kind in KINDS}
+        for path in files_below(self.root):
+            stem, kind = os.path.splitext(path)
+            if kind in KINDS:
+                found.add(stem)
+            elif os.path.isdir(path) or is_lost(path) and os.path.basename(path)[0] != ".":
+                found.add(path)
         return sorted(found, key=lambda it: os.path.relpath(it, self.base))
+
+    @cached_property
+    def files(self) -> set[str]:
+        """The files of its logs, and those that their heads name, as far as they are there."""
+        paths = {stem + kind for stem in self.stems for kind in KINDS}
+        paths |= {os.path.join(self.top, it) for it in self.named}
+        return {it for it in paths if os.path.isfile(it)}
 
     @cached_property
     def names(self) -> dict[str, Log]:
@@ -85,9 +116,16 @@ class Suites:
             self.found[root] = Suite(root, top)
         return self.found[root]
 
+    def paths(self, word: str, places: Iterable[str]) -> Iterator[str]:
+        """The paths that a word may mean: a link below the suite's folder is first of the suite."""
+        for path in (os.path.abspath(os.path.join(it, word)) for it in places):
+            if path.startswith(os.path.join(self.default.root, "")):
+                yield path
+            yield os.path.realpath(path)
+
     def at(self, stem: str) -> list[Log]:
         """The log of a path, if there is one."""
-        for path in (os.path.realpath(os.path.join(it, stem)) for it in self.places[:2]):
+        for path in self.paths(stem, self.places[:2]):
             if any(os.path.isfile(path + it) for it in KINDS):
                 return [self.of(os.path.dirname(path)).log(path)]
         return []
@@ -100,9 +138,9 @@ class Suites:
         names = self.default.names if self.default.is_named_so else {}
         if found := [names[stem]] if stem in names else self.at(stem):
             return [it for it in found if it.is_run]
-        for folder in (os.path.realpath(os.path.join(it, word)) for it in self.places):
-            if os.path.isdir(folder):
-                return self.of(folder).logs(folder)
+        for folder in self.paths(word, self.places):
+            if os.path.isdir(folder) and (found := self.of(folder).logs(folder)):
+                return found
         ends = f"/{stem}"
         return [it for name, it in names.items() if name.endswith(ends) and it.is_run]
 

@@ -5,15 +5,22 @@ from __future__ import annotations
 import sys
 from typing import Sequence
 
+from common import outputs
+
 from .hunks import Hunk, accepted
 from .logs import Log
 
 ASKS = "Write this? y(es), n(o), e(verywhere), a(ll of this log), q(uit): "
 
 
-def write(log: Log, lines: Sequence[str]) -> None:
-    with open(f"{log.stem}.out", "w", encoding="latin-1", newline="") as file:
-        file.writelines(lines)
+def write(log: Log, lines: Sequence[str]) -> bool:
+    """Writes a transcript, whole or not at all. If it can't be written, a line says why."""
+    try:
+        outputs.put(f"{log.stem}.out", "".join(lines).encode("latin-1"))
+    except OSError as error:
+        print(f"{log.path}.out can't be written: {error.strerror}", file=sys.stderr)
+        return False
+    return True
 
 
 class Asked:
@@ -35,6 +42,9 @@ class Asked:
                 said = input(ASKS).strip()[:1].lower()
             except EOFError:
                 said = "q"
+            except KeyboardInterrupt:
+                print()  # after the question
+                raise
             if said in ("y", "n", "a"):
                 return said
             if said == "e":
@@ -47,15 +57,17 @@ class Asked:
 
     def update(self, log: Log, old: Sequence[str], new: Sequence[str],
                hunks: Sequence[Hunk]) -> list[Hunk]:
-        """Writes the hunks that the reader accepts, and gives those that are left."""
+        """Writes the hunks that the reader accepts, also if the questions are interrupted, and gives
+        those that are left."""
         taken: list[Hunk] = []
         left: list[Hunk] = []
-        for at, hunk in enumerate(hunks):
-            said = self.answer(log, hunk)
-            if said == "a":
-                taken += hunks[at:]
-                break
-            (taken if said == "y" else left).append(hunk)
-        if taken:
-            write(log, accepted(old, new, taken))
-        return left
+        try:
+            for at, hunk in enumerate(hunks):
+                said = self.answer(log, hunk)
+                if said == "a":
+                    taken += hunks[at:]
+                    break
+                (taken if said == "y" else left).append(hunk)
+        finally:
+            is_written = not taken or write(log, accepted(old, new, taken))
+        return left if is_written else [*hunks]

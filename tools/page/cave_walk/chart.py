@@ -1,12 +1,11 @@
 """The chart of a walk: its score and its lamp, drawn by gnuplot."""
 
 import subprocess
-import sys
 from collections.abc import Iterable
 
 from common import command_line
 
-from .steps import Steps, Stop, columns_of, events_of, put, text
+from .steps import Steps, Stop, columns_of, demand_output, events_of, print_out, put, text
 
 MARKS = {  # for an event: the type of its points, their size, their colour
     "treasure found": (12, 1.0, "#1d6f86"),
@@ -66,6 +65,8 @@ def main() -> int:
     asks.add_argument("steps", metavar="STEPS")
     asks.add_argument("--output", metavar="CHART.svg")
     said = asks.parse_args()
+    if said.output:
+        demand_output(said.output, "/dev/stdin" if said.steps == "-" else said.steps)
     if lost := command_line.missing("gnuplot"):
         raise Stop(lost)
     steps = columns_of(file_of(said.steps))
@@ -77,5 +78,5 @@ def main() -> int:
     if said.output:
         put(said.output, drawn.stdout)
     else:
-        sys.stdout.buffer.write(drawn.stdout)
+        print_out(drawn.stdout)
     return 0

@@ -16,7 +16,7 @@ from common import command_line
 from . import drawing
 from .beside import alike_at_end, alike_at_start, same_lines
 from .filled import BUILT, WALK, page_of, part
-from .steps import NO_PROGRAM, NONE, Stop, put, text
+from .steps import NO_PROGRAM, NONE, Stop, demand_output, put, text
 
 NUMBERS = "from to turns score lamp draws stream".split()
 NAMED = ["question", "ended", "happened"]  # columns of few words
@@ -40,7 +40,7 @@ class Progress:
             print(line, end="", file=sys.stderr, flush=True)
 
 
-def program_of(named: str) -> str:
+def program_of(named: str | None) -> str:
     """The program that is run."""
     asked = named or (BUILT if os.access(BUILT, os.X_OK) else "cave")
     if not (found := shutil.which(asked)):
@@ -158,16 +158,18 @@ def words() -> argparse.Namespace:
 
 def judge_files(said: argparse.Namespace) -> None:
     """What the page requires of the files, and the program doesn't check."""
-    for path in (said.cave, said.bind, said.log, said.against):
+    read = said.cave, said.bind, said.log, said.against
+    demand_output(said.output, *read, said.program)
+    for path in read:
         if path and os.path.exists(path) and stat.S_ISFIFO(os.stat(path).st_mode):
             raise Stop(f"{path}: a pipe can't be read several times")
 
 
 def main() -> int:
     said, progress = words(), Progress()
+    judge_files(said)
     if lost := command_line.missing("dot"):
         raise Stop(lost)
-    judge_files(said)
     program, texts, lists = program_of(said.program), Texts(), Lists()
     options = [it for name in ("bind", "seed") if (value := getattr(said, name)) is not None
                for it in (f"--{name}", value)]

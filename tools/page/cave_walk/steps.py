@@ -3,11 +3,13 @@
     from cave_walk.steps import COLUMNS, NONE, NUMBERS, Stop, columns_of, events_of, put
 """
 
+import errno
 import os
 import sys
-import tempfile
 from collections.abc import Callable
 from typing import Any
+
+from common import outputs
 
 COLUMNS = """place line from to turns score lamp carried draws stream question ended
 happened""".split()
@@ -57,26 +59,31 @@ def events_of(happened: str) -> list[str]:
     return [] if happened == NONE else happened.split(",")
 
 
+def demand_output(path: str, *inputs: str | None) -> None:
+    """Stops a run whose output would replace one of its inputs."""
+    if wrong := outputs.fault(path, inputs):
+        raise Stop(wrong)
+
+
 def put(path: str, content: bytes) -> None:
     """Puts a file, whole or not at all."""
-    draft = None
-    if os.path.exists(path) and not os.path.isfile(path):
-        wrong = "is a directory" if os.path.isdir(path) else "is no regular file"
-        raise Stop(f"{path}: the output can't be written: {wrong}", 6)
     try:
-        path = os.path.realpath(path)
-        with tempfile.NamedTemporaryFile(dir=os.path.dirname(path), delete=False) as file:
-            draft = file.name
-            file.write(content)
-        mask = os.umask(0)
-        os.umask(mask)
-        mode = os.stat(path).st_mode & 0o777 if os.path.exists(path) else 0o666 & ~mask
-        os.chmod(draft, mode)
-        os.replace(draft, path)
+        outputs.put(path, content)
     except OSError as error:
-        if draft and os.path.exists(draft):
-            os.remove(draft)
         raise Stop(f"{path}: the output can't be written: {error.strerror}", 6) from None
+
+
+def print_out(content: bytes) -> None:
+    """Prints an output."""
+    try:
+        if not sys.stdout:
+            raise OSError(errno.EBADF, os.strerror(errno.EBADF))
+        sys.stdout.buffer.write(content)
+        sys.stdout.flush()
+    except OSError as error:
+        # Python would report again what it can't flush as it ends.
+        os.dup2(os.open(os.devnull, os.O_WRONLY), 1)
+        raise Stop(f"the output can't be written: {error.strerror}", 6) from None
 
 
 def ended_by(main: Callable[[], int]) -> int:

@@ -5,8 +5,9 @@ from __future__ import annotations
 import secrets
 import sys
 import threading
+from contextlib import suppress
 from http.server import BaseHTTPRequestHandler, ThreadingHTTPServer
-from socket import socket
+from socket import SHUT_RDWR, socket
 from urllib.parse import parse_qsl
 
 from .scripts import Malformed
@@ -15,7 +16,8 @@ from .site import Answer, Site, object_of, told
 HOST = "127.0.0.1"
 MOST_SENT = 4_000_000  # bytes of what a page sends
 MOST_AT_ONCE = 32  # connections
-SECONDS = 30  # that a connection may be silent
+SECONDS = 30  # that the connection of a page may be silent
+HEAD_SECONDS = 5  # in which a connection has to show the token, whatever it sends
 HEADERS = {
     "Cache-Control": "no-store", "Referrer-Policy": "no-referrer",
     "X-Content-Type-Options": "nosniff", "X-Frame-Options": "DENY",
@@ -27,6 +29,7 @@ class Server(ThreadingHTTPServer):
 
     daemon_threads = True
     allow_reuse_address = True
+    request_queue_size = MOST_AT_ONCE
 
     def __init__(self, site: Site, port: int) -> None:
         super().__init__((HOST, port), Answers)
@@ -67,6 +70,21 @@ class Answers(BaseHTTPRequestHandler):
     protocol_version, timeout = "HTTP/1.1", SECONDS
     server: Server
 
+    def setup(self) -> None:
+        """Begins the time for the token. That of the library begins again with each byte."""
+        super().setup()
+        self.limit = threading.Timer(HEAD_SECONDS, self.drop)
+        self.limit.daemon = True
+        self.limit.start()
+
+    def finish(self) -> None:
+        self.limit.cancel()
+        super().finish()
+
+    def drop(self) -> None:
+        with suppress(OSError):  # it has just ended
+            self.connection.shutdown(SHUT_RDWR)
+
     def version_string(self) -> str:
         return "cave-live"
 
@@ -88,6 +106,8 @@ class Answers(BaseHTTPRequestHandler):
             and all(it == f"http://{hosts[0]}" for it in origins) and len(origins) < 2
             and self.headers.get("Sec-Fetch-Site", "none") in ("none", "same-origin")
             and secrets.compare_digest(path[1].encode(), self.server.token.encode()))
+        if is_allowed:
+            self.limit.cancel()
         return path[2] if is_allowed else None
 
     def do_GET(self) -> None:  # noqa: N802, by the name that the library wants

@@ -15,6 +15,7 @@ from queue import SimpleQueue
 from types import FrameType
 
 from cave_walk.steps import NO_PROGRAM
+from common import outputs
 
 from . import words
 from .answers import Server
@@ -25,7 +26,7 @@ from .program import Given, Program, Refused
 from .saving import Home
 from .site import Site
 
-UNWRITTEN = 6
+MISUSED, UNWRITTEN = 2, 6
 ENDS = (signal.SIGINT, signal.SIGTERM, signal.SIGHUP)
 Draw = Callable[[str], Drawn]
 
@@ -64,8 +65,14 @@ def program_of(named: str | None, built: str) -> str:
     found = named or (built if os.access(built, os.X_OK) else "cave")
     path = shutil.which(found)
     if not path:
-        raise Stop(NO_PROGRAM.format(found), 2)
+        raise Stop(NO_PROGRAM.format(found), MISUSED)
     return path
+
+
+def demand_home(said: argparse.Namespace) -> None:
+    """Stops a run that would save the log over something else that it reads."""
+    if wrong := outputs.fault(said.output or said.log, (said.cave, said.bind, said.program)):
+        raise Stop(wrong, MISUSED)
 
 
 def given(path: str) -> Given:
@@ -146,6 +153,7 @@ def main(about: str, built: str, draw: Draw) -> int:
     for it in ENDS:
         signal.signal(it, end)
     try:
+        demand_home(said)
         site = site_of(said, Program(program_of(said.program, built)), draw)
         site.ending = ending
         serve(site, said.port, not said.no_browser)

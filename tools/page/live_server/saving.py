@@ -3,11 +3,11 @@
 from __future__ import annotations
 
 import os
+from itertools import count
 
 from .plays import Game
 from .program import Given
 
-DRAFTS = 100
 NO_EDIT = b"# no edit\n"
 
 
@@ -35,8 +35,8 @@ class Home:
 
     def draft(self, game: Game, log: bytes, seed: str) -> str:
         """Puts a log beside the file, under a name that is free, and gives the name."""
-        names = (f"{self.to}.unsaved{number or ''}" for number in range(DRAFTS))
-        path = next((it for it in names if not os.path.lexists(it)), f"{self.to}.unsaved")
+        names = (f"{self.to}.unsaved{number or ''}" for number in count())
+        path = next(it for it in names if not os.path.lexists(it))
         put(game, log, seed, path)
         return path
 

@@ -44,6 +44,8 @@ def edit_of(said: object) -> Edit:
         raise Malformed("a place is a number")
     if "\n" in f"{text}{was}":
         raise Malformed("a line ends where its text does")
+    if any("\ud800" <= it <= "\udfff" for it in f"{text}{was}"):
+        raise Malformed("a line has a lone surrogate, which is no character")
     return Edit(kind, place, text, was)
 
 

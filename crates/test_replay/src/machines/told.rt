@@ -4,7 +4,7 @@ use crate::machines::counts::Counts;
 use crate::machines::rule::RowRule;
 use crate::machines::state::State;
 use base_lines::Meter;
-use cave_replay::{Machine, Started, Stepped};
+use cave_replay::{Machine, Playable, Started, Stepped};
 use replay_checkpoints::Whole;
 use std::alloc::{AllocError, Global};
 
@@ -27,13 +27,9 @@ impl<'a, R: RowRule> Machine for Told<'a, R> {
 
     type State = State<'a>;
 
-    type Kept = Whole<State<'a>>;
-
     type Piece = Vec<usize>;
 
     type Meter = Meter;
-
-    type Scratch = ();
 
     ghost Meaning = { ℕ };
 
@@ -60,25 +56,28 @@ impl<'a, R: RowRule> Machine for Told<'a, R> {
         Ok(Started { state, piece })
     }
 
-    fn scratch(&self, _alloc: Global) -> Result<(), AllocError> {
-        Ok(())
-    }
-
     fn step(
         &self,
         alloc: Global,
-        _scratch: &mut (),
-        state: &mut State<'a>,
+        state: &State<'a>,
         line: &[u8],
         meter: &mut Meter,
-    ) -> Result<Stepped<Vec<usize>>, AllocError> {
+    ) -> Result<Stepped<State<'a>, Vec<usize>>, AllocError> {
         meter.tick();
         self.counts.count_step();
         let ticked = R::ticked(state.number, line);
-        state.number = R::after(state.number, line);
+        let number = R::after(state.number, line);
         let mut piece = Vec::new(alloc);
-        piece.push(state.number)?;
-        Ok(Stepped { piece, ticked })
+        piece.push(number)?;
+        let state = State {
+            number,
+            counts: state.counts,
+        };
+        Ok(Stepped {
+            state,
+            piece,
+            ticked,
+        })
     }
 
     fn copy_piece(&self, alloc: Global, piece: &Vec<usize>) -> Result<Vec<usize>, AllocError> {
@@ -88,4 +87,14 @@ impl<'a, R: RowRule> Machine for Told<'a, R> {
     }
 
     ghost exact = { λ a b _ _. same_numbers a.number b.number };
+}
+
+impl<'a, R: RowRule> Playable for Told<'a, R> {
+    type Kept = Whole<State<'a>>;
+
+    type Scratch = ();
+
+    fn scratch(&self, _alloc: Global) -> Result<(), AllocError> {
+        Ok(())
+    }
 }

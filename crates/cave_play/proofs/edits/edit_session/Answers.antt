@@ -18,7 +18,7 @@ use Rattle.cave_play.proofs.ReportLemmas.{report_made}
 use Rattle.cave_play.proofs.ViewLemmas.{told-whole}
 use Rattle.play_edits.specs.SideReport.{side_end}
 use Rattle.cave_play.specs.Ended.{ends_after_items}
-use Rattle.cave_play.specs.Refused.{refusals, refusals_by, refusals_of}
+use Rattle.cave_play.specs.Refused.{refusals, refusals_by, refusals_of, seed_after, seed_by}
 use Rattle.cave_play.specs.Views.{IsEditOf}
 use Rattle.play_edits.specs.LogEnds.{log_ends, shown_ends}
 use Rattle.cave_play.proofs.edits.edit_session.Goals as goal
@@ -183,4 +183,7 @@ returns g c =
     (c.in_ok-end.ensures.text
     ∙ ap (λ view. c.apply.new.kept.report.text.items ++ side_end view totals.played totals.lines)
     (c.in_ok-totals.ensures.asked ∙ c.in_ok-report.ensures.view)) in
-    record { judged = (edits, said, (none, ((edited, after), noted, reported))) }
+    let seeded : c.seed-seed.result ≡ seed_by guarded edits old.game =
+    c.seed-seed.ensures ∙ ap (λ (now : Game). now.seed) same
+    ∙ ap (seed_after old.game) (sym made.1.2) in
+    record { judged = (edits, said, (none, ((edited, after), noted, reported, seeded))) }

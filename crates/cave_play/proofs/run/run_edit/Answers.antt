@@ -241,6 +241,7 @@ returns-in_err-write_output g c =
       played = c.in_ok-edited.edited.played;
       refused = c.in_ok-edited.edited.refused;
       report = c.in_ok-edited.edited.report;
+      seed = c.in_ok-edited.edited.seed;
     } in
     let report =
     report_printed c.args.report database bindings moves edits editing _ _ _ read.1 edited.1.2
@@ -248,7 +249,7 @@ returns-in_err-write_output g c =
     let is : IsEdited database bindings moves edits editing run.played c.in_ok-text.text.items =
     printed_of database bindings moves edits editing _ _ _ _ _ read.1 edited.1.0
     c.in_ok-text.ensures in
-    let output = subst (right run) (sym c.deref-2.ensures.value) (is, edited.1.1, report) in
+    let output = subst (right run) (sym c.deref-2.ensures.value) (is, edited.1.1, report, edited.1.3) in
     let small =
     sym (size_of database bindings moves edits editing _ _ is)
     ∙ sym (ap (λ t. size_fault editing.view (length t)) c.deref.ensures.value)
@@ -277,6 +278,7 @@ returns g c =
       played = c.in_ok-edited.edited.played;
       refused = c.in_ok-edited.edited.refused;
       report = c.in_ok-edited.edited.report;
+      seed = c.in_ok-edited.edited.seed;
     } in
     let report =
     report_printed c.args.report database bindings moves edits editing _ _ _ read.1 edited.1.2
@@ -284,7 +286,7 @@ returns g c =
     let is : IsEdited database bindings moves edits editing run.played c.in_ok-text.text.items =
     printed_of database bindings moves edits editing _ _ _ _ _ read.1 edited.1.0
     c.in_ok-text.ensures in
-    let output = subst (right run) (sym c.deref-2.ensures.value) (is, edited.1.1, report) in
+    let output = subst (right run) (sym c.deref-2.ensures.value) (is, edited.1.1, report, edited.1.3) in
     let small =
     sym (size_of database bindings moves edits editing _ _ is)
     ∙ sym (ap (λ t. size_fault editing.view (length t)) c.deref.ensures.value)

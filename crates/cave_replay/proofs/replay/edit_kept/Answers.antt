@@ -21,9 +21,9 @@ use Rattle.cave_replay.proofs.TakeoverLemmas.{opened_text}
 use Rattle.cave_replay.proofs.replay.edit_kept.Goals as goal
 
 -- the new game of the edits, after room was reserved, is what the changes make of the old one
-made_same : {Machine State Kept Piece Meter Scratch : Type 0}
+made_same : {Machine Kept Scratch State Piece Meter : Type 0}
     {changes : List Change} {seed : ℕ} {log : List LineText} {ready : ReadyEdits}
-    {old roomy : Playthrough Machine State Kept Piece Meter Scratch}
+    {old roomy : Playthrough Machine Kept Scratch State Piece Meter}
     → AreEditsOf changes seed log ready → log ≡ old.log.items → seed ≡ old.seed
     → KeepsAll old roomy
     → new_game ready (kept_game roomy).log ≡ apply_all changes (kept_game old)
@@ -32,9 +32,9 @@ made_same {ready} edits log_is seed_is same =
     ∙ rw (log_is, seed_is) refl
 
 -- what is kept has a piece for each line, and ticks
-whole_of : {Machine State Kept Piece Meter Scratch S T : Type 0} {meaning : State → S}
+whole_of : {Machine Kept Scratch State Piece Meter S T : Type 0} {meaning : State → S}
     {is_state : State → Type 0} {rules : MachineRules S T} (text : Piece → T)
-    (kept : Playthrough Machine State Kept Piece Meter Scratch)
+    (kept : Playthrough Machine Kept Scratch State Piece Meter)
     → KeepsPlay meaning is_state text rules kept → IsWhole kept
 whole_of text kept keeps =
     let n = length-log_of kept.log.items in

@@ -9,7 +9,7 @@ returns-clause-plays g c =
     let meaning = g.M.Machine.meaning in
     let after = (g.M.Machine.rules c.args.machine.now).after in
     let marks = c.args.played.now.marks in
-    let state = c.step.new.state in
+    let state = c.step_in_place.new.state in
     let was = c.state_mut.ensures.value ∙ c.in_ok-advance.ensures.state in
     record {
       pieces = grind (arith, common_steps);

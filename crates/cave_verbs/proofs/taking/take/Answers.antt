@@ -7,5 +7,5 @@ use Rattle.std.proofs.Common.{rules}
 pub returns-then-is_near-clause-ranks : goal.returns-then-is_near-clause-ranks
 returns-then-is_near-clause-ranks g c =
     rw c.thing-bottle.ensures
-    (take-falls (cave_of c.args.rules.now) c.args.scene.now.state.now c.args.command.object
+    (take-falls (cave_of c.args.rules.now) c.args.scene.now.state.now c.args.task.object
     (search rules))

@@ -14,4 +14,4 @@ throw-falls cave x rod = let other = second-rod cave in grind (arith, rod, other
 pub returns-then-is_carried-2-clause-ranks : goal.returns-then-is_carried-2-clause-ranks
 returns-then-is_carried-2-clause-ranks g c =
     rw c.thing-second_rod.ensures
-    (throw-falls (cave_of c.args.rules.now) c.args.command.object (search rules))
+    (throw-falls (cave_of c.args.rules.now) c.args.task.object (search rules))

@@ -9,10 +9,11 @@ returns-in-Some g c =
     record {
       ends =
           subst
-          (λ (names : Option FileNames). EndsNamed names (g.S.System.bytes_of system)
-          c.args.asked.now (g.S.System.calls system) (g.S.System.calls c.run.new.system)
+          (λ (names : Option FileNames). EndsNamed names (g.S.System.one_file system)
+          (g.S.System.bytes_of system) c.args.asked.now (g.S.System.calls system)
+          (g.S.System.calls c.run.new.system)
           (g.W.Write.contents c.args.output.now.writer) (g.W.Write.contents c.run.new.output.writer)
-          c.run.result)
+          c.run.new.output.reason c.run.result)
           c.in-Some.ensures c.run.ensures.ends;
     }
 
@@ -22,9 +23,10 @@ returns-in-None g c =
     record {
       ends =
           subst
-          (λ (names : Option FileNames). EndsNamed names (g.S.System.bytes_of system)
-          c.args.asked.now (g.S.System.calls system) (g.S.System.calls c.print.new.system)
+          (λ (names : Option FileNames). EndsNamed names (g.S.System.one_file system)
+          (g.S.System.bytes_of system) c.args.asked.now (g.S.System.calls system)
+          (g.S.System.calls c.print.new.system)
           (g.W.Write.contents c.args.output.now.writer)
-          (g.W.Write.contents c.print.new.output.writer) c.print.result)
+          (g.W.Write.contents c.print.new.output.writer) c.print.new.output.reason c.print.result)
           c.in-None.ensures c.print.ensures.ends;
     }

@@ -7,10 +7,10 @@ returns-in-Ok g c =
     let system = c.args.system.now in
     let words =
     subst
-    (λ given. EndsWords (map string_bytes given) (g.S.System.bytes_of system)
-    (g.S.System.calls system) (g.S.System.calls c.begin.new.system)
+    (λ given. EndsWords (map string_bytes given) (g.S.System.one_file system)
+    (g.S.System.bytes_of system) (g.S.System.calls system) (g.S.System.calls c.begin.new.system)
     (g.W.Write.contents c.args.output.now.writer) (g.W.Write.contents c.begin.new.output.writer)
-    c.begin.result)
+    c.begin.new.output.reason c.begin.result)
     c.as_slice.ensures.value c.begin.ensures.ends in
     rw c.in-Ok.is (record { words = words; unread = tt })
 

@@ -1,7 +1,5 @@
-use Rattle.std.proofs.Common.{◌≡◌, ℕ, List, [], ◌∷◌, Err, Ok, Some, refl, subst}
-use Rattle.play_program.specs.Calls.{and_then}
-use Rattle.play_program.specs.Calls.Call.{Puts}
-use Rattle.play_program.specs.Ends.{PutsFailure, RunsFiles}
+use Rattle.std.proofs.Common.{ℕ, List, Err, Ok, Some, refl, subst}
+use Rattle.play_program.specs.Ends.{PutsFailure, PutsReported, RunsFiles}
 use Rattle.play_program.specs.Failures.{has_output}
 use Rattle.play_program.specs.Names.{names_in}
 use Rattle.play_program.proofs.run.run_into_file.Goals as goal
@@ -11,7 +9,8 @@ returns-in-Ok g c =
     let system = c.args.system.now in
     let output = c.run_into.new.output.items in
     let opened = g.S.System.calls c.run_into.new.system in
-    let called = g.S.System.calls c.put.new.system in
+    let called = g.S.System.calls c.put_reported.new.system in
+    let reported = c.print_reported-reported.result in
     record {
       runs = (
         output,
@@ -21,11 +20,14 @@ returns-in-Ok g c =
             (λ (first : List ℕ). RunsFiles (g.S.System.bytes_of system) c.args.asked.now
             (names_in c.args.names) (g.S.System.calls system) opened (Some first) (Some output)
             (Ok c.in-Ok.made))
-            c.new-output.ensures.items c.in-Ok.ensures.runs,
+            c.new-kept.ensures.items c.in-Ok.ensures.runs,
         (
-          subst (λ (bytes : List ℕ). called ≡ and_then opened (Puts c.args.file.now bytes ∷ []))
-              c.deref.ensures.value c.put.ensures.call,
-          refl,
+          reported,
+          c.print_reported-reported.ensures.prints,
+          subst
+              (λ (bytes : List ℕ). PutsReported c.args.file.now bytes opened called reported
+              c.put_reported.result)
+              c.deref.ensures.value c.put_reported.ensures.puts,
         ),
       );
     }
@@ -44,15 +46,18 @@ returns g c =
             (λ (first : List ℕ). RunsFiles (g.S.System.bytes_of system) c.args.asked.now
             (names_in c.args.names) (g.S.System.calls system) opened (Some first) (Some output)
             (Err c.in-Err.failure))
-            c.new-output.ensures.items c.in-Err.ensures.runs,
+            c.new-kept.ensures.items c.in-Err.ensures.runs,
         (
-          c.put_failure.result,
           refl,
-          subst
-              (λ (bytes : List ℕ). PutsFailure (has_output c.in-Err.failure) c.args.file.now bytes
-              opened (g.S.System.calls c.put_failure.new.system) c.in-Err.failure
-              c.put_failure.result)
-              c.deref-in-Err.ensures.value c.put_failure.ensures.puts,
+          (
+            c.put_failure.result,
+            refl,
+            subst
+                (λ (bytes : List ℕ). PutsFailure (has_output c.in-Err.failure) c.args.file.now bytes
+                opened (g.S.System.calls c.put_failure.new.system) c.in-Err.failure
+                c.put_failure.result)
+                c.deref-in-Err.ensures.value c.put_failure.ensures.puts,
+          ),
         ),
       );
     }

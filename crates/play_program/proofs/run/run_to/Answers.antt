@@ -1,4 +1,4 @@
-use Rattle.std.proofs.Common.{Bor, ℕ, List, Option, option_map, refl, subst, sym}
+use Rattle.std.proofs.Common.{Bor, ℕ, List, Option, option_map, subst, sym}
 use Rattle.play_program.specs.Ends.{RunsTo}
 use Rattle.play_program.specs.Names.{names_in}
 use Rattle.play_program.proofs.run.run_to.Goals as goal
@@ -12,9 +12,9 @@ returns-in-Some g c =
           (λ (file : Option (Bor (List ℕ))). RunsTo (option_map (λ s. s.now) file)
           (g.S.System.bytes_of system) c.args.asked.now (names_in c.args.names)
           (g.S.System.calls system) (g.S.System.calls c.run_into_file.new.system)
-          (g.W.Write.contents c.args.output.now) (g.W.Write.contents c.args.output.now)
+          (g.W.Write.contents c.args.output.now) (g.W.Write.contents c.run_into_file.new.output)
           c.run_into_file.result)
-          (sym c.in-Some.is) (refl, c.run_into_file.ensures.runs);
+          (sym c.in-Some.is) c.run_into_file.ensures.runs;
     }
 
 pub returns-in-None : goal.returns-in-None
@@ -25,8 +25,8 @@ returns-in-None g c =
           subst
           (λ (file : Option (Bor (List ℕ))). RunsTo (option_map (λ s. s.now) file)
           (g.S.System.bytes_of system) c.args.asked.now (names_in c.args.names)
-          (g.S.System.calls system) (g.S.System.calls c.run_into.new.system)
-          (g.W.Write.contents c.args.output.now) (g.W.Write.contents c.run_into.new.output)
-          c.run_into.result)
-          (sym c.in-None.is) c.run_into.ensures.runs;
+          (g.S.System.calls system) (g.S.System.calls c.run_into_writer.new.system)
+          (g.W.Write.contents c.args.output.now) (g.W.Write.contents c.run_into_writer.new.output)
+          c.run_into_writer.result)
+          (sym c.in-None.is) c.run_into_writer.ensures.runs;
     }

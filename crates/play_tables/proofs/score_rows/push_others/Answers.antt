@@ -30,6 +30,7 @@ returns c =
       c.closing_points-closing.ensures.value,
       c.closed_points-closed.ensures.value,
       c.magazine_points-magazine.ensures.value,
+      c.of.ensures,
     ) (sym shown) in
     on_ok_weaker c.push_other-7.result
     (λ written.

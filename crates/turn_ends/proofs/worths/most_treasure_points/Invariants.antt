@@ -1,5 +1,5 @@
 use Rattle.std.proofs.Common.{◌≡◌, ◌+◌, ◌*◌, ◌≤◌}
-use Rattle.turn_scene.specs.Scene.{cave_of}
+use Rattle.turn_ends.specs.Scorer.{scored_cave}
 use Rattle.turn_ends.specs.Treasures.{treasures_row}
 use Rattle.turn_ends.proofs.Sums.{worth_from}
 use Rattle.turn_ends.proofs.worths.most_treasure_points.Given as goal
@@ -7,7 +7,7 @@ use Rattle.turn_ends.proofs.worths.most_treasure_points.Given as goal
 -- what was counted so far, with the rest, is all, and each treasure counts at most 16 points
 abbrev pub invariant-loop-number : goal.invariant-loop-number
 invariant-loop-number l = record {
-  counted : l.points + worth_from (cave_of l.rules) l.number
-      ≡ (treasures_row (cave_of l.rules)).most;
+  counted : l.points + worth_from (scored_cave l.scorer) l.number
+      ≡ (treasures_row (scored_cave l.scorer)).most;
   few : l.points + 800 ≤ 16 * l.number;
 }

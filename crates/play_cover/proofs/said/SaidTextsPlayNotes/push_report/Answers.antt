@@ -15,11 +15,11 @@ returns c =
       c.in_ok-left.ensures.told
           ∙ ap (λ cave. args.text.now.items
           ++ text_report cave (is_marked noted) asked.known asked.view args.logs)
-          c.in_ok-texts.ensures
+          c.of-texts.ensures
           ∙ ap (λ report. args.text.now.items ++ report)
           (told_by_marks (Said asked.view) asked.known database args.cave.now games noted args.logs
           marked many),
       c.in_ok-left.ensures.left
-          ∙ ap (λ cave. texts_left cave (is_marked noted) asked.known) c.in_ok-texts.ensures
+          ∙ ap (λ cave. texts_left cave (is_marked noted) asked.known) c.of-texts.ensures
           ∙ left_by_marks (Said asked.view) asked.known database args.cave.now games noted marked,
     )

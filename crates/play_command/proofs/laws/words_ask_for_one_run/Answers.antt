@@ -1,0 +1,5 @@
+use Rattle.play_command.proofs.OneLine.{one_line}
+use Rattle.play_command.proofs.laws.words_ask_for_one_run.Goals as goal
+
+pub returns : goal.returns
+returns c = one_line

@@ -1,0 +1,171 @@
+"""What rows of rules do, in the same words for a row of a page and for its definition: a module.
+
+    effects_in(tables_defined())["kill_rows"]    the effects of each row of a table
+    effects_shown(cells, roles, about, before)   those of a row of a page
+
+Effects stand in their order, such as `bird-dead`, "BIRD vanishes" and "BIRD gets prop 0": what is
+said, what becomes of objects, which of their texts is printed, how the game ends, which verb or
+question follows. On a page a verb without a subject is of the object that was named last, as are
+`it` and `its`; x is the object that the row is about, or that the rows before it leave; and "the
+same" is what the row above does, except for what it says. What a row does beside this isn't among
+them, such as what it counts.
+"""
+
+import re
+from collections import defaultdict
+from collections.abc import Iterator, Mapping, Sequence
+from typing import NamedTuple
+
+from common.sources import sources
+from rule_tables import SHORT_NAME, Table, object_named, tests_of, with_effects
+
+THING = r"(\(the name\.\w+\)|\w+)"
+# What is done to an object, by the word of the definitions.
+DEEDS = {"carry": "is taken", "bring": "is brought here", "destroy": "vanishes", "fix": "is fixed",
+         "loosen": "is loosened", "put": "is put down", "lay_down": "is laid down",
+         "juggle": "comes to the front"}
+# What has no object, by the words of the definitions, each with what a clause of a page then is.
+OTHERS = {
+    "default": "the default", "lose_one": "a treasure is lost", "ask_what": "asks back",
+    "again": "arrives again", "lose_to_snake": "a treasure is lost to the snake",
+    "troll_goes": "the troll leaves", "count_death": "one death more is counted",
+    "begin_anew": "nothing is begun any more", "remember": "the player has come as far as k",
+    "with_more_anger": "the dwarves are angrier by 1", "tell_long": "the long text",
+    "with_turn_burnt": "the lamp has a turn less", "panic": "the player panics",
+    "strike": "a dwarf is killed", "GaveUp": "ends as quit", "describes": "it is described",
+    "count_dwarves": "the line that counts them", "count_knives": "the line that counts them",
+    "with_new_charge": "the lamp has 2,500 turns more", "tell_short": "the short text",
+    "count_hits": "the line that counts those that hit", "set_out": "the player sets out",
+    "die": "the player dies", "die_at": "the player dies", "describe_place": "it is described",
+    "prolong": "the lamp burns 30 turns more for each point of the hint",
+    "hint_message": "the text of the hint's row"}
+DEFINED = re.compile(
+    rf"\bsays? role\.(?P<role>\w+)|\bset_prop {THING} (?P<prop>\w+)|\blook {THING} (?P<text>\w+)"
+    rf"|\b(?P<deed>{'|'.join(DEEDS)}) {THING}|\bsend {THING} place\.(?P<place>\w+)"
+    rf"|\bmove {THING} (?P<to>\(\w+|\w+)|\b(?:ends|end_as) (?:ending\.)?(?P<end>\w+)"
+    rf"|\bdoes verb\.(?P<verb>\w+) {THING}?|\b(?:poses|ask) question\.(?P<question>\w+)"
+    rf"|\bfind_treasure (?P<seen>\w+)|\btell_its_text_for (?P<its>\w+)"
+    rf"|(?<!\.)\b(?P<other>{'|'.join(OTHERS)})\b(?! ≡)")
+TARGETS = {"(home_of": "goes home", "(end_of": "moved to the other end",
+           "start": "moved to start"}
+NUMBER = re.compile(r"(?m)^ *([A-Z][A-Z_\d]+) = (?:(?:pos )?(\d+)|negsuc (\d+))$")
+SINGLE = re.compile(r"(?m)^ *(\w+) d = (set_prop (?:\(the name\.\w+\)|\w+) [A-Z_]+)\b")
+PLAIN = re.compile(r"[\s∷=]*(?:row|plain_row|chance_row|otherwise) ")  # a row without an answer
+IDLE = re.compile(r"(?<!∷)\s\[\](?: ∷ \[\])?\s*$")  # and without effects
+NAME = r"\b(?:[A-Z]{2,}2?|x)\b"
+CLAUSE = re.compile(r"; |: |, and |, (?!and)| and |\. ")
+FORMS = {  # of a clause, each with what it says of its objects
+    r"^that (?:of \w+ )?for prop (-?\d+)$": "text {}", r"\bprop (-?\d+)$": "gets prop {}",
+    r"\btexts? for prop (-?\d+) (?:is|are) printed": "text {}", r"\btaken$": "is taken",
+    r"(?<!knives )\bvanish(?:es)?\b": "vanishes", r"\bbrought here": "is brought here",
+    r"\bfixed\b": "is fixed", r"\bloosened$": "is loosened", r"\bput down$": "is put down",
+    r"\blaid down$": "is laid down", r"\bcomes? to the front\b": "comes to the front",
+    r"\bmoved to (?:the place )?`(\w+)`": "moved to {}",
+    r"^(?:x|[A-Z]{2,}2?) to `(\w+)`$": "moved to {}", r"\bmoved to its first place": "goes home",
+    r"\bmoved to the other end$": "moved to the other end",
+    r"(?<!pirate )\bgo(?:es)? home$": "goes home"}
+ALONE = {  # what has no object
+    **{f"^{it}(?:,|$)": it for it in OTHERS.values()}, r"\bpanics\b": "the player panics",
+    r"\bis killed$": "a dwarf is killed", r"\barrives again$": "arrives again",
+    r"^it is seen prop (-?\d+)$": "it is seen with prop {}",
+    r"^the text for prop (-?\d+)$": "its text {}", r"^the place is described$": "it is described",
+    r"^the game ends as (.+)$": "ends as {}", r"^as ([A-Z]+(?: [A-Z]{2,}2?)?)\b": "as {}",
+    r"^the question ([A-Z]\w+)": "asks {}", r"^([A-Z]\w+) is asked$": "asks {}"}
+SAID = re.compile(r"`([a-z][a-z0-9-]*)`(?: is said)?")
+
+
+class Effects(NamedTuple):
+    """What a row does, the object that it is about, or x, and whether it does nothing at all; None
+    if it has an answer, too."""
+
+    done: list[str]
+    about: str
+    is_idle: bool | None
+
+
+class Names:
+    """What words of the definitions mean: things, numbers, and single effects by other names."""
+
+    def __init__(self) -> None:
+        texts = [it.text for it in sources("specs")]
+        short = dict(it for text in texts for it in SHORT_NAME.findall(text))
+        whole = {it: it for text in texts for it in re.findall(r"\(the name\.(\w+)\)", text)}
+        self.things = {it: object_named(name) for it, name in short.items()}
+        self.things |= {f"(the name.{it})": object_named(it) for it in whole}
+        self.numbers = {name: int(up) if up else -int(down) - 1
+                        for text in texts for name, up, down in NUMBER.findall(text)}
+        self.effects = dict(it for text in texts for it in SINGLE.findall(text))
+
+    def of(self, row: str, about: str) -> Iterator[str]:
+        """The effects of a row without its tests, in which x is what it is about."""
+        whole = re.sub(r"\w+", lambda it: self.effects.get(it[0], it[0]), row)
+        for found in DEFINED.finditer(whole):
+            kind, word = next((kind, word) for kind, word in found.groupdict().items() if word)
+            given = "".join(it for it in found.groups() if it and it != word)
+            thing = self.things.get(given, about if given in ("x", "it") else "")
+            number = self.numbers.get(word, word)
+            if kind == "verb":
+                yield f"as {word.upper()} {thing if given != 'x' else ''}".strip()
+            elif kind == "to":
+                yield from (f"{thing} {it}" for form, it in TARGETS.items() if word == form)
+            else:
+                yield {"role": word.lower(), "prop": f"{thing} gets prop {number}",
+                       "text": f"{thing} text {number}", "its": f"its text {number}",
+                       "place": f"{thing} moved to {word.lower()}", "question": f"asks {word}",
+                       "deed": f"{thing} {DEEDS.get(word)}", "end": f"ends as {word.lower()}",
+                       "seen": f"it is seen with prop {number}",
+                       "other": OTHERS.get(word, "")}[kind]
+
+
+def effects_in(defined: Mapping[str, Sequence[Table]]) -> dict[str, list[Effects]]:
+    """The effects of each row of each table of rows."""
+    names, lists = Names(), defaultdict[str, dict[str, str]](dict)  # of each crate
+    for path, tables in defined.items():
+        lists[path.split("/")[1]] |= {it.name: it.text for it in tables if it.form == "effects"}
+    found = defaultdict[str, list[Effects]](list)
+    for path, table in ((path, it) for path, tables in defined.items() for it in tables):
+        left = "x"  # what x is in all rows from here on
+        for row in table.rows if table.form == "rows" else ():
+            tests = tests_of(row)
+            own = re.findall(r"\bis(?:_it)? name\.(\w+)", tests)
+            is_one = len(own) == 1 and "no (" not in tests
+            about = object_named(own[0]) if is_one else left
+            if other := re.fullmatch(r"\(no \(is name\.(\w+)\) ∷ \[\]\)", tests):
+                left = object_named(other[1])
+            rest = row.partition(tests)[2] if tests else row
+            done = [*names.of(with_effects(rest, lists[path.split("/")[1]]), about)]
+            is_idle = IDLE.search(rest) is not None if PLAIN.match(row) else None
+            found[table.name].append(Effects(done, about, is_idle))
+    return found
+
+
+def effects_shown(cells: Sequence[str], roles: set[str], about: str,
+                  before: Sequence[str]) -> Iterator[str]:
+    """The effects that a row of a page names after when it applies, and after the row before it."""
+    when, *others = cells
+    text = re.sub(r"\[([^]]+)\]\([^)]*\)", r"\1", "; ".join(filter(None, others)))
+    last, waiting = re.findall(NAME, when)[-1:], list[str]()
+    for clause in (it.strip(" .") for it in CLAUSE.split(text.replace(", with ", " "))):
+        said = SAID.fullmatch(clause)
+        if said and said[1].replace("-", "") in roles:
+            yield said[1].replace("-", "")
+        elif clause == "the same":
+            yield from (it for it in before if it not in roles)
+        elif alone := told_by(clause, ALONE):
+            yield alone
+        else:
+            names = [about if it == "x" else it for it in re.findall(NAME, clause)]
+            last, waiting = [*waiting, *names] if names else last, []
+            if deed := told_by(clause, FORMS):
+                yield from (f"{it} {deed}" for it in last)
+            elif names and re.fullmatch(NAME, clause):
+                waiting = last
+
+
+def told_by(clause: str, forms: Mapping[str, str]) -> str:
+    """What the first of these forms that a clause has says of it, or nothing."""
+    for form, said in forms.items():
+        if found := re.search(form, clause):
+            word = "".join(found.groups())
+            return said.format(word.replace(" ", "").lower() if said == "ends as {}" else word)
+    return ""
