@@ -25,12 +25,13 @@ pub enum Failure<'a> {
     Unwritten(&'a str, io::Error),
     /// The system can't write the output, for this reason.
     Unprinted(io::Error),
-    /// The output would go over this file, which the run reads. That of the view may.
+    /// The output would replace this file, which the run reads. The output of the view that is
+    /// named second may.
     Clash(&'a str, Option<&'a str>),
 }
 
-/// The status of a run that would write over what it reads: its command line is wrong.
-const CLASHES: u8 = 2;
+/// The status of a command line that is wrong, in its words or as it would replace what it reads.
+pub const WRONG_WORDS: u8 = 2;
 
 /// Whether nobody reads any more what is written.
 pub fn is_closed_pipe(reason: &io::Error) -> bool
@@ -55,7 +56,7 @@ impl<'a> Failure<'a> {
             Failure::Run(fault, _) => fault.status(),
             Failure::Unopened(input, _, _) => PlayFault::Read(*input).status(),
             Failure::Unwritten(_, _) | Failure::Unprinted(_) => PlayFault::Write.status(),
-            Failure::Clash(_, _) => CLASHES,
+            Failure::Clash(_, _) => WRONG_WORDS,
         }
     }
 

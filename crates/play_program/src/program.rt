@@ -7,7 +7,7 @@ ghost use Rattle.play_program.specs.Names.{names_of};
 ghost use Rattle.play_program.specs.Program.{EndsNamed, EndsRefused, EndsText, EndsUnread};
 ghost use Rattle.play_program.specs.Program.{EndsWords, TellsOne, TellsUnprinted};
 
-use crate::failure::is_closed_pipe;
+use crate::failure::{WRONG_WORDS, is_closed_pipe};
 use crate::message::Message;
 use crate::names::Names;
 use crate::output::Output;
@@ -21,9 +21,6 @@ use std::io::{ErrorKind, Write};
 
 /// The status of a program that printed what was asked for.
 const DONE: u8 = 0;
-
-/// The status of a program whose words can't be read.
-const WRONG_WORDS: u8 = 2;
 
 /// Reports a fault that is about no file, and returns the status that goes with it.
 fn fail<S: System>(system: &mut S, fault: PlayFault) -> u8
