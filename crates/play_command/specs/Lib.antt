@@ -6,6 +6,7 @@ pub mod InPlace
 pub mod Line
 pub mod MapPart
 pub mod Number
+pub mod Refusal
 pub mod SameLines
 pub mod Source
 pub mod Views

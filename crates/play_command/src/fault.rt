@@ -8,84 +8,44 @@ use crate::views::{CHECK_VIEWS, COVER_VIEWS, PLAY_VIEWS};
 use base_slips::{Wanted, WantedCommand};
 use clap::Error as ParseError;
 use std::alloc::{AllocError, AllocFailed};
-use thiserror::Error;
+use std::error::Error;
+use std::fmt;
+
+/// Where the texts of faults end.
+const HELP: &str = "\n\nFor more information, try '--help'.\n";
 
 /// Why a command line asks for no run. Its text is whole lines, for standard error.
-#[derive(Debug, Drop, Error)]
+#[derive(Debug, Drop)]
 pub enum CommandFault<'a> {
     /// The parser refused the words.
-    #[error("{0}")]
     Usage(ParseError),
     /// The words name no command, or not all of its files.
-    #[error("error: a command and its files are required\n\nFor more information, try '--help'.\n")]
     Incomplete,
-    #[error("error: invalid value '{0}' for '--seed <N>': expected 1 to 10 digits, \
-        from 0 to 2147483647\n\n\
-        For more information, try '--help'.\n")]
     BadSeed(&'a str),
-    #[error("error: invalid value '{0}' for '--every <K>': expected 1 to 10 digits, \
-        from 1 to 10000\n\n\
-        For more information, try '--help'.\n")]
     BadEvery(&'a str),
-    #[error("error: invalid value '{}' for '--print <WHAT>': {}\n\n\
-        For more information, try '--help'.\n", .0, Wanted {given: *.0, names: &EDIT_VIEWS})]
     BadView(&'a str),
-    #[error("error: invalid value '{}' for '--print <WHAT>': {}\n\n\
-        For more information, try '--help'.\n", .0, Wanted {given: *.0, names: &PLAY_VIEWS})]
     BadPlayView(&'a str),
-    #[error("error: invalid value '{}' for '--print <WHAT>': {}\n\n\
-        For more information, try '--help'.\n", .0, Wanted {given: *.0, names: &CHECK_VIEWS})]
     BadCheckView(&'a str),
-    #[error("error: invalid value '{}' for '--print <WHAT>': {}\n\n\
-        For more information, try '--help'.\n", .0, Wanted {given: *.0, names: &COVER_VIEWS})]
     BadCoverView(&'a str),
     /// The word isn't a command.
-    #[error("error: unrecognized subcommand '{}': {}\n\n\
-        Usage: cave <COMMAND>\n\n\
-        For more information, try '--help'.\n", .0, WantedCommand {given: *.0})]
     NoCommand(&'a str),
     /// An edit has neither a script nor a log to make.
-    #[error("error: SCRIPT, '--edit <EDIT>' or '--to <FILE>' is required\n\n\
-        For more information, try '--help'.\n")]
     NoScript,
     /// An edit has two of the three.
-    #[error("error: only one of SCRIPT, '--edit <EDIT>' and '--to <FILE>' can be used\n\n\
-        For more information, try '--help'.\n")]
     TwoScripts,
-    #[error("error: invalid value '{}' for '--report <WHAT>': {}\n\n\
-        For more information, try '--help'.\n", .0, Wanted {given: *.0, names: &REPORT_VIEWS})]
     BadReport(&'a str),
     /// A report is asked for, and the output goes where it would.
-    #[error("error: '--report <WHAT>' is for '--output <FILE>': without it, '--print <WHAT>' prints \
-        reports\n\n\
-        For more information, try '--help'.\n")]
     ReportAlone,
     /// An edit in place is given another file or another view.
-    #[error("error: '--in-place' can be used neither with '--output <FILE>' nor with \
-        '--print <WHAT>': it is short for '--print log --output LOG'\n\n\
-        For more information, try '--help'.\n")]
     InPlaceAlone,
     /// Doubts are to be judged or left out, and something else is to be printed.
-    #[error("error: '--strict' and '--known <FILE>' are for '--print doubts'\n\n\
-        For more information, try '--help'.\n")]
     DoubtsAlone,
-    #[error("error: invalid value '{0}' for '--from <PLACE>': expected 1 to 10 digits, \
-        from 1 to 300\n\n\
-        For more information, try '--help'.\n")]
     BadPlace(&'a str),
-    #[error("error: invalid value '{0}' for '--within <N>': expected 1 to 10 digits, \
-        from 0 to 300\n\n\
-        For more information, try '--help'.\n")]
     BadWays(&'a str),
     /// A number of ways is given, and no place from which they are counted.
-    #[error("error: '--within <N>' is for '--from <PLACE>'\n\n\
-        For more information, try '--help'.\n")]
     WithinAlone,
     /// Only what logs saw is to be drawn, and there are no logs.
-    #[error("error: '--seen' needs a LOG\n\n\
-        For more information, try '--help'.\n")]
     SeenAlone,
-    #[error("cave: there isn't enough memory\n")]
     Memory,
 }
 
@@ -116,3 +76,96 @@ impl<T: Drop> From<AllocFailed<T>> for CommandFault<'_> {
         CommandFault::Memory
     }
 }
+
+/// Writes that an option has none of the names that it expects.
+fn write_unknown<W: fmt::Write>(
+    f: &mut fmt::Formatter<W>,
+    option: &str,
+    given: &str,
+    names: &[&str],
+) -> fmt::Result {
+    let wanted = Wanted { given, names };
+    write!(
+        f,
+        "error: invalid value '{given}' for '{option} <WHAT>': {wanted}{HELP}"
+    )
+}
+
+impl fmt::Display for CommandFault<'_> {
+    ghost use Rattle.play_command.specs.Refusal.{refusal_text};
+
+    ghost output = { refusal_text };
+
+    fn fmt<W: fmt::Write>(&self, f: &mut fmt::Formatter<W>) -> fmt::Result {
+        match self {
+            CommandFault::Usage(error) => write!(f, "{error}"),
+            CommandFault::Incomplete => write!(
+                f,
+                "error: a command and its files are required{HELP}"
+            ),
+            CommandFault::BadSeed(given) => write!(
+                f,
+                "error: invalid value '{given}' for '--seed <N>': expected 1 to 10 digits, \
+                from 0 to 2147483647{HELP}"
+            ),
+            CommandFault::BadEvery(given) => write!(
+                f,
+                "error: invalid value '{given}' for '--every <K>': expected 1 to 10 digits, \
+                from 1 to 10000{HELP}"
+            ),
+            CommandFault::BadPlace(given) => write!(
+                f,
+                "error: invalid value '{given}' for '--from <PLACE>': expected 1 to 10 digits, \
+                from 1 to 300{HELP}"
+            ),
+            CommandFault::BadWays(given) => write!(
+                f,
+                "error: invalid value '{given}' for '--within <N>': expected 1 to 10 digits, \
+                from 0 to 300{HELP}"
+            ),
+            CommandFault::BadView(given) => write_unknown(f, "--print", given, &EDIT_VIEWS),
+            CommandFault::BadPlayView(given) => write_unknown(f, "--print", given, &PLAY_VIEWS),
+            CommandFault::BadCheckView(given) => write_unknown(f, "--print", given, &CHECK_VIEWS),
+            CommandFault::BadCoverView(given) => write_unknown(f, "--print", given, &COVER_VIEWS),
+            CommandFault::BadReport(given) => write_unknown(f, "--report", given, &REPORT_VIEWS),
+            CommandFault::NoCommand(given) => {
+                let wanted = WantedCommand { given: *given };
+                write!(
+                    f,
+                    "error: unrecognized subcommand '{given}': {wanted}\n\n\
+                    Usage: cave <COMMAND>{HELP}"
+                )
+            }
+            CommandFault::NoScript => write!(
+                f,
+                "error: SCRIPT, '--edit <EDIT>' or '--to <FILE>' is required{HELP}"
+            ),
+            CommandFault::TwoScripts => write!(
+                f,
+                "error: only one of SCRIPT, '--edit <EDIT>' and '--to <FILE>' can be used{HELP}"
+            ),
+            CommandFault::ReportAlone => write!(
+                f,
+                "error: '--report <WHAT>' is for '--output <FILE>': without it, \
+                '--print <WHAT>' prints reports{HELP}"
+            ),
+            CommandFault::InPlaceAlone => write!(
+                f,
+                "error: '--in-place' can be used neither with '--output <FILE>' nor with \
+                '--print <WHAT>': it is short for '--print log --output LOG'{HELP}"
+            ),
+            CommandFault::DoubtsAlone => write!(
+                f,
+                "error: '--strict' and '--known <FILE>' are for '--print doubts'{HELP}"
+            ),
+            CommandFault::WithinAlone => write!(
+                f,
+                "error: '--within <N>' is for '--from <PLACE>'{HELP}"
+            ),
+            CommandFault::SeenAlone => write!(f, "error: '--seen' needs a LOG{HELP}"),
+            CommandFault::Memory => writeln!(f, "cave: there isn't enough memory"),
+        }
+    }
+}
+
+impl Error for CommandFault<'_> {}

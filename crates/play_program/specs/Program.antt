@@ -1,6 +1,6 @@
 -- What the program asks of its system for its words, and with which status it ends.
 use Rattle.std.specs.Prelude.{◌≡◌, ◌⊎◌, ℕ, Bool, List, [], ◌∷◌, Option, None, Some, Result, Ok}
-use Rattle.std.specs.Prelude.{Err, IfErr, IfOk}
+use Rattle.std.specs.Prelude.{Err, IfErr, IfOk, IfSome}
 use Rattle.std.specs.IoError.{error_kind}
 use Rattle.std.specs.declared.io.Error.{Error}
 use Rattle.clap.specs.Words.{fault_of, subcommand_of}
@@ -9,6 +9,7 @@ use Rattle.cave_play.specs.declared.fault.PlayFault.{PlayFault}
 use Rattle.cave_play.specs.declared.fault.PlayFault.TheVariants as fault
 use Rattle.play_command.specs.App.{cave_app}
 use Rattle.play_command.specs.Line.{IsAsked, IsRefused, IsRun, status_of_command}
+use Rattle.play_command.specs.Refusal.{refusal_text}
 use Rattle.play_command.specs.declared.fault.CommandFault.{CommandFault}
 use Rattle.play_command.specs.declared.line.Line.{Line}
 use Rattle.play_program.specs.Calls.{Call, Told, and_then}
@@ -38,12 +39,18 @@ abbrev pub EndsText : Option (List Call) → Option (List Call) → ℕ → Type
 EndsText calls called status = ((called ≡ calls) × (status ≡ 0))
     ⊎ ((reason : Error) × TellsUnprinted reason calls called status)
 
+-- these two parts are what is said of the fault; they are free if it is the parser's or that of a
+-- name
+abbrev pub AreSaidOf : CommandFault → List ℕ → List ℕ → Type 0
+AreSaidOf found before after =
+    IfSome (refusal_text found) (λ text. (before ≡ text) × (after ≡ []))
+
 -- what a refused line leaves: the reason is reported, unless memory runs out, and nothing else is
 -- asked of the system
 abbrev pub EndsRefused : CommandFault → Option (List Call) → Option (List Call) → ℕ → Type 0
 EndsRefused found calls called status =
     ((before : List ℕ) × (after : List ℕ) × TellsOne (misused before after) calls called
-    × (status ≡ status_of_command found))
+    × AreSaidOf found before after × (status ≡ status_of_command found))
     ⊎ TellsFault fault.Memory calls called status
 
 -- what a line that names these files, or asks for no run, leaves

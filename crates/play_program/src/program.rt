@@ -92,8 +92,11 @@ fn refuse<S: System>(alloc: Global, system: &mut S, fault: &CommandFault<'_>) ->
 {
     match format!(in alloc; "{fault}") {
         Ok(text) => {
-            let parts = without_tip(&text);
-            system.tell(Message::Usage(parts.0, parts.1));
+            let (before, after) = match fault {
+                CommandFault::Usage(_) => without_tip(&text),
+                _ => (text.as_str(), ""),
+            };
+            system.tell(Message::Usage(before, after));
             fault.status()
         }
         Err(_) => fail(system, PlayFault::Memory),

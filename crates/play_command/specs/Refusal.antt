@@ -1,0 +1,44 @@
+-- What is said of a command line that asks for no run.
+use Rattle.std.specs.Prelude.{ℕ, List, ◌++◌, Option, Some, None, codes}
+use Rattle.play_command.specs.declared.fault.CommandFault.{CommandFault}
+use Rattle.play_command.specs.declared.fault.CommandFault.TheVariants as fault_is
+
+-- where the texts end
+abbrev pub help : List ℕ
+help = codes "\n\nFor more information, try '--help'.\n"
+
+abbrev pub error_text : List ℕ → Option (List ℕ)
+error_text what = Some (codes "error: " ++ (what ++ help))
+
+-- the value that an option has isn't a number in its range
+abbrev pub number_text : List ℕ → List ℕ → List ℕ → Option (List ℕ)
+number_text given option range =
+    Some (codes "error: invalid value '" ++ (given ++ (codes "' for '"
+    ++ (option ++ (codes "': expected 1 to 10 digits, from " ++ (range ++ help))))))
+
+-- what is said of each fault, unless the parser words it, or it is a name that isn't known
+abbrev pub refusal_text : CommandFault → Option (List ℕ)
+refusal_text fault_is.Incomplete = error_text (codes "a command and its files are required")
+refusal_text (fault_is.BadSeed given) =
+    number_text given.now (codes "--seed <N>") (codes "0 to 2147483647")
+refusal_text (fault_is.BadEvery given) =
+    number_text given.now (codes "--every <K>") (codes "1 to 10000")
+refusal_text (fault_is.BadPlace given) =
+    number_text given.now (codes "--from <PLACE>") (codes "1 to 300")
+refusal_text (fault_is.BadWays given) =
+    number_text given.now (codes "--within <N>") (codes "0 to 300")
+refusal_text fault_is.NoScript =
+    error_text (codes "SCRIPT, '--edit <EDIT>' or '--to <FILE>' is required")
+refusal_text fault_is.TwoScripts =
+    error_text (codes "only one of SCRIPT, '--edit <EDIT>' and '--to <FILE>' can be used")
+refusal_text fault_is.ReportAlone = error_text (codes
+    "'--report <WHAT>' is for '--output <FILE>': without it, '--print <WHAT>' prints reports")
+refusal_text fault_is.InPlaceAlone = error_text
+    (codes "'--in-place' can be used neither with '--output <FILE>' nor with '--print <WHAT>': "
+    ++ codes "it is short for '--print log --output LOG'")
+refusal_text fault_is.DoubtsAlone =
+    error_text (codes "'--strict' and '--known <FILE>' are for '--print doubts'")
+refusal_text fault_is.WithinAlone = error_text (codes "'--within <N>' is for '--from <PLACE>'")
+refusal_text fault_is.SeenAlone = error_text (codes "'--seen' needs a LOG")
+refusal_text fault_is.Memory = Some (codes "cave: there isn't enough memory\n")
+refusal_text _ = None
