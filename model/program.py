@@ -149,8 +149,8 @@ def judged_options(command, files, options):
     if command == "edit" and len(files) == 2 and "--edit" not in options:
         raise wrong("SCRIPT, '--edit <EDIT>' or '--to <FILE>' is required")
     if "--report" in options:
-        raise wrong("'--report <WHAT>' is for '--output <FILE>': without it, '--print <WHAT>'"
-                    " prints reports")
+        raise wrong("'--report <WHAT>' is for '--output <FILE>' or '--in-place': without these,"
+                    " '--print <WHAT>' prints reports")
     return {"edit": options.get("--edit"), "bind": options.get("--bind"), "print": prints,
             "strict": "--strict" in options, "guarded": "--guarded" in options,
             "quiet": "--quiet" in options, "seed": seed,

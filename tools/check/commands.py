@@ -2,8 +2,8 @@
 
 In backquotes and in blocks: the word after `make` is a target, those after `tools/check/run` are
 checks, a line of a block that begins with a script has one that is there, and each option is one of
-some script or of the program; of `cave WORD` one that the help of WORD has, and after `--print`
-what that help lists. docs/PROGRAM.md has the options of each help, the short beside the long, in
+some script or of the program; of `cave WORD` and of an installed script one that its help has, and
+after `--print` what that help lists. docs/PROGRAM.md has the options of each help, the short beside the long, in
 its table and for each command in its synopsis, with the numbers that help has of them: ranges, what
 holds without them, and statuses. It has what each help prints, first what it prints by itself. Its
 exit statuses are those of help and of the definitions, and each row there has a word that of the
@@ -16,7 +16,7 @@ from collections import defaultdict
 from collections.abc import Iterator
 from functools import cache
 
-from common.files import TOP, files, match_in, section_of, tables_in, text_if, text_of
+from common.files import TOP, files, match_in, ran_in, section_of, tables_in, text_if, text_of
 
 PAGE, HELP, STATUSES = "docs/PROGRAM.md", "logs/help/", "crates/cave_play/specs/Fault.antt"
 SCRIPTS = ("Makefile", "tools/**", "logs/run", "logs/tools/*", "model/*", "recipes/**")
@@ -52,9 +52,17 @@ def printed(command: str) -> list[str]:
 @cache
 def known_options() -> set[str]:
     """The options of the program and of scripts."""
-    paths = (it for it in files(*SCRIPTS) if os.path.isfile(f"{TOP}/{it}"))
+    paths = (it for it in files(*SCRIPTS) if os.path.isfile(f"{TOP}/{it}") and "/tests/" not in it)
     found = {it for path in paths for it in re.findall(r"--[a-z][a-z-]*", text_of(path, "latin-1"))}
     return found.union(*helped().values())
+
+
+@cache
+def installed() -> dict[str, set[str]]:
+    """The options of each script that is installed, by its help."""
+    scripts = re.findall(r'"(cave-\w+)": "(tools/\S+)"', text_if("tools/install/packed.py"))
+    return {name: {*re.findall(r"(?<![\w-])--?[a-z][a-z-]*", ran_in(".", [path, "--help"]).stdout)}
+            for name, path in scripts}
 
 
 @cache
@@ -80,6 +88,10 @@ def commands_of(page: str) -> Iterator[tuple[str, bool]]:
 def faults_of_options(line: str) -> Iterator[str]:
     """The options of a command of the program that its help doesn't have, or of any other."""
     words = line.split()
+    if words[:1] and words[0] in installed():
+        yield from (f"`{line}`: there is no option {option}" for option, _ in OPTION.findall(line)
+                    if option not in installed()[words[0]])
+        return
     command = words[1] if words[:1] == ["cave"] and len(words) > 1 else None
     found = helped().get(command) if command else None
     if command and found is None and re.fullmatch("[a-z]+", command) and command != "help":
@@ -107,7 +119,7 @@ def faults_of(line: str, is_shown: bool) -> Iterator[str]:
     if is_shown and first.startswith(FOLDERS) and re.fullmatch(r"[\w/.-]+", first):
         if not os.path.exists(f"{TOP}/{first}"):
             yield f"there is no {first}"
-    if first == "cave" or first.startswith((*FOLDERS, "--", "make")):
+    if first in ("cave", *installed()) or first.startswith((*FOLDERS, "--", "make")):
         yield from faults_of_options(line)
 
 
@@ -149,7 +161,7 @@ def faults_of_synopsis() -> Iterator[str]:
     for command, options in helped().items():
         own = " ".join(it for it in lines if it.split()[:2] == ["cave", command])
         longs = {it for it, _ in OPTION.findall(own) if it.startswith("--")}
-        missing = {*options} - {"--help", "--edit", "--quiet", "--report"} - longs
+        missing = {*options} - {"--help", "--edit"} - longs
         yield from (f"the synopsis of {command} and help differ in {it}"
                     for it in sorted(missing | longs - {*options}) if command)
     shown = defaultdict[str, list[str]](list)

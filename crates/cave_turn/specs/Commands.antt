@@ -103,8 +103,8 @@ after_next cave _ p = p
 
 -- a verb is done by the first of its rows that fits, and then what follows
 unfoldable pub do_verb : CaveView → Task → Scene → Act Next
-do_verb cave command p =
-    let a = act cave command p in let next = next_of_step a.step in
+do_verb cave task p =
+    let a = act cave task p in let next = next_of_step a.step in
     act_of (after_next cave next a.scene) next
 
 -- an action is done by its rules, if it has any; otherwise the game says what the cave says of it

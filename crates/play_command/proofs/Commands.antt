@@ -23,7 +23,8 @@ use Rattle.play_command.specs.declared.fault.CommandFault.TheVariants.{BadCoverV
 use Rattle.play_command.specs.declared.fault.CommandFault.TheVariants.{NoScript, TwoScripts}
 use Rattle.play_command.specs.declared.fault.CommandFault.TheVariants.{BadReport, ReportAlone}
 use Rattle.play_command.specs.declared.fault.CommandFault.TheVariants.{BadPlace, BadWays, SeenAlone}
-use Rattle.play_command.specs.declared.fault.CommandFault.TheVariants.{WithinAlone, InPlaceAlone}
+use Rattle.play_command.specs.declared.fault.CommandFault.TheVariants.{SeedAlone}
+use Rattle.play_command.specs.declared.fault.CommandFault.TheVariants.{WithinAlone, TwoOutputs}
 use Rattle.play_command.specs.declared.fault.CommandFault.TheVariants.{DoubtsAlone}
 use Rattle.play_command.specs.declared.line.Line.{Line}
 use Rattle.play_command.specs.declared.line.Line.TheVariants as run
@@ -118,12 +119,13 @@ found_refused words kinds met (Err NoScript) none is = (none, is)
 found_refused words kinds met (Err TwoScripts) none is = (none, is)
 found_refused words kinds met (Err (BadReport name)) none is = (none, is)
 found_refused words kinds met (Err ReportAlone) none is = (none, is)
-found_refused words kinds met (Err InPlaceAlone) none is = (none, is)
+found_refused words kinds met (Err TwoOutputs) none is = (none, is)
 found_refused words kinds met (Err DoubtsAlone) none is = (none, is)
 found_refused words kinds met (Err (BadPlace text)) none is = (none, is)
 found_refused words kinds met (Err (BadWays text)) none is = (none, is)
 found_refused words kinds met (Err WithinAlone) none is = (none, is)
 found_refused words kinds met (Err SeenAlone) none is = (none, is)
+found_refused words kinds met (Err SeedAlone) none is = (none, is)
 found_refused words kinds met (Err (NoCommand text)) none is = absurd (no_stray met text is)
 found_refused words kinds met (Err Memory) none is = tt
 
@@ -172,12 +174,13 @@ error_refused words kinds met error NoScript has is = absurd is
 error_refused words kinds met error TwoScripts has is = absurd is
 error_refused words kinds met error (BadReport name) has is = absurd is
 error_refused words kinds met error ReportAlone has is = absurd is
-error_refused words kinds met error InPlaceAlone has is = absurd is
+error_refused words kinds met error TwoOutputs has is = absurd is
 error_refused words kinds met error DoubtsAlone has is = absurd is
 error_refused words kinds met error (BadPlace text) has is = absurd is
 error_refused words kinds met error (BadWays text) has is = absurd is
 error_refused words kinds met error WithinAlone has is = absurd is
 error_refused words kinds met error SeenAlone has is = absurd is
+error_refused words kinds met error SeedAlone has is = absurd is
 error_refused words kinds met error (NoCommand text) has (invalid, stray) = (
   subst (λ (kind : ErrorKind). IsAmong kind kinds) invalid
       (among kinds error has (no_memory_invalid (kind_of error) invalid)),

@@ -219,7 +219,7 @@ IsBadOption name rows (fault_is.BadReport given) =
     (name ≡ codes "edit") × IsBadReport rows (fault_is.BadReport given)
 IsBadOption name rows fault_is.ReportAlone =
     (name ≡ codes "edit") × IsBadReport rows fault_is.ReportAlone
-IsBadOption name rows fault_is.InPlaceAlone =
+IsBadOption name rows fault_is.TwoOutputs =
     (name ≡ codes "edit") × (is_two_outputs rows ≡ true)
 IsBadOption name rows fault_is.DoubtsAlone =
     (name ≡ codes "check") × (are_doubts_asked rows ≡ false) × (are_doubts_judged rows ≡ true)
@@ -231,6 +231,8 @@ IsBadOption name rows fault_is.WithinAlone =
     (name ≡ codes "map") × IsBadPart rows fault_is.WithinAlone
 IsBadOption name rows fault_is.SeenAlone =
     (name ≡ codes "map") × IsBadPart rows fault_is.SeenAlone
+IsBadOption name rows fault_is.SeedAlone =
+    (name ≡ codes "map") × IsBadPart rows fault_is.SeedAlone
 IsBadOption name rows fault = IsBadSeed rows fault ⊎ IsBadEvery rows fault
 
 -- what is wrong with what was found

@@ -23,14 +23,17 @@ IsAroundBy (Some place) rows (Some around) =
 abbrev pub IsAround : List Row → Option Surroundings → Type 0
 IsAround rows around = IsAroundBy (first_of (codes "from") rows) rows around
 
--- the part is what was found for it: only what logs saw is drawn if there are some
+-- the part is what was found for it: only what logs saw is drawn if there are some, and a seed is
+-- theirs
 pub record IsMapPart (rows : List Row) (part : MapPart) : Type 0 where
   pub seen : part.seen ≡ is_set (codes "seen") rows
   pub logs : part.seen ≡ true → is_some (all_of (codes "log") rows) ≡ true
+  pub seed : is_some (first_of (codes "seed") rows) ≡ true
+      → is_some (all_of (codes "log") rows) ≡ true
   pub around : IsAround rows part.around
 
 -- what was found for the part names no place or no number of ways, or there are ways from no place,
--- or no logs of which only what they saw is drawn
+-- or no logs of which only what they saw is drawn, or by which the seed is used
 abbrev pub IsBadPart : List Row → CommandFault → Type 0
 IsBadPart rows (fault_is.BadPlace text) =
     IsUnread (codes "from") (number_in_range 1 300) rows text.now
@@ -40,4 +43,6 @@ IsBadPart rows fault_is.WithinAlone =
     (is_some (first_of (codes "within") rows) ≡ true) × (first_of (codes "from") rows ≡ None)
 IsBadPart rows fault_is.SeenAlone =
     (is_set (codes "seen") rows ≡ true) × (all_of (codes "log") rows ≡ None)
+IsBadPart rows fault_is.SeedAlone =
+    (is_some (first_of (codes "seed") rows) ≡ true) × (all_of (codes "log") rows ≡ None)
 IsBadPart rows _ = ⊥

@@ -16,7 +16,7 @@ number_text given option range =
     Some (codes "error: invalid value '" ++ (given ++ (codes "' for '"
     ++ (option ++ (codes "': expected 1 to 10 digits, from " ++ (range ++ help))))))
 
--- what is said of each fault, unless the parser words it, or it is a name that isn't known
+-- what is said of each fault, but not the parser's words, or what is said of an unknown name
 abbrev pub refusal_text : CommandFault → Option (List ℕ)
 refusal_text fault_is.Incomplete = error_text (codes "a command and its files are required")
 refusal_text (fault_is.BadSeed given) =
@@ -31,14 +31,22 @@ refusal_text fault_is.NoScript =
     error_text (codes "SCRIPT, '--edit <EDIT>' or '--to <FILE>' is required")
 refusal_text fault_is.TwoScripts =
     error_text (codes "only one of SCRIPT, '--edit <EDIT>' and '--to <FILE>' can be used")
-refusal_text fault_is.ReportAlone = error_text (codes
-    "'--report <WHAT>' is for '--output <FILE>': without it, '--print <WHAT>' prints reports")
-refusal_text fault_is.InPlaceAlone = error_text
+refusal_text fault_is.ReportAlone = error_text
+    (codes "'--report <WHAT>' is for '--output <FILE>' or '--in-place': "
+    ++ codes "without these, '--print <WHAT>' prints reports")
+refusal_text fault_is.TwoOutputs = error_text
     (codes "'--in-place' can be used neither with '--output <FILE>' nor with '--print <WHAT>': "
     ++ codes "it is short for '--print log --output LOG'")
 refusal_text fault_is.DoubtsAlone =
     error_text (codes "'--strict' and '--known <FILE>' are for '--print doubts'")
 refusal_text fault_is.WithinAlone = error_text (codes "'--within <N>' is for '--from <PLACE>'")
 refusal_text fault_is.SeenAlone = error_text (codes "'--seen' needs a LOG")
+refusal_text fault_is.SeedAlone = error_text (codes "'--seed <N>' needs a LOG")
 refusal_text fault_is.Memory = Some (codes "cave: there isn't enough memory\n")
-refusal_text _ = None
+refusal_text (fault_is.Usage error) = None
+refusal_text (fault_is.NoCommand given) = None
+refusal_text (fault_is.BadView given) = None
+refusal_text (fault_is.BadPlayView given) = None
+refusal_text (fault_is.BadCheckView given) = None
+refusal_text (fault_is.BadCoverView given) = None
+refusal_text (fault_is.BadReport given) = None

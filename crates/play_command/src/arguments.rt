@@ -138,8 +138,8 @@ pub(crate) const LINES: Argument = argument! { Values "edit" 'e' "EDIT"
      lines, in their order, are used instead of SCRIPT" };
 
 pub(crate) const TO: Argument = argument! { Value "to" "FILE"
-    "The log that LOG is to become, instead of SCRIPT: the edits are those that `cave script \
-     LOG FILE` prints" };
+    "The log that LOG is to become, instead of SCRIPT: the edits are those of a script that \
+     turns LOG into it" };
 
 pub(crate) const OLD: Argument = argument! { NeededFile "old" "OLD" "The log before the edits" };
 
@@ -212,11 +212,12 @@ pub(crate) const WITH_GUARDS: Argument = argument! { Flag "guarded" ""
     "Puts a line `expect N TEXT` before each edit if the log has a line at its place" };
 
 pub(crate) const QUIET: Argument = argument! { Flag "quiet" 'q' ""
-    "Reports neither refused edits nor a differing head of the log on standard error" };
+    "Leaves out of standard error which edits are refused, that the head of the log differs, and \
+     that the edits set a seed" };
 
 pub(crate) const REPORT: Argument = argument! { Report "report" "WHAT"
-    "With --output, prints the result of each edit to standard output: as `reports`, if WHAT is \
-     left out, or as a `table`, as with --print" };
+    "With --output or --in-place, prints the result of each edit to standard output: as \
+     `reports`, if WHAT is left out, or as a `table`, as with --print" };
 
 pub(crate) const GROUP: Argument = argument! { Flag "group" ""
     "Makes the edits one group, which is accepted or refused as a whole" };

@@ -37,7 +37,7 @@ pub enum CommandFault<'a> {
     /// A report is asked for, and the output goes where it would.
     ReportAlone,
     /// An edit in place is given another file or another view.
-    InPlaceAlone,
+    TwoOutputs,
     /// Doubts are to be judged or left out, and something else is to be printed.
     DoubtsAlone,
     BadPlace(&'a str),
@@ -46,6 +46,8 @@ pub enum CommandFault<'a> {
     WithinAlone,
     /// Only what logs saw is to be drawn, and there are no logs.
     SeenAlone,
+    /// A seed is given, and there are no logs that are played by it.
+    SeedAlone,
     Memory,
 }
 
@@ -146,10 +148,10 @@ impl fmt::Display for CommandFault<'_> {
             ),
             CommandFault::ReportAlone => write!(
                 f,
-                "error: '--report <WHAT>' is for '--output <FILE>': without it, \
-                '--print <WHAT>' prints reports{HELP}"
+                "error: '--report <WHAT>' is for '--output <FILE>' or '--in-place': \
+                without these, '--print <WHAT>' prints reports{HELP}"
             ),
-            CommandFault::InPlaceAlone => write!(
+            CommandFault::TwoOutputs => write!(
                 f,
                 "error: '--in-place' can be used neither with '--output <FILE>' nor with \
                 '--print <WHAT>': it is short for '--print log --output LOG'{HELP}"
@@ -163,6 +165,7 @@ impl fmt::Display for CommandFault<'_> {
                 "error: '--within <N>' is for '--from <PLACE>'{HELP}"
             ),
             CommandFault::SeenAlone => write!(f, "error: '--seen' needs a LOG{HELP}"),
+            CommandFault::SeedAlone => write!(f, "error: '--seed <N>' needs a LOG{HELP}"),
             CommandFault::Memory => writeln!(f, "cave: there isn't enough memory"),
         }
     }

@@ -30,12 +30,12 @@ pub(crate) fn edit_output<'a>(found: &ArgMatches<'a>) -> Option<&'a str>
 /// Checks that neither a file nor a view is given beside `--in-place`, which has its own.
 pub(crate) fn check_in_place<'a>(found: &ArgMatches<'a>) -> Result<(), CommandFault<'a>>
     ensures { MatchResult result (λ _. is_two_outputs (rows_in found.now) ≡ false)
-        (λ fault. (fault ≡ CommandFault.InPlaceAlone)
+        (λ fault. (fault ≡ CommandFault.TwoOutputs)
         × (is_two_outputs (rows_in found.now) ≡ true)) }
 {
     let is_given = value_in(found, "output").is_some() || value_in(found, "print").is_some();
     if is_in_place(found) && is_given {
-        return Err(CommandFault::InPlaceAlone);
+        return Err(CommandFault::TwoOutputs);
     }
     Ok(())
 }

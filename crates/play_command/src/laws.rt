@@ -3,7 +3,6 @@
 ghost use Rattle.play_command.specs.SameLines.{WordsAskForOneRun};
 
 /// Words ask for one run at most: two runs that meet what is said of a command line are the same.
-
 pub fn words_ask_for_one_run()
     ensures { WordsAskForOneRun }
 {}

@@ -86,8 +86,12 @@ pub(crate) fn part_in<'a>(found: &ArgMatches<'a>) -> Result<MapPart, CommandFaul
     ensures { MatchResult result (IsMapPart (rows_in found.now)) (IsBadPart (rows_in found.now)) }
 {
     let seen = is_set(found, "seen");
-    if seen && values_in(found, "log").is_none() {
+    let has_logs = values_in(found, "log").is_some();
+    if seen && !has_logs {
         return Err(CommandFault::SeenAlone);
+    }
+    if value_in(found, "seed").is_some() && !has_logs {
+        return Err(CommandFault::SeedAlone);
     }
     let around = around_in(found)?;
     Ok(MapPart { seen, around })

@@ -7,11 +7,8 @@ use Rattle.cave_play.specs.declared.fault.PlayFault.TheVariants as fault
 use Rattle.play_command.specs.declared.editing.EditView.{EditView}
 use Rattle.play_command.specs.declared.editing.EditView.TheVariants as asked
 use Rattle.play_command.specs.declared.line.Line.{Line}
-use Rattle.play_command.specs.declared.line.Line.TheVariants.{Doubts, Edit, Cover}
+use Rattle.play_command.specs.declared.line.Line.TheVariants.{Edit}
 use Rattle.play_command.specs.declared.line.ScriptSource.TheVariants.{File}
-use Rattle.play_command.specs.declared.views.CoverView.{CoverView}
-use Rattle.play_command.specs.declared.views.CoverView.TheVariants.{Said}
-use Rattle.play_command.specs.declared.views.TextView.TheVariants.{Counts}
 use Rattle.play_program.specs.Names.{NamedFile}
 use Rattle.play_program.specs.declared.failure.Failure.{Failure}
 use Rattle.play_program.specs.declared.failure.Failure.TheVariants.{Clash, Run}
@@ -31,17 +28,10 @@ abbrev pub is_guarded : EditView → Bool
 is_guarded asked.Guarded = true
 is_guarded _ = false
 
--- what is printed is a list of texts or rows, as a list of known ones is
-abbrev pub is_list : CoverView → Bool
-is_list (Said Counts) = false
-is_list _ = true
-
 -- the output of a run may go over an input of its own kind
 abbrev pub may_replace : Line → Input → Bool
 may_replace (Edit files log script editing aside) input.Log = is_log editing.view
 may_replace (Edit files log (File file) editing aside) input.Script = is_guarded editing.view
-may_replace (Doubts files known strict) input.Script = true
-may_replace (Cover files logs seed view known strict) input.Script = is_list view
 may_replace _ _ = false
 
 -- the answer is this, if it is known

@@ -34,10 +34,12 @@ TellsUnprinted reason calls called status =
     TellsUnless (is_closed_pipe (error_kind reason)) (unprinted reason) calls called
     × (status ≡ status_of fault.Write)
 
--- help or the version was printed, and nothing is asked of the system; or the writer failed
-abbrev pub EndsText : Option (List Call) → Option (List Call) → ℕ → Type 0
-EndsText calls called status = ((called ≡ calls) × (status ≡ 0))
-    ⊎ ((reason : Error) × TellsUnprinted reason calls called status)
+-- help or the version was printed, and nothing is asked of the system; or it couldn't be, for the
+-- reason that the writer gave last, if it failed
+abbrev pub EndsText : Option (List Call) → Option (List Call) → Option Error → ℕ → Type 0
+EndsText calls called reason status = ((called ≡ calls) × (status ≡ 0))
+    ⊎ ((found : Error) × IfSome reason (λ given. found ≡ given)
+    × TellsUnprinted found calls called status)
 
 -- these two parts are what is said of the fault; they are free if it is the parser's or that of a
 -- name
@@ -58,7 +60,7 @@ abbrev pub EndsNamed : Option FileNames → (List ℕ → List ℕ → Option Bo
     → (List ℕ → Option (List ℕ)) → Line → Option (List Call) → Option (List Call)
     → Option (List ℕ) → Option (List ℕ) → Option Error → ℕ → Type 0
 EndsNamed None one_file bytes_of asked calls called old new reason status =
-    EndsText calls called status
+    EndsText calls called reason status
 EndsNamed (Some names) one_file bytes_of asked calls called old new reason status =
     EndsRun one_file bytes_of asked names calls called old new reason status
 

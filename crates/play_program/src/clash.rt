@@ -9,7 +9,7 @@ use crate::failure::Failure;
 use crate::names::Names;
 use crate::system::System;
 use cave_play::Input;
-use play_command::{CoverView, EditView, Line, ScriptSource, TextView};
+use play_command::{EditView, Line, ScriptSource};
 
 /// The view whose output may go over an input of a run: the edited log over the log, and the script
 /// with guards over the script.
@@ -43,10 +43,6 @@ fn may_replace(asked: &Line<'_>, input: Input) -> bool
             },
             Input::Script,
         ) => matches!(editing.view, EditView::Guarded),
-        (Line::Doubts { .. }, Input::Script) => true,
-        (Line::Cover { view, .. }, Input::Script) => {
-            !matches!(view, CoverView::Said(TextView::Counts))
-        }
         _ => false,
     }
 }

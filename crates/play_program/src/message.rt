@@ -51,7 +51,7 @@ impl fmt::Display for Message<'_> {
             Message::Clash(file, Some(view)) => writeln!(
                 f,
                 "cave: {file}: the output would replace this file, which is read: \
-                add --print {view}, or write into another file"
+                only that of --print {view} may: ask for it, or write into another file"
             ),
             Message::Clash(file, None) => writeln!(
                 f,

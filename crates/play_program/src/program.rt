@@ -46,12 +46,12 @@ fn fail_output<S: System>(system: &mut S, reason: io::Error) -> u8
 
 /// Prints help or the version, if a command line asks for it.
 fn print<S: System, W: Write>(system: &mut S, asked: &Line<'_>, output: &mut Output<W>) -> u8
-    ensures ends { EndsText (S.calls system.old) (S.calls system.new) result }
+    ensures ends { EndsText (S.calls system.old) (S.calls system.new) output.new.reason result }
 {
     match asked {
         Line::Text(text) => match write!(output, "{text}") {
             Ok(()) => DONE,
-            Err(reason) => fail_output(system, reason),
+            Err(reason) => fail_output(system, output.reason().unwrap_or(reason)),
         },
         _ => DONE,
     }

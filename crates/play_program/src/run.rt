@@ -290,5 +290,5 @@ pub fn run<S: System, W: Write>(
         (W.contents output.old.writer) (W.contents output.new.writer) output.new.reason result }
 {
     let ended = run_apart(alloc, system, asked, names, output);
-    say_end(system, asked, names, ended_with(ended, output.reason))
+    say_end(system, asked, names, ended_with(ended, output.reason()))
 }

@@ -41,6 +41,7 @@ pub trait System {
         ensures call { calls self.new ≡ and_then (calls self.old) (Puts file.now bytes.now ∷ []) }
         ensures put { OnOk result (IfSome (bytes_of self.new file.now) (λ put. put ≡ bytes.now)) }
         ensures others { (name : List ℕ) → name ≢ file.now
+            → one_file self.old file.now name ≢ Some true
             → bytes_of self.new name ≡ bytes_of self.old name }
         ensures failed { OnErr result (bytes_of self.new ≡ bytes_of self.old) };
 

@@ -11,6 +11,9 @@ HELPED: Files = {
     "Makefile": "try: oil ## tries it\n",
     "tools/check/run": 'CHECKS = "wicks oils"\n',
     "tools/page/lamp": "#!/bin/sh\n# --wick\n",
+    "tools/page/tests/bell": "# --clapper\n",
+    "tools/install/packed.py": 'TOOLS = {"cave-oil": "tools/install/oil"}\n',
+    "tools/install/oil": "#!/bin/sh\necho --pour N\n",
     "crates/cave_play/specs/Fault.antt": "status_of fault.Cave = 1\nstatus_of (fault.Log it) = 2\n",
     "logs/help/play.out": "Options:\n  -p, --print <WHAT>  What to print: `steps` (each) or "
     "`score` (all) [default: steps]\n      --every <K>     The most, from 1 to 90 [default: 50]\n"
@@ -45,7 +48,8 @@ HELPED: Files = {
 | 2 | the log is refused |
 """,
     "docs/PAGE.md": """# Page
-`make try`, `tools/check/run wicks`, `tools/page/lamp --wick` and `cave play --strict`:
+`make try`, `tools/check/run wicks`, `tools/page/lamp --wick` and `cave play --strict`, and then
+`cave-oil --pour 3`:
 
     $ cave play CAVE LOG --print steps -p score -- --wick
     tools/page/lamp A \\

@@ -192,9 +192,10 @@ class Around(unittest.TestCase):
     def test_no_name_of_others_leads_to_another_tree(self) -> None:
         said = ["python3", "-c", "from common.files import TOP; print(TOP)"]
         asked = ["make", "-s", "--eval", f"it: ; @echo $${OTHER_TOP}", "it"]
+        alone = {it: value for it, value in os.environ.items() if not it.startswith("MAKE")}
         for command, folder, name, shown in ((said, "tools", "REPOSITORY", TOP),
                                              (said, "tools", OTHER_TOP, "/elsewhere"),
                                              (asked, ".", OTHER_TOP, "")):
             ran = subprocess.run(command, cwd=f"{TOP}/{folder}", capture_output=True, text=True,
-                                 env=os.environ | {name: "/elsewhere"})
+                                 env=alone | {name: "/elsewhere"})
             self.assertEqual((ran.stdout, ran.stderr), (f"{shown}\n", ""))

@@ -20,7 +20,7 @@ OWN = "@/"  # before the name of a file in the folder of a run
 Head = dict[str, list[str]]
 # What the keys have after them that have neither a sentence nor words of the program.
 FORMS = {"status": (r"\d+", "a number"), "stdin": (r"\S+", "a file"), "stdout": (r"\S+", "a file"),
-         "mode": ("[0-7]+", "permissions"), "link": (r"\S+ \S+", "a name and a file"),
+         "mode": ("[0-7]{1,4}", "permissions"), "link": (r"\S+ \S+", "a name and a file"),
          "disk": (r"\d+", "a number"), "folder": ("read-only", "`read-only`")}
 OUTPUT = re.compile("(?:--output|-q*o)(?:=?(.+))?")  # a word, which may have the file in it
 DEVICES = ("/dev/null", "/dev/full")  # what is written there changes nothing
@@ -90,11 +90,14 @@ class Log:
         return os.path.relpath(self.stem, self.suite.top)
 
     def has(self, kind: str) -> bool:
-        return os.path.exists(self.stem + kind)
+        """Whether there is a file of a kind. To open a pipe would wait for who writes into it."""
+        return os.path.isfile(self.stem + kind)
 
     @cached_property
     def comments(self) -> list[str]:
         """The comments before the first other line."""
+        if not self.has(".log"):
+            return []
         try:
             with open(f"{self.stem}.log", encoding="latin-1", newline="\n") as file:
                 return [it.rstrip() for it in takewhile(lambda it: it.startswith("#"), file)]
@@ -150,18 +153,19 @@ class Log:
                 yield from [found[1]] if found[1] else self.words[at + 1 :][:1]
         if "--in-place" in self.words:
             # The log is the second file, if no option comes before: more isn't read of the words.
-            yield from self.words[2:3] if self.words[1][:1] != "-" else ["--in-place"]
+            has_option = any(it.startswith("-") for it in self.words[1:3])
+            yield from ["--in-place"] if has_option else self.words[2:3]
 
     def strays(self) -> Iterator[str]:
         """What the head names that a run would write, and isn't in its own folder. The program
-        itself refuses to write what is no regular file, and nobody can make a file in /proc."""
+        itself refuses to write a folder or a device, and nobody can make a file in /proc."""
         stdout, link = (self.head.get(it, []) for it in ("stdout", "link"))
         yield from (it for it in stdout if not is_own(it) and it not in DEVICES)
         yield from (it for it in link if not is_below(it))
         for name in self.outputs():
-            path = os.path.join(self.suite.top, name)
-            is_kept = os.path.exists(path) and not os.path.isfile(path)
-            if not (is_own(name) or is_kept or name.startswith("/proc/") and is_below(name[1:])):
+            is_folder = os.path.isdir(os.path.join(self.suite.top, name))
+            is_refused = is_folder or name in DEVICES or re.fullmatch("/proc/[^/]+", name)
+            if not (is_own(name) or is_refused):
                 yield name
 
     def misspelt(self) -> str | None:
@@ -217,6 +221,8 @@ class Log:
             return "the first comments say neither `# cave:`, `# run:` nor `# no run:`"
         if "cave" in self.head and self.head.get("run", ["check"]) != ["check"]:
             return "the first comments say `# cave:`, and `# run:` with other words than `check`"
+        if os.path.realpath(f"{self.stem}.out").endswith((".log", ".script")):
+            return "the transcript is a link to a log or a script"
         if self.has(".script") and f"{self.path}.script" not in self.words:
             return "there is a script of this name, and the log isn't edited by it"
         return None

@@ -139,6 +139,8 @@ def settle(asks: argparse.ArgumentParser, said: argparse.Namespace) -> None:
     """Settles whether transcripts are written, and whether a reader is asked."""
     if said.yes and not (said.update or said.accept):
         asks.error("--yes goes with --update")
+    if said.command and (said.update or said.accept or said.junit or said.tap):
+        asks.error("--command plays nothing, so nothing is reported or written")
     if (said.update or said.accept) and not said.words:
         asks.error(f"--{'update' if said.update else 'accept'} needs the logs that are meant")
     is_terminal = sys.stdin.isatty() and sys.stdout.isatty()
