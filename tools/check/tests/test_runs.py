@@ -199,3 +199,10 @@ class Around(unittest.TestCase):
             ran = subprocess.run(command, cwd=f"{TOP}/{folder}", capture_output=True, text=True,
                                  env=alone | {name: "/elsewhere"})
             self.assertEqual((ran.stdout, ran.stderr), (f"{shown}\n", ""))
+
+    def test_folders_that_are_installed_can_be_entered_under_any_umask(self) -> None:
+        with tempfile.TemporaryDirectory() as folder:
+            puts = f"from packed import File, put; put({{'share/it': File(b'')}}, '{folder}')"
+            subprocess.run(["sh", "-c", 'umask 077; exec python3 -B -c "$0"', puts], check=True,
+                           cwd=f"{TOP}/tools/install", env=os.environ | {"PYTHONPATH": f"{TOP}/tools"})
+            self.assertEqual(os.stat(f"{folder}/share").st_mode & 0o777, 0o755)
