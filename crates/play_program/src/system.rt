@@ -1,7 +1,7 @@
 //! What a system gives a program.
 
-ghost use Rattle.std.specs.Prelude.{◌≡◌, ◌≢◌, ℕ, Bool, List, [], ◌∷◌, Option, IfOk, IfSome, OnErr};
-ghost use Rattle.std.specs.Prelude.{OnOk};
+ghost use Rattle.std.specs.Prelude.{◌≡◌, ◌≢◌, ℕ, Bool, true, List, [], ◌∷◌, Option, Some, IfOk};
+ghost use Rattle.std.specs.Prelude.{IfSome, OnErr, OnOk};
 ghost use Rattle.play_program.specs.Calls.{Call, and_then, told_of};
 ghost use Rattle.play_program.specs.Calls.Call.{Opens, Puts, Tells};
 
