@@ -241,7 +241,7 @@ met_guards_no_other_run no_other_script no_other database bindings log script bl
     let seeds = λ (cave : CaveView). seeds_so no_other_script script blanked items blank read
     editing.view cave editing.every log output editing.seed run.played met guarded in (
       λ (is, refusals, told, seed).
-      (edited.0 is, refusals ∙ refused is.0, side.0 told, seed ∙ seeds is.0),
+          (edited.0 is, refusals ∙ refused is.0, side.0 told, seed ∙ seeds is.0),
       λ (is, refusals, told, seed).
-      (edited.1 is, refusals ∙ sym (refused is.0), side.1 told, seed ∙ sym (seeds is.0)),
+          (edited.1 is, refusals ∙ sym (refused is.0), side.1 told, seed ∙ sym (seeds is.0)),
     )
