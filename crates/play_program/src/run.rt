@@ -5,7 +5,7 @@ ghost use Rattle.play_program.specs.Calls.{and_then};
 ghost use Rattle.play_program.specs.Calls.Call.{Puts};
 ghost use Rattle.play_program.specs.Ends.{EndsRun, IsUnput, PrintsReport, PutsFailure, PutsReported};
 ghost use Rattle.play_program.specs.Ends.{RunsApart, RunsFiles, RunsIntoFile, RunsIntoWriter, RunsTo};
-ghost use Rattle.play_program.specs.Ends.{SaysEnd, TellsUnless, ended_with, failure_by, in_list};
+ghost use Rattle.play_program.specs.Ends.{SaysEnd, TellsUnless, ended_with, in_list};
 ghost use Rattle.play_program.specs.Ends.{with_reason};
 ghost use Rattle.play_program.specs.Failures.{failure_status, has_output, is_silent, message_of};
 ghost use Rattle.play_program.specs.Names.{names_in};
@@ -209,23 +209,14 @@ fn run_apart<'a, S: System, W: Write>(
     }
 }
 
-/// The failure for the reason that the writer of the output gave, if that is what failed.
-fn failure_by<'a>(failure: Failure<'a>, reason: io::Error) -> Failure<'a>
-    ensures { result ≡ failure_by failure.entry reason }
-{
-    match failure {
-        Failure::Run(PlayFault::Write, _) => Failure::Unprinted(reason),
-        failure => failure,
-    }
-}
-
-/// The failure with the reason that the writer of the output gave, if it gave one.
+/// The failure with the reason that the writer of the output gave, if it gave one and that is what
+/// failed.
 fn with_reason<'a>(failure: Failure<'a>, reason: Option<io::Error>) -> Failure<'a>
     ensures { result ≡ with_reason failure.entry reason }
 {
-    match reason {
-        Some(reason) => failure_by(failure, reason),
-        None => failure,
+    match (failure, reason) {
+        (Failure::Run(PlayFault::Write, _), Some(reason)) => Failure::Unprinted(reason),
+        (failure, _) => failure,
     }
 }
 
