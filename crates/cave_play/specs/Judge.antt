@@ -16,8 +16,8 @@ use Rattle.replay_scripts.specs.Guards.{script_by}
 use Rattle.replay_scripts.specs.Script.{Applied}
 use Rattle.replay_scripts.specs.declared.fault.ScriptRefusal.{ScriptRefusal}
 use Rattle.replay_scripts.specs.declared.fault.ScriptRefusal.TheVariants.{Malformed, Memory}
-use Rattle.cave_play.specs.declared.fault.Input.{Input}
-use Rattle.cave_play.specs.declared.fault.Input.TheVariants as input
+use Rattle.play_command.specs.declared.input.Input.{Input}
+use Rattle.play_command.specs.declared.input.Input.TheVariants as input
 use Rattle.cave_play.specs.declared.fault.LogFault.TheVariants as log
 use Rattle.cave_play.specs.declared.fault.ScriptFault.TheVariants as script
 use Rattle.cave_play.specs.declared.fault.PlayFault.{PlayFault}
@@ -37,6 +37,7 @@ too_large input.Cave =
 too_large input.Bindings =
     fault.Cave (record { cause = cause.TooLarge; line = 0; site = site.Bindings }) None
 too_large input.Log = fault.Log log.TooLarge
+too_large input.NewLog = fault.NewLog log.TooLarge
 too_large input.Script = fault.Script script.TooLarge
 too_large input.Known = fault.LargeKnown
 

@@ -25,6 +25,7 @@ ghost use Rattle.play_edits.specs.LogEnds.{log_ends, shown_ends};
 
 use crate::fault::PlayFault;
 use crate::judge::read_script;
+use crate::sources::Sources;
 use cave_replay::{GroupReport, Session};
 use play_command::{Editing, ReportView};
 use play_edits::{
@@ -33,7 +34,6 @@ use play_edits::{
 use play_machine::CaveMachine;
 use replay_scripts::{BackEdit, Item, Script};
 use std::alloc::{AllocError, Global};
-use std::io::Read;
 
 /// What edits of a log made: the text of the view, how many lines were played for them, how the
 /// lines of the log end, why items were refused, the report beside the view, and the seed that is
@@ -59,6 +59,13 @@ pub struct EditRun {
     pub seed: u32,
 }
 
+/// What a run of edits makes: its output, and what is returned beside that.
+#[derive(Drop)]
+pub struct MadeEdit {
+    pub run: EditRun,
+    pub text: Vec<u8>,
+}
+
 /// What is kept of the items of a script, in addition to what is written of them.
 #[derive(Drop)]
 struct Kept {
@@ -73,24 +80,25 @@ struct Kept {
 }
 
 /// What a script makes when it is applied to a session of the machine, over a log of these bytes.
-pub(crate) fn edit_session<S: Read>(
+pub(crate) fn edit_session<I: Sources>(
     alloc: Global,
     session: &mut Session<CaveMachine<'_>>,
     log: &[u8],
-    script: &mut S,
+    inputs: &mut I,
     editing: Editing,
     report: Option<ReportView>,
 ) -> Result<Edited, PlayFault>
     requires spaced { IsSpaced session.old.every session.old.checkpoints
         (length session.old.game.log) }
     requires game { IsGame session.old.game }
-    ensures judged { (edits : List ℕ) × Says (S.remaining script.old) edits
+    ensures judged { (edits : List ℕ) × Says (I.held inputs.old).script edits
         × Judges (script_stage editing.guarded edits
         ∷ strict_stage editing.strict session.old.game editing.guarded edits ∷ [])
         (IsMadeOf editing.view report session.old.machine.rules.cave.now session.old.every
         session.old.game editing.guarded edits (log_ends log.now edits)) result }
+    ensures leads { I.Leads inputs.old inputs.new }
 {
-    let read = read_script(alloc, script, editing.guarded)?;
+    let read = read_script(alloc, inputs, editing.guarded)?;
     let mut text = Vec::new(alloc);
     let backs = Vec::new(alloc);
     let ends = LogEnds::of(alloc, log, &read.text)?;

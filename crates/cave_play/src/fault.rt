@@ -8,23 +8,12 @@ use base_lines::LineFlaw;
 use check_doubts::{Doubt, Source};
 use check_tables::Clue;
 use data_rows::{CaveError, Expected, FaultSite};
+use play_command::Input;
 use play_edits::Refusal;
 use replay_scripts::{EditFlaw, ScriptFlaw};
 use std::alloc::AllocError;
 use std::{fmt, io};
 use thiserror::Error;
-
-/// An input of a run.
-#[derive(Clone, Copy, Debug, PartialEq, Eq)]
-pub enum Input {
-    Cave,
-    Bindings,
-    Log,
-    /// What a log is edited by: a script, or the log that the edits are to make.
-    Script,
-    /// What is known: doubts, or what no log shows.
-    Known,
-}
 
 /// What is wrong with a line of a log. The first bytes of a log may be a byte order mark.
 #[derive(Clone, Copy, Debug)]
@@ -207,9 +196,8 @@ impl PlayFault {
             PlayFault::Doubt(found) => Some(input_from(found.source)),
             PlayFault::LargeKnown => Some(Input::Known),
             PlayFault::Log(_) => Some(Input::Log),
-            PlayFault::NewLog(_) | PlayFault::Script(_) | PlayFault::Refused(_) => {
-                Some(Input::Script)
-            }
+            PlayFault::NewLog(_) => Some(Input::NewLog),
+            PlayFault::Script(_) | PlayFault::Refused(_) => Some(Input::Script),
             PlayFault::Read(input) => Some(input),
             PlayFault::Seed | PlayFault::Every | PlayFault::Write | PlayFault::Memory => None,
             PlayFault::LargeLog | PlayFault::LargeScript | PlayFault::Unshown(_) => None,

@@ -1,7 +1,5 @@
-pub mod OpeningLemmas
-pub mod PeekLemmas
-pub mod LookedLemmas
-pub mod NoticeLemmas
-pub mod BesideLemmas
-mod CoverLemmas
-pub mod ClashLemmas
+mod CallLemmas
+mod MakeLemmas
+mod OpenLemmas
+mod SourceLemmas
+mod TakenLemmas

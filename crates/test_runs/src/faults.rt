@@ -1,8 +1,9 @@
 //! What the program prints at each fault, and the status with which it then ends.
 
 use base_lines::LineFlaw;
-use cave_play::{Complaint, Input, LogFault, PlayFault, ScriptFault, Unopened};
+use cave_play::{Complaint, LogFault, PlayFault, ScriptFault, Unopened};
 use data_rows::{Cause, CaveError, FaultSite};
+use play_command::Input;
 use replay_scripts::ScriptFlaw;
 use std::alloc::{AllocError, Global};
 use std::io;

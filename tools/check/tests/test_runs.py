@@ -155,7 +155,7 @@ Passes = tests_of("tools/measure/progress all out/it.log true",
                   [("a command that passes", CRATES, "")])
 
 DOCUMENTS: Files = {
-    "crates/play_command/src/app.rt": "", "logs/map/tour.out": '  1 [label="Oil"]\n',
+    "crates/play_command/src/commands.rt": "", "logs/map/tour.out": '  1 [label="Oil"]\n',
     "docs/shoal.svg": "<text x='1'>Oil</text>\n",
     "crates/cave_play/src/fault.rt": '#[error("a can is empty")]\n',
     "docs/MESSAGES.md": "| `a can is empty` | |\n| `No oil.` | `logs/walk` |\n",

@@ -37,6 +37,7 @@ returns-in_err-read g c =
         said,
         IsFoundIn-first (script_stage guarded edits ∷ []) (strict ∷ []) _ found,
       );
+      leads = c.in_err-read.ensures.leads;
     })
 
 pub returns-in_err-ends : goal.returns-in_err-ends
@@ -49,9 +50,7 @@ returns-in_err-ends g c =
     let strict =
     strict_stage c.args.editing.strict c.args.session.now.game guarded edits in
     rw (exit.1, exit.2)
-    (record {
-      judged = (edits, said, IsFoundIn-memory (script_stage guarded edits ∷ strict ∷ []));
-    })
+    (record { judged = (edits, said, IsFoundIn-memory (script_stage guarded edits ∷ strict ∷ [])); leads = c.in_ok-read.ensures.leads })
 
 pub returns-in_err-push_start : goal.returns-in_err-push_start
 returns-in_err-push_start g c =
@@ -63,9 +62,7 @@ returns-in_err-push_start g c =
     let strict =
     strict_stage c.args.editing.strict c.args.session.now.game guarded edits in
     rw (exit.1, exit.2)
-    (record {
-      judged = (edits, said, IsFoundIn-memory (script_stage guarded edits ∷ strict ∷ []));
-    })
+    (record { judged = (edits, said, IsFoundIn-memory (script_stage guarded edits ∷ strict ∷ [])); leads = c.in_ok-read.ensures.leads })
 
 pub returns-in_err-totals : goal.returns-in_err-totals
 returns-in_err-totals g c =
@@ -89,6 +86,7 @@ returns-in_err-totals g c =
             (strict_stage strict game guarded edits ∷ [])
             _ made.0 found,
       );
+      leads = c.in_ok-read.ensures.leads;
     })
 
 pub returns-in_err-push_end : goal.returns-in_err-push_end
@@ -101,9 +99,7 @@ returns-in_err-push_end g c =
     let strict =
     strict_stage c.args.editing.strict c.args.session.now.game guarded edits in
     rw (exit.1, exit.2)
-    (record {
-      judged = (edits, said, IsFoundIn-memory (script_stage guarded edits ∷ strict ∷ []));
-    })
+    (record { judged = (edits, said, IsFoundIn-memory (script_stage guarded edits ∷ strict ∷ [])); leads = c.in_ok-read.ensures.leads })
 
 pub returns : goal.returns
 returns g c =
@@ -186,4 +182,4 @@ returns g c =
     let seeded : c.seed-seed.result ≡ seed_by guarded edits old.game =
     c.seed-seed.ensures ∙ ap (λ (now : Game). now.seed) same
     ∙ ap (seed_after old.game) (sym made.1.2) in
-    record { judged = (edits, said, (none, ((edited, after), noted, reported, seeded))) }
+    record { judged = (edits, said, (none, ((edited, after), noted, reported, seeded))); leads = c.in_ok-read.ensures.leads }

@@ -1,0 +1,14 @@
+-- The logs so far are counted.
+use Rattle.std.proofs.Common.{◌≡◌, ◌+◌, ◌≤◌, length, map}
+use Rattle.play_command.specs.Files.{named_file}
+use Rattle.play_program.specs.Files.{log_count}
+use Rattle.play_program.proofs.files.log_count.Given as goal
+
+abbrev pub invariant-loop-file : goal.invariant-loop-file
+invariant-loop-file l = record {
+  counted : l.count + log_count (map named_file l.rest) ≡ log_count (map named_file l.fn.files);
+  within : l.count + length l.rest ≤ length l.fn.files;
+}
+
+abbrev pub decreases-loop-file : goal.decreases-loop-file
+decreases-loop-file l = length l.rest
