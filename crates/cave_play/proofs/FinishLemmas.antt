@@ -19,11 +19,11 @@ use Rattle.cave_play.specs.Run.{IsFoundIn, Judges}
 use Rattle.cave_play.specs.Size.{size_fault}
 use Rattle.cave_play.specs.Stages.{Stage, first_decided, log_stage, script_stage, size_stage}
 use Rattle.cave_play.specs.Stages.{strict_stage}
-use Rattle.cave_play.specs.declared.edits.Edited.{Edited}
+use Rattle.play_edits.specs.declared.items.Edited.{Edited}
 use Rattle.cave_play.specs.declared.edits.MadeEdit.{MadeEdit}
 use Rattle.cave_play.specs.declared.fault.PlayFault.{PlayFault}
 use Rattle.cave_play.proofs.OneOutputLemmas.{script_by-spelled}
-use Rattle.cave_play.proofs.ReportLemmas.{report_printed}
+use Rattle.cave_play.proofs.EditedLemmas.{report_printed}
 use Rattle.cave_play.proofs.SizeLemmas.{output_fault-printed}
 use Rattle.cave_play.proofs.StageLemmas.{IsFoundIn-first, IsFoundIn-later, IsFoundIn-memory}
 use Rattle.cave_play.proofs.StageLemmas.{first_decided-later, first_decided-one}

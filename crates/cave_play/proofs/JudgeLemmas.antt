@@ -16,7 +16,7 @@ use Rattle.cave_data.specs.Reads.{Reads, fault as cave_fault, too_large_input as
 use Rattle.data_rows.specs.declared.error.Cause.TheVariants as cause
 use Rattle.data_rows.specs.declared.error.CaveError.{CaveError}
 use Rattle.data_rows.specs.declared.error.FaultSite.TheVariants as site
-use Rattle.base_lines.specs.declared.line_flaw.LineFlaw.{LineFlaw}
+use Rattle.base_lines.specs.declared.line.LineFault.{LineFault}
 use Rattle.cave_replay.specs.Opening.{open_fault, first_bad_line, or_game_fault}
 use Rattle.cave_replay.specs.declared.fault.OpenFault.{OpenFault}
 use Rattle.cave_replay.specs.declared.fault.OpenFault.TheVariants as session
@@ -192,14 +192,14 @@ too_many_or_none : (many great : Bool)
 too_many_or_none true great is = cc
 too_many_or_none false great is = refl
 
-or_game_fault-fits : (bad : Option (ℕ × LineFlaw)) (game : List (List ℕ)) (seed : ℕ)
+or_game_fault-fits : (bad : Option (ℕ × LineFault)) (game : List (List ℕ)) (seed : ℕ)
     (found : OpenFault) → large_seed seed ≡ None → or_game_fault bad game seed ≡ Some found
     → or_too_many bad (length game) ≡ Some (opening_fault found)
 or_game_fault-fits None game seed found fits is =
     too_many_or_seed (nat_lt MAX_LOG_LINES (length game)) (nat_lt MAX_SEED seed) found fits is
 or_game_fault-fits (Some (number, flaw)) game seed found fits is = ap (option_map opening_fault) is
 
-or_game_fault-none : (bad : Option (ℕ × LineFlaw)) (game : List (List ℕ)) (seed : ℕ)
+or_game_fault-none : (bad : Option (ℕ × LineFault)) (game : List (List ℕ)) (seed : ℕ)
     → or_game_fault bad game seed ≡ None → or_too_many bad (length game) ≡ None
 or_game_fault-none None game seed is =
     too_many_or_none (nat_lt MAX_LOG_LINES (length game)) (nat_lt MAX_SEED seed) is

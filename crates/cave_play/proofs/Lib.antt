@@ -1,6 +1,6 @@
 pub mod BytesLemmas
 mod DoubtLemmas
-mod EndedLemmas
+mod EditedLemmas
 mod FinishLemmas
 mod GuardLawLemmas
 mod GuardedLemmas
@@ -11,8 +11,6 @@ pub mod LogLemmas
 pub mod LogProgress
 pub mod OneOutputLemmas
 pub mod RefusalLemmas
-mod RefusedLemmas
-mod ReportLemmas
 mod RunLemmas
 mod ScriptLemmas
 mod SizeLemmas

@@ -10,7 +10,7 @@ use Rattle.std.specs.Str.Lines.{lines}
 use Rattle.cave_data.specs.Reads.{fault as cave_fault}
 use Rattle.data_rows.specs.declared.error.CaveError.{CaveError}
 use Rattle.replay_edits.specs.Edit.{game_of}
-use Rattle.base_lines.specs.declared.line_flaw.LineFlaw.{LineFlaw}
+use Rattle.base_lines.specs.declared.line.LineFault.{LineFault}
 use Rattle.cave_replay.specs.Opening.{first_bad_line}
 use Rattle.base_lines.specs.Limits.{MAX_SEED, MAX_EVERY, MAX_LOG_LINES, MAX_INPUT_BYTES}
 use Rattle.replay_scripts.specs.Guards.{script_by}
@@ -81,7 +81,7 @@ unwritten_by_size input.Script bytes =
 unwritten_by_size input.Known bytes =
     unwritten_by_test (nat_lt MAX_INPUT_BYTES (length bytes)) (too_large input.Known) (λ found. cc)
 
-unwritten_by_lines : (bad : Option (ℕ × LineFlaw)) (count : ℕ)
+unwritten_by_lines : (bad : Option (ℕ × LineFault)) (count : ℕ)
     → or_too_many bad count ≡ Some fault.Write → ⊥
 unwritten_by_lines (Some (number, flaw)) count found = cc
 unwritten_by_lines None count found =

@@ -9,7 +9,6 @@ use Rattle.cave_play.specs.Refused.{refusals_by, seed_by}
 use Rattle.cave_play.specs.Size.{size_fault}
 use Rattle.cave_play.specs.Views.{IsEditOf}
 use Rattle.cave_play.specs.declared.edits.EditRun.{EditRun}
-use Rattle.cave_play.specs.declared.edits.Edited.{Edited}
 use Rattle.cave_play.specs.declared.edits.MadeEdit.{MadeEdit}
 use Rattle.cave_play.specs.declared.fault.PlayFault.{PlayFault}
 use Rattle.cave_play.specs.declared.fault.PlayFault.TheVariants as fault
@@ -18,6 +17,7 @@ use Rattle.play_command.specs.declared.aside.ReportView.{ReportView}
 use Rattle.play_command.specs.declared.editing.Editing.{Editing}
 use Rattle.play_command.specs.declared.editing.EditView.{EditView}
 use Rattle.play_edits.specs.LogEnds.{EndsOfLog, shown_ends}
+use Rattle.play_edits.specs.declared.items.Edited.{Edited}
 use Rattle.replay_edits.specs.Edit.{Game, game_of}
 
 -- the report on what the script makes of the game is what the view that prints it alone asks for

@@ -8,7 +8,7 @@ use Rattle.data_rows.specs.declared.error.Cause.TheVariants as cause
 use Rattle.data_rows.specs.declared.error.CaveError.{CaveError}
 use Rattle.data_rows.specs.declared.error.FaultSite.TheVariants as site
 use Rattle.cave_replay.specs.Opening.{first_bad_line}
-use Rattle.base_lines.specs.declared.line_flaw.LineFlaw.{LineFlaw}
+use Rattle.base_lines.specs.declared.line.LineFault.{LineFault}
 use Rattle.base_lines.specs.Limits.{MAX_SEED, MAX_EVERY, MAX_LOG_LINES, MAX_INPUT_BYTES}
 use Rattle.cave_replay.specs.declared.fault.OpenFault.{OpenFault}
 use Rattle.cave_replay.specs.declared.fault.OpenFault.TheVariants as session
@@ -53,7 +53,7 @@ abbrev pub inputs_fault : List ℕ → List ℕ → Option PlayFault
 inputs_fault database bindings =
     option_map (cave_refusal database bindings) (cave_fault database bindings)
 
-abbrev pub or_too_many : Option (ℕ × LineFlaw) → ℕ → Option PlayFault
+abbrev pub or_too_many : Option (ℕ × LineFault) → ℕ → Option PlayFault
 or_too_many (Some (number, flaw)) count = Some (fault.Log (log.BadLine number flaw))
 or_too_many None count = if nat_lt MAX_LOG_LINES count then Some (fault.Log log.Full) else None
 

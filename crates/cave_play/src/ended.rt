@@ -6,11 +6,11 @@ ghost use Rattle.cave_play.specs.Ended.{ended_view};
 ghost use Rattle.cave_play.specs.Size.{size_fault};
 ghost use Rattle.play_edits.specs.LogEnds.{shown_ends};
 
-use crate::edits::{EditRun, Edited, MadeEdit};
+use crate::edits::{EditRun, MadeEdit};
 use crate::fault::PlayFault;
 use base_lines::limits::is_large_input;
 use play_command::EditView;
-use play_edits::{LogEnds, ended_text};
+use play_edits::{Edited, LogEnds, ended_text};
 use std::alloc::{AllocError, Global};
 
 /// What is printed of a text that edits made, by the view, if the lines of the log end so.

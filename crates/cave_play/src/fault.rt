@@ -4,7 +4,7 @@ ghost use Rattle.std.specs.Prelude.{◌≡◌};
 ghost use Rattle.cave_play.specs.declared.fault.PlayFault.TheVariants.{Memory};
 ghost use Rattle.cave_play.specs.Fault.{status_of, input_from, input_of, faulty_line};
 
-use base_lines::LineFlaw;
+use base_lines::LineFault;
 use check_doubts::{Doubt, Source};
 use check_tables::Clue;
 use data_rows::{CaveError, Expected, FaultSite};
@@ -19,14 +19,14 @@ use thiserror::Error;
 #[derive(Clone, Copy, Debug)]
 struct LineWords {
     line: usize,
-    flaw: LineFlaw,
+    flaw: LineFault,
 }
 
 impl fmt::Display for LineWords {
     fn fmt<W: fmt::Write>(&self, f: &mut fmt::Formatter<W>) -> fmt::Result {
         let flaw = self.flaw;
         match (self.line, flaw) {
-            (1, LineFlaw::Byte(239 | 254 | 255, 1)) => {
+            (1, LineFault::BadByte(239 | 254 | 255, 1)) => {
                 write!(
                     f,
                     "{flaw}: this looks like a byte order mark: save the log without one"
@@ -45,7 +45,7 @@ pub enum LogFault {
     TooLarge,
     /// The line with this number, from 1, isn't allowed in a log.
     #[error("{}", LineWords {line: *.0, flaw: *.1})]
-    BadLine(usize, LineFlaw),
+    BadLine(usize, LineFault),
     /// It has more lines than a log may have.
     #[error("the log has more than 65,535 lines")]
     Full,

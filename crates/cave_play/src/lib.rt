@@ -19,7 +19,7 @@ pub mod sources;
 pub mod two_logs;
 mod views;
 
-pub use base_lines::{LineFlaw, Meter, Steps};
+pub use base_lines::{LineFault, Meter, Steps};
 pub use cave_data::Cave;
 pub use cave_replay::{Machine, OpenFault, Report, Session};
 pub use cave_words::Lexicon;
@@ -36,7 +36,7 @@ pub use play_command::{
     CheckView, CommandFault, CoverView, EditAsked, EditView, Editing, EditsFrom, Input, Line,
     NamedFile, PlayView, ReportView, Request, TextView, What, command_line,
 };
-pub use play_edits::{EditDetail, ExpectedLine, KeptLine, Refusal};
+pub use play_edits::{ExpectedLine, KeptLine, Refusal};
 pub use play_machine::{
     CaveMachine, Piece, push_final_state, push_play, push_score, push_steps, push_walk,
 };

@@ -14,7 +14,7 @@ ghost use Rattle.cave_play.specs.Stages.{play_stages, edit_stages};
 ghost use Rattle.cave_play.specs.EditRun.{IsEditRun, IsMadeEdit, IsMadeOf};
 ghost use Rattle.play_edits.specs.LogEnds.{log_ends};
 
-use crate::edits::{EditRun, Edited, MadeEdit, edit_session};
+use crate::edits::{EditRun, MadeEdit, edit_session};
 use crate::ended::finish_edit;
 use crate::fault::PlayFault;
 use crate::inputs::{Inputs, OneLog};
@@ -25,6 +25,7 @@ use crate::views::{check_text, play_view_text};
 use cave_data::Cave;
 use cave_words::Lexicon;
 use play_command::{CheckView, Editing, Input, PlayView, ReportView};
+use play_edits::Edited;
 use play_machine::CaveMachine;
 use std::alloc::Global;
 use std::io::{Read, Write};

@@ -3,7 +3,7 @@ use Rattle.std.specs.Prelude.{ℕ, Bool, true, false, List, [], ◌∷◌, Optio
 use Rattle.std.specs.Prelude.{codes, if◌then◌else◌, is_some, map}
 use Rattle.std.specs.Borrow.{Bor}
 use Rattle.std.specs.List.{list_all, list_any}
-use Rattle.base_slips.specs.Nearest.{is_near_name}
+use Rattle.base_lines.specs.Nearest.{is_near_name}
 use Rattle.clap.specs.Words.{Row, first_of}
 use Rattle.play_command.specs.declared.arguments.Argument.{Argument}
 use Rattle.play_command.specs.declared.arguments.Form.{Form}

@@ -20,16 +20,3 @@ unfolding last_state
 last_state-played cave kept game opening pieces ticked state same played =
     let here = subst (λ k. IsPlay (cave_rules k) game opening pieces ticked state) same played in
     here.state_is
-
--- what is written of an item by what is held after it
-pub row-held : (cave kept : CaveView) (item : Applied) (game now : Game) (outcome : ItemOutcome)
-    (s : State) → kept ≡ cave → now ≡ game_after_item item game → s ≡ last_state cave game
-    → row_by item outcome s (standing_of kept now) (last_state kept now)
-    ≡ table_row cave item game outcome
-row-held cave kept item game now outcome s cave_is game_is before =
-    rw (cave_is, game_is, before) refl
-
-pub account-held : (cave kept : CaveView) (item : Applied) (game now : Game)
-    (outcome : ItemOutcome) → kept ≡ cave → now ≡ game_after_item item game
-    → account_by item outcome (standing_of kept now) ≡ account cave item game outcome
-account-held cave kept item game now outcome cave_is game_is = rw (cave_is, game_is) refl

@@ -1,6 +1,6 @@
 //! What the program prints at each fault, and the status with which it then ends.
 
-use base_lines::LineFlaw;
+use base_lines::LineFault;
 use cave_play::{Complaint, LogFault, PlayFault, ScriptFault, Unopened};
 use data_rows::{Cause, CaveError, FaultSite};
 use play_command::Input;
@@ -67,7 +67,7 @@ const FAULTS: [(PlayFault, u8, &str); 17] = [
         "cave: a.log: the log is too large: a log has at most 1,048,576 bytes",
     ),
     (
-        PlayFault::Log(LogFault::BadLine(7, LineFlaw::Byte(127, 3))),
+        PlayFault::Log(LogFault::BadLine(7, LineFault::BadByte(127, 3))),
         3,
         "cave: a.log:7: the byte in column 3 is 127, and a line of a log has printable ASCII, 32 \
         to 126, and tabs",

@@ -14,7 +14,7 @@ use Rattle.replay_edits.specs.Edit.{Game, IsGame, game_of}
 use Rattle.cave_play.specs.EditRun.{IsMadeOf}
 use Rattle.play_command.specs.declared.aside.ReportView.{ReportView}
 use Rattle.play_edits.specs.LogEnds.{log_ends}
-use Rattle.cave_play.specs.declared.edits.Edited.{Edited}
+use Rattle.play_edits.specs.declared.items.Edited.{Edited}
 use Rattle.cave_play.specs.Run.{IsFoundIn, Judges}
 use Rattle.cave_play.specs.Sources.{next_log}
 use Rattle.cave_play.specs.Stages.{Stage, first_decided, judging_stage}
