@@ -83,6 +83,7 @@ test: has-rt has-cc checks ## runs the gate: proofs from nothing, wrong bodies, 
 	logs/tools/check-large-cave '$(PROGRAM)'
 	logs/tools/check-coverage '$(PROGRAM)'
 	logs/tools/check-maps '$(PROGRAM)'
+	logs/tools/check-many-logs '$(PROGRAM)'
 	logs/tools/check-undo '$(PROGRAM)'
 	logs/tools/check-slips '$(PROGRAM)'
 	logs/tools/check-drafts '$(PROGRAM)'

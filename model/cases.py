@@ -32,7 +32,7 @@ def cave_of(texts):
 
 def head_of(rng, start):
     """A head of a log, which says how the log is played, or something else."""
-    says = rng.choice(["cave.txt", "other.txt", "play cave.txt --bind=bindings.txt"])
+    says = rng.choice(["cave.txt", "other.txt", "cave.txt --bind=bindings.txt"])
     return f"# cave: {says} --seed {start + rng.choice([0, 1])}"
 
 

@@ -1,12 +1,12 @@
 """The program `cave` (docs/PROGRAM.md): its words, files, output, messages and statuses.
 
-What is left out: `map`, `script`, `--to`, `--output`, `--help`, and what `edit --print reports` and
-`table` say with a distance of checkpoints above 1, for which the pages leave room.
+What is left out: `map`, `script`, `--to`, `--output`, `--help`, tips on words that no slip makes of
+a name, and what `edit --print reports` and `table` say with a distance of checkpoints above 1, for
+which the pages leave room.
 """
 
 import os
 from functools import lru_cache
-from itertools import takewhile
 from re import findall, fullmatch
 
 import checks
@@ -36,7 +36,6 @@ LISTS = {"check": "doubts", "cover": "texts"}
 # What an option without a value stands for, and what may be asked for by it.
 USUAL = {"--report": "reports"}
 REPORTS = ["reports", "table"]
-MOST_HEAD = 257 # the bytes of a line of a log, and of its end
 LETTERS = {"-b": "--bind", "-s": "--seed", "-p": "--print", "-e": "--edit", "-q": "--quiet"}
 KNOWN = {"check": ["--bind", "--print", "--strict", "--known"],
          "play": ["--bind", "--seed", "--print"],
@@ -57,21 +56,21 @@ def wrong(message, usage=None):
     shown = f"\n\nUsage: cave {usage}" if usage else ""
     return Stop(2, f"error: {message}{shown}\n\nFor more information, try '--help'.\n")
 
-def wanted(given, names, near):
-    """What is said about a name that isn't one of these, and perhaps is near to one."""
-    *some, last = names
-    return f"expected {', '.join(some)} or {last}" + (
-        f"\n\n  tip: did you mean '{near}'?" if near else "")
+def tip_of(what, given, names):
+    """The tip on a name that isn't one of these, if it is near to one."""
+    near = near_name(given, names)
+    return f"\n\n  tip: a similar {what} exists: '{near}'" if near else ""
 
 def words_of(words):
     """The command, its files and its options."""
     if not words or words[0] not in FILES:
         word = (words or [""])[0]
-        names = {it: command for command, more in COMMANDS.items() for it in (command, *more)}
-        said = wanted(word, [*COMMANDS], names.get(near_name(word, names)))
-        raise wrong(f"unrecognized subcommand '{word}': {said}", "<COMMAND>")
+        meant = [command for command, others in COMMANDS.items()
+                 if any(near_name(word, [it]) for it in others)]
+        tip = f"\n\n  tip: did you mean '{meant[0]}'?" if meant else tip_of(
+            "subcommand", word, COMMANDS)
+        raise wrong(f"unrecognized subcommand '{word}'{tip}", "<COMMAND>")
     command, files, options, rest, only_files = words[0], [], {}, list(words[1:]), False
-    below_zero = seed_below_zero(command, rest)
     usage = f"{command} {' '.join(FILES[command])}"
     with_options = usage.replace(" ", " [OPTIONS] ", 1)
     while rest:
@@ -82,13 +81,12 @@ def words_of(words):
         if only_files or not word.startswith("-") or word == "-":
             files.append(word)
             if len(files) > len(FILES[command]) and command != "cover":
-                raise unexpected(word, below_zero, with_options)
+                raise unexpected(word, with_options)
         elif word == "--":
             only_files = True
         elif name not in KNOWN[command]:
             is_long = name.startswith("--")
-            raise unexpected(name if is_long else name[:2], below_zero,
-                             usage if is_long else with_options)
+            raise unexpected(name if is_long else name[:2], usage if is_long else with_options)
         else:
             shown = shown_option(name)
             if name in options and name != "--edit":
@@ -102,8 +100,12 @@ def words_of(words):
                 if not rest or rest[0].startswith("--"):
                     raise wrong(f"a value is required for '{shown}' but none was supplied")
                 if rest[0].startswith("-") and rest[0] != "-":
-                    raise unexpected(rest[0][:2], below_zero, with_options)
+                    raise unexpected(rest[0][:2], with_options)
                 value = rest.pop(0)
+            named = {"--print": PRINTS[command], "--report": REPORTS}.get(name, [value])
+            if value not in named:
+                raise wrong(f"invalid value '{value}' for '{shown}'\n  [possible values:"
+                            f" {', '.join(named)}]{tip_of('value', value, named)}")
             options[name] = [*options.get(name, []), value] if name == "--edit" else value
     if missing := [it for it in FILES[command][len(files):] if it.startswith("<")]:
         listed = "".join(f"\n  {it}" for it in missing)
@@ -118,36 +120,22 @@ def shown_option(name):
         return name
     return f"{name} [<{OPTIONS[name]}>]" if name in USUAL else f"{name} <{OPTIONS[name]}>"
 
-def seed_below_zero(command, words):
-    """The seed of a command, if it is a hyphen and digits; after `--` each word is a file."""
-    before = list(takewhile(lambda it: it not in ("--", "--seed", "-s"), words))
-    option, seed = [*words[len(before):][:2], "", ""][:2]
-    is_one = "--seed" in KNOWN[command] and option in ("--seed", "-s")
-    return seed if is_one and fullmatch("-[0-9]+", seed) else None
-
-def unexpected(word, below_zero, usage):
-    """What is said about a wrong argument: for a seed below zero, that it isn't a seed."""
-    if below_zero:
-        return not_in("--seed", below_zero, 0, GREATEST_SEED)
+def unexpected(word, usage):
     return wrong(f"unexpected argument '{word}' found", usage)
 
 def judged_options(command, files, options):
     """The options, and what they are if they aren't given."""
+    if command == "edit" and len(files) == 3 and "--edit" in options:
+        raise wrong("only one of SCRIPT, '--edit <EDIT>' and '--to <FILE>' can be used")
+    if command == "edit" and len(files) == 2 and "--edit" not in options:
+        raise wrong("SCRIPT, '--edit <EDIT>' or '--to <FILE>' is required")
     seed = number_in("--seed", options.get("--seed", "0"), 0, GREATEST_SEED)
     number_in("--every", options.get("--every", "50"), 1, 10_000)
     asks_left = "--strict" in options or "--known" in options
     usual = LISTS.get(command) if asks_left else None
     prints = options.get("--print", usual or PRINTS[command][0])
-    names = PRINTS[command]
-    if prints not in names:
-        raise wrong(f"invalid value '{prints}' for '--print <WHAT>':"
-                    f" {wanted(prints, names, near_name(prints, names))}")
     if command == "check" and asks_left and prints != "doubts":
         raise wrong("'--strict' and '--known <FILE>' are for '--print doubts'")
-    if command == "edit" and len(files) == 3 and "--edit" in options:
-        raise wrong("only one of SCRIPT, '--edit <EDIT>' and '--to <FILE>' can be used")
-    if command == "edit" and len(files) == 2 and "--edit" not in options:
-        raise wrong("SCRIPT, '--edit <EDIT>' or '--to <FILE>' is required")
     if "--report" in options:
         raise wrong("'--report <WHAT>' is for '--output <FILE>' or '--in-place': without these,"
                     " '--print <WHAT>' prints reports")
@@ -160,11 +148,8 @@ def number_in(option, text, least, most):
     """The number of an option, of 1 to 10 digits."""
     if text.isascii() and text.isdigit() and len(text) <= 10 and least <= int(text) <= most:
         return int(text)
-    raise not_in(option, text, least, most)
-
-def not_in(option, text, least, most):
-    return wrong(f"invalid value '{text}' for '{option} <{OPTIONS[option]}>': expected 1 to 10"
-                 f" digits, from {least} to {most}")
+    raise wrong(f"invalid value '{text}' for '{option} <{OPTIONS[option]}>': expected 1 to 10"
+                f" digits, from {least} to {most}")
 
 # ---- Files
 
@@ -196,16 +181,23 @@ def cave_of(name, database, bind, bindings):
     sections = judged_as(1, name, with_mark, sections_of, database)
     return Cave(sections, judged_as(1, bind, with_mark, bindings_of, bindings))
 
-# ---- The head of a log
+# ---- A log and its head
+
+def read_log(name, file, database, options, told):
+    """The text of a log. What is said of its head is added to `told`."""
+    text = text_of(file)
+    if len(text) <= MOST_BYTES and not options["quiet"]:
+        told.append(head_notice(name, text, database, options))
+    return text
 
 def head_notice(name, text, database, options):
     """What is said of a log whose head says how it is played, if the words differ."""
-    line = [*lines_of(text[:MOST_HEAD]), ""][0]
+    line = [*lines_of(text), ""][0]
     if not line.startswith("# cave:") or flaw_of(line):
         return ""
     said = line.removeprefix("# cave:")
     words = findall("[^ \t]+", said)
-    cave = [*words, "", ""][words[:1] in (["play"], ["edit"])]
+    cave = [*words, ""][0]
     bind, seed = said_in_head(words, "--bind"), said_in_head(words, "--seed")
     if cave and not cave.startswith("-") and base(cave) != base(database):
         other = cave
@@ -358,11 +350,12 @@ def run_edit(cave, file, log, script, log_ends, options, told):
             "play": ended.transcript,
             "transcript": [*reports, *ended.transcript]}[options["print"]]
 
-def run_cover(cave, names, texts, options, known):
-    """Plays logs, and returns what is printed about the texts that none of them says, as lines."""
+def run_cover(cave, database, names, options, known, told):
+    """Plays logs, each of which is opened when its turn comes, and returns what is printed about
+    the texts that none of them says, as lines."""
     said, known = set(), cover.known_of(lines_of(known))
-    for name, text in zip(names, texts):
-        log = judged_as(3, name, log_of, text)
+    for name in names:
+        log = judged_as(3, name, log_of, read_log(name, opened(name), database, options, told))
         said |= edits.play(cave, options["seed"], log).game.said
     entries, lines, left = cover.report(cave, said, len(names), options["print"], known)
     words = "nothing that is never shown says this"
@@ -383,12 +376,9 @@ def run_words(words, told):
     on standard error is added to `told`, as lines."""
     command, names, options = words_of(words)
     bind, known = options["bind"], options["known"]
-    in_order = [names[0], bind, *names[1:], *([known] if known is not None else [])]
+    others = names[1:] if command != "cover" else []
+    in_order = [names[0], bind, *others, *([known] if known is not None else [])]
     files = [None if it is None else opened(it) for it in in_order]
-    logs = {"play": names[1:], "edit": names[1:2], "cover": names[1:]}.get(command, [])
-    texts = [text_of(it) for it in files[2:2 + len(logs)]]
-    heads = [head_notice(*it, names[0], options) for it in zip(logs, texts)]
-    told += [] if options["quiet"] else heads
     listed = text_of(files.pop()) if known is not None else ""
     if command == "cover":
         check_known(known, listed)
@@ -403,13 +393,14 @@ def run_words(words, told):
         check_known(known, listed)
         return check_lines(cave, options, names[0], database, bindings, listed)
     if command == "cover":
-        return run_cover(cave, logs, texts, options, listed)
-    log = judged_as(3, names[1], log_of, texts[0])
+        return run_cover(cave, names[0], names[1:], options, listed, told)
+    moves = read_log(names[1], files[2], names[0], options, told)
+    log = judged_as(3, names[1], log_of, moves)
     if command == "edit":
         name, text = (names[2], text_of(files[3])) if options["edit"] is None else (
             "--edit", "".join(it + "\n" for it in options["edit"]))
         script = judged_as(4, name, edits.script_of, text, options["guarded"])
-        log_ends = ends.Ends(texts[0], text)
+        log_ends = ends.Ends(moves, text)
         return run_edit(cave, name, log, script, log_ends, options, told)
     if options["print"] == "steps":
         return edits.steps(cave, options["seed"], log)

@@ -1,16 +1,22 @@
 -- A first line whose bytes may all stand in a log, up to the line feed that ends it.
 use Rattle.std.proofs.Common.{◌≡◌, ℕ, suc, ◌+◌, ◌-◌, ◌<◌, Bool, true, false, cond, ◌==◌, List, []}
 use Rattle.std.proofs.Common.{◌∷◌, Some, length, take, drop, get_or, slice_index, refl, sym, ap}
-use Rattle.std.proofs.Common.{◌∙◌, arith, IsTrue, nat_lt}
+use Rattle.std.proofs.Common.{◌∙◌, arith, IsTrue, nat_lt, not}
 use Rattle.std.specs.List.{list_all, position_or_len, prefix_len, slice_get}
 use Rattle.std.specs.Str.Lines.{lines, strip_carriage_return}
-use Rattle.std.proofs.lemmas.Bool.{false≢true, ne_eqb}
+use Rattle.std.proofs.lemmas.Bool.{and_parts, false≢true, ne_eqb}
 use Rattle.std.proofs.lemmas.List.Folds.{length-prefix_len, list_all_at}
 use Rattle.std.proofs.lemmas.List.{take_rest}
 use Rattle.std.proofs.lemmas.Option.{slice_get-get_or, slice_get_within}
 use Rattle.base_lines.specs.Limits.{MAX_LINE_BYTES}
 use Rattle.base_lines.proofs.FirstLines.{lines_ended}
-use Rattle.base_lines.specs.Line.{is_line, is_line_byte, is_printable, line_fault}
+use Rattle.base_lines.specs.Line.{is_line, is_line_byte, is_printable}
+
+-- a line that a log may have has only bytes that are allowed
+pub good_bytes : (line : List ℕ) → is_line line ≡ true → list_all is_line_byte line ≡ true
+unfolding is_line
+good_bytes line good =
+    (and_parts (not (nat_lt MAX_LINE_BYTES (length line))) (list_all is_line_byte line) good).1
 
 no_control : (byte control : ℕ) → is_line_byte control ≡ false → is_line_byte byte ≡ true
     → (byte == control) ≡ false
@@ -79,7 +85,7 @@ good_line_ended text len is ends =
 
 good_line : (text : List ℕ) (len : ℕ) → len ≡ prefix_len is_line_byte text
     → nat_lt MAX_LINE_BYTES len ≡ false → IsTrue (is_line (take len text))
-unfolding is_line line_fault
+unfolding is_line
 good_line text len is short =
     let good : list_all is_line_byte (take len text) ≡ true =
     ap (λ n. list_all is_line_byte (take n text)) is ∙ good_prefix text in

@@ -1,18 +1,22 @@
-//! What users hand in, before anyone asks what it means: limits, the numbers of things, and the
-//! lines and words of any text.
+//! What users hand in, before anyone asks what it means: limits, the numbers of things, the lines
+//! and words of any text, names that are one slip from others, and byte order marks.
 #![tactic(auto)]
 
 pub mod bytes;
 pub mod limits;
 pub mod line;
-pub mod line_flaw;
 pub mod lines;
 pub mod log_line;
+pub mod mark;
 pub mod meter;
+pub mod near;
+pub mod nearest;
 pub mod numbers;
 
 pub use line::{LineFault, check_line};
-pub use line_flaw::{LineFlaw, split_log_line};
-pub use lines::split_line;
+pub use lines::{split_line, split_log_line};
 pub use log_line::{LogLine, is_skipped};
+pub use mark::has_byte_order_mark;
 pub use meter::{Meter, Steps};
+pub use near::is_near;
+pub use nearest::{is_near_name, near_name};

@@ -1,14 +1,14 @@
 -- What is printed of an edited log is read again, and the bytes of a log come back.
 use Rattle.std.proofs.Common.{◌≡◌, ℕ, ◌+◌, Bool, true, false, List, [], ◌∷◌, length}
 use Rattle.std.proofs.Common.{reverse, All, IsTrue, None, Ok, sym, ap, ap₂, ◌∙◌, refl, subst}
-use Rattle.std.proofs.Common.{le-ltb, nat_lt, Some}
-use Rattle.std.specs.Prelude.{if◌then◌else◌, is_none}
+use Rattle.std.proofs.Common.{le-ltb, Some}
+use Rattle.std.specs.Prelude.{if◌then◌else◌}
 use Rattle.std.specs.List.{list_all}
 use Rattle.std.specs.Str.Lines.{lines}
 use Rattle.std.proofs.lemmas.List.Elements.{All-cons, All-head, All-nil, All-tail}
-use Rattle.base_lines.specs.Limits.{MAX_LINE_BYTES, MAX_LOG_LINES}
-use Rattle.base_lines.specs.Line.{flaw_of, is_line, is_line_byte, line_fault}
-use Rattle.base_lines.specs.declared.line.LineFault.TheVariants.{BadByte, TooLong}
+use Rattle.base_lines.specs.Limits.{MAX_LOG_LINES}
+use Rattle.base_lines.specs.Line.{flaw_of, is_line}
+use Rattle.base_lines.proofs.GoodLines.{good_bytes}
 use Rattle.cave_data.specs.CaveView.{CaveView}
 use Rattle.cave_replay.specs.Opening.{first_bad_line}
 use Rattle.play_command.specs.declared.editing.EditView.TheVariants as asked
@@ -24,7 +24,7 @@ use Rattle.play_edits.specs.LogEnds.{ends_with, log_ends}
 use Rattle.play_edits.specs.declared.line_end.LineEnd.{LineEnd}
 use Rattle.play_edits.specs.declared.line_end.LineEnd.TheVariants.{Feed}
 use Rattle.play_edits.proofs.AlikeEnds.{alike-again, ends-alike, first-alike, first-closed}
-use Rattle.play_edits.proofs.AlikeEnds.{log_ends-alike, unended-closed}
+use Rattle.play_edits.proofs.AlikeEnds.{ends_after_items-alike, log_ends-alike, unended-closed}
 use Rattle.play_edits.proofs.EndedLines.{lines-ended}
 use Rattle.replay_scripts.proofs.Texts.{IsTextLine}
 use Rattle.replay_scripts.specs.Guards.{IsScriptBy, read_guarded_from, unguarded}
@@ -33,12 +33,12 @@ use Rattle.replay_scripts.specs.Script.{Applied, IsScript, read_from}
 use Rattle.replay_scripts.proofs.Grammar.{script_of-only}
 use Rattle.cave_play.specs.Bytes.{EditedLogsAreAccepted, EndsAlike, GuardedScriptsDoTheSame}
 use Rattle.cave_play.specs.Bytes.{UndoGivesTheBytes, UndoScriptsTakeBack}
-use Rattle.cave_play.specs.Ended.{IsEndedEdit, ended_view, ends_after_items}
+use Rattle.cave_play.specs.Ended.{IsEndedEdit, ended_view}
+use Rattle.play_edits.specs.LogEnds.{ends_after_items}
 use Rattle.cave_play.specs.Judge.{lines_fault, or_too_many}
 use Rattle.cave_play.specs.Views.{IsGuarded, IsUndo}
 use Rattle.cave_play.specs.declared.fault.LogFault.TheVariants as fault_of_log
 use Rattle.cave_play.specs.declared.fault.PlayFault.TheVariants as fault
-use Rattle.cave_play.proofs.EndedLemmas.{ends_after_items-alike}
 use Rattle.cave_play.proofs.OneOutputLemmas.{same_items, script_by-spelled}
 use Rattle.cave_play.proofs.JudgeLemmas.{log_fault-lines, script_fault-none}
 use Rattle.cave_play.proofs.RefusalLemmas.{IsGame-accepted}
@@ -49,22 +49,10 @@ use Rattle.cave_play.proofs.UndoLines.{undo_lines_stand}
 abbrev IsGoodLine : List ℕ → Type 0
 IsGoodLine line = IsTrue (is_line line)
 
-stands : (long stand : Bool)
-    → is_none (if long then Some TooLong else (if stand then None else Some BadByte)) ≡ true
-    → stand ≡ true
-stands true stand good = cc
-stands false true good = refl
-stands false false good = cc
-
-line_stands : (line : List ℕ) → is_line line ≡ true → list_all is_line_byte line ≡ true
-unfolding is_line line_fault
-line_stands line good =
-    stands (nat_lt MAX_LINE_BYTES (length line)) (list_all is_line_byte line) good
-
 pub text_lines : (log : List (List ℕ)) → All IsGoodLine log → All IsTextLine log
 text_lines [] good = All-nil IsTextLine
 text_lines (line ∷ log) good =
-    All-cons IsTextLine line log (line_stands line (All-head IsGoodLine line log good))
+    All-cons IsTextLine line log (good_bytes line (All-head IsGoodLine line log good))
     (text_lines log (All-tail IsGoodLine line log good))
 
 none_bad : (log : List (List ℕ)) (number : ℕ) → All IsGoodLine log

@@ -1,12 +1,14 @@
 -- The bytes of an input, if only a prefix of them was read.
 use Rattle.std.proofs.Common.{ℕ, ◌≤◌, List, [], ◌++◌, length, None, Some, sym, ap, ◌∙◌, refl, arith}
+use Rattle.std.proofs.Common.{inl, inr}
 use Rattle.std.proofs.Common.{append-nil, length-append, le_refl}
 use Rattle.std.specs.declared.option.Option.{Option}
 use Rattle.std.specs.Io.KnownBytes.{Consumes, IsAtEnd}
 use Rattle.std.proofs.KnownBytes.{Consumes-trans}
-use Rattle.cave_play.specs.Input.{Says, IsInputFault, Exceeds}
-use Rattle.cave_play.specs.declared.input.InputFault.{InputFault}
-use Rattle.cave_play.specs.declared.input.InputFault.TheVariants.{Unreadable, TooLarge, Memory}
+use Rattle.cave_play.specs.Input.{Says}
+use Rattle.cave_play.specs.Reading.{Exceeds, IsUnread}
+use Rattle.cave_play.specs.declared.fault.PlayFault.{PlayFault}
+use Rattle.play_command.specs.declared.input.Input.{Input}
 
 -- a reader that reached its end had what it gave
 pub Says-whole : (old new : Option (List ℕ)) (bytes : List ℕ) → Consumes old new bytes → IsAtEnd new
@@ -30,16 +32,13 @@ Says-some None = ([], tt)
 Says-some (Some known) = (known, refl)
 
 -- a reading that failed is a fault of the input
-pub IsInputFault-from : (first old new : Option (List ℕ)) (before : List ℕ) (fault : InputFault)
-    → Consumes first old before → Exceeds old new before fault
-    → (bytes : List ℕ) × Says first bytes × IsInputFault bytes fault
-IsInputFault-from first old new before Unreadable taken over =
-    let some = Says-some first in (some.0, some.1, tt)
-IsInputFault-from first old new before Memory taken over =
-    let some = Says-some first in (some.0, some.1, tt)
-IsInputFault-from first old new before TooLarge taken over =
-    let (given, more, long) = over.over refl in
+pub IsUnread-from : (from : Input) (first old new : Option (List ℕ)) (before : List ℕ)
+    (found : PlayFault) → Consumes first old before → Exceeds from old new before found
+    → (bytes : List ℕ) × Says first bytes × IsUnread from bytes found
+IsUnread-from from first old new before found taken (inl outside) =
+    let some = Says-some first in (some.0, some.1, inl outside)
+IsUnread-from from first old new before found taken (inr (given, more, long, is)) =
     let (bytes, said, front) =
     Says-front first new (before ++ given)
     (Consumes-trans first old new before given taken more) in
-    (bytes, said, omega (arith, length-append before given))
+    (bytes, said, inr (omega (arith, length-append before given, front), is))

@@ -16,7 +16,7 @@ use Rattle.cave_data.specs.Reads.{Reads, fault as cave_fault, too_large_input as
 use Rattle.data_rows.specs.declared.error.Cause.TheVariants as cause
 use Rattle.data_rows.specs.declared.error.CaveError.{CaveError}
 use Rattle.data_rows.specs.declared.error.FaultSite.TheVariants as site
-use Rattle.base_lines.specs.declared.line_flaw.LineFlaw.{LineFlaw}
+use Rattle.base_lines.specs.declared.line.LineFault.{LineFault}
 use Rattle.cave_replay.specs.Opening.{open_fault, first_bad_line, or_game_fault}
 use Rattle.cave_replay.specs.declared.fault.OpenFault.{OpenFault}
 use Rattle.cave_replay.specs.declared.fault.OpenFault.TheVariants as session
@@ -30,22 +30,18 @@ use Rattle.cave_play.proofs.StageLemmas.{Judges-read, first_decided-one}
 use Rattle.cave_play.specs.Judge.{large_seed, every_fault, too_large, input_size_fault}
 use Rattle.cave_play.specs.Judge.{cave_refusal, inputs_fault, lines_fault, log_fault, script_fault}
 use Rattle.cave_play.specs.Judge.{first_malformed, script_refusal, or_too_many, opening_fault}
-use Rattle.cave_play.specs.Run.{Judges, IsOutsideOf}
+use Rattle.cave_play.specs.Reading.{IsUnread}
+use Rattle.cave_play.specs.Run.{Judges}
 use Rattle.cave_play.specs.Stages.{reading_stage, judging_stage, first_decided}
 use Rattle.cave_play.specs.Run.{IsFoundAt, IsFoundIn}
 use Rattle.cave_play.specs.Stages.{cave_stages, known_stage, log_stage, script_stage}
-use Rattle.cave_play.specs.declared.fault.Input.{Input}
-use Rattle.cave_play.specs.declared.fault.Input.TheVariants as input
+use Rattle.play_command.specs.declared.input.Input.{Input}
+use Rattle.play_command.specs.declared.input.Input.TheVariants as input
 use Rattle.cave_play.specs.declared.fault.LogFault.TheVariants as log
 use Rattle.cave_play.specs.declared.fault.PlayFault.{PlayFault}
 use Rattle.cave_play.specs.declared.fault.PlayFault.TheVariants as fault
 
 -- ---- the size of an input
-
--- a reading failed, or the input is too large
-abbrev pub IsRefused : Input → List ℕ → PlayFault → Type 0
-IsRefused from bytes found =
-    IsOutsideOf (Some from) found ⊎ ((MAX_INPUT_BYTES < length bytes) × (found ≡ too_large from))
 
 input_size_fault-large : (from : Input) (bytes : List ℕ) (found : PlayFault)
     → MAX_INPUT_BYTES < length bytes → found ≡ too_large from
@@ -61,13 +57,13 @@ input_size_fault-fits from bytes fits = rw (le-ltb MAX_INPUT_BYTES (length bytes
 
 -- an input that couldn't be read
 pub IsFoundIn-database : (database bindings : List ℕ) (found : PlayFault)
-    → IsRefused input.Cave database found → IsFoundIn (cave_stages database bindings) found
+    → IsUnread input.Cave database found → IsFoundIn (cave_stages database bindings) found
 IsFoundIn-database database bindings found (inl outside) = inl (inl outside)
 IsFoundIn-database database bindings found (inr (large, is)) =
     inl (inr (input_size_fault-large input.Cave database found large is))
 
 pub IsFoundIn-bindings : (database bindings : List ℕ) (found : PlayFault)
-    → length database ≤ MAX_INPUT_BYTES → IsRefused input.Bindings bindings found
+    → length database ≤ MAX_INPUT_BYTES → IsUnread input.Bindings bindings found
     → IsFoundIn (cave_stages database bindings) found
 IsFoundIn-bindings database bindings found fits (inl outside) =
     inr (input_size_fault-fits input.Cave database fits, inl (inl outside))
@@ -143,7 +139,7 @@ IsFoundIn-inputs database bindings found fits small refused =
 -- ---- known doubts
 
 pub IsFoundIn-known : (bytes : List ℕ) (found : PlayFault)
-    → IsRefused input.Known bytes found → IsFoundIn (known_stage bytes ∷ []) found
+    → IsUnread input.Known bytes found → IsFoundIn (known_stage bytes ∷ []) found
 IsFoundIn-known bytes found (inl outside) = inl (inl outside)
 IsFoundIn-known bytes found (inr (large, is)) =
     inl (inr (input_size_fault-large input.Known bytes found large is))
@@ -156,7 +152,7 @@ first_decided-known bytes fits =
 -- ---- a log
 
 pub IsFoundIn-log : (bytes : List ℕ) (found : PlayFault)
-    → IsRefused input.Log bytes found → IsFoundIn (log_stage bytes ∷ []) found
+    → IsUnread input.Log bytes found → IsFoundIn (log_stage bytes ∷ []) found
 unfolding log_fault
 IsFoundIn-log bytes found (inl outside) = inl (inl outside)
 IsFoundIn-log bytes found (inr (large, is)) =
@@ -196,14 +192,14 @@ too_many_or_none : (many great : Bool)
 too_many_or_none true great is = cc
 too_many_or_none false great is = refl
 
-or_game_fault-fits : (bad : Option (ℕ × LineFlaw)) (game : List (List ℕ)) (seed : ℕ)
+or_game_fault-fits : (bad : Option (ℕ × LineFault)) (game : List (List ℕ)) (seed : ℕ)
     (found : OpenFault) → large_seed seed ≡ None → or_game_fault bad game seed ≡ Some found
     → or_too_many bad (length game) ≡ Some (opening_fault found)
 or_game_fault-fits None game seed found fits is =
     too_many_or_seed (nat_lt MAX_LOG_LINES (length game)) (nat_lt MAX_SEED seed) found fits is
 or_game_fault-fits (Some (number, flaw)) game seed found fits is = ap (option_map opening_fault) is
 
-or_game_fault-none : (bad : Option (ℕ × LineFlaw)) (game : List (List ℕ)) (seed : ℕ)
+or_game_fault-none : (bad : Option (ℕ × LineFault)) (game : List (List ℕ)) (seed : ℕ)
     → or_game_fault bad game seed ≡ None → or_too_many bad (length game) ≡ None
 or_game_fault-none None game seed is =
     too_many_or_none (nat_lt MAX_LOG_LINES (length game)) (nat_lt MAX_SEED seed) is
@@ -297,7 +293,7 @@ IsFoundIn-watched game seed found fits (inr is) =
 -- ---- a script
 
 pub IsFoundIn-script : (guarded : Bool) (bytes : List ℕ) (found : PlayFault)
-    → IsRefused input.Script bytes found → IsFoundIn (script_stage guarded bytes ∷ []) found
+    → IsUnread input.Script bytes found → IsFoundIn (script_stage guarded bytes ∷ []) found
 unfolding script_fault
 IsFoundIn-script guarded bytes found (inl outside) = inl (inl outside)
 IsFoundIn-script guarded bytes found (inr (large, is)) =

@@ -1,20 +1,22 @@
 pub mod BytesLemmas
 mod DoubtLemmas
-mod EndedLemmas
+mod EditedLemmas
+mod FinishLemmas
 mod GuardLawLemmas
 mod GuardedLemmas
 pub mod InputLemmas
 pub mod JudgeLemmas
+pub mod Lists
+pub mod LogLemmas
+pub mod LogProgress
 pub mod OneOutputLemmas
 pub mod RefusalLemmas
-mod RefusedLemmas
-mod ReportLemmas
 mod RunLemmas
 mod ScriptLemmas
-pub mod StageLemmas
 mod SizeLemmas
+pub mod SourceLemmas
+pub mod StageLemmas
 mod StrictLemmas
-mod TextsLemmas
 mod TwoLogLemmas
 mod UndoLemmas
 mod UndoLines

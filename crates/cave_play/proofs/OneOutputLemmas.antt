@@ -14,7 +14,8 @@ use Rattle.replay_scripts.specs.Script.{Applied}
 use Rattle.cave_play.specs.Laws.{OneCheckedOutput, OnePlayedOutput, OneEditedOutput}
 use Rattle.cave_play.specs.Laws.{KnowsNoCheckpoints}
 use Rattle.cave_play.specs.Output.{check_text, play_view_text}
-use Rattle.cave_play.specs.Ended.{ended_view, ends_after_items}
+use Rattle.cave_play.specs.Ended.{ended_view}
+use Rattle.play_edits.specs.LogEnds.{ends_after_items}
 use Rattle.cave_play.specs.Views.{IsViewOf}
 use Rattle.play_edits.specs.Outcome.{ItemOutcome}
 use Rattle.play_edits.specs.LogEnds.{log_ends}

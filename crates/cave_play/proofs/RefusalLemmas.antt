@@ -4,8 +4,8 @@ use Rattle.std.proofs.Common.{Option, None, Some, nat_lt, refl, ap, arith, le-lt
 use Rattle.std.specs.Prelude.{⊤, if◌then◌else◌, nat_le, not}
 use Rattle.std.specs.Str.Lines.{lines}
 use Rattle.base_lines.specs.Limits.{MAX_INPUT_BYTES, MAX_LOG_LINES, MAX_SEED}
-use Rattle.base_lines.specs.Line.{is_line}
-use Rattle.base_lines.specs.declared.line_flaw.LineFlaw.{LineFlaw}
+use Rattle.base_lines.specs.Line.{flaw_of, is_line}
+use Rattle.base_lines.specs.declared.line.LineFault.{LineFault}
 use Rattle.replay_edits.specs.Edit.{Change, inserts, deletes, replaces, reseeds, log_after, Game}
 use Rattle.replay_edits.specs.Edit.{game_of, IsGame}
 use Rattle.replay_edits.specs.Faults.{fault_of, fault_of_all, first_of_two, log_after_all}
@@ -41,7 +41,7 @@ opened true great few fits = cc
 opened false true few fits = cc
 opened false false few fits = refl
 
-opened_after : (bad : Option (ℕ × LineFlaw)) (game : List (List ℕ)) (seed : ℕ)
+opened_after : (bad : Option (ℕ × LineFault)) (game : List (List ℕ)) (seed : ℕ)
     → or_too_many bad (length game) ≡ None → large_seed seed ≡ None
     → or_game_fault bad game seed ≡ None
 opened_after None game seed few fits =
@@ -73,13 +73,14 @@ by_test false found rest here there = there
 
 by_change : (change : Change) (log : List (List ℕ)) → InEdit (fault_of change log)
 by_change (inserts at line) log =
-    by_test (nat_lt (length log) at) (Some NoSuchPlace) _ tt
-    (by_test (not (is_line line)) (Some BadLine) _ tt
+    by_test (nat_lt (length log) at) (Some (NoSuchPlace (length log))) _ tt
+    (by_test (not (is_line line)) (Some (BadLine (flaw_of line))) _ tt
     (by_test (nat_le MAX_LOG_LINES (length log)) (Some LogFull) None tt tt))
-by_change (deletes at) log = by_test (nat_le (length log) at) (Some NoSuchPlace) None tt tt
+by_change (deletes at) log =
+    by_test (nat_le (length log) at) (Some (NoSuchPlace (length log))) None tt tt
 by_change (replaces at line) log =
-    by_test (nat_le (length log) at) (Some NoSuchPlace) _ tt
-    (by_test (is_line line) None (Some BadLine) tt tt)
+    by_test (nat_le (length log) at) (Some (NoSuchPlace (length log))) _ tt
+    (by_test (is_line line) None (Some (BadLine (flaw_of line))) tt tt)
 by_change (reseeds seed) log = by_test (nat_lt MAX_SEED seed) (Some BadSeed) None tt tt
 
 by_first : (first : Option EditFault) (number : ℕ) (later : Option GroupFault) → InEdit first

@@ -1,6 +1,7 @@
 -- How a run that failed ends.
 use Rattle.std.proofs.Common.{◌≡◌, ℕ, Bool, true, false, List, [], ◌∷◌, ◌++◌, length, None, Some}
-use Rattle.std.proofs.Common.{Ok, Err, nat_lt, MatchResult, take, inl, inr, option_map}
+use Rattle.std.proofs.Common.{Ok, Err, nat_lt, take, inl, inr, option_map, subst, sym}
+use Rattle.std.specs.Global.{Vec}
 use Rattle.std.specs.Prelude.{◌||◌, ◌==◌, if◌then◌else◌, Result}
 use Rattle.std.specs.Option.{option_or}
 use Rattle.std.specs.declared.option.Option.{Option}
@@ -9,7 +10,7 @@ use Rattle.std.specs.Str.Lines.{lines}
 use Rattle.cave_data.specs.Reads.{fault as cave_fault}
 use Rattle.data_rows.specs.declared.error.CaveError.{CaveError}
 use Rattle.replay_edits.specs.Edit.{game_of}
-use Rattle.base_lines.specs.declared.line_flaw.LineFlaw.{LineFlaw}
+use Rattle.base_lines.specs.declared.line.LineFault.{LineFault}
 use Rattle.cave_replay.specs.Opening.{first_bad_line}
 use Rattle.base_lines.specs.Limits.{MAX_SEED, MAX_EVERY, MAX_LOG_LINES, MAX_INPUT_BYTES}
 use Rattle.replay_scripts.specs.Guards.{script_by}
@@ -21,15 +22,18 @@ use Rattle.cave_play.specs.Judge.{too_large}
 use Rattle.cave_play.specs.Judge.{input_size_fault, log_fault, script_fault, first_malformed}
 use Rattle.cave_play.proofs.StageLemmas.{first_is_found}
 use Rattle.cave_play.specs.Laws.{IsDecided}
-use Rattle.cave_play.specs.Run.{EndsBy, Runs, IsFoundIn}
+use Rattle.cave_play.specs.Run.{EndsBy, IsFoundIn, Judges, Runs, RunsWith}
+use Rattle.cave_play.specs.Writing.{Writes, WritesEdit}
+use Rattle.cave_play.specs.declared.edits.EditRun.{EditRun}
+use Rattle.cave_play.specs.declared.edits.MadeEdit.{MadeEdit}
 use Rattle.cave_play.specs.Stages.{Stage, first_decided}
 use Rattle.cave_play.specs.Stages.{cave_stages, log_stage, script_stage, strict_stage, play_stages}
 use Rattle.cave_play.specs.Stages.{doubts_stages, edit_stages, known_stage, size_stage}
 use Rattle.cave_play.proofs.SizeLemmas.{unwritten_by_output}
 use Rattle.cave_play.proofs.StrictLemmas.{unwritten_by_strict}
 use Rattle.play_command.specs.declared.editing.Editing.{Editing}
-use Rattle.cave_play.specs.declared.fault.Input.{Input}
-use Rattle.cave_play.specs.declared.fault.Input.TheVariants as input
+use Rattle.play_command.specs.declared.input.Input.{Input}
+use Rattle.play_command.specs.declared.input.Input.TheVariants as input
 use Rattle.cave_play.specs.declared.fault.LogFault.TheVariants as log
 use Rattle.cave_play.specs.declared.fault.ScriptFault.TheVariants as script
 use Rattle.cave_play.specs.declared.fault.PlayFault.{PlayFault}
@@ -70,12 +74,14 @@ unwritten_by_size input.Bindings bytes =
     (λ found. cc)
 unwritten_by_size input.Log bytes =
     unwritten_by_test (nat_lt MAX_INPUT_BYTES (length bytes)) (too_large input.Log) (λ found. cc)
+unwritten_by_size input.NewLog bytes =
+    unwritten_by_test (nat_lt MAX_INPUT_BYTES (length bytes)) (too_large input.NewLog) (λ found. cc)
 unwritten_by_size input.Script bytes =
     unwritten_by_test (nat_lt MAX_INPUT_BYTES (length bytes)) (too_large input.Script) (λ found. cc)
 unwritten_by_size input.Known bytes =
     unwritten_by_test (nat_lt MAX_INPUT_BYTES (length bytes)) (too_large input.Known) (λ found. cc)
 
-unwritten_by_lines : (bad : Option (ℕ × LineFlaw)) (count : ℕ)
+unwritten_by_lines : (bad : Option (ℕ × LineFault)) (count : ℕ)
     → or_too_many bad count ≡ Some fault.Write → ⊥
 unwritten_by_lines (Some (number, flaw)) count found = cc
 unwritten_by_lines None count found =
@@ -186,14 +192,32 @@ pub EndsBy-written : (stages : List Stage) (IsOutput : List ℕ → Type 0) (old
 EndsBy-written stages IsOutput old new output found none is written =
     rw written.0 (none, (output, is, written.1))
 
--- a run that wrote, or failed while it wrote
-pub Runs-written : (stages : List Stage) (IsOutput : List ℕ → Type 0) (old new : Option (List ℕ))
-    (output : List ℕ) (r : Result (Unit {0}) PlayFault)
-    → first_decided stages ≡ None → IsOutput output
-    → MatchResult r (λ _. Appends old new output)
-    (λ found. (found ≡ fault.Write) × ((n : ℕ) × Appends old new (take n output)))
+-- a run whose text was made and written
+pub Runs-made : (stages : List Stage) (IsOutput : List ℕ → Type 0) (old new : Option (List ℕ))
+    (made : Result (Vec ℕ) PlayFault) (r : Result (Unit {0}) PlayFault)
+    → (first_decided stages ≡ Some fault.Write → ⊥)
+    → Judges stages (λ text. IsOutput text.items) made → Writes made old new r
     → Runs stages IsOutput old new r
-Runs-written stages IsOutput old new output (Ok done) none is written =
-    (none, (output, is, written))
-Runs-written stages IsOutput old new output (Err found) none is written =
-    EndsBy-written stages IsOutput old new output found none is written
+Runs-made stages IsOutput old new (Ok text) (Ok done) never (none, right) written =
+    (none, (text.items, right, written.1))
+Runs-made stages IsOutput old new (Ok text) (Err found) never (none, right) written =
+    EndsBy-written stages IsOutput old new text.items found none right written
+Runs-made stages IsOutput old new (Err found) r never there (is, kept) =
+    subst (Runs stages IsOutput old new) (sym is)
+    (EndsBy-unwritten found stages IsOutput old new never there kept)
+
+-- a run whose edits were made and written
+pub RunsWith-made : (stages : List Stage) (IsOutput : EditRun → List ℕ → Type 0)
+    (old new : Option (List ℕ)) (made : Result MadeEdit PlayFault) (r : Result EditRun PlayFault)
+    → (first_decided stages ≡ Some fault.Write → ⊥)
+    → Judges stages (λ whole. IsOutput whole.run whole.text.items) made
+    → WritesEdit made old new r → RunsWith stages IsOutput old new r
+RunsWith-made stages IsOutput old new (Ok whole) (Ok run) never (none, right) (same, written) =
+    (none, (whole.text.items, subst (λ said. IsOutput said whole.text.items) (sym same) right, written))
+RunsWith-made stages IsOutput old new (Ok whole) (Err found) never (none, right) written =
+    EndsBy-written stages (λ text. (run : EditRun) × IsOutput run text) old new whole.text.items
+    found none (whole.run, right) written
+RunsWith-made stages IsOutput old new (Err found) r never there (is, kept) =
+    subst (RunsWith stages IsOutput old new) (sym is)
+    (EndsBy-unwritten found stages (λ text. (run : EditRun) × IsOutput run text) old new never there
+    kept)

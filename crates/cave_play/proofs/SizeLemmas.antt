@@ -12,7 +12,8 @@ use Rattle.replay_edits.specs.Edit.{Game, game_of}
 use Rattle.play_edits.specs.LogEnds.{EndsOfLog, log_ends}
 use Rattle.replay_scripts.specs.Script.{Applied}
 use Rattle.replay_scripts.specs.declared.fault.ScriptRefusal.{ScriptRefusal}
-use Rattle.cave_play.specs.Ended.{ended_view, ends_after_items}
+use Rattle.cave_play.specs.Ended.{ended_view}
+use Rattle.play_edits.specs.LogEnds.{ends_after_items}
 use Rattle.cave_play.specs.Size.{bytes_to_read, output_fault, size_fault}
 use Rattle.cave_play.specs.Views.{IsViewOf}
 use Rattle.cave_play.specs.declared.fault.PlayFault.{PlayFault}

@@ -1,6 +1,6 @@
 -- Where a fault is found, and what is made, at some stages and then at later ones.
 use Rattle.std.proofs.Common.{◌≡◌, List, [], ◌∷◌, ◌++◌, None, Some, Ok, Err, inl, inr, ap, ◌∙◌}
-use Rattle.std.proofs.Common.{refl, subst}
+use Rattle.std.proofs.Common.{refl, subst, sym, MatchResult}
 use Rattle.std.specs.Prelude.{Result}
 use Rattle.std.specs.Option.{option_or}
 use Rattle.std.specs.declared.option.Option.{Option}
@@ -8,7 +8,7 @@ use Rattle.cave_play.specs.Run.{IsOutsideOf}
 use Rattle.cave_play.specs.Stages.{Stage, reading_stage, judging_stage, first_decided}
 use Rattle.cave_play.specs.Run.{IsFoundIn, Judges}
 use Rattle.cave_play.specs.Laws.{IsFromOutside, IsDecided}
-use Rattle.cave_play.specs.declared.fault.Input.{Input}
+use Rattle.play_command.specs.declared.input.Input.{Input}
 use Rattle.cave_play.specs.declared.fault.PlayFault.{PlayFault}
 use Rattle.cave_play.specs.declared.fault.PlayFault.TheVariants as fault
 
@@ -38,10 +38,13 @@ IsFoundIn-later (stage ∷ stages) later found none there =
     let (here, rest) = neither stage.decides (first_decided stages) none in
     inr (here, IsFoundIn-later stages later found rest there)
 
--- what was made, if something was
-pub Judges-made : {X : Type 0} (stages : List Stage) (P : X → Type 0) (r : Result X PlayFault)
-    (x : X) → r ≡ Ok x → Judges stages P r → (first_decided stages ≡ None) × P x
-Judges-made stages P r x is judged = subst (Judges stages P) is judged
+-- what is made after stages that decide no fault, unless memory runs out
+pub Judges-made : {X : Type 0} (stages : List Stage) (P Q : X → Type 0) (r : Result X PlayFault)
+    → first_decided stages ≡ None → ((x : X) → Q x → P x)
+    → MatchResult r Q (λ found. found ≡ fault.Memory) → Judges stages P r
+Judges-made stages P Q (Ok x) none gives made = (none, gives x made)
+Judges-made stages P Q (Err found) none gives memory =
+    subst (IsFoundIn stages) (sym memory) (IsFoundIn-memory stages)
 
 -- one stage that decides no fault
 pub first_decided-one : (stage : Stage) → stage.decides ≡ None → first_decided (stage ∷ []) ≡ None
@@ -86,24 +89,23 @@ Judges-after decides later P r none judged =
     (first_decided-one (judging_stage decides) none) (λ x is. is) judged
 
 -- if nothing is read, only memory is refused from outside
-outside_unread : (input : Input) (found : PlayFault)
-    → IsOutsideOf None found → IsOutsideOf (Some input) found
-outside_unread input fault.Memory outside = tt
-outside_unread input (fault.Read from) outside = cc
-outside_unread input (fault.Cave error clue) outside = absurd outside
-outside_unread input (fault.Doubt found) outside = absurd outside
-outside_unread input fault.LargeKnown outside = absurd outside
-outside_unread input (fault.Unshown count) outside = absurd outside
-outside_unread input (fault.Unmapped place) outside = absurd outside
-outside_unread input fault.Seed outside = absurd outside
-outside_unread input fault.Every outside = absurd outside
-outside_unread input (fault.Log refused) outside = absurd outside
-outside_unread input (fault.NewLog refused) outside = absurd outside
-outside_unread input (fault.Script refused) outside = absurd outside
-outside_unread input (fault.Refused refusal) outside = absurd outside
-outside_unread input fault.LargeLog outside = absurd outside
-outside_unread input fault.LargeScript outside = absurd outside
-outside_unread input fault.Write outside = absurd outside
+pub memory_alone : (found : PlayFault) → IsOutsideOf None found → found ≡ fault.Memory
+memory_alone fault.Memory outside = refl
+memory_alone (fault.Read from) outside = cc
+memory_alone (fault.Cave error clue) outside = absurd outside
+memory_alone (fault.Doubt found) outside = absurd outside
+memory_alone fault.LargeKnown outside = absurd outside
+memory_alone (fault.Unshown count) outside = absurd outside
+memory_alone (fault.Unmapped place) outside = absurd outside
+memory_alone fault.Seed outside = absurd outside
+memory_alone fault.Every outside = absurd outside
+memory_alone (fault.Log refused) outside = absurd outside
+memory_alone (fault.NewLog refused) outside = absurd outside
+memory_alone (fault.Script refused) outside = absurd outside
+memory_alone (fault.Refused refusal) outside = absurd outside
+memory_alone fault.LargeLog outside = absurd outside
+memory_alone fault.LargeScript outside = absurd outside
+memory_alone fault.Write outside = absurd outside
 
 -- what is right of an input that was read is also right of the reading
 pub Judges-read : {X : Type 0} (input : Input) (decides : Option PlayFault) (P : X → Type 0)
@@ -111,7 +113,7 @@ pub Judges-read : {X : Type 0} (input : Input) (decides : Option PlayFault) (P :
     → Judges (reading_stage input decides ∷ []) P r
 Judges-read input decides P (Ok x) judged = judged
 Judges-read input decides P (Err found) (inl (inl outside)) =
-    inl (inl (outside_unread input found outside))
+    rw (memory_alone found outside) (inl (inl tt))
 Judges-read input decides P (Err found) (inl (inr is)) = inl (inr is)
 Judges-read input decides P (Err found) (inr rest) = inr rest
 

@@ -1,11 +1,12 @@
 -- Two logs, of which one is made of the other.
 use Rattle.std.proofs.Common.{◌≡◌, ◌∙◌, ℕ, ◌≤◌, Bool, true, false, List, [], ◌∷◌, ◌++◌, length}
-use Rattle.std.proofs.Common.{None, Some, Ok, inl, inr, refl, sym, ap, ap₂, subst}
-use Rattle.std.specs.Prelude.{All, Option, option_map}
+use Rattle.std.proofs.Common.{None, Some, Ok, inl, inr, refl, sym, ap, ap₂, subst, lt-ltb}
+use Rattle.std.specs.Global.{Vec}
+use Rattle.std.specs.Prelude.{All, Option, Result, option_map}
 use Rattle.std.specs.List.{AllByRecursion}
 use Rattle.std.specs.Str.Lines.{lines}
 use Rattle.std.proofs.lemmas.List.Elements.{All-weaker, recursion_from_All}
-use Rattle.base_lines.specs.Limits.{MAX_LOG_LINES}
+use Rattle.base_lines.specs.Limits.{MAX_INPUT_BYTES, MAX_LOG_LINES}
 use Rattle.replay_difference.specs.Difference.{IsLog, PlacesRise, PlacesRiseTwice, place_changed}
 use Rattle.replay_difference.specs.ScriptTo.{GrowsByScript, IsAccepted, IsScriptTo, LeadTo}
 use Rattle.replay_difference.specs.ScriptTo.{MeetsGuard, changes_of_items}
@@ -24,45 +25,53 @@ use Rattle.play_edits.proofs.EditLemmas.{game_after_item-accepted}
 use Rattle.play_edits.proofs.GameLemmas.{IsGame-after}
 use Rattle.play_edits.proofs.GuardLemmas.{all_met, item_refusal-met}
 use Rattle.play_edits.proofs.SayableLemmas.{unrefused_group}
-use Rattle.cave_play.specs.Judge.{log_fault}
-use Rattle.cave_play.specs.Run.{IsFoundIn, IsOutsideOf}
-use Rattle.cave_play.specs.Stages.{first_decided, log_stage}
-use Rattle.cave_play.specs.TwoLogs.{DifferencesMakeTheLog, IsDifferenceOf, new_log_fault}
+use Rattle.cave_play.specs.Judge.{lines_fault, log_fault}
+use Rattle.cave_play.specs.Reading.{IsUnread}
+use Rattle.cave_play.specs.Run.{IsFoundIn}
+use Rattle.cave_play.specs.Stages.{first_decided, judging_stage, log_stage}
+use Rattle.cave_play.specs.EditRun.{IsEditRun}
+use Rattle.cave_play.specs.Input.{InputTexts}
+use Rattle.cave_play.specs.Stages.{edit_stages}
+use Rattle.cave_play.specs.TwoLogs.{DifferencesMakeTheLog, IsDifferenceOf, IsReadDifferenceOf}
+use Rattle.cave_play.specs.TwoLogs.{JudgesEditTo, JudgesScript, RunsEditTo, RunsScript}
+use Rattle.cave_play.specs.TwoLogs.{new_log_fault}
+use Rattle.cave_play.specs.Writing.{Writes, WritesEdit}
+use Rattle.cave_play.specs.declared.edits.EditRun.{EditRun}
+use Rattle.cave_play.specs.declared.edits.MadeEdit.{MadeEdit}
+use Rattle.play_command.specs.declared.aside.ReportView.{ReportView}
+use Rattle.play_command.specs.declared.editing.Editing.{Editing}
+use Rattle.play_command.specs.declared.input.Input.TheVariants as input
 use Rattle.cave_play.specs.TwoLogs.{new_log_stage, two_logs_stages}
-use Rattle.cave_play.specs.declared.fault.Input.TheVariants as input
+use Rattle.play_command.specs.declared.input.Input.TheVariants as input
 use Rattle.cave_play.specs.declared.fault.PlayFault.{PlayFault}
 use Rattle.cave_play.specs.declared.fault.PlayFault.TheVariants as fault
 use Rattle.cave_play.proofs.RefusalLemmas.{IsGame-accepted}
-use Rattle.cave_play.proofs.RunLemmas.{unwritten_by_both, unwritten_by_log, unwritten_by_none}
-use Rattle.cave_play.proofs.StageLemmas.{first_decided-alone, first_decided-one}
+use Rattle.cave_play.proofs.RunLemmas.{Runs-made, RunsWith-made, unwritten_by_both}
+use Rattle.cave_play.proofs.RunLemmas.{unwritten_by_edit, unwritten_by_log, unwritten_by_none}
+use Rattle.cave_play.proofs.JudgeLemmas.{log_fault-lines}
+use Rattle.cave_play.proofs.StageLemmas.{first_decided-alone, first_decided-one, memory_alone}
 
 -- ---- the new log
 
-outside_new : (found : PlayFault) → IsOutsideOf (Some input.Log) found
-    → IsOutsideOf (Some input.Script) (new_log_fault found)
-outside_new fault.Memory outside = tt
-outside_new (fault.Read from) outside = refl
-outside_new (fault.Cave error clue) outside = absurd outside
-outside_new (fault.Doubt doubt) outside = absurd outside
-outside_new fault.LargeKnown outside = absurd outside
-outside_new (fault.Unshown count) outside = absurd outside
-outside_new (fault.Unmapped place) outside = absurd outside
-outside_new fault.Seed outside = absurd outside
-outside_new fault.Every outside = absurd outside
-outside_new (fault.Log refused) outside = absurd outside
-outside_new (fault.NewLog refused) outside = absurd outside
-outside_new (fault.Script refused) outside = absurd outside
-outside_new (fault.Refused refusal) outside = absurd outside
-outside_new fault.Write outside = absurd outside
-outside_new fault.LargeLog outside = absurd outside
-outside_new fault.LargeScript outside = absurd outside
+-- a log that couldn't be read, or is too large
+pub IsFoundIn-unread : (bytes : List ℕ) (found : PlayFault) → IsUnread input.NewLog bytes found
+    → IsFoundIn (new_log_stage bytes ∷ []) found
+unfolding log_fault
+IsFoundIn-unread bytes found (inl outside) = inl (inl outside)
+IsFoundIn-unread bytes found (inr (large, is)) =
+    inl (inr (rw (lt-ltb MAX_INPUT_BYTES (length bytes) large, is) refl))
 
-pub IsFoundIn-new_log : (bytes : List ℕ) (found : PlayFault)
-    → IsFoundIn (log_stage bytes ∷ []) found
+-- a log that is refused for its lines
+pub IsFoundIn-new_log : (bytes text : List ℕ) (found : PlayFault) → text ≡ bytes
+    → length bytes ≤ MAX_INPUT_BYTES
+    → IsFoundIn (judging_stage (lines_fault (lines text)) ∷ []) found
     → IsFoundIn (new_log_stage bytes ∷ []) (new_log_fault found)
-IsFoundIn-new_log bytes found (inl (inl outside)) = inl (inl (outside_new found outside))
-IsFoundIn-new_log bytes found (inl (inr is)) = inl (inr (ap (option_map new_log_fault) is))
-IsFoundIn-new_log bytes found (inr (none, memory)) = rw memory (inl (inl tt))
+IsFoundIn-new_log bytes text found same fits (inl (inl outside)) =
+    rw (memory_alone found outside) (inl (inl tt))
+IsFoundIn-new_log bytes text found same fits (inl (inr is)) =
+    inl (inr (ap (option_map new_log_fault)
+    (log_fault-lines bytes fits ∙ ap (λ t. lines_fault (lines t)) (sym same) ∙ is)))
+IsFoundIn-new_log bytes text found same fits (inr (none, memory)) = rw memory (inl (inl tt))
 
 pub first_decided-new_log : (bytes : List ℕ) → first_decided (log_stage bytes ∷ []) ≡ None
     → first_decided (new_log_stage bytes ∷ []) ≡ None
@@ -97,6 +106,38 @@ unwritten_by_logs old new =
     unwritten_by_both _ _ (unwritten_by_log old)
     (unwritten_by_both _ _ (unwritten_by_new (log_fault new) (unwritten_by_log new))
     unwritten_by_none)
+
+-- ---- runs
+
+-- a script that was made and written
+pub RunsScript-made : (form : ScriptForm) (texts : InputTexts) (old new : Option (List ℕ))
+    (made : Result (Vec ℕ) PlayFault) (r : Result (Unit {0}) PlayFault)
+    → JudgesScript form texts made → Writes made old new r → RunsScript form texts old new r
+RunsScript-made form texts old new made r (inl judged) written =
+    inl (Runs-made (two_logs_stages texts.log texts.script)
+    (IsReadDifferenceOf form texts.log texts.script) old new made r
+    (unwritten_by_logs texts.log texts.script) judged written)
+RunsScript-made form texts old new made r (inr (none, large, is)) written =
+    let (ended, kept) = subst (λ m. Writes m old new r) is written in
+    inr (none, large, ended, kept)
+
+-- edits that were made and written
+pub RunsEditTo-made : (editing : Editing) (report : Option ReportView) (texts : InputTexts)
+    (old new : Option (List ℕ)) (made : Result MadeEdit PlayFault) (r : Result EditRun PlayFault)
+    → JudgesEditTo texts editing report made → WritesEdit made old new r
+    → RunsEditTo texts editing report old new r
+RunsEditTo-made editing report texts old new made r (inl (found, is, there)) written =
+    let (ended, kept) = subst (λ m. WritesEdit m old new r) is written in
+    inl (found, ended, there, kept)
+RunsEditTo-made editing report texts old new made r (inr (script, difference, judged)) written =
+    inr (
+      script,
+      difference,
+      RunsWith-made (edit_stages texts.database texts.bindings texts.log script editing)
+          (IsEditRun texts.database texts.bindings texts.log script editing report) old new made r
+          (unwritten_by_edit texts.database texts.bindings texts.log script editing) judged
+          written,
+    )
 
 -- ---- the script
 

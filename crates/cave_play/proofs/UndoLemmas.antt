@@ -2,7 +2,7 @@
 use Rattle.std.proofs.Common.{◌≡◌, ℕ, Bool, true, false, List, [], ◌∷◌}
 use Rattle.std.proofs.Common.{◌++◌, map, reverse, Option, None, Some}
 use Rattle.std.proofs.Common.{sym, ap, subst, ◌∙◌, refl}
-use Rattle.std.specs.Option.{option_or}
+use Rattle.std.specs.Prelude.{option_map, slice_get}
 use Rattle.std.proofs.lemmas.List.{reverse-append}
 use Rattle.replay_edits.specs.Edit.{Change, Game, IsGame, apply_all, inverses_of, log_after}
 use Rattle.replay_scripts.specs.Guards.{IsScriptBy}
@@ -11,17 +11,25 @@ use Rattle.replay_scripts.specs.ScriptText.{Back}
 use Rattle.replay_scripts.specs.ScriptText.{number_after}
 use Rattle.replay_scripts.specs.ScriptText.{spelled_item, spelled_items}
 use Rattle.replay_scripts.proofs.Spelled.{reads_back}
-use Rattle.play_edits.specs.Items.{game_after_item, game_after_items, game_left}
+use Rattle.play_edits.specs.Items.{game_after_item, game_after_items, game_left, refusal_list}
+use Rattle.play_edits.specs.Items.{refusals}
 use Rattle.play_edits.specs.Refusal.{first_unmet, group_refusal, item_refusal}
 use Rattle.play_edits.specs.declared.refusal.Refusal.{Refusal}
-use Rattle.cave_play.specs.Strict.{first_strict_fault, strict_fault, strict_fault_by}
+use Rattle.cave_play.specs.Strict.{first_strict_fault}
 use Rattle.cave_play.specs.Views.{IsUndo}
 use Rattle.play_edits.specs.Undo.{back_if, back_of, backs_by, backs_of, undo_text}
 use Rattle.play_edits.proofs.GuardLemmas.{item_refusal-met, unrefused_item}
 use Rattle.play_edits.proofs.GameLemmas.{IsGame-after}
-use Rattle.cave_play.proofs.StageLemmas.{neither}
+use Rattle.cave_play.specs.declared.fault.PlayFault.TheVariants as fault
 use Rattle.play_edits.proofs.MetLemmas.{guards_met}
 use Rattle.play_edits.proofs.SayableLemmas.{back_accepted, back_again, spellable-all}
+
+-- if no refusal ends a strict run, the first item isn't refused, and none of the others ends it
+free_first : (refusal : Option Refusal) (rest : List Refusal)
+    → option_map fault.Refused (slice_get (refusal_list refusal ++ rest) 0) ≡ None
+    → (refusal ≡ None) × (option_map fault.Refused (slice_get rest 0) ≡ None)
+free_first None rest none = (refl, none)
+free_first (Some refused) rest none = cc
 
 -- the items of groups are accepted in the one game and give the other
 abbrev pub Undoes : ℕ → List (List Back) → Game → Game → Type 0
@@ -39,13 +47,10 @@ undoes-append (backs ∷ first) second number from middle to (none, same) more =
     let after = number_after number backs in
     let next = game_after_item item from in
     let both =
-    neither (strict_fault true item from)
-    (first_strict_fault true (spelled_items after first) next) none in
+    free_first (item_refusal item from.log) (refusals (spelled_items after first) next) none in
     let others = undoes-append first second after next middle to (both.1, same) more in (
-      ap
-          (λ found. option_or found
-          (first_strict_fault true (spelled_items after (first ++ second)) next)) both.0
-          ∙ others.0,
+      ap (λ r. option_map fault.Refused (slice_get (refusal_list r
+          ++ refusals (spelled_items after (first ++ second)) next) 0)) both.0 ∙ others.0,
       others.1,
     )
 
@@ -67,7 +72,7 @@ changes_back true (change ∷ changes) log =
 pub undoes-one : (guarded : Bool) (number : ℕ) (changes : List Change) (from to : Game)
     → group_refusal changes from.log ≡ None → apply_all changes from ≡ to
     → Undoes number (backs_by guarded changes from.log ∷ []) from to
-unfolding strict_fault game_after_item
+unfolding game_after_item
 undoes-one guarded number changes from to accepted gives =
     let backs = backs_by guarded changes from.log in
     let item = spelled_item number backs in
@@ -79,7 +84,7 @@ undoes-one guarded number changes from to accepted gives =
     let free : item_refusal item from.log ≡ None =
     item_refusal-met item from.log None met
     (ap (λ some. group_refusal some from.log) same ∙ accepted) in (
-      ap (λ refusal. option_or (strict_fault_by true refusal) None) free,
+      ap (λ refusal. option_map fault.Refused (slice_get (refusal_list refusal ++ []) 0)) free,
       ap (λ refusal. game_left item refusal from) free ∙ ap (λ some. apply_all some from) same
           ∙ gives,
     )

@@ -1,6 +1,6 @@
 -- What a check for doubts leaves.
 use Rattle.std.specs.Prelude.{◌≡◌, ◌⊎◌, ℕ, Bool, true, false, List, [], ◌∷◌, ◌++◌, Option, Result}
-use Rattle.std.specs.Prelude.{Ok, Err, None}
+use Rattle.std.specs.Prelude.{Ok, Err, None, Some}
 use Rattle.std.specs.Io.KnownBytes.{Appends}
 use Rattle.check_doubts.specs.Doubts.{doubts}
 use Rattle.check_doubts.specs.Known.{left_doubts, unmet_text}
@@ -32,6 +32,11 @@ IsTaken false left = Unit {0}
 abbrev pub IsFirstDoubt : Bool → List Doubt → PlayFault → Type 0
 IsFirstDoubt true (first ∷ others) found = found ≡ fault.Doubt first
 IsFirstDoubt _ _ found = ⊥
+
+-- the fault of that
+abbrev pub first_doubt : Bool → List Doubt → Option PlayFault
+first_doubt true (first ∷ others) = Some (fault.Doubt first)
+first_doubt _ _ = None
 
 -- what is said of these doubts: which entries of the list of known ones none of them meets, and
 -- which of them it doesn't know

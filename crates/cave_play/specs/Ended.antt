@@ -1,32 +1,16 @@
 -- What an edit of a log prints, with lines of a log and of a script that end as those of the log
 -- that was read.
-use Rattle.std.specs.Prelude.{◌≡◌, ℕ, Bool, false, List, [], ◌∷◌, Option, None, Some}
+use Rattle.std.specs.Prelude.{◌≡◌, ℕ, Bool, false, List, []}
 use Rattle.std.specs.Str.Lines.{lines}
 use Rattle.cave_data.specs.CaveView.{CaveView}
 use Rattle.cave_data.specs.Reads.{Reads}
 use Rattle.play_command.specs.declared.editing.Editing.{Editing}
 use Rattle.play_command.specs.declared.editing.EditView.{EditView}
 use Rattle.play_command.specs.declared.editing.EditView.TheVariants as asked
-use Rattle.play_edits.specs.Items.{game_after_item}
-use Rattle.play_edits.specs.Refusal.{item_refusal}
-use Rattle.play_edits.specs.declared.refusal.Refusal.{Refusal}
 use Rattle.replay_edits.specs.Edit.{Game, game_of}
 use Rattle.play_edits.specs.LineEnds.{ended_text}
-use Rattle.play_edits.specs.LogEnds.{EndsOfLog, ends_after_item, log_ends}
-use Rattle.replay_scripts.specs.Script.{Applied}
+use Rattle.play_edits.specs.LogEnds.{EndsOfLog, ends_after_items, log_ends}
 use Rattle.cave_play.specs.Views.{IsEditOf}
-
--- how the lines of a log end after an item: as before it, if it was refused
-abbrev pub ends_left : Applied → Option Refusal → EndsOfLog → EndsOfLog
-ends_left item None ends = ends_after_item item ends
-ends_left item (Some refusal) ends = ends
-
--- and after items, each applied to the game that those before it left
-abbrev pub ends_after_items : List Applied → Game → EndsOfLog → EndsOfLog
-ends_after_items [] game ends = ends
-ends_after_items (item ∷ items) game ends =
-    ends_after_items items (game_after_item item game)
-    (ends_left item (item_refusal item game.log) ends)
 
 -- What is printed of the text that a view made. A line of a log has its own end. A line of the
 -- script has the usual one.

@@ -5,8 +5,8 @@ use Rattle.data_rows.specs.declared.error.FaultSite.TheVariants as site
 use Rattle.check_doubts.specs.declared.flaw.Source.{Source}
 use Rattle.check_doubts.specs.declared.flaw.Source.TheVariants.{Database, Bindings}
 use Rattle.play_edits.specs.Refusal.{refusal_line}
-use Rattle.cave_play.specs.declared.fault.Input.{Input}
-use Rattle.cave_play.specs.declared.fault.Input.TheVariants as input
+use Rattle.play_command.specs.declared.input.Input.{Input}
+use Rattle.play_command.specs.declared.input.Input.TheVariants as input
 use Rattle.cave_play.specs.declared.fault.LogFault.{LogFault}
 use Rattle.cave_play.specs.declared.fault.LogFault.TheVariants as log
 use Rattle.cave_play.specs.declared.fault.ScriptFault.{ScriptFault}
@@ -50,7 +50,7 @@ input_of (fault.Doubt found) = Some (input_from found.source)
 input_of (fault.Unmapped place) = Some input.Cave
 input_of fault.LargeKnown = Some input.Known
 input_of (fault.Log refused) = Some input.Log
-input_of (fault.NewLog refused) = Some input.Script
+input_of (fault.NewLog refused) = Some input.NewLog
 input_of (fault.Script refused) = Some input.Script
 input_of (fault.Refused refusal) = Some input.Script
 input_of (fault.Read from) = Some from

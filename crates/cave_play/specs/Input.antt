@@ -1,41 +1,11 @@
--- What is known of the inputs before they are read, and what a reading of one returns.
-use Rattle.std.specs.Prelude.{◌≡◌, ℕ, ◌+◌, ◌<◌, ⊤, Bool, true, false, List, ◌++◌, length, Option}
-use Rattle.std.specs.Prelude.{None, Some, []}
-use Rattle.std.specs.Io.KnownBytes.{Consumes, IsAtEnd}
-use Rattle.base_lines.specs.Limits.{MAX_INPUT_BYTES}
-use Rattle.cave_play.specs.declared.input.InputFault.{InputFault}
-use Rattle.cave_play.specs.declared.input.InputFault.TheVariants.{Unreadable, TooLarge, Memory}
-use Rattle.cave_play.specs.declared.inputs.InputReader.{InputReader}
-use Rattle.cave_play.specs.declared.inputs.InputReader.TheVariants.{Absent, Given, Typed}
+-- The bytes of the inputs of a run.
+use Rattle.std.specs.Prelude.{◌≡◌, ℕ, ⊤, List, Option, None, Some}
 use Rattle.cave_play.specs.declared.inputs.Inputs.{Inputs}
 
 -- the bytes are those that a reader is known to have left, if that is known
 abbrev pub Says : Option (List ℕ) → List ℕ → Type 0
 Says None bytes = ⊤
 Says (Some known) bytes = bytes ≡ known
-
--- an input is too large only if it has more bytes than an input may have
-abbrev pub IsInputFault : List ℕ → InputFault → Type 0
-IsInputFault bytes Unreadable = ⊤
-IsInputFault bytes TooLarge = MAX_INPUT_BYTES < length bytes
-IsInputFault bytes Memory = ⊤
-
--- one reading added some bytes to the input, or reached the reader's end
-pub record Gives (old new : Option (List ℕ)) (before after : List ℕ) (some : Bool) : Type 0 where
-  pub bytes : (given : List ℕ) × (after ≡ before ++ given) × Consumes old new given
-  pub more : some ≡ true → length before < length after
-  pub end : some ≡ false → (after ≡ before) × IsAtEnd new
-
--- one reading that failed took the bytes that were too many, if they were too many
-pub record Exceeds (old new : Option (List ℕ)) (before : List ℕ) (fault : InputFault) : Type 0 where
-  pub over : fault ≡ TooLarge → (given : List ℕ) × Consumes old new given
-      × (MAX_INPUT_BYTES < length before + length given)
-
--- an absent input has nothing left, and one that was typed its text
-abbrev pub input_left : {R : Type 0} → (R → Option (List ℕ)) → InputReader R → Option (List ℕ)
-input_left remaining Absent = Some []
-input_left remaining (Given reader) = remaining reader
-input_left remaining (Typed text) = Some text.now
 
 -- the bytes of each input
 pub record InputTexts : Type 0 where

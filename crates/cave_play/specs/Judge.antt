@@ -8,7 +8,7 @@ use Rattle.data_rows.specs.declared.error.Cause.TheVariants as cause
 use Rattle.data_rows.specs.declared.error.CaveError.{CaveError}
 use Rattle.data_rows.specs.declared.error.FaultSite.TheVariants as site
 use Rattle.cave_replay.specs.Opening.{first_bad_line}
-use Rattle.base_lines.specs.declared.line_flaw.LineFlaw.{LineFlaw}
+use Rattle.base_lines.specs.declared.line.LineFault.{LineFault}
 use Rattle.base_lines.specs.Limits.{MAX_SEED, MAX_EVERY, MAX_LOG_LINES, MAX_INPUT_BYTES}
 use Rattle.cave_replay.specs.declared.fault.OpenFault.{OpenFault}
 use Rattle.cave_replay.specs.declared.fault.OpenFault.TheVariants as session
@@ -16,8 +16,8 @@ use Rattle.replay_scripts.specs.Guards.{script_by}
 use Rattle.replay_scripts.specs.Script.{Applied}
 use Rattle.replay_scripts.specs.declared.fault.ScriptRefusal.{ScriptRefusal}
 use Rattle.replay_scripts.specs.declared.fault.ScriptRefusal.TheVariants.{Malformed, Memory}
-use Rattle.cave_play.specs.declared.fault.Input.{Input}
-use Rattle.cave_play.specs.declared.fault.Input.TheVariants as input
+use Rattle.play_command.specs.declared.input.Input.{Input}
+use Rattle.play_command.specs.declared.input.Input.TheVariants as input
 use Rattle.cave_play.specs.declared.fault.LogFault.TheVariants as log
 use Rattle.cave_play.specs.declared.fault.ScriptFault.TheVariants as script
 use Rattle.cave_play.specs.declared.fault.PlayFault.{PlayFault}
@@ -37,6 +37,7 @@ too_large input.Cave =
 too_large input.Bindings =
     fault.Cave (record { cause = cause.TooLarge; line = 0; site = site.Bindings }) None
 too_large input.Log = fault.Log log.TooLarge
+too_large input.NewLog = fault.NewLog log.TooLarge
 too_large input.Script = fault.Script script.TooLarge
 too_large input.Known = fault.LargeKnown
 
@@ -52,7 +53,7 @@ abbrev pub inputs_fault : List ℕ → List ℕ → Option PlayFault
 inputs_fault database bindings =
     option_map (cave_refusal database bindings) (cave_fault database bindings)
 
-abbrev pub or_too_many : Option (ℕ × LineFlaw) → ℕ → Option PlayFault
+abbrev pub or_too_many : Option (ℕ × LineFault) → ℕ → Option PlayFault
 or_too_many (Some (number, flaw)) count = Some (fault.Log (log.BadLine number flaw))
 or_too_many None count = if nat_lt MAX_LOG_LINES count then Some (fault.Log log.Full) else None
 

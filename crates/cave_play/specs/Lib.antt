@@ -1,4 +1,8 @@
 pub mod Input
+pub mod Reading
+pub mod Sources
+pub mod Writing
+pub mod Logs
 pub mod Doubted
 pub mod Fault
 pub mod Judge

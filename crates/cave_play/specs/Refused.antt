@@ -1,22 +1,11 @@
 -- Which items of a script are refused, and why, and which seed is left.
-use Rattle.std.specs.Prelude.{ℕ, Bool, List, [], ◌∷◌, ◌++◌, Option, None, Some, Result, Ok, Err}
-use Rattle.play_edits.specs.Items.{game_after_item, game_after_items}
-use Rattle.play_edits.specs.Refusal.{item_refusal}
+use Rattle.std.specs.Prelude.{ℕ, Bool, List, [], Result, Ok, Err}
+use Rattle.play_edits.specs.Items.{game_after_items, refusals}
 use Rattle.play_edits.specs.declared.refusal.Refusal.{Refusal}
 use Rattle.replay_edits.specs.Edit.{Game}
 use Rattle.replay_scripts.specs.Guards.{script_by}
 use Rattle.replay_scripts.specs.Script.{Applied}
 use Rattle.replay_scripts.specs.declared.fault.ScriptRefusal.{ScriptRefusal}
-
-abbrev pub refusal_list : Option Refusal → List Refusal
-refusal_list None = []
-refusal_list (Some refusal) = refusal ∷ []
-
--- why items are refused, each in the game that those before it left, in their order
-abbrev pub refusals : List Applied → Game → List Refusal
-refusals [] game = []
-refusals (item ∷ items) game =
-    refusal_list (item_refusal item game.log) ++ refusals items (game_after_item item game)
 
 -- the refusals of the items of a script, if it spells some
 abbrev pub refusals_of : Game → Result (List Applied) ScriptRefusal → List Refusal

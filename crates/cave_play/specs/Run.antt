@@ -4,7 +4,7 @@ use Rattle.std.specs.Prelude.{Some}
 use Rattle.std.specs.Io.KnownBytes.{Appends, Keeps}
 use Rattle.cave_play.specs.declared.fault.PlayFault.{PlayFault}
 use Rattle.cave_play.specs.declared.fault.PlayFault.TheVariants as fault
-use Rattle.cave_play.specs.declared.fault.Input.{Input}
+use Rattle.play_command.specs.declared.input.Input.{Input}
 use Rattle.cave_play.specs.Stages.{Stage, first_decided}
 
 -- no bytes decide the fault: the reading of the input failed, or memory was refused

@@ -9,8 +9,8 @@ use Rattle.cave_play.specs.Judge.{large_seed, every_fault, input_size_fault, inp
 use Rattle.cave_play.specs.Judge.{log_fault, script_fault}
 use Rattle.cave_play.specs.Size.{output_fault}
 use Rattle.cave_play.specs.Strict.{fault_of_items}
-use Rattle.cave_play.specs.declared.fault.Input.{Input}
-use Rattle.cave_play.specs.declared.fault.Input.TheVariants as input
+use Rattle.play_command.specs.declared.input.Input.{Input}
+use Rattle.play_command.specs.declared.input.Input.TheVariants as input
 use Rattle.cave_play.specs.declared.fault.PlayFault.{PlayFault}
 
 -- a stage of a run: the input that is read there, if one is, and the fault that is decided there

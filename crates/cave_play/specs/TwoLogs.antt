@@ -1,6 +1,7 @@
 -- Runs over two logs: the edits that make one of the other, and what they lead to.
 use Rattle.std.specs.Prelude.{◌≡◌, ◌⊎◌, ℕ, ◌<◌, ◌≤◌, false, List, [], ◌∷◌, length, Option, None}
-use Rattle.std.specs.Prelude.{option_map, Result, Err}
+use Rattle.std.specs.Prelude.{Some, option_map, Result, Err, if◌then◌else◌}
+use Rattle.std.specs.Global.{Vec}
 use Rattle.std.specs.Io.KnownBytes.{Keeps}
 use Rattle.std.specs.Str.Lines.{lines}
 use Rattle.base_lines.specs.Limits.{MAX_INPUT_BYTES}
@@ -14,24 +15,26 @@ use Rattle.replay_scripts.specs.Script.{Applied}
 use Rattle.play_edits.specs.Items.{game_after_items}
 use Rattle.cave_play.specs.Input.{InputTexts}
 use Rattle.cave_play.specs.Judge.{log_fault}
-use Rattle.cave_play.specs.Run.{IsFoundIn, Runs, RunsWith}
+use Rattle.cave_play.specs.Run.{IsFoundIn, Judges, Runs, RunsWith}
+use Rattle.cave_play.specs.Sources.{Held}
 use Rattle.cave_play.specs.Stages.{Stage, edit_stages, first_decided, log_stage, reading_stage}
-use Rattle.cave_play.specs.EditRun.{IsEditRun}
-use Rattle.cave_play.specs.declared.fault.Input.TheVariants as input
+use Rattle.cave_play.specs.EditRun.{IsEditRun, IsMadeEdit}
+use Rattle.play_command.specs.declared.input.Input.TheVariants as input
 use Rattle.cave_play.specs.declared.fault.PlayFault.{PlayFault}
 use Rattle.cave_play.specs.declared.fault.PlayFault.TheVariants as fault
 use Rattle.cave_play.specs.declared.edits.EditRun.{EditRun}
+use Rattle.cave_play.specs.declared.edits.MadeEdit.{MadeEdit}
 use Rattle.cave_play.specs.declared.two_logs.Compared.{Compared}
 use Rattle.cave_play.specs.declared.two_logs.ReadLog.{ReadLog}
+use Rattle.cave_play.specs.declared.two_logs.WithCompared.{WithCompared}
 
--- the fault of the log that edits are to make, which is read as a script is
+-- the fault of the log that edits are to make
 abbrev pub new_log_fault : PlayFault → PlayFault
 new_log_fault (fault.Log refused) = fault.NewLog refused
-new_log_fault (fault.Read from) = fault.Read input.Script
 new_log_fault found = found
 
 abbrev pub new_log_stage : List ℕ → Stage
-new_log_stage log = reading_stage input.Script (option_map new_log_fault (log_fault log))
+new_log_stage log = reading_stage input.NewLog (option_map new_log_fault (log_fault log))
 
 -- the old log is read and judged, and then the new one
 abbrev pub two_logs_stages : List ℕ → List ℕ → List Stage
@@ -64,6 +67,15 @@ IsTooLarge form texts old new ended =
     × ((script : List ℕ) × IsLargeDifferenceOf form texts.log texts.script script)
     × (ended ≡ Err fault.LargeScript) × Keeps old new
 
+-- the script that is made of two logs, unless one of them is refused or it is too large
+abbrev pub JudgesScript : ScriptForm → InputTexts → Result (Vec ℕ) PlayFault → Type 0
+JudgesScript form texts made =
+    Judges (two_logs_stages texts.log texts.script)
+    (λ script. IsReadDifferenceOf form texts.log texts.script script.items) made
+    ⊎ ((first_decided (two_logs_stages texts.log texts.script) ≡ None)
+    × ((script : List ℕ) × IsLargeDifferenceOf form texts.log texts.script script)
+    × (made ≡ Err fault.LargeScript))
+
 -- what a run leaves that writes the script of two logs
 abbrev pub RunsScript : ScriptForm → InputTexts → Option (List ℕ) → Option (List ℕ)
     → Result (Unit {0}) PlayFault → Type 0
@@ -80,6 +92,30 @@ IsCompared form old new compared =
 -- how the edits are written that a run makes one after another
 abbrev pub form_of : Editing → ScriptForm
 form_of editing = record { guarded = editing.guarded; grouped = false }
+
+-- a log that was read, unless it was asked for, and its script, in the place of those that a run
+-- has
+abbrev pub with_compared : {I : Type 0} → (I → Held) → WithCompared I → Held
+with_compared held with = record (held with.inputs.now) {
+  logs = if with.is_read then [] else Some with.compared.now.log.items ∷ [];
+  script = Some with.compared.now.script.items;
+}
+
+-- reading makes of the other inputs what it makes of them by themselves
+abbrev pub LeadsWith : {I : Type 0} → (I → I → Type 0) → WithCompared I → WithCompared I → Type 0
+LeadsWith leads one other =
+    (other.inputs.ghost_name ≡ one.inputs.ghost_name) × leads one.inputs.now other.inputs.now
+
+-- what is made of a log so that it becomes another: what the script makes of it that makes the new
+-- log of the old one; or one of the logs is refused
+abbrev pub JudgesEditTo : InputTexts → Editing → Option ReportView → Result MadeEdit PlayFault
+    → Type 0
+JudgesEditTo texts editing report made =
+    ((found : PlayFault) × (made ≡ Err found)
+    × IsFoundIn (two_logs_stages texts.log texts.script) found)
+    ⊎ ((script : List ℕ) × IsDifferenceOf (form_of editing) texts.log texts.script script
+    × Judges (edit_stages texts.database texts.bindings texts.log script editing)
+    (IsMadeEdit (record texts { script = script }) editing report) made)
 
 -- one of two logs is refused, and nothing is written
 abbrev pub IsUncompared : InputTexts → Option (List ℕ) → Option (List ℕ)

@@ -1,24 +1,27 @@
 //! The run that lists what is doubtful about a cave.
 
-ghost use Rattle.std.specs.Prelude.{ℕ, List, IfOk, MatchOption};
+ghost use Rattle.std.specs.Prelude.{◌≡◌, IfOk, MatchOption};
 ghost use Rattle.check_doubts.specs.Doubts.{doubts};
-ghost use Rattle.cave_play.specs.Doubted.{AreLeft, AreLeftIn, IsFirstDoubt, IsTaken, RunsDoubts};
-ghost use Rattle.cave_play.specs.Input.{AreTextsOf, InputTexts, Says};
+ghost use Rattle.cave_play.specs.Doubted.{AreLeft, AreLeftIn, IsFirstDoubt, IsTaken, RunsDoubts, first_doubt};
+ghost use Rattle.cave_play.specs.Input.{AreTextsOf, InputTexts};
 ghost use Rattle.cave_play.specs.Run.{Judges};
+ghost use Rattle.cave_play.specs.Sources.{AreHeld};
 ghost use Rattle.cave_play.specs.Stages.{doubts_stages};
 
-use crate::fault::{Input, PlayFault};
-use crate::inputs::{CaveReaders, Inputs};
-use crate::judge::{ReadCave, read_texts};
+use crate::fault::PlayFault;
+use crate::inputs::{Inputs, OneLog};
+use crate::judge::{ReadCave, read_cave};
 use crate::output::write_output;
-use crate::read::read;
+use crate::sources::Sources;
 use check_doubts::{Doubt, DoubtFiles, doubts, left_doubts, push_doubts, push_unmet};
+use play_command::Input;
 use std::alloc::{AllocError, Global};
 use std::io::{Read, Write};
 
 /// The fault of a strict run in a doubtful cave.
-fn first_doubt(strict: bool, left: &[Doubt]) -> Option<PlayFault>
-    ensures { MatchOption result (IsTaken strict left.now) (IsFirstDoubt strict left.now) }
+pub fn first_doubt(strict: bool, left: &[Doubt]) -> Option<PlayFault>
+    ensures value { result ≡ first_doubt strict left.now }
+    ensures told { MatchOption result (IsTaken strict left.now) (IsFirstDoubt strict left.now) }
 {
     if !strict {
         return None;
@@ -31,9 +34,9 @@ fn first_doubt(strict: bool, left: &[Doubt]) -> Option<PlayFault>
 
 /// The doubts that a list doesn't know, and what is said of them and of the list.
 #[derive(Drop)]
-struct LeftDoubts {
-    left: Vec<Doubt>,
-    text: Vec<u8>,
+pub struct LeftDoubts {
+    pub left: Vec<Doubt>,
+    pub text: Vec<u8>,
 }
 
 /// The doubts of a cave that a list doesn't know.
@@ -54,29 +57,27 @@ fn left_in(
     Ok(LeftDoubts { left, text })
 }
 
-/// Reads a cave and the list of known doubts, and finds the others.
-fn list_doubts<C: Read, B: Read, K: Read>(
+/// Reads a cave and the list of known doubts, and finds the others, each with the name of its file
+/// and its line.
+pub fn make_doubts<I: Sources>(
     alloc: Global,
-    cave: &mut CaveReaders<C, B>,
-    known: &mut K,
+    inputs: &mut I,
     files: &DoubtFiles<'_>,
 ) -> Result<LeftDoubts, PlayFault>
-    ensures judged { (database : List ℕ) × (bindings : List ℕ) × (listed : List ℕ)
-        × Says (C.remaining cave.old.database) database
-        × Says (B.remaining cave.old.bindings) bindings
-        × Says (K.remaining known.old) listed
-        × Judges (doubts_stages database bindings listed)
-        (AreLeftIn files.now database bindings listed) result }
+    ensures judged { (texts : InputTexts) × AreHeld Input.Known (I.held inputs.old) texts
+        × Judges (doubts_stages texts.database texts.bindings texts.script)
+        (AreLeftIn files.now texts.database texts.bindings texts.script) result }
+    ensures leads { I.Leads inputs.old inputs.new }
 {
-    let texts = read_texts(alloc, cave)?;
-    let listed = read(alloc, Input::Known, known)?;
-    let found = left_in(alloc, &texts, files, &listed)?;
+    let read = read_cave(alloc, inputs)?;
+    let listed = inputs.read(alloc, Input::Known)?;
+    let found = left_in(alloc, &read, files, &listed)?;
     Ok(found)
 }
 
 /// Lists what is doubtful about a cave and isn't known, each with the name of its file and its
-/// line. A strict run then fails with the first of these doubts. The list of known ones is read as
-/// a script is.
+/// line. A strict run then fails with the first of these doubts. The script's reader has the list of
+/// known ones.
 pub fn run_doubts<C: Read, B: Read, L: Read, S: Read, W: Write>(
     alloc: Global,
     inputs: &mut Inputs<C, B, L, S>,
@@ -89,7 +90,8 @@ pub fn run_doubts<C: Read, B: Read, L: Read, S: Read, W: Write>(
         × RunsDoubts strict files.now texts (W.contents output.old) (W.contents output.new)
         result }
 {
-    let listed = list_doubts(alloc, &mut inputs.cave, &mut inputs.script, files)?;
+    let mut readers = OneLog::of(inputs);
+    let listed = make_doubts(alloc, &mut readers, files)?;
     write_output(output, &listed.text)?;
     match first_doubt(strict, &listed.left) {
         Some(fault) => Err(fault),

@@ -4,40 +4,29 @@ ghost use Rattle.std.specs.Prelude.{◌≡◌};
 ghost use Rattle.cave_play.specs.declared.fault.PlayFault.TheVariants.{Memory};
 ghost use Rattle.cave_play.specs.Fault.{status_of, input_from, input_of, faulty_line};
 
-use base_lines::LineFlaw;
+use base_lines::LineFault;
 use check_doubts::{Doubt, Source};
 use check_tables::Clue;
 use data_rows::{CaveError, Expected, FaultSite};
+use play_command::Input;
 use play_edits::Refusal;
 use replay_scripts::{EditFlaw, ScriptFlaw};
 use std::alloc::AllocError;
 use std::{fmt, io};
 use thiserror::Error;
 
-/// An input of a run.
-#[derive(Clone, Copy, Debug, PartialEq, Eq)]
-pub enum Input {
-    Cave,
-    Bindings,
-    Log,
-    /// What a log is edited by: a script, or the log that the edits are to make.
-    Script,
-    /// What is known: doubts, or what no log shows.
-    Known,
-}
-
 /// What is wrong with a line of a log. The first bytes of a log may be a byte order mark.
 #[derive(Clone, Copy, Debug)]
 struct LineWords {
     line: usize,
-    flaw: LineFlaw,
+    flaw: LineFault,
 }
 
 impl fmt::Display for LineWords {
     fn fmt<W: fmt::Write>(&self, f: &mut fmt::Formatter<W>) -> fmt::Result {
         let flaw = self.flaw;
         match (self.line, flaw) {
-            (1, LineFlaw::Byte(239 | 254 | 255, 1)) => {
+            (1, LineFault::BadByte(239 | 254 | 255, 1)) => {
                 write!(
                     f,
                     "{flaw}: this looks like a byte order mark: save the log without one"
@@ -56,7 +45,7 @@ pub enum LogFault {
     TooLarge,
     /// The line with this number, from 1, isn't allowed in a log.
     #[error("{}", LineWords {line: *.0, flaw: *.1})]
-    BadLine(usize, LineFlaw),
+    BadLine(usize, LineFault),
     /// It has more lines than a log may have.
     #[error("the log has more than 65,535 lines")]
     Full,
@@ -207,9 +196,8 @@ impl PlayFault {
             PlayFault::Doubt(found) => Some(input_from(found.source)),
             PlayFault::LargeKnown => Some(Input::Known),
             PlayFault::Log(_) => Some(Input::Log),
-            PlayFault::NewLog(_) | PlayFault::Script(_) | PlayFault::Refused(_) => {
-                Some(Input::Script)
-            }
+            PlayFault::NewLog(_) => Some(Input::NewLog),
+            PlayFault::Script(_) | PlayFault::Refused(_) => Some(Input::Script),
             PlayFault::Read(input) => Some(input),
             PlayFault::Seed | PlayFault::Every | PlayFault::Write | PlayFault::Memory => None,
             PlayFault::LargeLog | PlayFault::LargeScript | PlayFault::Unshown(_) => None,

@@ -1,30 +1,14 @@
 //! The readers of a run.
 
-ghost use Rattle.cave_play.specs.Input.{input_left};
+ghost use Rattle.std.specs.Prelude.{◌≡◌, false};
+ghost use Rattle.cave_play.specs.Sources.{held_by, held_by_one};
 
-use std::io;
+use crate::fault::PlayFault;
+use crate::read::read;
+use crate::sources::Sources;
+use play_command::Input;
+use std::alloc::Global;
 use std::io::Read;
-
-/// The reader of an input that may be absent, such as bindings, or given on the command line. An
-/// absent input reads as an empty text.
-#[derive(Debug, Drop)]
-pub enum InputReader<'a, R> {
-    Absent,
-    Given(R),
-    Typed(&'a [u8]),
-}
-
-impl<R: Read> Read for InputReader<'_, R> {
-    ghost remaining = { input_left R.remaining };
-
-    fn read(&mut self, buf: &mut [u8]) -> io::Result<usize> {
-        match self {
-            InputReader::Absent => Ok(0),
-            InputReader::Given(reader) => reader.read(buf),
-            InputReader::Typed(text) => text.read(buf),
-        }
-    }
-}
 
 /// The readers of a cave.
 #[derive(Drop)]
@@ -34,10 +18,113 @@ pub struct CaveReaders<C, B> {
 }
 
 /// The readers of a run, in the order in which they are read. A run that doesn't need a log or a
-/// script never asks its reader.
+/// script never asks its reader. What is read in the place of a script, such as a list of what is
+/// known, is the script's reader's.
 #[derive(Drop)]
 pub struct Inputs<C, B, L, S> {
     pub cave: CaveReaders<C, B>,
     pub log: L,
     pub script: S,
+}
+
+/// The readers of a run over one log.
+#[derive(Drop)]
+pub(crate) struct OneLog<'r, C, B, L, S> {
+    inputs: &'r mut Inputs<C, B, L, S>,
+    /// Whether the log was read.
+    is_read: bool,
+}
+
+impl<'r, C: Read, B: Read, L: Read, S: Read> OneLog<'r, C, B, L, S> {
+    /// These readers, before anything is read.
+    pub(crate) fn of(inputs: &'r mut Inputs<C, B, L, S>) -> OneLog<'r, C, B, L, S>
+        ensures inputs { result.inputs.now ≡ inputs.old }
+        ensures read { result.is_read ≡ false }
+    {
+        OneLog {
+            inputs,
+            is_read: false,
+        }
+    }
+}
+
+impl<C: Read, B: Read, L: Read, S: Read> Sources for OneLog<'_, C, B, L, S> {
+    ghost held = { held_by_one C.remaining B.remaining L.remaining S.remaining };
+
+    ghost Leads = { λ _ _. Unit {0} };
+
+    ghost stays = { λ _. tt };
+
+    ghost goes_on = { λ _ _ _ _ _. tt };
+
+    fn read(&mut self, alloc: Global, input: Input) -> Result<Vec<u8>, PlayFault> {
+        match input {
+            Input::Cave => read(alloc, input, &mut self.inputs.cave.database),
+            Input::Bindings => read(alloc, input, &mut self.inputs.cave.bindings),
+            Input::Log if self.is_read => Ok(Vec::new(alloc)),
+            Input::Log => {
+                self.is_read = true;
+                read(alloc, input, &mut self.inputs.log)
+            }
+            Input::NewLog | Input::Script | Input::Known => {
+                read(alloc, input, &mut self.inputs.script)
+            }
+        }
+    }
+}
+
+/// The readers of a run over any number of logs, the first of which were read.
+#[derive(Drop)]
+pub struct Readers<'r, C, B, L, S> {
+    cave: &'r mut CaveReaders<C, B>,
+    logs: &'r mut [L],
+    script: &'r mut S,
+    read: usize,
+}
+
+impl<'r, C: Read, B: Read, L: Read, S: Read> Readers<'r, C, B, L, S> {
+    /// These readers, before anything is read.
+    pub fn of(
+        cave: &'r mut CaveReaders<C, B>,
+        logs: &'r mut [L],
+        script: &'r mut S,
+    ) -> Readers<'r, C, B, L, S>
+        ensures cave { result.cave.now ≡ cave.old }
+        ensures logs { result.logs.now ≡ logs.old }
+        ensures script { result.script.now ≡ script.old }
+        ensures read { result.read ≡ 0 }
+    {
+        Readers {
+            cave,
+            logs,
+            script,
+            read: 0,
+        }
+    }
+}
+
+impl<C: Read, B: Read, L: Read, S: Read> Sources for Readers<'_, C, B, L, S> {
+    ghost held = { held_by C.remaining B.remaining L.remaining S.remaining };
+
+    ghost Leads = { λ _ _. Unit {0} };
+
+    ghost stays = { λ _. tt };
+
+    ghost goes_on = { λ _ _ _ _ _. tt };
+
+    fn read(&mut self, alloc: Global, input: Input) -> Result<Vec<u8>, PlayFault> {
+        match input {
+            Input::Cave => read(alloc, input, &mut self.cave.database),
+            Input::Bindings => read(alloc, input, &mut self.cave.bindings),
+            Input::Log => {
+                let place = self.read;
+                if place >= self.logs.len() {
+                    return Ok(Vec::new(alloc));
+                }
+                self.read += 1;
+                read(alloc, input, &mut self.logs[place])
+            }
+            Input::NewLog | Input::Script | Input::Known => read(alloc, input, self.script),
+        }
+    }
 }

@@ -16,25 +16,25 @@ ghost use Rattle.play_machine.specs.HeldGame.{HoldsGame};
 ghost use Rattle.play_machine.specs.Moments.{noted_of};
 ghost use Rattle.play_machine.specs.Watch.{IsEndOf, NotesMore};
 ghost use Rattle.cave_play.specs.Run.{Judges};
+ghost use Rattle.cave_play.specs.Sources.{IsTaken, next_log, without_cave};
 ghost use Rattle.cave_play.specs.Stages.{judging_stage};
 ghost use Rattle.cave_play.specs.Stages.{cave_stages, log_stage, script_stage};
 
-use crate::fault::{Input, LogFault, PlayFault, ScriptFault};
-use crate::inputs::CaveReaders;
-use crate::read::read;
+use crate::fault::{LogFault, PlayFault, ScriptFault};
+use crate::sources::Sources;
 use base_lines::Meter;
 use base_lines::limits::{is_bad_every, is_large_seed};
 use cave_data::Cave;
 use cave_replay::{OpenFault, Session};
 use check_tables::clue_of;
 use data_rows::{Cause, CaveError};
+use play_command::Input;
 use play_machine::{CaveMachine, PlayEnd, Watch, watch_log};
 use replay_scripts::{Script, ScriptRefusal};
 use std::alloc::Global;
-use std::io::Read;
 
 /// Whether a game may begin with the seed.
-pub fn check_seed(seed: u32) -> Result<(), PlayFault>
+pub(crate) fn check_seed(seed: u32) -> Result<(), PlayFault>
     ensures { MatchResult result (λ _. large_seed seed ≡ None)
         (λ found. large_seed seed ≡ Some found) }
 {
@@ -91,39 +91,21 @@ pub struct ReadCave {
 }
 
 /// Reads a database and its bindings, and keeps them.
-pub fn read_texts<C: Read, B: Read>(
-    alloc: Global,
-    cave: &mut CaveReaders<C, B>,
-) -> Result<ReadCave, PlayFault>
+pub(crate) fn read_cave<I: Sources>(alloc: Global, inputs: &mut I) -> Result<ReadCave, PlayFault>
     ensures judged { (database : List ℕ) × (bindings : List ℕ)
-        × Says (C.remaining cave.old.database) database
-        × Says (B.remaining cave.old.bindings) bindings
+        × Says (I.held inputs.old).cave database × Says (I.held inputs.old).bindings bindings
         × Judges (cave_stages database bindings) (IsReadOf database bindings) result }
+    ensures others { without_cave (I.held inputs.new) ≡ without_cave (I.held inputs.old) }
+    ensures leads { I.Leads inputs.old inputs.new }
 {
-    let database = read(alloc, Input::Cave, &mut cave.database)?;
-    let bindings = read(alloc, Input::Bindings, &mut cave.bindings)?;
+    let database = inputs.read(alloc, Input::Cave)?;
+    let bindings = inputs.read(alloc, Input::Bindings)?;
     match cave_of(alloc, &database, &bindings) {
         Ok(cave) => Ok(ReadCave {
             cave,
             database,
             bindings,
         }),
-        Err(fault) => Err(fault),
-    }
-}
-
-/// Reads a database and its bindings.
-pub fn read_cave<C: Read, B: Read>(
-    alloc: Global,
-    cave: &mut CaveReaders<C, B>,
-) -> Result<Cave, PlayFault>
-    ensures judged { (database : List ℕ) × (bindings : List ℕ)
-        × Says (C.remaining cave.old.database) database
-        × Says (B.remaining cave.old.bindings) bindings
-        × Judges (cave_stages database bindings) (Reads database bindings) result }
-{
-    match read_texts(alloc, cave) {
-        Ok(ReadCave { cave, .. }) => Ok(cave),
         Err(fault) => Err(fault),
     }
 }
@@ -164,22 +146,24 @@ pub(crate) fn open_session<'a>(
     }
 }
 
-/// Reads a log and plays it in a cave, for a watch to see.
-pub fn watch_play<W: Watch, L: Read>(
+/// Reads the next log and plays it in a cave, for a watch to see.
+pub(crate) fn watch_play<W: Watch, I: Sources>(
     alloc: Global,
     machine: CaveMachine<'_>,
-    log: &mut L,
+    inputs: &mut I,
     seed: u32,
     watch: &mut W,
 ) -> Result<PlayEnd, PlayFault>
     requires { large_seed seed ≡ None }
-    ensures judged { (bytes : List ℕ) × Says (L.remaining log.old) bytes
+    ensures judged { (bytes : List ℕ) × Says (next_log (I.held inputs.old).logs) bytes
         × Judges (log_stage bytes ∷ [])
         (λ end. NotesMore W.HasNoted (noted_of W.first_facts W.facts machine.entry.rules.cave.now
         (game_of seed (lines bytes))) watch.old watch.new
         × IsEndOf machine.entry.rules.cave.now (game_of seed (lines bytes)) end) result }
+    ensures taken { IsTaken Input.Log (I.held inputs.old) (I.held inputs.new) }
+    ensures leads { I.Leads inputs.old inputs.new }
 {
-    let log = read(alloc, Input::Log, log)?;
+    let log = inputs.read(alloc, Input::Log)?;
     match watch_log(alloc, machine, &log, seed, watch) {
         Ok(end) => Ok(end),
         Err(fault) => Err(opening_fault(fault)),
@@ -194,19 +178,20 @@ pub(crate) struct ReadScript {
 }
 
 /// Reads a script, some of whose lines may be guards.
-pub(crate) fn read_script<S: Read>(
+pub(crate) fn read_script<I: Sources>(
     alloc: Global,
-    script: &mut S,
+    inputs: &mut I,
     guarded: bool,
 ) -> Result<ReadScript, PlayFault>
-    ensures judged { (bytes : List ℕ) × Says (S.remaining script.old) bytes
+    ensures judged { (bytes : List ℕ) × Says (I.held inputs.old).script bytes
         × Judges (script_stage guarded bytes ∷ [])
         (λ read. IsScriptBy guarded bytes (items_of read.script.items)
         × (length read.script.items.items < 2 ^ 32)
         × (script_by guarded bytes ≡ Ok (items_of read.script.items))
         × (read.text.items ≡ bytes)) result }
+    ensures leads { I.Leads inputs.old inputs.new }
 {
-    let text = read(alloc, Input::Script, script)?;
+    let text = inputs.read(alloc, Input::Script)?;
     match script_in(alloc, &text, guarded) {
         Ok(script) => Ok(ReadScript { script, text }),
         Err(fault) => Err(script_refusal(fault)),

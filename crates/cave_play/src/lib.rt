@@ -2,20 +2,24 @@
 #![tactic(auto)]
 
 pub mod doubted;
-mod edits;
+pub mod edits;
 mod ended;
 pub mod fault;
-pub mod input;
 pub mod inputs;
 pub mod judge;
+pub mod kept_rows;
 pub mod laws;
+pub mod logs;
+pub mod logs_fault;
+pub mod notes;
 pub mod output;
 pub mod read;
 pub mod run;
+pub mod sources;
 pub mod two_logs;
 mod views;
 
-pub use base_lines::{LineFlaw, Meter, Steps};
+pub use base_lines::{LineFault, Meter, Steps};
 pub use cave_data::Cave;
 pub use cave_replay::{Machine, OpenFault, Report, Session};
 pub use cave_words::Lexicon;
@@ -25,13 +29,14 @@ pub use check_tables::Clue;
 pub use data_rows::{Cause, CaveError, FaultSite, Role};
 pub use doubted::run_doubts;
 pub use edits::EditRun;
-pub use fault::{Complaint, Input, LogFault, PlayFault, ScriptFault, Unopened};
-pub use inputs::{CaveReaders, InputReader, Inputs};
+pub use fault::{Complaint, LogFault, PlayFault, ScriptFault, Unopened};
+pub use inputs::{CaveReaders, Inputs};
+pub use logs_fault::LogsFault;
 pub use play_command::{
-    CheckView, CommandFault, CoverView, EditView, Editing, Files, Line, PlayView, ReportView,
-    ScriptSource, TextView, command_line,
+    CheckView, CommandFault, CoverView, EditAsked, EditView, Editing, EditsFrom, Input, Line,
+    NamedFile, PlayView, ReportView, Request, TextView, What, command_line,
 };
-pub use play_edits::{EditDetail, ExpectedLine, KeptLine, Refusal};
+pub use play_edits::{ExpectedLine, KeptLine, Refusal};
 pub use play_machine::{
     CaveMachine, Piece, push_final_state, push_play, push_score, push_steps, push_walk,
 };

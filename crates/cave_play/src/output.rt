@@ -2,7 +2,9 @@
 
 ghost use Rattle.std.specs.Prelude.{◌≡◌, ℕ, take, MatchResult};
 ghost use Rattle.std.specs.Io.KnownBytes.{Appends};
+ghost use Rattle.cave_play.specs.Writing.{Writes, WritesEdit};
 
+use crate::edits::{EditRun, MadeEdit};
 use crate::fault::PlayFault;
 use std::io::Write;
 
@@ -25,5 +27,34 @@ pub fn write_output<W: Write>(writer: &mut W, output: &[u8]) -> Result<(), PlayF
             Ok(count) => rest = &rest[count..],
             Err(_) => return Err(PlayFault::Write),
         }
+    }
+}
+
+/// Writes what was made, if something was.
+pub(crate) fn write_made<W: Write>(
+    made: Result<Vec<u8>, PlayFault>,
+    writer: &mut W,
+) -> Result<(), PlayFault>
+    ensures { Writes made (W.contents writer.old) (W.contents writer.new) result }
+{
+    match made {
+        Ok(text) => write_output(writer, &text),
+        Err(fault) => Err(fault),
+    }
+}
+
+/// Writes the text that edits made, if they made one, and returns what the run returns.
+pub(crate) fn write_edit<W: Write>(
+    made: Result<MadeEdit, PlayFault>,
+    writer: &mut W,
+) -> Result<EditRun, PlayFault>
+    ensures { WritesEdit made (W.contents writer.old) (W.contents writer.new) result }
+{
+    match made {
+        Ok(MadeEdit { run, text }) => match write_output(writer, &text) {
+            Ok(()) => Ok(run),
+            Err(fault) => Err(fault),
+        },
+        Err(fault) => Err(fault),
     }
 }

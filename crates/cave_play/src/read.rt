@@ -1,41 +1,77 @@
-//! Reading the inputs of a run.
+//! Reading an input to its end, within a limit.
 
-ghost use Rattle.std.specs.Prelude.{◌≡◌, ℕ, ◌≤◌, ◌<◌, ◌⊎◌, List, length, None, Some, MatchResult};
-ghost use Rattle.base_lines.specs.Limits.{MAX_INPUT_BYTES};
-ghost use Rattle.cave_play.specs.Input.{Says};
+ghost use Rattle.std.specs.Prelude.{◌≡◌, ◌<◌, ◌≤◌, None, length, IfOk, IfErr, vec_len};
+ghost use Rattle.base_lines.specs.Limits as defined;
 ghost use Rattle.cave_play.specs.Judge.{too_large};
-ghost use Rattle.cave_play.specs.Run.{IsOutsideOf};
+ghost use Rattle.cave_play.specs.Reading.{Exceeds, Gives, IsReading};
 
-use crate::fault::{Input, LogFault, PlayFault, ScriptFault};
-use crate::input::{InputFault, read_input};
+use crate::fault::{LogFault, PlayFault, ScriptFault};
+use base_lines::limits::MAX_INPUT_BYTES;
 use data_rows::{Cause, CaveError, FaultSite};
-use std::alloc::Global;
+use play_command::Input;
+use std::alloc::{AllocError, Global};
 use std::io::Read;
 
-/// Reads an input of a run whole.
+/// How many bytes are requested at once: few, since they are filled before the first reading.
+const PIECE_BYTES: usize = 2_048;
+
+/// Reads all that a reader has. An input is refused as soon as it is over the limit.
 pub fn read<R: Read>(alloc: Global, input: Input, reader: &mut R) -> Result<Vec<u8>, PlayFault>
-    ensures read { (bytes : List ℕ) × Says (R.remaining reader.old) bytes
-        × MatchResult result
-        (λ text. (text.items ≡ bytes) × (length bytes ≤ MAX_INPUT_BYTES))
-        (λ found. IsOutsideOf (Some input) found
-        ⊎ ((MAX_INPUT_BYTES < length bytes) × (found ≡ too_large input))) }
+    ensures { IsReading (R.remaining reader.old) input result }
 {
-    match read_input(alloc, reader) {
-        Ok(text) => Ok(text),
-        Err(InputFault::Unreadable) => Err(PlayFault::Read(input)),
-        Err(InputFault::TooLarge) => Err(too_large(input)),
-        Err(InputFault::Memory) => Err(PlayFault::Memory),
+    let mut piece = zeros(alloc, PIECE_BYTES)?;
+    let mut text = Vec::new(alloc);
+    'pieces: loop {
+        match read_more(input, reader, piece.as_mut_slice(), &mut text) {
+            Ok(true) => {}
+            Ok(false) => return Ok(text),
+            Err(fault) => return Err(fault),
+        }
     }
 }
 
+/// That many zero bytes, to be read into.
+fn zeros(alloc: Global, count: usize) -> Result<Vec<u8>, AllocError>
+    ensures { IfOk result (λ piece. vec_len piece ≡ count) }
+{
+    vec![in alloc; 0; count]
+}
+
+/// Reads once, appends what came, and returns whether anything came.
+fn read_more<R: Read>(
+    input: Input,
+    reader: &mut R,
+    piece: &mut [u8],
+    text: &mut Vec<u8>,
+) -> Result<bool, PlayFault>
+    requires room { 0 < length piece.old }
+    requires within { vec_len text.old ≤ defined.MAX_INPUT_BYTES }
+    ensures given { IfOk result
+        (Gives (R.remaining reader.old) (R.remaining reader.new) text.old.items text.new.items) }
+    ensures within { IfOk result (λ _. vec_len text.new ≤ defined.MAX_INPUT_BYTES) }
+    ensures over { IfErr result
+        (Exceeds input (R.remaining reader.old) (R.remaining reader.new) text.old.items) }
+{
+    let count = match reader.read(piece) {
+        Ok(count) => count,
+        Err(_) => return Err(PlayFault::Read(input)),
+    };
+    if count > MAX_INPUT_BYTES - text.len() {
+        return Err(too_large(input));
+    }
+    text.extend_from_slice(&piece[..count])?;
+    Ok(count > 0)
+}
+
 /// The fault of an input that has too many bytes.
-fn too_large(input: Input) -> PlayFault
+pub(crate) fn too_large(input: Input) -> PlayFault
     ensures { result ≡ too_large input }
 {
     match input {
         Input::Cave => too_large_at(FaultSite::Database),
         Input::Bindings => too_large_at(FaultSite::Bindings),
         Input::Log => PlayFault::Log(LogFault::TooLarge),
+        Input::NewLog => PlayFault::NewLog(LogFault::TooLarge),
         Input::Script => PlayFault::Script(ScriptFault::TooLarge),
         Input::Known => PlayFault::LargeKnown,
     }

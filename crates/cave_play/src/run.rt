@@ -1,5 +1,5 @@
-//! Runs: from readers of the inputs to a writer of the output. What a run makes of its inputs is
-//! whole before it writes.
+//! What runs over at most one log make of their inputs, and the runs: from the inputs to a writer of
+//! the output. What a run makes is whole before it writes.
 
 ghost use Rattle.std.specs.Prelude.{◌≡◌, ℕ, List, [], ◌∷◌, None};
 ghost use Rattle.std.specs.Str.Lines.{lines};
@@ -8,22 +8,24 @@ ghost use Rattle.cave_play.specs.Input.{Says, InputTexts, AreTextsOf};
 ghost use Rattle.cave_play.specs.Judge.{large_seed, every_fault};
 ghost use Rattle.cave_play.specs.Output.{IsChecked, IsPlayed, play_view_text};
 ghost use Rattle.cave_play.specs.Run.{Judges, Runs, RunsWith};
+ghost use Rattle.cave_play.specs.Sources.{AreHeld, next_log};
 ghost use Rattle.cave_play.specs.Stages.{cave_stages, log_stage, script_stage, strict_stage};
 ghost use Rattle.cave_play.specs.Stages.{play_stages, edit_stages};
-ghost use Rattle.cave_play.specs.EditRun.{IsEditRun, IsMadeOf};
+ghost use Rattle.cave_play.specs.EditRun.{IsEditRun, IsMadeEdit, IsMadeOf};
 ghost use Rattle.play_edits.specs.LogEnds.{log_ends};
 
-use crate::edits::{EditRun, Edited, edit_session};
-use crate::ended::{check_size, ended_view};
-use crate::fault::{Input, PlayFault};
-use crate::inputs::Inputs;
+use crate::edits::{EditRun, MadeEdit, edit_session};
+use crate::ended::finish_edit;
+use crate::fault::PlayFault;
+use crate::inputs::{Inputs, OneLog};
 use crate::judge::{check_every, check_seed, open_session, read_cave};
-use crate::output::write_output;
-use crate::read::read;
+use crate::output::{write_edit, write_made};
+use crate::sources::Sources;
 use crate::views::{check_text, play_view_text};
 use cave_data::Cave;
 use cave_words::Lexicon;
-use play_command::{CheckView, Editing, PlayView, ReportView};
+use play_command::{CheckView, Editing, Input, PlayView, ReportView};
+use play_edits::Edited;
 use play_machine::CaveMachine;
 use std::alloc::Global;
 use std::io::{Read, Write};
@@ -31,6 +33,113 @@ use std::io::{Read, Write};
 // A cave is dropped by a call, and not at the end of a block, because then the checker goes through
 // its tables once, and not in each function that has a cave. So nothing fails between its reading
 // and that call.
+
+/// Checks a database and its bindings, and says so if they are a cave.
+pub fn make_check<I: Sources>(
+    alloc: Global,
+    inputs: &mut I,
+    view: CheckView,
+) -> Result<Vec<u8>, PlayFault>
+    ensures judged { (texts : InputTexts) × AreHeld Input.Script (I.held inputs.old) texts
+        × Judges (cave_stages texts.database texts.bindings)
+        (λ text. IsChecked view texts.database texts.bindings text.items) result }
+    ensures leads { I.Leads inputs.old inputs.new }
+{
+    let read = read_cave(alloc, inputs)?;
+    let made = check_text(alloc, &read.cave, view);
+    drop(read);
+    made
+}
+
+/// Plays a log, and makes of it what the view asks for: the transcript, the table of its lines, the
+/// same as JSON, the table of its score, or the state to which the log leads.
+pub fn make_play<I: Sources>(
+    alloc: Global,
+    inputs: &mut I,
+    seed: u32,
+    view: PlayView,
+) -> Result<Vec<u8>, PlayFault>
+    ensures judged { (texts : InputTexts) × AreHeld Input.Script (I.held inputs.old) texts
+        × Judges (play_stages texts.database texts.bindings texts.log seed)
+        (λ text. IsPlayed texts.database texts.bindings texts.log seed view text.items) result }
+    ensures leads { I.Leads inputs.old inputs.new }
+{
+    check_seed(seed)?;
+    let read = read_cave(alloc, inputs)?;
+    let made = play_in_cave(alloc, &read.cave, inputs, seed, view);
+    drop(read);
+    made
+}
+
+/// Edits a log by a script, and makes what the view asks for: a report on each item of the script
+/// and then the transcript of the edited log, that log, what each item replayed, the table of the
+/// edited log's lines, the same as JSON, the table of its score, or the state that it leads to. Each
+/// line of the edited log has the end that it has in the log.
+pub fn make_edit<I: Sources>(
+    alloc: Global,
+    inputs: &mut I,
+    editing: Editing,
+    report: Option<ReportView>,
+) -> Result<MadeEdit, PlayFault>
+    ensures judged { (texts : InputTexts) × AreHeld Input.Script (I.held inputs.old) texts
+        × Judges (edit_stages texts.database texts.bindings texts.log texts.script editing)
+        (IsMadeEdit texts editing report) result }
+    ensures leads { I.Leads inputs.old inputs.new }
+{
+    check_seed(editing.seed)?;
+    check_every(editing.every)?;
+    let read = read_cave(alloc, inputs)?;
+    let made = edit_in_cave(alloc, &read.cave, inputs, editing, report);
+    drop(read);
+    finish_edit(alloc, editing.view, made)
+}
+
+/// What a view asks for of a play in a cave.
+fn play_in_cave<I: Sources>(
+    alloc: Global,
+    cave: &Cave,
+    inputs: &mut I,
+    seed: u32,
+    view: PlayView,
+) -> Result<Vec<u8>, PlayFault>
+    requires { large_seed seed ≡ None }
+    ensures judged { (moves : List ℕ) × Says (next_log (I.held inputs.old).logs) moves
+        × Judges (log_stage moves ∷ [])
+        (λ text. text.items ≡ play_view_text view cave.now (game_of seed (lines moves))) result }
+    ensures leads { I.Leads inputs.old inputs.new }
+{
+    let lexicon = Lexicon::build(alloc, cave)?;
+    let machine = CaveMachine::new(cave, &lexicon);
+    play_view_text(alloc, machine, inputs, seed, view)
+}
+
+/// What a view asks for of a script in a cave.
+fn edit_in_cave<I: Sources>(
+    alloc: Global,
+    cave: &Cave,
+    inputs: &mut I,
+    editing: Editing,
+    report: Option<ReportView>,
+) -> Result<Edited, PlayFault>
+    requires seed_fits { large_seed editing.seed ≡ None }
+    requires every_fits { every_fault editing.every ≡ None }
+    ensures judged { (moves : List ℕ) × (edits : List ℕ)
+        × Says (next_log (I.held inputs.old).logs) moves × Says (I.held inputs.old).script edits
+        × Judges (log_stage moves ∷ script_stage editing.guarded edits
+        ∷ strict_stage editing.strict (game_of editing.seed (lines moves)) editing.guarded edits
+        ∷ [])
+        (IsMadeOf editing.view report cave.now editing.every (game_of editing.seed (lines moves))
+        editing.guarded edits (log_ends moves edits)) result }
+    ensures leads { I.Leads inputs.old inputs.new }
+{
+    let lexicon = Lexicon::build(alloc, cave)?;
+    let machine = CaveMachine::new(cave, &lexicon);
+    let bytes = inputs.read(alloc, Input::Log)?;
+    let mut session = open_session(alloc, machine, &bytes, editing.seed, editing.every)?;
+    let made = edit_session(alloc, &mut session, &bytes, inputs, editing, report);
+    drop(session);
+    made
+}
 
 /// Checks a database and its bindings, and says so if they are a cave. Its inputs determine what it
 /// writes, as in other runs: see `one_checked_output` in laws.rt.
@@ -46,15 +155,12 @@ pub fn run_check<C: Read, B: Read, L: Read, S: Read, W: Write>(
         (IsChecked view texts.database texts.bindings)
         (W.contents output.old) (W.contents output.new) result }
 {
-    let cave = read_cave(alloc, &mut inputs.cave)?;
-    let made = check_text(alloc, &cave, view);
-    drop(cave);
-    let text = made?;
-    write_output(output, &text)
+    let mut readers = OneLog::of(inputs);
+    let made = make_check(alloc, &mut readers, view);
+    write_made(made, output)
 }
 
-/// Plays a log and writes what the view asks for, once it is whole: the transcript, the table of
-/// its lines, the same as JSON, the table of its score, or the state to which the log leads.
+/// Plays a log and writes what the view asks for.
 pub fn run_play<C: Read, B: Read, L: Read, S: Read, W: Write>(
     alloc: Global,
     inputs: &mut Inputs<C, B, L, S>,
@@ -68,21 +174,14 @@ pub fn run_play<C: Read, B: Read, L: Read, S: Read, W: Write>(
         (IsPlayed texts.database texts.bindings texts.log seed view)
         (W.contents output.old) (W.contents output.new) result }
 {
-    check_seed(seed)?;
-    let cave = read_cave(alloc, &mut inputs.cave)?;
-    let made = play_in_cave(alloc, &cave, &mut inputs.log, seed, view);
-    drop(cave);
-    let text = made?;
-    write_output(output, &text)
+    let mut readers = OneLog::of(inputs);
+    let made = make_play(alloc, &mut readers, seed, view);
+    write_made(made, output)
 }
 
-/// Edits a log by a script, and writes what the view asks for, once it is whole: a report on each
-/// item of the script and then the transcript of the edited log, that log, what each item replayed,
-/// the table of the edited log's lines, the same as JSON, the table of its score, or the state that
-/// it leads to. Each line of the edited log has the end that it has in the log. Returns how many
-/// lines were played for the items: the sum of what was played for each, which is within the bound
-/// of its replay; why items were refused, if some were; the report, if one is asked for; and the
-/// seed that is left.
+/// Edits a log by a script, and writes what the view asks for. Returns how many lines were played
+/// for the items: the sum of what was played for each, which is within the bound of its replay; why
+/// items were refused, if some were; the report, if one is asked for; and the seed that is left.
 pub fn run_edit<C: Read, B: Read, L: Read, S: Read, W: Write>(
     alloc: Global,
     inputs: &mut Inputs<C, B, L, S>,
@@ -96,80 +195,7 @@ pub fn run_edit<C: Read, B: Read, L: Read, S: Read, W: Write>(
         (IsEditRun texts.database texts.bindings texts.log texts.script editing report)
         (W.contents output.old) (W.contents output.new) result }
 {
-    check_seed(editing.seed)?;
-    check_every(editing.every)?;
-    let cave = read_cave(alloc, &mut inputs.cave)?;
-    let made = edit_in_cave(
-        alloc,
-        &cave,
-        &mut inputs.log,
-        &mut inputs.script,
-        editing,
-        report,
-    );
-    drop(cave);
-    let edited = made?;
-    let Edited {
-        text,
-        played,
-        ends,
-        refused,
-        report,
-        seed,
-    } = edited;
-    let text = ended_view(alloc, editing.view, &ends, text)?;
-    check_size(editing.view, &text)?;
-    write_output(output, &text)?;
-    Ok(EditRun {
-        played,
-        refused,
-        report,
-        seed,
-    })
-}
-
-/// What a view asks for of a play in a cave.
-fn play_in_cave<L: Read>(
-    alloc: Global,
-    cave: &Cave,
-    log: &mut L,
-    seed: u32,
-    view: PlayView,
-) -> Result<Vec<u8>, PlayFault>
-    requires { large_seed seed ≡ None }
-    ensures judged { (moves : List ℕ) × Says (L.remaining log.old) moves
-        × Judges (log_stage moves ∷ [])
-        (λ text. text.items ≡ play_view_text view cave.now (game_of seed (lines moves))) result }
-{
-    let lexicon = Lexicon::build(alloc, cave)?;
-    let machine = CaveMachine::new(cave, &lexicon);
-    play_view_text(alloc, machine, log, seed, view)
-}
-
-/// What a view asks for of a script in a cave.
-fn edit_in_cave<L: Read, S: Read>(
-    alloc: Global,
-    cave: &Cave,
-    log: &mut L,
-    script: &mut S,
-    editing: Editing,
-    report: Option<ReportView>,
-) -> Result<Edited, PlayFault>
-    requires seed_fits { large_seed editing.seed ≡ None }
-    requires every_fits { every_fault editing.every ≡ None }
-    ensures judged { (moves : List ℕ) × (edits : List ℕ)
-        × Says (L.remaining log.old) moves × Says (S.remaining script.old) edits
-        × Judges (log_stage moves ∷ script_stage editing.guarded edits
-        ∷ strict_stage editing.strict (game_of editing.seed (lines moves)) editing.guarded edits
-        ∷ [])
-        (IsMadeOf editing.view report cave.now editing.every (game_of editing.seed (lines moves))
-        editing.guarded edits (log_ends moves edits)) result }
-{
-    let lexicon = Lexicon::build(alloc, cave)?;
-    let machine = CaveMachine::new(cave, &lexicon);
-    let bytes = read(alloc, Input::Log, log)?;
-    let mut session = open_session(alloc, machine, &bytes, editing.seed, editing.every)?;
-    let made = edit_session(alloc, &mut session, &bytes, script, editing, report);
-    drop(session);
-    made
+    let mut readers = OneLog::of(inputs);
+    let made = make_edit(alloc, &mut readers, editing, report);
+    write_edit(made, output)
 }

@@ -1,29 +1,35 @@
 //! Runs over two logs: the edits that make one of the other, and what they lead to.
 
-ghost use Rattle.std.specs.Prelude.{◌≡◌, ℕ, List, [], ◌∷◌};
+ghost use Rattle.std.specs.Prelude.{◌≡◌, ℕ, List, [], ◌∷◌, Some};
+ghost use Rattle.std.proofs.Common.{refl, ◌∙◌};
 ghost use Rattle.std.specs.Str.Lines.{lines};
 ghost use Rattle.replay_edits.specs.Edit.{log_of};
 ghost use Rattle.cave_play.specs.Input.{AreTextsOf, InputTexts, Says};
 ghost use Rattle.cave_play.specs.Judge.{lines_fault};
+ghost use Rattle.cave_play.specs.Reading.{IsReading};
 ghost use Rattle.cave_play.specs.Run.{Judges};
+ghost use Rattle.cave_play.specs.Sources.{AreHeld, IsTaken, next_log};
 ghost use Rattle.cave_play.specs.Stages.{judging_stage, log_stage};
-ghost use Rattle.cave_play.specs.TwoLogs.{IsCompared, IsReadLog, RunsEditTo, RunsScript};
-ghost use Rattle.cave_play.specs.TwoLogs.{new_log_fault, new_log_stage, two_logs_stages};
+ghost use Rattle.cave_play.specs.TwoLogs.{IsCompared, IsReadLog, JudgesEditTo, JudgesScript};
+ghost use Rattle.cave_play.specs.TwoLogs.{RunsEditTo, RunsScript, new_log_fault, new_log_stage};
+ghost use Rattle.cave_play.specs.TwoLogs.{LeadsWith, two_logs_stages, with_compared};
 
-use crate::edits::EditRun;
-use crate::fault::{Input, PlayFault};
-use crate::inputs::{CaveReaders, Inputs};
+use crate::edits::{EditRun, MadeEdit};
+use crate::fault::PlayFault;
+use crate::inputs::{Inputs, OneLog};
 use crate::judge::opening_fault;
-use crate::output::write_output;
-use crate::read::read;
-use crate::run::run_edit;
+use crate::output::{write_edit, write_made};
+use crate::read::too_large;
+use crate::run::make_edit;
+use crate::sources::Sources;
 use base_lines::limits::{USUAL_EVERY, is_large_input};
 use cave_replay::log::read_lines;
-use play_command::{Editing, ReportView};
+use play_command::{Editing, Input, ReportView};
 use replay_difference::script::{ScriptForm, push_difference};
 use replay_edits::LineText;
 use std::alloc::Global;
 use std::io::{Read, Write};
+use std::mem;
 
 /// A log with its lines.
 #[derive(Drop)]
@@ -50,52 +56,58 @@ fn log_lines(alloc: Global, log: &[u8]) -> Result<Vec<LineText>, PlayFault>
     }
 }
 
-fn read_log<L: Read>(alloc: Global, log: &mut L) -> Result<ReadLog, PlayFault>
-    ensures judged { (bytes : List ℕ) × Says (L.remaining log.old) bytes
+fn read_log<I: Sources>(alloc: Global, inputs: &mut I) -> Result<ReadLog, PlayFault>
+    ensures judged { (bytes : List ℕ) × Says (next_log (I.held inputs.old).logs) bytes
         × Judges (log_stage bytes ∷ []) (IsReadLog bytes) result }
+    ensures taken { IsTaken Input.Log (I.held inputs.old) (I.held inputs.new) }
+    ensures leads { I.Leads inputs.old inputs.new }
 {
-    let text = read(alloc, Input::Log, log)?;
+    let text = inputs.read(alloc, Input::Log)?;
     match log_lines(alloc, &text) {
         Ok(lines) => Ok(ReadLog { text, lines }),
         Err(fault) => Err(fault),
     }
 }
 
-/// The fault of a log that edits are to make.
+/// The fault of the log that edits are to make.
 fn new_log_fault(fault: PlayFault) -> PlayFault
     ensures { result ≡ new_log_fault fault }
 {
     match fault {
         PlayFault::Log(refused) => PlayFault::NewLog(refused),
-        PlayFault::Read(_) => PlayFault::Read(Input::Script),
         other => other,
     }
 }
 
 /// Reads the log that edits are to make.
-fn read_new_log<N: Read>(alloc: Global, log: &mut N) -> Result<ReadLog, PlayFault>
-    ensures judged { (bytes : List ℕ) × Says (N.remaining log.old) bytes
+fn read_new_log<I: Sources>(alloc: Global, inputs: &mut I) -> Result<ReadLog, PlayFault>
+    ensures judged { (bytes : List ℕ) × Says (I.held inputs.old).new_log bytes
         × Judges (new_log_stage bytes ∷ []) (IsReadLog bytes) result }
+    ensures taken { IsTaken Input.NewLog (I.held inputs.old) (I.held inputs.new) }
+    ensures leads { I.Leads inputs.old inputs.new }
 {
-    match read_log(alloc, log) {
-        Ok(read) => Ok(read),
+    let text = inputs.read(alloc, Input::NewLog)?;
+    match log_lines(alloc, &text) {
+        Ok(lines) => Ok(ReadLog { text, lines }),
         Err(fault) => Err(new_log_fault(fault)),
     }
 }
 
 /// Reads two logs, and finds the edits that make the second one of the first.
-fn compare<L: Read, N: Read>(
+fn compare<I: Sources>(
     alloc: Global,
-    log: &mut L,
-    new: &mut N,
+    inputs: &mut I,
     form: ScriptForm,
 ) -> Result<Compared, PlayFault>
     ensures judged { (old : List ℕ) × (made : List ℕ)
-        × Says (L.remaining log.old) old × Says (N.remaining new.old) made
+        × Says (next_log (I.held inputs.old).logs) old × Says (I.held inputs.old).new_log made
         × Judges (two_logs_stages old made) (IsCompared form old made) result }
+    ensures cave { (I.held inputs.new).cave ≡ (I.held inputs.old).cave }
+    ensures bindings { (I.held inputs.new).bindings ≡ (I.held inputs.old).bindings }
+    ensures leads { I.Leads inputs.old inputs.new }
 {
-    let old = read_log(alloc, log)?;
-    let made = read_new_log(alloc, new)?;
+    let old = read_log(alloc, inputs)?;
+    let made = read_new_log(alloc, inputs)?;
     let mut script = Vec::new(alloc);
     push_difference(alloc, &mut script, &old.lines, &made.lines, form)?;
     Ok(Compared {
@@ -104,8 +116,97 @@ fn compare<L: Read, N: Read>(
     })
 }
 
+/// Makes the script of the edits that make one log of another, unless it is larger than a script may
+/// be.
+pub fn make_script<I: Sources>(
+    alloc: Global,
+    inputs: &mut I,
+    form: ScriptForm,
+) -> Result<Vec<u8>, PlayFault>
+    ensures judged { (texts : InputTexts) × AreHeld Input.NewLog (I.held inputs.old) texts
+        × JudgesScript form texts result }
+    ensures leads { I.Leads inputs.old inputs.new }
+{
+    let compared = compare(alloc, inputs, form)?;
+    let Compared { script, .. } = compared;
+    if is_large_input(script.len()) {
+        return Err(PlayFault::LargeScript);
+    }
+    Ok(script)
+}
+
+/// A log that was read, and its script, in the place of those that a run has.
+#[derive(Drop)]
+struct WithCompared<'a, I> {
+    inputs: &'a mut I,
+    compared: &'a mut Compared,
+    /// Whether the log was asked for.
+    is_read: bool,
+}
+
+/// Gives a text that was read before.
+fn give(alloc: Global, input: Input, text: &mut Vec<u8>) -> Result<Vec<u8>, PlayFault>
+    ensures { IsReading (Some text.old.items) input result }
+{
+    let text = mem::replace(text, Vec::new(alloc));
+    if is_large_input(text.len()) {
+        return Err(too_large(input));
+    }
+    Ok(text)
+}
+
+impl<I: Sources> Sources for WithCompared<'_, I> {
+    ghost held = { with_compared I.held };
+
+    ghost Leads = { LeadsWith I.Leads };
+
+    ghost stays = { λ one. (refl, I.stays one.inputs.now) };
+
+    ghost goes_on = { λ one next last first second. (
+      second.0 ∙ first.0,
+      I.goes_on one.inputs.now next.inputs.now last.inputs.now first.1 second.1,
+    ) };
+
+    fn read(&mut self, alloc: Global, input: Input) -> Result<Vec<u8>, PlayFault> {
+        match input {
+            Input::Log if self.is_read => Ok(Vec::new(alloc)),
+            Input::Log => {
+                self.is_read = true;
+                give(alloc, input, &mut self.compared.log)
+            }
+            Input::Script => give(alloc, input, &mut self.compared.script),
+            _ => self.inputs.read(alloc, input),
+        }
+    }
+}
+
+/// Edits a log by the edits that make another one of it, and makes what is asked for. Both logs are
+/// judged before anything else.
+pub fn make_edit_to<I: Sources>(
+    alloc: Global,
+    inputs: &mut I,
+    editing: Editing,
+    report: Option<ReportView>,
+) -> Result<MadeEdit, PlayFault>
+    ensures judged { (texts : InputTexts) × AreHeld Input.NewLog (I.held inputs.old) texts
+        × JudgesEditTo texts editing report result }
+    ensures leads { I.Leads inputs.old inputs.new }
+{
+    let form = ScriptForm {
+        guarded: editing.guarded,
+        grouped: false,
+    };
+    let mut compared = compare(alloc, inputs, form)?;
+    let mut inputs = WithCompared {
+        inputs,
+        compared: &mut compared,
+        is_read: false,
+    };
+    make_edit(alloc, &mut inputs, editing, report)
+}
+
 /// Writes the script of the edits that make one log of another, unless it is larger than a script
-/// may be. The new log is read as a script is.
+/// may be. The script's reader has the new log.
 pub fn run_script<C: Read, B: Read, L: Read, S: Read, W: Write>(
     alloc: Global,
     inputs: &mut Inputs<C, B, L, S>,
@@ -116,15 +217,13 @@ pub fn run_script<C: Read, B: Read, L: Read, S: Read, W: Write>(
         × AreTextsOf C.remaining B.remaining L.remaining S.remaining inputs.old texts
         × RunsScript form texts (W.contents output.old) (W.contents output.new) result }
 {
-    let compared = compare(alloc, &mut inputs.log, &mut inputs.script, form)?;
-    if is_large_input(compared.script.len()) {
-        return Err(PlayFault::LargeScript);
-    }
-    write_output(output, &compared.script)
+    let mut readers = OneLog::of(inputs);
+    let made = make_script(alloc, &mut readers, form);
+    write_made(made, output)
 }
 
-/// Edits a log by the edits that make another one of it, and writes what is asked for. The new log
-/// is read as a script is. Both logs are judged before anything else.
+/// Edits a log by the edits that make another one of it, and writes what is asked for. The script's
+/// reader has the new log.
 pub fn run_edit_to<C: Read, B: Read, L: Read, S: Read, W: Write>(
     alloc: Global,
     inputs: &mut Inputs<C, B, L, S>,
@@ -136,18 +235,7 @@ pub fn run_edit_to<C: Read, B: Read, L: Read, S: Read, W: Write>(
         × AreTextsOf C.remaining B.remaining L.remaining S.remaining inputs.old texts
         × RunsEditTo texts editing report (W.contents output.old) (W.contents output.new) result }
 {
-    let form = ScriptForm {
-        guarded: editing.guarded,
-        grouped: false,
-    };
-    let compared = compare(alloc, &mut inputs.log, &mut inputs.script, form)?;
-    let mut edited = Inputs {
-        cave: CaveReaders {
-            database: &mut inputs.cave.database,
-            bindings: &mut inputs.cave.bindings,
-        },
-        log: compared.log.as_slice(),
-        script: compared.script.as_slice(),
-    };
-    run_edit(alloc, &mut edited, editing, report, output)
+    let mut readers = OneLog::of(inputs);
+    let made = make_edit_to(alloc, &mut readers, editing, report);
+    write_edit(made, output)
 }

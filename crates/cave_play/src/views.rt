@@ -6,12 +6,14 @@ ghost use Rattle.replay_edits.specs.Edit.{game_of};
 ghost use Rattle.cave_play.specs.Input.{Says};
 ghost use Rattle.cave_play.specs.Judge.{large_seed};
 ghost use Rattle.cave_play.specs.Run.{Judges};
+ghost use Rattle.cave_play.specs.Sources.{next_log};
 ghost use Rattle.cave_play.specs.Stages.{log_stage};
 ghost use Rattle.cave_play.specs.Output.{cave_line, check_text, play_view_text};
 ghost use Rattle.turn_ends.specs.Score.{max_score_of};
 
 use crate::fault::PlayFault;
 use crate::judge::watch_play;
+use crate::sources::Sources;
 use cave_data::Cave;
 use check_tables::{push_names, push_unused, push_words};
 use data_bindings::push_bindings;
@@ -21,7 +23,6 @@ use play_machine::{
 };
 use play_tables::push_score_table;
 use std::alloc::{AllocError, Global};
-use std::io::Read;
 use turn_ends::max_score;
 
 pub(crate) fn check_text(alloc: Global, cave: &Cave, view: CheckView) -> Result<Vec<u8>, PlayFault>
@@ -50,43 +51,44 @@ fn push_maximum(alloc: Global, cave: &Cave, text: &mut Vec<u8>) -> Result<(), Al
 }
 
 /// What a view asks for of the play of a log that is read.
-pub(crate) fn play_view_text<L: Read>(
+pub(crate) fn play_view_text<I: Sources>(
     alloc: Global,
     machine: CaveMachine<'_>,
-    log: &mut L,
+    inputs: &mut I,
     seed: u32,
     view: PlayView,
 ) -> Result<Vec<u8>, PlayFault>
     requires { large_seed seed ≡ None }
-    ensures judged { (moves : List ℕ) × Says (L.remaining log.old) moves
+    ensures judged { (moves : List ℕ) × Says (next_log (I.held inputs.old).logs) moves
         × Judges (log_stage moves ∷ []) (λ text. text.items
         ≡ play_view_text view machine.entry.rules.cave.now (game_of seed (lines moves))) result }
+    ensures leads { I.Leads inputs.old inputs.new }
 {
     let mut text = Vec::new(alloc);
     match view {
         PlayView::Transcript => {
             let mut transcript = Transcript { text };
-            let end = watch_play(alloc, machine, log, seed, &mut transcript)?;
+            let end = watch_play(alloc, machine, inputs, seed, &mut transcript)?;
             push_play_end(alloc, machine, &end.state, end.turns, &mut transcript.text)?;
             Ok(transcript.text)
         }
         PlayView::Steps => {
             let mut table = StepTable { text };
-            watch_play(alloc, machine, log, seed, &mut table)?;
+            watch_play(alloc, machine, inputs, seed, &mut table)?;
             Ok(table.text)
         }
         PlayView::Walk => {
             let mut walk = WalkLines::after(alloc, text);
-            watch_play(alloc, machine, log, seed, &mut walk)?;
+            watch_play(alloc, machine, inputs, seed, &mut walk)?;
             Ok(walk.text)
         }
         PlayView::Score => {
-            let end = watch_play(alloc, machine, log, seed, &mut Unwatched)?;
+            let end = watch_play(alloc, machine, inputs, seed, &mut Unwatched)?;
             push_score_table(alloc, &mut text, &machine.rules(), &end.state)?;
             Ok(text)
         }
         PlayView::FinalState => {
-            let end = watch_play(alloc, machine, log, seed, &mut Unwatched)?;
+            let end = watch_play(alloc, machine, inputs, seed, &mut Unwatched)?;
             push_state_after(alloc, machine, &end.state, end.turns, &mut text)?;
             Ok(text)
         }

@@ -1,17 +1,16 @@
 -- A log as a file reads back.
 use Rattle.std.proofs.Common.{◌≡◌, ℕ, ◌-◌, Bool, true, false, cond, ◌==◌, List, [], ◌∷◌, ◌++◌}
-use Rattle.std.proofs.Common.{length, take, codes, All, IsTrue, None, Some, sym, ap, ◌∙◌, refl}
+use Rattle.std.proofs.Common.{length, take, codes, All, IsTrue, sym, ap, ◌∙◌, refl}
 use Rattle.std.proofs.Common.{arith, append_assoc}
-use Rattle.std.specs.Prelude.{slice_index, nat_lt, is_none, if◌then◌else◌}
-use Rattle.std.specs.List.{AllPass, slice_split, onto_first, list_all}
+use Rattle.std.specs.Prelude.{slice_index, if◌then◌else◌}
+use Rattle.std.specs.List.{AllPass, slice_split, onto_first}
 use Rattle.std.specs.Str.Lines.{lines, lines_of_parts, strip_carriage_return}
 use Rattle.std.proofs.lemmas.Bool.{ne_eqb}
 use Rattle.std.proofs.lemmas.List.Elements.{All-head, All-tail}
 use Rattle.std.proofs.lemmas.List.Sums.{AllPass-from_list_all}
 use Rattle.std.proofs.lemmas.List.Splits.{slice_split_at}
-use Rattle.base_lines.specs.Line.{is_line_byte, line_fault, is_line}
-use Rattle.base_lines.specs.declared.line.LineFault.TheVariants.{TooLong, BadByte}
-use Rattle.base_lines.specs.Limits.{MAX_LINE_BYTES}
+use Rattle.base_lines.specs.Line.{is_line_byte, is_line}
+use Rattle.base_lines.proofs.GoodLines.{good_bytes}
 use Rattle.cave_replay.specs.LogText.{log_text}
 
 abbrev is_feed : ℕ → Bool
@@ -30,18 +29,6 @@ some_parts (x ∷ xs) =
     ]
 
 -- ---- the bytes of a line
-
-all_stand : (long : Bool) (stand : Bool)
-    → is_none (if long then Some TooLong else (if stand then None else Some BadByte)) ≡ true
-    → stand ≡ true
-all_stand true stand good = cc
-all_stand false true good = refl
-all_stand false false good = cc
-
-line_stands : (line : List ℕ) → is_line line ≡ true → list_all is_line_byte line ≡ true
-unfolding is_line line_fault
-line_stands line good =
-    all_stand (nat_lt MAX_LINE_BYTES (length line)) (list_all is_line_byte line) good
 
 not_that : (byte other : ℕ) → is_line_byte byte ≡ true → is_line_byte other ≡ false
     → (byte == other) ≡ false
@@ -86,6 +73,6 @@ reads_back [] good = refl
 reads_back (line ∷ log) good =
     let P : List ℕ → Type 0 = λ l. IsTrue (is_line l) in
     let stands =
-    AllPass-from_list_all is_line_byte line (line_stands line (All-head P line log good)) in
+    AllPass-from_list_all is_line_byte line (good_bytes line (All-head P line log good)) in
     lines_more line (log_text log) stands
     ∙ ap (λ l. line ∷ l) (reads_back log (All-tail P line log good))

@@ -4,7 +4,7 @@ use Rattle.std.proofs.Common.{Bool, true, false, cond, All, IsTrue, eqb, ltb, �
 use Rattle.std.proofs.lemmas.List.Elements.{All-nil, All-cons}
 use Rattle.std.proofs.lemmas.Bool.{eqb-false, ltb-false}
 use Rattle.base_lines.specs.Line.{is_line, flaw_of}
-use Rattle.base_lines.specs.declared.line_flaw.LineFlaw.{LineFlaw}
+use Rattle.base_lines.specs.declared.line.LineFault.{LineFault}
 use Rattle.cave_replay.specs.declared.fault.OpenFault.{OpenFault}
 use Rattle.cave_replay.specs.declared.fault.OpenFault.TheVariants.{BadEvery, LogFull, BadSeed}
 use Rattle.base_lines.specs.Limits.{MAX_LOG_LINES, MAX_SEED, MAX_EVERY}
@@ -36,7 +36,7 @@ good_lines (line ∷ lines) number free =
     free in
     All-cons P line lines both.0 (good_lines lines (number + 1) both.1)
 
-no_bad_line : (bad : Option (ℕ × LineFlaw)) (log : List (List ℕ)) (seed : ℕ)
+no_bad_line : (bad : Option (ℕ × LineFault)) (log : List (List ℕ)) (seed : ℕ)
     → or_game_fault bad log seed ≡ None → (bad ≡ None) × (game_fault log seed ≡ None)
 no_bad_line None log seed free = (refl, free)
 no_bad_line (Some (number, flaw)) log seed free = cc

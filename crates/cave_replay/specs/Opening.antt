@@ -2,7 +2,7 @@
 use Rattle.std.specs.Prelude.{◌≡◌, ℕ, ◌+◌, ◌||◌, ◌==◌, nat_lt, if◌then◌else◌, List, [], ◌∷◌, length}
 use Rattle.std.specs.Prelude.{Option, None, Some, MatchOption, Result}
 use Rattle.base_lines.specs.Line.{is_line, flaw_of}
-use Rattle.base_lines.specs.declared.line_flaw.LineFlaw.{LineFlaw}
+use Rattle.base_lines.specs.declared.line.LineFault.{LineFault}
 use Rattle.cave_replay.specs.declared.fault.OpenFault.{OpenFault}
 use Rattle.cave_replay.specs.declared.fault.OpenFault.TheVariants as cause
 use Rattle.replay_edits.specs.Faults.{IsFaultOr}
@@ -11,7 +11,7 @@ use Rattle.base_lines.specs.Limits.{MAX_LOG_LINES, MAX_SEED, MAX_EVERY}
 
 -- the number of the first line that isn't valid in a log, and what is wrong with it, if the lines
 -- are numbered from `number` on
-abbrev pub first_bad_line : List (List ℕ) → ℕ → Option (ℕ × LineFlaw)
+abbrev pub first_bad_line : List (List ℕ) → ℕ → Option (ℕ × LineFault)
 first_bad_line [] number = None
 first_bad_line (line ∷ lines) number =
     if is_line line then first_bad_line lines (number + 1) else Some (number, flaw_of line)
@@ -23,7 +23,7 @@ game_fault log seed =
     else (if nat_lt MAX_SEED seed then Some cause.BadSeed else None)
 
 -- the first bad line, or otherwise what is wrong with the game apart from its lines
-abbrev pub or_game_fault : Option (ℕ × LineFlaw) → List (List ℕ) → ℕ → Option OpenFault
+abbrev pub or_game_fault : Option (ℕ × LineFault) → List (List ℕ) → ℕ → Option OpenFault
 or_game_fault (Some (number, flaw)) log seed = Some (cause.BadLine number flaw)
 or_game_fault None log seed = game_fault log seed
 

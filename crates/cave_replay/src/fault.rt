@@ -1,6 +1,6 @@
 ghost use Rattle.std.specs.Prelude.{◌≡◌};
 
-use base_lines::LineFlaw;
+use base_lines::LineFault;
 use std::alloc::AllocError;
 use thiserror::Error;
 
@@ -10,7 +10,7 @@ pub enum OpenFault {
     #[error("a bad distance of checkpoints: it is from 1 to 10000")]
     BadEvery,
     #[error("line {0} of the log can't be played: {1}")]
-    BadLine(usize, LineFlaw),
+    BadLine(usize, LineFault),
     #[error("the log has more than 65,535 lines")]
     LogFull,
     #[error("a bad seed: a seed is at most 2147483647")]

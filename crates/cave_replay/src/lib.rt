@@ -19,7 +19,7 @@ mod ticked_lines;
 mod workspace;
 
 pub use base_lines::bytes::number_of;
-pub use base_lines::{LineFault, LineFlaw, Meter, Steps, check_line};
+pub use base_lines::{LineFault, Meter, Steps, check_line};
 pub use fault::OpenFault;
 pub use machine::{Machine, Playable, PlayedInPlace, Started, Stepped};
 pub use played_lines::{PlayedLine, PlayedLines};

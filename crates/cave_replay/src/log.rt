@@ -7,7 +7,7 @@ ghost use Rattle.cave_replay.specs.Opening.{first_bad_line, open_fault, IsAnswer
 
 use crate::fault::OpenFault;
 use base_lines::limits::{is_bad_every, is_large_seed, is_long_log};
-use base_lines::{LineFlaw, split_log_line};
+use base_lines::{LineFault, split_log_line};
 use replay_checkpoints::Blocks;
 use replay_edits::LineText;
 use std::alloc::{AllocError, Global};
@@ -44,7 +44,7 @@ pub fn read_lines(
 
 /// How many lines a log has, and copies of them; or the number, from 1, of the first line that
 /// isn't valid, and what is wrong with it.
-fn copy_lines(alloc: Global, log: &[u8]) -> Result<(usize, Copies), (usize, LineFlaw)>
+fn copy_lines(alloc: Global, log: &[u8]) -> Result<(usize, Copies), (usize, LineFault)>
     ensures found { MatchResult result
         (λ found. (found.0 ≡ length (lines log.now)) × (first_bad_line (lines log.now) 1 ≡ None))
         (λ bad. first_bad_line (lines log.now) 1 ≡ Some bad) }

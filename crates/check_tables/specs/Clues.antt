@@ -4,7 +4,7 @@ use Rattle.std.specs.Prelude.{List, [], ◌∷◌, Option, None, Some, option_ma
 use Rattle.std.specs.Option.{option_or}
 use Rattle.std.specs.Str.Lines.{lines}
 use Rattle.base_lines.specs.Bytes.{is_digit}
-use Rattle.base_slips.specs.Mark.{has_byte_order_mark}
+use Rattle.base_lines.specs.Mark.{has_byte_order_mark}
 use Rattle.data_rows.specs.Fields.{after_blanks, field}
 use Rattle.data_rows.specs.declared.error.Cause.{Cause}
 use Rattle.data_rows.specs.declared.error.Cause.TheVariants.{BadSection, UnknownRole}

@@ -7,8 +7,7 @@ ghost use Rattle.check_tables.specs.Clues.{begins_no_number, key_in, line_at_num
 
 use crate::near_key::near_key;
 use base_lines::bytes::{skip_blanks, split_word};
-use base_lines::split_line;
-use base_slips::has_byte_order_mark;
+use base_lines::{has_byte_order_mark, split_line};
 use data_rows::binding::Key;
 use data_rows::place_role::PLACE_NAMES;
 use data_rows::role::ROLE_NAMES;

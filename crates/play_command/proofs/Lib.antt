@@ -1,4 +1,4 @@
 pub mod Values
-pub mod Commands
-pub mod BelowZeroLemmas
-pub mod OneLine
+pub mod Edits
+pub mod Cave
+pub mod OneRun

@@ -1,12 +1,11 @@
 pub mod App
 pub mod Aside
-pub mod BelowZero
+pub mod Asked
+pub mod Commands
+pub mod Files
 pub mod Found
-pub mod InPlace
 pub mod Line
-pub mod MapPart
 pub mod Number
 pub mod Refusal
-pub mod SameLines
-pub mod Source
+pub mod SameRequests
 pub mod Views

@@ -1,7 +1,12 @@
--- What is said of a command line that asks for no run.
+-- What is said of a command line that asks for no run, and the status.
 use Rattle.std.specs.Prelude.{ℕ, List, ◌++◌, Option, Some, None, codes}
 use Rattle.play_command.specs.declared.fault.CommandFault.{CommandFault}
 use Rattle.play_command.specs.declared.fault.CommandFault.TheVariants as fault_is
+
+-- 7 if memory ran out, and 2 for anything wrong with the words
+abbrev pub status_of_command : CommandFault → ℕ
+status_of_command fault_is.Memory = 7
+status_of_command _ = 2
 
 -- where the texts end
 abbrev pub help : List ℕ
@@ -16,8 +21,17 @@ number_text given option range =
     Some (codes "error: invalid value '" ++ (given ++ (codes "' for '"
     ++ (option ++ (codes "': expected 1 to 10 digits, from " ++ (range ++ help))))))
 
--- what is said of each fault, but not the parser's words, or what is said of an unknown name
+-- the word isn't a command, and this one is meant
+abbrev pub command_text : List ℕ → List ℕ → Option (List ℕ)
+command_text word command =
+    Some (codes "error: unrecognized subcommand '" ++ (word
+    ++ (codes "'\n\n  tip: did you mean '" ++ (command
+    ++ (codes "'?\n\nUsage: cave <COMMAND>" ++ help)))))
+
+-- what is said of each fault, but not the parser's words
 abbrev pub refusal_text : CommandFault → Option (List ℕ)
+refusal_text (fault_is.Usage error) = None
+refusal_text (fault_is.OtherName word command) = command_text word.now command.now
 refusal_text fault_is.Incomplete = error_text (codes "a command and its files are required")
 refusal_text (fault_is.BadSeed given) =
     number_text given.now (codes "--seed <N>") (codes "0 to 2147483647")
@@ -43,10 +57,3 @@ refusal_text fault_is.WithinAlone = error_text (codes "'--within <N>' is for '--
 refusal_text fault_is.SeenAlone = error_text (codes "'--seen' needs a LOG")
 refusal_text fault_is.SeedAlone = error_text (codes "'--seed <N>' needs a LOG")
 refusal_text fault_is.Memory = Some (codes "cave: there isn't enough memory\n")
-refusal_text (fault_is.Usage error) = None
-refusal_text (fault_is.NoCommand given) = None
-refusal_text (fault_is.BadView given) = None
-refusal_text (fault_is.BadPlayView given) = None
-refusal_text (fault_is.BadCheckView given) = None
-refusal_text (fault_is.BadCoverView given) = None
-refusal_text (fault_is.BadReport given) = None

@@ -1,48 +1,39 @@
--- What runs may print.
-use Rattle.std.specs.Prelude.{ℕ, List, bytes_eq, codes, if◌then◌else◌, Option, Some, None}
+-- What runs may print, by the names of views.
+use Rattle.std.specs.Prelude.{ℕ, List, [], ◌∷◌, codes, Option, Some, None}
+use Rattle.play_command.specs.declared.aside.ReportView.{ReportView}
+use Rattle.play_command.specs.declared.aside.ReportView.TheVariants as report
+use Rattle.play_command.specs.declared.editing.EditView.{EditView}
+use Rattle.play_command.specs.declared.editing.EditView.TheVariants as edited
 use Rattle.play_command.specs.declared.views.CheckView.{CheckView}
 use Rattle.play_command.specs.declared.views.CheckView.TheVariants.{Maximum, Bindings, Names}
 use Rattle.play_command.specs.declared.views.CheckView.TheVariants.{Unused, Words}
 use Rattle.play_command.specs.declared.views.CoverView.{CoverView}
-use Rattle.play_command.specs.declared.views.CoverView.TheVariants as covered
-use Rattle.play_command.specs.declared.views.TextView.TheVariants.{Counts, Texts}
+use Rattle.play_command.specs.declared.views.CoverView.TheVariants.{Rules, Said}
 use Rattle.play_command.specs.declared.views.PlayView.{PlayView}
 use Rattle.play_command.specs.declared.views.PlayView.TheVariants as played
-use Rattle.play_command.specs.declared.editing.EditView.{EditView}
-use Rattle.play_command.specs.declared.editing.EditView.TheVariants as asked
+use Rattle.play_command.specs.declared.views.TextView.TheVariants.{Counts, Texts}
 
-abbrev pub edit_view_named : List ℕ → Option EditView
-edit_view_named name =
-    if bytes_eq name (codes "transcript") then Some asked.Transcript
-    else (if bytes_eq name (codes "play") then Some asked.Play
-    else (if bytes_eq name (codes "log") then Some asked.Log
-    else (if bytes_eq name (codes "undo") then Some asked.Undo
-    else (if bytes_eq name (codes "guarded") then Some asked.Guarded
-    else (if bytes_eq name (codes "reports") then Some asked.Reports
-    else (if bytes_eq name (codes "table") then Some asked.Table
-    else (if bytes_eq name (codes "steps") then Some asked.Steps
-    else (if bytes_eq name (codes "walk") then Some asked.Walk
-    else (if bytes_eq name (codes "score") then Some asked.Score
-    else (if bytes_eq name (codes "state") then Some asked.FinalState else None))))))))))
+-- the list of doubts is no view
+abbrev pub check_views : List (List ℕ × Option CheckView)
+check_views = (codes "maximum", Some Maximum) ∷ (codes "bindings", Some Bindings)
+    ∷ (codes "names", Some Names) ∷ (codes "unused", Some Unused) ∷ (codes "words", Some Words)
+    ∷ (codes "doubts", None) ∷ []
 
-abbrev pub check_view_named : List ℕ → Option CheckView
-check_view_named name =
-    if bytes_eq name (codes "maximum") then Some Maximum
-    else (if bytes_eq name (codes "bindings") then Some Bindings
-    else (if bytes_eq name (codes "names") then Some Names
-    else (if bytes_eq name (codes "unused") then Some Unused
-    else (if bytes_eq name (codes "words") then Some Words else None))))
+abbrev pub play_views : List (List ℕ × PlayView)
+play_views = (codes "transcript", played.Transcript) ∷ (codes "steps", played.Steps)
+    ∷ (codes "walk", played.Walk) ∷ (codes "score", played.Score)
+    ∷ (codes "state", played.FinalState) ∷ []
 
-abbrev pub cover_view_named : List ℕ → Option CoverView
-cover_view_named name =
-    if bytes_eq name (codes "counts") then Some (covered.Said Counts)
-    else (if bytes_eq name (codes "texts") then Some (covered.Said Texts)
-    else (if bytes_eq name (codes "rules") then Some covered.Rules else None))
+abbrev pub edit_views : List (List ℕ × EditView)
+edit_views = (codes "transcript", edited.Transcript) ∷ (codes "play", edited.Play)
+    ∷ (codes "log", edited.Log) ∷ (codes "undo", edited.Undo) ∷ (codes "guarded", edited.Guarded)
+    ∷ (codes "reports", edited.Reports) ∷ (codes "table", edited.Table)
+    ∷ (codes "steps", edited.Steps) ∷ (codes "walk", edited.Walk) ∷ (codes "score", edited.Score)
+    ∷ (codes "state", edited.FinalState) ∷ []
 
-abbrev pub play_view_named : List ℕ → Option PlayView
-play_view_named name =
-    if bytes_eq name (codes "transcript") then Some played.Transcript
-    else (if bytes_eq name (codes "steps") then Some played.Steps
-    else (if bytes_eq name (codes "walk") then Some played.Walk
-    else (if bytes_eq name (codes "score") then Some played.Score
-    else (if bytes_eq name (codes "state") then Some played.FinalState else None))))
+abbrev pub cover_views : List (List ℕ × CoverView)
+cover_views = (codes "counts", Said Counts) ∷ (codes "texts", Said Texts)
+    ∷ (codes "rules", Rules) ∷ []
+
+abbrev pub report_views : List (List ℕ × ReportView)
+report_views = (codes "reports", report.Reports) ∷ (codes "table", report.Table) ∷ []

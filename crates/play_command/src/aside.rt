@@ -1,15 +1,15 @@
 //! What is said of an edit beside its output.
 
-ghost use Rattle.std.specs.Prelude.{◌≡◌, MatchResult};
-ghost use Rattle.play_command.specs.Aside.{IsAside, IsBadReport, IsReport, edit_view_of};
-ghost use Rattle.play_command.specs.Aside.{has_reports, report_named, says_refusals};
-ghost use Rattle.play_command.specs.Found.{rows_in};
+ghost use Rattle.std.specs.Prelude.{◌≡◌};
+ghost use Rattle.play_command.specs.Aside.{edit_view_of, has_reports, report_of, says_refusals};
+ghost use Rattle.play_command.specs.Asked.{Finds};
 
+use crate::commands::CommandName;
 use crate::editing::EditView;
 use crate::fault::CommandFault;
-use crate::found::{is_set, value_in};
-use crate::in_place::edit_output;
-use base_slips::named;
+use crate::found::value_in;
+use crate::input::output_in;
+use crate::view_names::{REPORT_VIEWS, named};
 use clap::ArgMatches;
 
 /// A report on the items of a script that may be printed beside the output.
@@ -33,30 +33,6 @@ impl ReportView {
     }
 }
 
-/// What is said of an edit beside its output.
-#[derive(Clone, Copy, Debug, PartialEq, Eq)]
-pub struct Aside {
-    /// Whether each item of the script that is refused is a line on standard error.
-    pub refusals: bool,
-    /// The report on each item that goes to standard output, if one is asked for.
-    pub report: Option<ReportView>,
-    /// Whether standard error gets nothing except why the run failed.
-    pub quiet: bool,
-}
-
-/// The names of what may be printed beside the output.
-pub(crate) const REPORT_VIEWS: [&str; 2] = ["reports", "table"];
-
-/// What may be printed beside the output, in the order of the names.
-const EACH_REPORT_VIEW: [ReportView; 2] = [ReportView::Reports, ReportView::Table];
-
-/// What is printed beside the output, by its name, if it is the name of something.
-fn report_named(name: &str) -> Option<ReportView>
-    ensures { result ≡ report_named name.now }
-{
-    named(&REPORT_VIEWS, &EACH_REPORT_VIEW, name)
-}
-
 /// Whether what is printed has reports on the items: the view has, or they are beside it.
 fn has_reports(view: EditView, beside: Option<ReportView>) -> bool
     ensures { result ≡ has_reports view beside }
@@ -69,7 +45,7 @@ fn has_reports(view: EditView, beside: Option<ReportView>) -> bool
 }
 
 /// Whether it is said why items are refused.
-fn says_refusals(quiet: bool, view: EditView, beside: Option<ReportView>) -> bool
+pub(crate) fn says_refusals(quiet: bool, view: EditView, beside: Option<ReportView>) -> bool
     ensures { result ≡ says_refusals quiet view beside }
 {
     !quiet && !has_reports(view, beside)
@@ -77,35 +53,17 @@ fn says_refusals(quiet: bool, view: EditView, beside: Option<ReportView>) -> boo
 
 /// The report that the parser found, if it found one. It goes to standard output, so the output has
 /// to go into a file.
-fn report_found<'a>(found: &ArgMatches<'a>) -> Result<Option<ReportView>, CommandFault<'a>>
-    ensures { MatchResult result (IsReport (rows_in found.now)) (IsBadReport (rows_in found.now)) }
+pub(crate) fn report_in<'a>(found: &ArgMatches<'_>) -> Result<Option<ReportView>, CommandFault<'a>>
+    ensures { Finds report_of CommandName.Edit found.now result }
 {
     let Some(name) = value_in(found, "report") else {
         return Ok(None);
     };
-    if edit_output(found).is_none() {
+    if output_in(found).is_none() {
         return Err(CommandFault::ReportAlone);
     }
-    match report_named(name) {
+    match named(&REPORT_VIEWS, name) {
         Some(report) => Ok(Some(report)),
-        None => Err(CommandFault::BadReport(name)),
+        None => Err(CommandFault::Incomplete),
     }
-}
-
-/// What is said beside this view, by what the parser found.
-pub(crate) fn aside_in<'a>(
-    found: &ArgMatches<'a>,
-    view: EditView,
-) -> Result<Aside, CommandFault<'a>>
-    ensures { MatchResult result (IsAside (rows_in found.now) view)
-        (IsBadReport (rows_in found.now)) }
-{
-    let report = report_found(found)?;
-    let quiet = is_set(found, "quiet");
-    let refusals = says_refusals(quiet, view, report);
-    Ok(Aside {
-        refusals,
-        report,
-        quiet,
-    })
 }

@@ -1,7 +1,20 @@
-ghost use Rattle.std.specs.Prelude.{◌≡◌};
-ghost use Rattle.play_command.specs.Views.{edit_view_named};
+//! How a log is to be edited, by what the parser found.
 
-use base_slips::named;
+ghost use Rattle.std.specs.Prelude.{◌≡◌};
+ghost use Rattle.play_command.specs.Asked.{Finds, edit_of, edit_view_asked, editing_of};
+ghost use Rattle.play_command.specs.Asked.{edits_from_of, usual_edit_view};
+ghost use Rattle.play_command.specs.Found.{rows_in};
+
+use crate::aside::{report_in, says_refusals};
+use crate::commands::CommandName;
+use crate::fault::CommandFault;
+use crate::found::{is_set, number_found, value_in, values_in};
+use crate::input::is_in_place;
+use crate::line::{EditAsked, EditsFrom};
+use crate::view_names::{EDIT_VIEWS, named_view};
+use crate::what::seed_in;
+use base_lines::limits::{MAX_EVERY, USUAL_EVERY};
+use clap::ArgMatches;
 
 /// What an edit of a log prints.
 #[derive(Clone, Copy, Debug, PartialEq, Eq)]
@@ -30,45 +43,6 @@ pub enum EditView {
     FinalState,
 }
 
-/// The names of what an edit may print.
-pub(crate) const EDIT_VIEWS: [&str; 11] = [
-    "transcript",
-    "play",
-    "log",
-    "undo",
-    "guarded",
-    "reports",
-    "table",
-    "steps",
-    "walk",
-    "score",
-    "state",
-];
-
-/// What an edit may print, in the order of the names.
-const EACH_EDIT_VIEW: [EditView; 11] = [
-    EditView::Transcript,
-    EditView::Play,
-    EditView::Log,
-    EditView::Undo,
-    EditView::Guarded,
-    EditView::Reports,
-    EditView::Table,
-    EditView::Steps,
-    EditView::Walk,
-    EditView::Score,
-    EditView::FinalState,
-];
-
-impl EditView {
-    /// The view of a name, if it is the name of one.
-    pub fn named(name: &str) -> Option<EditView>
-        ensures { result ≡ edit_view_named name.now }
-    {
-        named(&EDIT_VIEWS, &EACH_EDIT_VIEW, name)
-    }
-}
-
 /// How a log is edited.
 #[derive(Clone, Copy, Debug, PartialEq, Eq)]
 pub struct Editing {
@@ -82,4 +56,78 @@ pub struct Editing {
     pub strict: bool,
     /// Whether lines of the script may be guards.
     pub guarded: bool,
+}
+
+/// What the edits of a log are read from: one of the three.
+fn edits_from_in<'a>(found: &ArgMatches<'_>) -> Result<EditsFrom, CommandFault<'a>>
+    ensures { Finds edits_from_of CommandName.Edit found.now result }
+{
+    let script = value_in(found, "script").is_some();
+    let lines = values_in(found, "edit").is_some();
+    let log = value_in(found, "to").is_some();
+    match (script, lines, log) {
+        (true, false, false) | (false, true, false) => Ok(EditsFrom::Script),
+        (false, false, true) => Ok(EditsFrom::NewLog),
+        (false, false, false) => Err(CommandFault::NoScript),
+        _ => Err(CommandFault::TwoScripts),
+    }
+}
+
+/// What an edit prints if nothing is asked for: in place the log.
+fn usual_edit_view(found: &ArgMatches<'_>) -> EditView
+    ensures { result ≡ usual_edit_view (rows_in found.now) }
+{
+    if is_in_place(found) {
+        EditView::Log
+    } else {
+        EditView::Transcript
+    }
+}
+
+fn edit_view_in<'a>(found: &ArgMatches<'_>) -> Result<EditView, CommandFault<'a>>
+    ensures { Finds edit_view_asked CommandName.Edit found.now result }
+{
+    match named_view(found, "print", &EDIT_VIEWS, usual_edit_view(found)) {
+        Some(view) => Ok(view),
+        None => Err(CommandFault::Incomplete),
+    }
+}
+
+/// How a log is to be edited.
+#[tactic(auto, using(crate::proofs::Edits::editing_some))]
+fn editing_in<'a>(found: &ArgMatches<'a>) -> Result<Editing, CommandFault<'a>>
+    ensures { Finds editing_of CommandName.Edit found.now result }
+{
+    let seed = seed_in(found)?;
+    let every = number_found(found, "every", 1, MAX_EVERY, USUAL_EVERY).map_err(
+        |text| CommandFault::BadEvery(text),
+    )?;
+    let view = edit_view_in(found)?;
+    Ok(Editing {
+        seed,
+        every,
+        view,
+        strict: is_set(found, "strict"),
+        guarded: is_set(found, "guarded"),
+    })
+}
+
+/// What an edit asks. In place it has its own file and its own view, so it is given neither.
+#[tactic(auto, using(crate::proofs::Edits::edit_some))]
+pub(crate) fn edit_in<'a>(found: &ArgMatches<'a>) -> Result<EditAsked, CommandFault<'a>>
+    ensures { Finds edit_of CommandName.Edit found.now result }
+{
+    let is_given = value_in(found, "output").is_some() || value_in(found, "print").is_some();
+    if is_in_place(found) && is_given {
+        return Err(CommandFault::TwoOutputs);
+    }
+    let edits_from = edits_from_in(found)?;
+    let editing = editing_in(found)?;
+    let report = report_in(found)?;
+    Ok(EditAsked {
+        edits_from,
+        editing,
+        report,
+        refusals: says_refusals(is_set(found, "quiet"), editing.view, report),
+    })
 }

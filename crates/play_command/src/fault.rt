@@ -1,13 +1,11 @@
+//! Why a command line asks for no run.
+
 ghost use Rattle.std.specs.Prelude.{◌≡◌};
-ghost use Rattle.play_command.specs.Line.{status_of_command};
+ghost use Rattle.play_command.specs.Refusal.{status_of_command};
 ghost use Rattle.play_command.specs.declared.fault.CommandFault.TheVariants.{Memory};
 
-use crate::aside::REPORT_VIEWS;
-use crate::editing::EDIT_VIEWS;
-use crate::views::{CHECK_VIEWS, COVER_VIEWS, PLAY_VIEWS};
-use base_slips::{Wanted, WantedCommand};
 use clap::Error as ParseError;
-use std::alloc::{AllocError, AllocFailed};
+use std::alloc::AllocError;
 use std::error::Error;
 use std::fmt;
 
@@ -19,29 +17,24 @@ const HELP: &str = "\n\nFor more information, try '--help'.\n";
 pub enum CommandFault<'a> {
     /// The parser refused the words.
     Usage(ParseError),
-    /// The words name no command, or not all of its files.
+    /// The word isn't a command, and is what people type for this one, or near to that.
+    OtherName(&'a str, &'static str),
+    /// No command, not all of its files, or no view is named, and the parser let that pass.
     Incomplete,
     BadSeed(&'a str),
     BadEvery(&'a str),
-    BadView(&'a str),
-    BadPlayView(&'a str),
-    BadCheckView(&'a str),
-    BadCoverView(&'a str),
-    /// The word isn't a command.
-    NoCommand(&'a str),
+    BadPlace(&'a str),
+    BadWays(&'a str),
     /// An edit has neither a script nor a log to make.
     NoScript,
     /// An edit has two of the three.
     TwoScripts,
-    BadReport(&'a str),
     /// A report is asked for, and the output goes where it would.
     ReportAlone,
     /// An edit in place is given another file or another view.
     TwoOutputs,
     /// Doubts are to be judged or left out, and something else is to be printed.
     DoubtsAlone,
-    BadPlace(&'a str),
-    BadWays(&'a str),
     /// A number of ways is given, and no place from which they are counted.
     WithinAlone,
     /// Only what logs saw is to be drawn, and there are no logs.
@@ -71,28 +64,6 @@ impl From<AllocError> for CommandFault<'_> {
     }
 }
 
-impl<T: Drop> From<AllocFailed<T>> for CommandFault<'_> {
-    ghost from_gives = { λ _ fault. fault ≡ Memory };
-
-    fn from(_: AllocFailed<T>) -> Self {
-        CommandFault::Memory
-    }
-}
-
-/// Writes that an option has none of the names that it expects.
-fn write_unknown<W: fmt::Write>(
-    f: &mut fmt::Formatter<W>,
-    option: &str,
-    given: &str,
-    names: &[&str],
-) -> fmt::Result {
-    let wanted = Wanted { given, names };
-    write!(
-        f,
-        "error: invalid value '{given}' for '{option} <WHAT>': {wanted}{HELP}"
-    )
-}
-
 impl fmt::Display for CommandFault<'_> {
     ghost use Rattle.play_command.specs.Refusal.{refusal_text};
 
@@ -101,6 +72,11 @@ impl fmt::Display for CommandFault<'_> {
     fn fmt<W: fmt::Write>(&self, f: &mut fmt::Formatter<W>) -> fmt::Result {
         match self {
             CommandFault::Usage(error) => write!(f, "{error}"),
+            CommandFault::OtherName(word, command) => write!(
+                f,
+                "error: unrecognized subcommand '{word}'\n\n  tip: did you mean '{command}'?\n\n\
+                Usage: cave <COMMAND>{HELP}"
+            ),
             CommandFault::Incomplete => write!(
                 f,
                 "error: a command and its files are required{HELP}"
@@ -125,19 +101,6 @@ impl fmt::Display for CommandFault<'_> {
                 "error: invalid value '{given}' for '--within <N>': expected 1 to 10 digits, \
                 from 0 to 300{HELP}"
             ),
-            CommandFault::BadView(given) => write_unknown(f, "--print", given, &EDIT_VIEWS),
-            CommandFault::BadPlayView(given) => write_unknown(f, "--print", given, &PLAY_VIEWS),
-            CommandFault::BadCheckView(given) => write_unknown(f, "--print", given, &CHECK_VIEWS),
-            CommandFault::BadCoverView(given) => write_unknown(f, "--print", given, &COVER_VIEWS),
-            CommandFault::BadReport(given) => write_unknown(f, "--report", given, &REPORT_VIEWS),
-            CommandFault::NoCommand(given) => {
-                let wanted = WantedCommand { given: *given };
-                write!(
-                    f,
-                    "error: unrecognized subcommand '{given}': {wanted}\n\n\
-                    Usage: cave <COMMAND>{HELP}"
-                )
-            }
             CommandFault::NoScript => write!(
                 f,
                 "error: SCRIPT, '--edit <EDIT>' or '--to <FILE>' is required{HELP}"

@@ -6,7 +6,7 @@ use Rattle.std.proofs.lemmas.List.Folds.{flat_map-map}
 use Rattle.cave_data.specs.CaveView.{CaveView}
 use Rattle.cave_data.specs.Reads.{Reads}
 use Rattle.play_command.specs.declared.views.CoverView.{CoverView}
-use Rattle.play_logs.specs.Faults.{games_of}
+use Rattle.cave_play.specs.Logs.{games_of}
 use Rattle.replay_edits.specs.Edit.{Game, game_of}
 use Rattle.play_cover.specs.Known.{KnownEntries}
 use Rattle.play_cover.specs.Marks.{AreMarksOf, is_among, is_marked}

@@ -15,7 +15,7 @@ use Rattle.cave_world.specs.declared.tables.Table.TheVariants as table
 use Rattle.data_bindings.specs.WayLines.{way_lines}
 use Rattle.play_command.specs.declared.views.CoverView.{CoverView}
 use Rattle.play_command.specs.declared.views.CoverView.TheVariants.{Rules, Said}
-use Rattle.play_logs.specs.Faults.{first_stages}
+use Rattle.cave_play.specs.Logs.{first_stages}
 use Rattle.play_machine.specs.Moments.{Moment, noted_of}
 use Rattle.replay_edits.specs.Edit.{Game, game_of}
 use Rattle.play_cover.specs.Known.{KnownEntries}

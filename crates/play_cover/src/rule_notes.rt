@@ -9,10 +9,10 @@ use crate::marks::MarkSet;
 use crate::row_report::{CaveWays, push_row_report};
 use crate::rule_tables::row_mark;
 use cave_data::Cave;
+use cave_play::kept_rows::KeptRows;
+use cave_play::notes::PlayNotes;
 use cave_world::{RuleRow, State, Table};
 use data_bindings::way_lines;
-use play_logs::kept_rows::KeptRows;
-use play_logs::notes::PlayNotes;
 use play_machine::{Begun, SeenLine, Watch};
 use std::alloc::{AllocError, Global};
 

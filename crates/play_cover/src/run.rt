@@ -1,24 +1,24 @@
-//! The run that reports which texts logs show: from readers of the inputs to a writer of the
-//! output.
+//! What the run that reports which texts logs show makes of its inputs, and the run.
 
-ghost use Rattle.std.specs.Prelude.{◌≡◌, ℕ, List, [], ◌∷◌, map};
+ghost use Rattle.std.specs.Prelude.{◌≡◌, ℕ, List, [], ◌∷◌, IfOk, length, map};
 ghost use Rattle.std.specs.List.{AllZip};
 ghost use Rattle.play_cover.specs.Known.{known_entries};
 ghost use Rattle.play_cover.specs.Plays.{IsCovered, cover_stages};
 ghost use Rattle.cave_play.specs.Input.{Says};
+ghost use Rattle.cave_play.specs.Logs.{IsMadeReport, JudgesLogs, RunsLogs};
 ghost use Rattle.cave_play.specs.Run.{Judges};
+ghost use Rattle.cave_play.specs.Sources.{IsTaken};
 ghost use Rattle.cave_play.specs.Stages.{known_stage};
-ghost use Rattle.play_logs.specs.Faults.{RunsLogs};
 
 use crate::known::KnownList;
 use crate::rule_notes::RuleNotes;
 use crate::said::SaidTexts;
 use crate::text_report::TextsAsked;
-use cave_play::read::read;
-use cave_play::{CaveReaders, Input, PlayFault};
-use play_command::CoverView;
-use play_logs::fault::LogsFault;
-use play_logs::run::run_logs;
+use cave_play::inputs::Readers;
+use cave_play::logs::{Reported, make_report, write_report};
+use cave_play::sources::Sources;
+use cave_play::{CaveReaders, LogsFault, PlayFault};
+use play_command::{CoverView, Input};
 use std::alloc::Global;
 use std::io::{Read, Write};
 
@@ -32,13 +32,45 @@ pub struct CoverAsked<'a> {
 }
 
 /// Reads the list of what is known, which is in a file.
-fn read_known<K: Read>(alloc: Global, file: &str, known: &mut K) -> Result<KnownList, PlayFault>
-    ensures judged { (list : List ℕ) × Says (K.remaining known.old) list
+fn read_known<I: Sources>(alloc: Global, file: &str, inputs: &mut I) -> Result<KnownList, PlayFault>
+    ensures judged { (list : List ℕ) × Says (I.held inputs.old).known list
         × Judges (known_stage list ∷ []) (λ known. known ≡ known_entries file.now list) result }
+    ensures taken { IsTaken Input.Known (I.held inputs.old) (I.held inputs.new) }
+    ensures leads { I.Leads inputs.old inputs.new }
 {
-    let list = read(alloc, Input::Known, known)?;
+    let list = inputs.read(alloc, Input::Known)?;
     let known = KnownList::entries_of(alloc, file, &list)?;
     Ok(known)
+}
+
+/// Plays this many logs, each by itself from its first line, and makes the report on how many of the
+/// cave's texts they say, and which ones they never say, or the same about the rows of the rules.
+/// What a list knows is left out. With the report is found how much is left.
+pub fn make_cover<I: Sources>(
+    alloc: Global,
+    inputs: &mut I,
+    logs: usize,
+    asked: &CoverAsked<'_>,
+) -> Result<Reported<usize>, LogsFault>
+    requires { logs ≡ length (I.held inputs.old).logs }
+    ensures judged { (database : List ℕ) × (bindings : List ℕ) × (list : List ℕ)
+        × (moves : List (List ℕ))
+        × Says (I.held inputs.old).cave database × Says (I.held inputs.old).bindings bindings
+        × Says (I.held inputs.old).known list × AllZip Says (I.held inputs.old).logs moves
+        × JudgesLogs (cover_stages database bindings list asked.now.seed) moves
+        (IsMadeReport (IsCovered database bindings (known_entries asked.now.known.now list) moves
+        asked.now.seed asked.now.view)) result }
+    ensures all { IfOk result (λ _. (I.held inputs.new).logs ≡ []) }
+    ensures leads { I.Leads inputs.old inputs.new }
+{
+    let known = read_known(alloc, asked.known, inputs)?;
+    match asked.view {
+        CoverView::Said(view) => {
+            let texts = TextsAsked { view, known };
+            make_report::<SaidTexts, I>(alloc, inputs, logs, asked.seed, &texts)
+        }
+        CoverView::Rules => make_report::<RuleNotes, I>(alloc, inputs, logs, asked.seed, &known),
+    }
 }
 
 /// Plays logs, each by itself from its first line, and writes how many of the cave's texts they
@@ -63,14 +95,8 @@ pub fn run_cover<C: Read, B: Read, K: Read, L: Read, W: Write>(
         asked.now.seed asked.now.view)
         (W.contents output.old) (W.contents output.new) result }
 {
-    let known = read_known(alloc, asked.known, known)?;
-    match asked.view {
-        CoverView::Said(view) => {
-            let texts = TextsAsked { view, known };
-            run_logs::<SaidTexts, C, B, L, W>(alloc, cave, logs, asked.seed, &texts, output)
-        }
-        CoverView::Rules => {
-            run_logs::<RuleNotes, C, B, L, W>(alloc, cave, logs, asked.seed, &known, output)
-        }
-    }
+    let count = logs.len();
+    let mut readers = Readers::of(cave, logs, known);
+    let made = make_cover(alloc, &mut readers, count, asked);
+    write_report(made, output)
 }

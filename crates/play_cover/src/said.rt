@@ -5,8 +5,8 @@ use crate::marks::MarkSet;
 use crate::parts::note_parts;
 use crate::text_report::{TextsAsked, push_text_report};
 use cave_data::Cave;
+use cave_play::notes::PlayNotes;
 use cave_world::{State, Unnoted};
-use play_logs::notes::PlayNotes;
 use play_machine::{Begun, SeenLine, Watch};
 use std::alloc::{AllocError, Global};
 

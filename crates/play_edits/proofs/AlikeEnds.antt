@@ -1,13 +1,19 @@
 -- Texts whose lines all end alike.
 use Rattle.std.proofs.Common.{◌≡◌, ℕ, Bool, true, false, List, [], ◌∷◌, ◌++◌, All, sym, ap, ◌∙◌}
-use Rattle.std.proofs.Common.{refl, append-nil}
+use Rattle.std.proofs.Common.{refl, append-nil, Option, None, Some}
 use Rattle.std.specs.Prelude.{◌&&◌, if◌then◌else◌}
 use Rattle.std.specs.List.{list_all}
 use Rattle.std.proofs.lemmas.Bool.{and_parts}
 use Rattle.std.proofs.lemmas.List.Elements.{All-head, All-tail}
 use Rattle.play_edits.specs.LineEnds.{bytes_of_end, ended_text, ends_in, first_end, is_same_end}
 use Rattle.play_edits.specs.LineEnds.{is_unended}
-use Rattle.play_edits.specs.LogEnds.{ends_with, log_ends, unlike_ends}
+use Rattle.play_edits.specs.LogEnds.{ends_after_items, ends_left, ends_with, log_ends}
+use Rattle.play_edits.specs.LogEnds.{unlike_ends}
+use Rattle.play_edits.specs.Items.{game_after_item}
+use Rattle.play_edits.specs.Refusal.{item_refusal}
+use Rattle.play_edits.specs.declared.refusal.Refusal.{Refusal}
+use Rattle.replay_edits.specs.Edit.{Game}
+use Rattle.replay_scripts.specs.Script.{Applied}
 use Rattle.play_edits.specs.declared.line_end.LineEnd.{LineEnd}
 use Rattle.play_edits.specs.declared.line_end.LineEnd.TheVariants.{Feed, Return}
 use Rattle.play_edits.proofs.EndBytes.{ends_in-alone, ends_in-line, is_unended-alone}
@@ -154,3 +160,21 @@ first-closed end default line (next ∷ more) good =
     ap (first_end default)
     (ends_in-line line (alike_text end false (next ∷ more)) end
     (All-head IsTextLine line (next ∷ more) good))
+
+-- if no ends are listed, none are after that
+left-alike : (item : Applied) (refusal : Option Refusal) (usual : LineEnd) (unended : Bool)
+    (script : List LineEnd)
+    → ends_left item refusal (ends_with usual [] unended script)
+    ≡ ends_with usual [] unended script
+left-alike item None usual unended script = refl
+left-alike item (Some refusal) usual unended script = refl
+
+pub ends_after_items-alike : (items : List Applied) (game : Game) (usual : LineEnd)
+    (unended : Bool) (script : List LineEnd)
+    → ends_after_items items game (ends_with usual [] unended script)
+    ≡ ends_with usual [] unended script
+ends_after_items-alike [] game usual unended script = refl
+ends_after_items-alike (item ∷ items) game usual unended script =
+    ap (ends_after_items items (game_after_item item game))
+    (left-alike item (item_refusal item game.log) usual unended script)
+    ∙ ends_after_items-alike items (game_after_item item game) usual unended script

@@ -41,12 +41,12 @@ neither (Some refused) later tell is = cc
 pub unrefused_item : (item : Applied) (log : List (List ℕ)) → item_refusal item log ≡ None
     → (first_unmet item.changes item.guards log ≡ None) × (group_refusal item.changes log ≡ None)
 unfolding item_refusal
-unrefused_item item log is = neither _ _ (edit_refusal item log) is
+unrefused_item item log is = neither _ _ (edit_refusal item) is
 
 -- an item whose guards are met is refused if its changes are, and for the same reason
 pub item_refusal-met : (item : Applied) (log : List (List ℕ)) (found : Option GroupFault)
     → first_unmet item.changes item.guards log ≡ None → group_refusal item.changes log ≡ found
-    → item_refusal item log ≡ option_map (edit_refusal item log) found
+    → item_refusal item log ≡ option_map (edit_refusal item) found
 unfolding item_refusal
 item_refusal-met item log found met is = rw (met, is) refl
 
@@ -229,7 +229,7 @@ free_count-some changes log found is =
       tells = λ k inside. first.tells k ∙ ap (λ n. nat_le n found.at) (omega arith);
     }
 
-pub none_from : (fault : Option GroupFault) → is_none fault ≡ true → fault ≡ None
+none_from : (fault : Option GroupFault) → is_none fault ≡ true → fault ≡ None
 none_from None is = refl
 none_from (Some found) is = cc
 
@@ -273,12 +273,6 @@ module _ (edits : List Edit) (log : List (List ℕ)) (count : ℕ)
   same_before within =
       ap changes_of (take-take after count edits within)
       ∙ sym (take-map change_of after edits) ∙ before_it
-
-  pub free-reached : after ≤ count → fault_of_all before_reached log 0 ≡ None
-  free-reached within =
-      let yes : nat_le after count ≡ true = grind (arith, nat_tests, within) in
-      none_from _
-      (ap (λ some. is_none (fault_of_all some log 0)) (same_before within) ∙ is_free ∙ yes)
 
   pub unmet-reached : after ≤ count → (now : List (List ℕ)) → now ≡ log_after_all before_reached log
       → unmet (changes_of edits) guard log ≡ other_line_in guard now
@@ -348,9 +342,9 @@ without_guards item game met =
   where
     by_refusal : (found : Option GroupFault)
         → game_left item (option_or (first_unmet item.changes item.guards game.log)
-        (option_map (edit_refusal item game.log) found)) game
+        (option_map (edit_refusal item) found)) game
         ≡ game_left (guarded_by [] item)
-        (option_map (edit_refusal (guarded_by [] item) game.log) found) game
+        (option_map (edit_refusal (guarded_by [] item)) found) game
     by_refusal None = rw met refl
     by_refusal (Some fault) = rw met refl
 

@@ -4,6 +4,7 @@ use Rattle.std.proofs.Common.{Err, All}
 use Rattle.std.proofs.Common.{sym, ap, subst, ◌∙◌, refl, append-nil}
 use Rattle.std.proofs.lemmas.Grind.{flat_map-append}
 use Rattle.std.proofs.lemmas.List.Elements.{All-append, All-cons, All-nil}
+use Rattle.std.specs.Prelude.{if◌then◌else◌, is_none}
 use Rattle.cave_data.specs.CaveView.{CaveView}
 use Rattle.play_command.specs.declared.editing.EditView.TheVariants as asked
 use Rattle.replay_edits.specs.Edit.{Change, Game, IsGame}
@@ -12,8 +13,8 @@ use Rattle.replay_edits.proofs.Inverses.{group_free}
 use Rattle.replay_scripts.specs.Script.{Applied}
 use Rattle.replay_scripts.specs.ScriptText.{IsSpellable, group_text, script_text}
 use Rattle.play_edits.specs.Accounts.{text_of_items}
-use Rattle.play_edits.specs.Edits.{text_of_item}
-use Rattle.play_edits.specs.Guarded.{guarded_groups, guarded_item, guarded_of, guarded_text}
+use Rattle.play_edits.specs.ViewText.{text_of_item}
+use Rattle.play_edits.specs.Guarded.{guarded_group, guarded_groups, guarded_of, guarded_text}
 use Rattle.play_edits.specs.Guarded.{text_if_done}
 use Rattle.play_edits.specs.Items.{game_after_item}
 use Rattle.play_edits.specs.Outcome.{AreOutcomes, IsItemOutcome, ItemOutcome}
@@ -26,15 +27,23 @@ use Rattle.play_edits.proofs.SayableLemmas.{all_spellable, changes_free}
 
 -- ---- what is written
 
--- an item that was accepted was written, and any other wasn't
+free_of : (changes : List Change) (log : List (List ℕ)) → group_refusal changes log ≡ None
+    → fault_of_all changes log 0 ≡ None
+unfolding group_refusal
+free_of changes log accepted = (group_free changes log (2 ^ 64 - 1) accepted).0
+
+-- an item that was accepted is written, and any other isn't
 guarded_item-outcome : (cave : CaveView) (every : ℕ) (item : Applied) (game : Game)
     (checkpoints : List ℕ) (outcome : ItemOutcome)
     → IsItemOutcome cave every item game checkpoints outcome
-    → guarded_item item game.log outcome ≡ script_text (guarded_of item game)
+    → text_if_done outcome (guarded_group item.changes game.log)
+    ≡ script_text (guarded_of item game)
 unfolding guarded_of
 guarded_item-outcome cave every item game checkpoints (Ok done) is =
     let backs = with_guards item.changes game.log in
-    sym (append-nil (group_text backs))
+    let free = free_of item.changes game.log (unrefused_item item game.log is.accepted).1 in
+    ap (λ fault. if is_none fault then group_text backs else []) free
+    ∙ sym (append-nil (group_text backs))
     ∙ ap (λ refusal. script_text (back_if refusal backs)) (sym is.accepted)
 guarded_item-outcome cave every item game checkpoints (Err refusal) is =
     ap (λ refused. script_text (back_if refused (with_guards item.changes game.log))) (sym is)
@@ -42,38 +51,18 @@ guarded_item-outcome cave every item game checkpoints (Err refusal) is =
 pub told-guarded : (cave : CaveView) (every : ℕ) (items : List Applied) (game : Game)
     (checkpoints : List ℕ) (outcomes : List ItemOutcome)
     → AreOutcomes cave every items game checkpoints outcomes
-    → text_of_items (text_of_item asked.Guarded cave) items game outcomes ≡ guarded_text items game
+    → text_of_items (text_of_item (Some asked.Guarded) cave) items game outcomes
+    ≡ guarded_text items game
 told-guarded cave every [] game checkpoints outcomes came = refl
 told-guarded cave every (item ∷ items) game checkpoints [] came = absurd came
 told-guarded cave every (item ∷ items) game checkpoints (outcome ∷ outcomes)
     (is, (after, left, others)) =
     let next = game_after_item item game in
-    ap (λ t. guarded_item item game.log outcome ++ t)
+    ap (λ t. text_if_done outcome (guarded_group item.changes game.log) ++ t)
     (told-guarded cave every items next after outcomes others)
     ∙ ap (λ t. t ++ guarded_text items next)
     (guarded_item-outcome cave every item game checkpoints outcome is)
     ∙ sym (flat_map-append group_text (guarded_of item game) (guarded_groups items next))
-
-free_of : (changes : List Change) (log : List (List ℕ)) → group_refusal changes log ≡ None
-    → fault_of_all changes log 0 ≡ None
-unfolding group_refusal
-free_of changes log accepted = (group_free changes log (2 ^ 64 - 1) accepted).0
-
--- the text of an item that was made before the item was applied, of its changes and this log
-pub text_if_done-made : (cave : CaveView) (every : ℕ) (item : Applied) (game : Game)
-    (checkpoints : List ℕ) (outcome : ItemOutcome) (text : List ℕ) (changes : List Change)
-    (log : List (List ℕ)) → changes ≡ item.changes → log ≡ game.log
-    → IsItemOutcome cave every item game checkpoints outcome
-    → (fault_of_all changes log 0 ≡ None → text ≡ group_text (with_guards changes log))
-    → text_if_done outcome text ≡ guarded_item item game.log outcome
-text_if_done-made cave every item game checkpoints (Ok done) text changes log same held is made =
-    let free = free_of item.changes game.log (unrefused_item item game.log is.accepted).1 in
-    made (ap (λ some. fault_of_all some log 0) same
-    ∙ ap (λ now. fault_of_all item.changes now 0) held ∙ free)
-    ∙ ap (λ some. group_text (with_guards some log)) same
-    ∙ ap (λ now. group_text (with_guards item.changes now)) held
-text_if_done-made cave every item game checkpoints (Err refusal) text changes log same held is
-    made = refl
 
 -- ---- what a script can say
 

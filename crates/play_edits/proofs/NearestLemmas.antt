@@ -1,11 +1,12 @@
 -- The place nearest to another at which a log has a text.
 use Rattle.std.proofs.Common.{◌≡◌, ℕ, ◌+◌, ◌<◌, ◌≤◌, Bool, true, false, List, [], ◌∷◌, ◌++◌, length}
 use Rattle.std.proofs.Common.{Option, None, Some, refl, sym, ap, subst, ◌∙◌, arith, inl, inr, zero}
-use Rattle.std.proofs.Common.{suc}
+use Rattle.std.proofs.Common.{suc, drop}
 use Rattle.std.proofs.Common.{append_assoc, append-nil}
 use Rattle.std.specs.Prelude.{◌⊎◌, bytes_eq, if◌then◌else◌, nat_lt, slice_get}
-use Rattle.std.proofs.lemmas.List.{length-append}
-use Rattle.std.proofs.lemmas.Option.{slice_get_within}
+use Rattle.std.proofs.lemmas.List.{drop_all, drop_more, length-append}
+use Rattle.std.proofs.lemmas.Option.{slice_get-get_or, slice_get_within}
+use Rattle.std.specs.Option.{option_map_or}
 use Rattle.std.proofs.lemmas.Bool.Decides.{nat_tests}
 use Rattle.std.proofs.lemmas.Slice.Eq.{bytes_eq-Decides}
 use Rattle.base_lines.specs.Line.{is_line}
@@ -137,6 +138,25 @@ module _ (place : ℕ) (text : List ℕ) (log : List (List ℕ)) where
           another_text line (λ reads.
           let both : true ≡ false = sym ((bytes_eq-Decides line text).1 reads) ∙ test in cc) found
           is
+
+-- ---- line by line
+
+module _ (place : ℕ) (text : List ℕ) (log : List (List ℕ)) (at : ℕ) where
+  -- the line at a place, and those after it
+  pub nearest-more : (found : Option ℕ) → at < length log
+      → nearest_from place text at found (drop at log)
+      ≡ nearest_from place text (at + 1)
+      (option_map_or (found_with place text found at) (slice_get log at) found) (drop (at + 1) log)
+  nearest-more found inside =
+      ap (λ some. nearest_from place text at found some) (drop_more log at [] inside)
+      ∙ ap (λ line. nearest_from place text (at + 1)
+      (option_map_or (found_with place text found at) line found) (drop (at + 1) log))
+      (sym (slice_get-get_or log at [] inside))
+
+  pub nearest-end : (found : Option ℕ) → length log ≤ at
+      → nearest_from place text at found (drop at log) ≡ found
+  nearest-end found past =
+      ap (λ some. nearest_from place text at found some) (drop_all at log past)
 
 -- ---- the whole log
 

@@ -13,6 +13,7 @@ use Rattle.base_lines.specs.Limits.{MAX_LOG_LINES}
 use Rattle.replay_edits.specs.Edit.{Change, Game, IsGame, apply, apply_all, inverses_of, deletes}
 use Rattle.replay_edits.specs.Edit.{inserts, inverse_of_each, replaces, reseeds}
 use Rattle.base_lines.specs.Line.{is_line}
+use Rattle.base_lines.proofs.GoodLines.{good_bytes}
 use Rattle.replay_edits.specs.Faults.{fault_of_all, log_after_all, or_group_meter_full}
 use Rattle.replay_edits.specs.declared.fault.EditFault.TheVariants.{MeterFull}
 use Rattle.replay_edits.proofs.Inverses.{IsFree, IsFree-from_none, IsFree-inverses_of, IsGame-apply}
@@ -20,7 +21,7 @@ use Rattle.replay_edits.proofs.Inverses.{IsGame-apply_all, apply_all-inverses_of
 use Rattle.replay_edits.proofs.Inverses.{group_some, log-apply_all, none_from_IsFree}
 use Rattle.replay_scripts.specs.Script.{Applied}
 use Rattle.replay_scripts.specs.ScriptText.{Back, CanExpect, IsSpellable}
-use Rattle.replay_scripts.proofs.Sayable.{one_line, spellable}
+use Rattle.replay_scripts.proofs.Sayable.{spellable}
 use Rattle.play_edits.specs.Items.{game_after_item, game_left}
 use Rattle.play_edits.specs.Refusal.{group_refusal, item_refusal}
 use Rattle.play_edits.specs.declared.refusal.Refusal.{Refusal}
@@ -35,7 +36,7 @@ line_can log place None good is = tt
 line_can log place (Some line) good is =
     let inside = slice_get_within log place line is in
     let same = get_or_from_slice_get log place line [] is in
-    one_line line (subst (λ l. IsTrue (is_line l)) same
+    good_bytes line (subst (λ l. IsTrue (is_line l)) same
     (All-get_or (λ line. IsTrue (is_line line)) log place [] inside good))
 
 can_expect : (change : Change) (log : List (List ℕ)) → All (λ line. IsTrue (is_line line)) log

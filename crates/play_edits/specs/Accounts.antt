@@ -6,6 +6,7 @@ use Rattle.cave_data.specs.CaveView.{CaveView}
 use Rattle.cave_replay.specs.declared.report.GroupReport.{GroupReport}
 use Rattle.cave_world.specs.declared.ending.Ending.{Ending}
 use Rattle.replay_edits.specs.Edit.{Game}
+use Rattle.replay_edits.specs.Faults.{edit_fault_text}
 use Rattle.replay_edits.specs.declared.fault.EditFault.{EditFault}
 use Rattle.replay_edits.specs.declared.fault.EditFault.TheVariants as cause
 use Rattle.replay_scripts.specs.Script.{Applied}
@@ -15,45 +16,16 @@ use Rattle.play_edits.specs.Items.{game_after_item}
 use Rattle.play_edits.specs.Outcome.{ItemOutcome, lines_in, played_in, standing_of}
 use Rattle.play_edits.specs.Refusal.{refusal_line, refusal_number, shown_kept_line}
 use Rattle.play_edits.specs.declared.outcome.Standing.{Standing}
-use Rattle.base_lines.specs.declared.line_flaw.LineFlaw.TheVariants.{Byte, Long}
 use Rattle.play_edits.specs.declared.refusal.KeptLine.{KeptLine}
-use Rattle.play_edits.specs.declared.refusal.EditDetail.{EditDetail}
-use Rattle.play_edits.specs.declared.refusal.EditDetail.TheVariants.{Flaw, Lines, Nothing}
 use Rattle.play_edits.specs.declared.refusal.ExpectedLine.{ExpectedLine}
 use Rattle.play_edits.specs.declared.refusal.ExpectedLine.TheVariants.{At, Impossible, Nowhere}
 use Rattle.play_edits.specs.declared.refusal.Refusal.{Refusal}
 use Rattle.play_edits.specs.declared.refusal.Refusal.TheVariants.{Edit, NoLine, OtherLine}
 
-abbrev pub edit_fault_words : EditFault → List ℕ
-edit_fault_words cause.NoSuchPlace = codes "no such line"
-edit_fault_words cause.BadLine = codes "a bad line"
-edit_fault_words cause.LogFull = codes "a full log: a log has at most 65,535 lines"
-edit_fault_words cause.BadSeed = codes "a bad seed: a seed is at most 2147483647"
-edit_fault_words cause.MeterFull = codes "a full meter"
-edit_fault_words cause.Memory = codes "no memory"
-edit_fault_words cause.EmptyGroup =
-    codes "an empty group: put an edit between `begin` and `end`"
-
--- what is said beside the number of a refusal
-abbrev pub refusal_words : Refusal → List ℕ
-refusal_words (Edit at fault detail) = edit_fault_words fault
-refusal_words (NoLine at lines expected) = codes "no line"
-refusal_words (OtherLine at line expected) = codes "another line: "
-
-abbrev pub lines_text : ℕ → List ℕ
-lines_text lines = codes ": the log has " ++ decimal lines
-
--- what is known beyond the fault of an edit: how many lines the log has, or what is wrong with the
--- edit's line
-abbrev pub edit_detail_text : EditDetail → List ℕ
-edit_detail_text Nothing = []
-edit_detail_text (Lines lines) = lines_text lines
-edit_detail_text (Flaw (Long bytes)) =
-    codes ": the line has " ++ (decimal bytes
-    ++ codes " bytes, and a line of a log has at most 255")
-edit_detail_text (Flaw (Byte byte column)) =
-    codes ": the byte in column " ++ (decimal column ++ (codes " is " ++ (decimal byte
-    ++ codes ", and a line of a log has printable ASCII, 32 to 126, and tabs")))
+-- what is said of the fault of an edit of a script
+abbrev pub edit_words : EditFault → List ℕ
+edit_words cause.EmptyGroup = codes "an empty group: put an edit between `begin` and `end`"
+edit_words fault = edit_fault_text fault
 
 abbrev pub place_text : ℕ → List ℕ
 place_text place = codes ", which is at " ++ decimal place
@@ -67,11 +39,17 @@ expected_text Impossible = codes "; expected a line that no log may have"
 expected_text (Nowhere line) = expected_words line ++ codes ", which is nowhere"
 expected_text (At line at) = expected_words line ++ place_text at
 
--- what is known beyond the reason of a refusal: the line that the log has, and what was wanted
-abbrev pub refusal_detail : Refusal → List ℕ
-refusal_detail (Edit at fault detail) = edit_detail_text detail
-refusal_detail (NoLine at lines expected) = lines_text lines ++ expected_text expected
-refusal_detail (OtherLine at line expected) = shown_kept_line line ++ expected_text expected
+-- what is said of a guard's place in a log of this many lines, which has none there
+abbrev pub no_line_text : ℕ → List ℕ
+no_line_text lines = codes "no line: the log has " ++ decimal lines
+
+-- what is said of a refusal after its number; of a guard also the line that the log has, and what
+-- was expected
+abbrev pub refusal_said : Refusal → List ℕ
+refusal_said (Edit at fault) = edit_words fault
+refusal_said (NoLine at lines expected) = no_line_text lines ++ expected_text expected
+refusal_said (OtherLine at line expected) =
+    codes "another line: " ++ (shown_kept_line line ++ expected_text expected)
 
 -- how a game has ended, if it has
 abbrev pub ending_text : Option Ending → List ℕ
@@ -90,8 +68,7 @@ standing_text standing =
 abbrev pub refusal_text : Refusal → List ℕ
 refusal_text refusal =
     codes "line " ++ (decimal (refusal_line refusal) ++ (codes ": refused "
-    ++ (decimal (refusal_number refusal)
-    ++ (codes ", " ++ (refusal_words refusal ++ (refusal_detail refusal ++ codes "\n"))))))
+    ++ (decimal (refusal_number refusal) ++ (codes ", " ++ (refusal_said refusal ++ codes "\n")))))
 
 -- where the replay of an item began and met the old play, and how many of the lines it played
 abbrev pub replay_text : Applied → GroupReport → List ℕ

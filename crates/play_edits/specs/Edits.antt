@@ -1,33 +1,28 @@
--- What a session holds after items of a script, and what is written of them.
-use Rattle.std.specs.Prelude.{◌≡◌, ℕ, List, [], ◌++◌, ⊤}
-use Rattle.play_machine.specs.Piece.{Piece}
+-- What a session holds after an item of a script, and what items make of what it held.
+use Rattle.std.specs.Prelude.{◌≡◌, Bool, List, Option, None, Some, if◌then◌else◌, slice_get, IfOk}
+use Rattle.std.specs.Prelude.{option_map, reverse}
 use Rattle.std.specs.List.{sum_by}
-use Rattle.std.specs.Str.Lines.{lines}
-use Rattle.cave_data.specs.CaveView.{CaveView}
-use Rattle.play_command.specs.declared.editing.EditView.{EditView}
-use Rattle.play_command.specs.declared.editing.EditView.TheVariants as asked
 use Rattle.cave_replay.specs.Session.{SessionView}
-use Rattle.cave_replay.specs.LogText.{log_text}
-use Rattle.replay_edits.specs.Edit.{Game}
-use Rattle.play_tables.specs.ItemRow.{item_head_row}
-use Rattle.replay_scripts.specs.Script.{Applied}
-use Rattle.replay_scripts.specs.ScriptText.{Back, script_text}
 use Rattle.cave_world.specs.declared.state.State.{State}
-use Rattle.play_edits.specs.Accounts.{account, text_of_items, totals_line}
-use Rattle.play_machine.specs.FinalState.{final_state_text}
-use Rattle.play_edits.specs.Guarded.{guarded_item}
+use Rattle.play_command.specs.Aside.{edit_view_of}
+use Rattle.play_command.specs.declared.aside.ReportView.{ReportView}
+use Rattle.play_command.specs.declared.editing.Editing.{Editing}
+use Rattle.play_edits.specs.Items.{game_after_item, game_after_items, refusals}
+use Rattle.play_edits.specs.LogEnds.{EndsOfLog, ends_after_items, shown_ends}
+use Rattle.play_edits.specs.Outcome.{AreLeft, AreOutcomes, IsItemOutcome, ItemOutcome, played_in}
+use Rattle.play_edits.specs.Undo.{backs_of, if_asked}
+use Rattle.play_edits.specs.ViewText.{view_text}
+use Rattle.play_edits.specs.declared.items.Edited.{Edited}
+use Rattle.play_edits.specs.declared.refusal.Refusal.{Refusal}
 use Rattle.play_machine.specs.HeldGame.{HoldsGame}
-use Rattle.play_edits.specs.Items.{game_after_item, item_report_by}
-use Rattle.play_edits.specs.Outcome.{ItemOutcome, IsItemOutcome, AreLeft, AreOutcomes}
-use Rattle.play_edits.specs.Outcome.{lines_in, played_in, refusal_in}
-use Rattle.play_machine.specs.Score.{score_text}
-use Rattle.play_machine.specs.Steps.{steps_text}
-use Rattle.play_edits.specs.Table.{table_row}
-use Rattle.play_machine.specs.Transcript.{play_text}
-use Rattle.play_machine.specs.Walk.{walk_text}
+use Rattle.play_machine.specs.Piece.{Piece}
 use Rattle.play_machine.specs.declared.machine.CaveMachine.{CaveMachine}
+use Rattle.replay_edits.specs.Edit.{Game, changes_of}
+use Rattle.replay_edits.specs.Faults.{fault_of_all}
+use Rattle.replay_scripts.specs.Script.{Applied}
+use Rattle.replay_scripts.specs.ScriptText.{Back}
 
--- an item was applied to what a session held, with this outcome
+-- an item was applied to what a session held, with this outcome, and what takes it back is accepted
 pub record Applies (item : Applied) (old new : SessionView CaveMachine Piece State)
     (outcome : ItemOutcome) : Type 0 where
   pub came : IsItemOutcome old.machine.rules.cave.now old.every item old.game
@@ -35,53 +30,34 @@ pub record Applies (item : Applied) (old new : SessionView CaveMachine Piece Sta
   pub holds : HoldsGame old.machine.rules.cave.now (game_after_item item old.game) new
   pub every : new.every ≡ old.every
   pub left : AreLeft old.every outcome old.checkpoints new.game new.checkpoints
+  pub back_free : IfOk outcome (λ done.
+      fault_of_all (changes_of done.inverse.items) new.game.log 0 ≡ None)
 
--- what is written before all items, by what is asked for
-abbrev pub text_at_start : EditView → List ℕ
-text_at_start asked.Table = item_head_row
-text_at_start _ = []
+-- the changes that are kept of items, the last one first
+abbrev pub kept_backs : Editing → List Applied → Game → List (List Back)
+kept_backs editing items game =
+    reverse (if_asked editing.view (backs_of editing.guarded items game))
 
--- what is written of an item that is applied to a game, by what is asked for
-abbrev pub text_of_item : EditView → CaveView → Applied → Game → ItemOutcome → List ℕ
-text_of_item asked.Transcript cave item game outcome = item_report_by item (refusal_in outcome)
-text_of_item asked.Guarded cave item game outcome = guarded_item item game.log outcome
-text_of_item asked.Reports cave item game outcome = account cave item game outcome
-text_of_item asked.Table cave item game outcome = table_row cave item game outcome
-text_of_item _ cave item game outcome = []
-
--- what is kept of changes that take items back, by what is asked for
-abbrev pub kept_for : EditView → List (List Back) → List (List Back)
-kept_for asked.Undo backs = backs
-kept_for _ backs = []
-
--- items were applied to what a session held: the text grew by what is written of each, and the
--- totals are theirs
-pub record IsApplied (view : EditView) (items : List Applied)
-    (old : SessionView CaveMachine Piece State) (before after : List ℕ)
-    (played lines : ℕ) : Type 0 where
+-- items were applied to what a session held, over a log whose lines end like this, and this is what
+-- they made
+pub record IsMade (editing : Editing) (report : Option ReportView) (items : List Applied)
+    (old : SessionView CaveMachine Piece State) (ends : EndsOfLog) (made : Edited) : Type 0 where
   pub outcomes : List ItemOutcome
   pub came : AreOutcomes old.machine.rules.cave.now old.every items old.game old.checkpoints
       outcomes
-  pub told : after ≡ before
-      ++ text_of_items (text_of_item view old.machine.rules.cave.now) items old.game outcomes
-  pub played_is : played ≡ sum_by played_in outcomes
-  pub lines_are : lines ≡ sum_by lines_in outcomes
+  pub text : made.text.items ≡ view_text (Some editing.view) old.machine.rules.cave.now items
+      old.game outcomes (kept_backs editing items old.game)
+  pub beside : made.report.items ≡ view_text (option_map edit_view_of report)
+      old.machine.rules.cave.now items old.game outcomes (kept_backs editing items old.game)
+  pub played : made.played ≡ sum_by played_in outcomes
+  pub ended : shown_ends made.ends ≡ ends_after_items items old.game ends
+  pub refused : made.refused.items ≡ refusals items old.game
+  pub seed : made.seed ≡ (game_after_items items old.game).seed
 
--- what is written after all items, by what is asked for
-abbrev pub text_at_end : EditView → CaveView → Game → ℕ → ℕ → List (List Back) → List ℕ
-text_at_end asked.Transcript cave game played lines backs = play_text cave game
-text_at_end asked.Play cave game played lines backs = play_text cave game
-text_at_end asked.Log cave game played lines backs = log_text game.log
-text_at_end asked.Undo cave game played lines backs = script_text backs
-text_at_end asked.Guarded cave game played lines backs = []
-text_at_end asked.Reports cave game played lines backs = totals_line played lines
-text_at_end asked.Table cave game played lines backs = []
-text_at_end asked.Steps cave game played lines backs = steps_text cave game
-text_at_end asked.Walk cave game played lines backs = walk_text cave game
-text_at_end asked.Score cave game played lines backs = score_text cave game
-text_at_end asked.FinalState cave game played lines backs = final_state_text cave game
+-- a refusal ends a strict run
+abbrev pub if_strict : Bool → Option Refusal → Option Refusal
+if_strict strict refusal = if strict then refusal else None
 
--- the written log reads back
-abbrev pub LogReadsBack : EditView → List (List ℕ) → Type 0
-LogReadsBack asked.Log log = lines (log_text log) ≡ log
-LogReadsBack _ log = ⊤
+-- the first refusal of items, if it ends the run
+abbrev pub ending_refusal : Bool → List Applied → Game → Option Refusal
+ending_refusal strict items game = if_strict strict (slice_get (refusals items game) 0)

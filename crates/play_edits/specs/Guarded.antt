@@ -1,6 +1,7 @@
 -- The accepted items of a script, each edit with a guard of the line at its place.
-use Rattle.std.specs.Prelude.{ℕ, List, [], ◌∷◌, ◌++◌, Ok, Err}
-use Rattle.replay_edits.specs.Edit.{Game}
+use Rattle.std.specs.Prelude.{ℕ, List, [], ◌∷◌, ◌++◌, Ok, Err, is_none, if◌then◌else◌}
+use Rattle.replay_edits.specs.Edit.{Change, Game}
+use Rattle.replay_edits.specs.Faults.{fault_of_all}
 use Rattle.replay_scripts.specs.Script.{Applied}
 use Rattle.replay_scripts.specs.ScriptText.{Back, group_text, script_text}
 use Rattle.play_edits.specs.Items.{game_after_item}
@@ -13,9 +14,10 @@ abbrev pub text_if_done : ItemOutcome → List ℕ → List ℕ
 text_if_done (Ok done) text = text
 text_if_done (Err refusal) text = []
 
--- the text of an item that was applied to this log, with guards of the log at each of its changes
-abbrev pub guarded_item : Applied → List (List ℕ) → ItemOutcome → List ℕ
-guarded_item item log outcome = text_if_done outcome (group_text (with_guards item.changes log))
+-- the text of changes of a log, each with a guard, if none of them is refused
+abbrev pub guarded_group : List Change → List (List ℕ) → List ℕ
+guarded_group changes log =
+    if is_none (fault_of_all changes log 0) then group_text (with_guards changes log) else []
 
 -- the changes of an item with their guards, unless it was refused
 unfoldable pub guarded_of : Applied → Game → List (List Back)

@@ -1,4 +1,4 @@
--- What the items of a script do to a game, and what is reported of them.
+-- What the items of a script do to a game, which are refused, and what is reported of them.
 use Rattle.std.specs.Prelude.{ℕ, List, [], ◌∷◌, ◌++◌, codes, Option, None, Some}
 use Rattle.std.specs.Fmt.{decimal}
 use Rattle.replay_edits.specs.Edit.{apply_all, Game}
@@ -28,6 +28,16 @@ game_after_item item game = game_left item (item_refusal item game.log) game
 abbrev pub reports : List Applied → Game → List ℕ
 reports [] game = []
 reports (item ∷ items) game = item_report item game ++ reports items (game_after_item item game)
+
+abbrev pub refusal_list : Option Refusal → List Refusal
+refusal_list None = []
+refusal_list (Some refusal) = refusal ∷ []
+
+-- why items are refused, each in the game that those before it left, in their order
+abbrev pub refusals : List Applied → Game → List Refusal
+refusals [] game = []
+refusals (item ∷ items) game =
+    refusal_list (item_refusal item game.log) ++ refusals items (game_after_item item game)
 
 abbrev pub game_after_items : List Applied → Game → Game
 game_after_items [] game = game

@@ -5,7 +5,7 @@ pub mod Items
 pub mod Outcome
 pub mod Refusal
 pub mod Table
-pub mod SideReport
+pub mod ViewText
 pub mod Undo
 pub mod Guarded
 pub mod LineEnds

@@ -1,11 +1,15 @@
 -- How the lines of a log end, and how the items of a script change that.
-use Rattle.std.specs.Prelude.{ℕ, ◌+◌, Bool, List, [], ◌∷◌, insert, remove, if◌then◌else◌}
+use Rattle.std.specs.Prelude.{ℕ, ◌+◌, Bool, List, [], ◌∷◌, insert, remove, if◌then◌else◌, Option}
+use Rattle.std.specs.Prelude.{None, Some}
 use Rattle.std.specs.List.{list_all}
-use Rattle.replay_edits.specs.Edit.{Change, inserts, deletes, replaces, reseeds}
+use Rattle.replay_edits.specs.Edit.{Change, Game, inserts, deletes, replaces, reseeds}
+use Rattle.play_edits.specs.Items.{game_after_item}
 use Rattle.play_edits.specs.LineEnds.{end_of_line, ends_in, first_end, is_unended, is_same_end}
 use Rattle.play_edits.specs.declared.line_end.LineEnd.{LineEnd}
 use Rattle.play_edits.specs.declared.line_end.LineEnd.TheVariants.{Feed}
+use Rattle.play_edits.specs.Refusal.{item_refusal}
 use Rattle.play_edits.specs.declared.log_ends.LogEnds.{LogEnds}
+use Rattle.play_edits.specs.declared.refusal.Refusal.{Refusal}
 use Rattle.replay_scripts.specs.Script.{Applied, line_of_refusal}
 
 -- How the lines of a log end: all with the usual end, if no others are listed, or each with its
@@ -67,3 +71,17 @@ each_after usual script item (end ∷ ends) =
 abbrev pub ends_after_item : Applied → EndsOfLog → EndsOfLog
 ends_after_item item ends = ends_with ends.usual
     (each_after ends.usual ends.script item ends.each) ends.unended ends.script
+
+-- ---- what items do to it
+
+-- it is as before an item that was refused
+abbrev pub ends_left : Applied → Option Refusal → EndsOfLog → EndsOfLog
+ends_left item None ends = ends_after_item item ends
+ends_left item (Some refusal) ends = ends
+
+-- after items, each applied to the game that those before it left
+abbrev pub ends_after_items : List Applied → Game → EndsOfLog → EndsOfLog
+ends_after_items [] game ends = ends
+ends_after_items (item ∷ items) game ends =
+    ends_after_items items (game_after_item item game)
+    (ends_left item (item_refusal item game.log) ends)

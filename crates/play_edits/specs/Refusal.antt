@@ -3,11 +3,10 @@ use Rattle.std.specs.Prelude.{◌≡◌, ◌<◌, ◌≤◌, ℕ, ◌+◌, ◌-�
 use Rattle.std.specs.Prelude.{length, take, replicate}
 use Rattle.std.specs.Prelude.{bytes_eq, Option, None, Some, option_map, is_none, slice_get}
 use Rattle.std.specs.Prelude.{if◌then◌else◌}
-use Rattle.std.specs.Option.{option_map_or, option_or}
-use Rattle.base_lines.specs.Line.{flaw_of, is_line}
-use Rattle.base_lines.specs.declared.line_flaw.LineFlaw.{LineFlaw}
+use Rattle.std.specs.Option.{option_or}
+use Rattle.base_lines.specs.Line.{is_line}
 use Rattle.replay_edits.specs.Draft.{edits_in, log_before, made_in}
-use Rattle.replay_edits.specs.Edit.{Change, changes_of, log_of, own_line}
+use Rattle.replay_edits.specs.Edit.{Change, changes_of, log_of}
 use Rattle.replay_edits.specs.declared.draft.Draft.{Draft}
 use Rattle.replay_edits.specs.Faults.{fault_of_all, group_fault, log_after_all}
 use Rattle.replay_edits.specs.declared.fault.EditFault.{EditFault}
@@ -15,8 +14,6 @@ use Rattle.replay_edits.specs.declared.fault.EditFault.TheVariants as cause
 use Rattle.replay_edits.specs.declared.fault.GroupFault.{GroupFault}
 use Rattle.replay_scripts.specs.Script.{Applied, Expectation, line_of_refusal}
 use Rattle.play_edits.specs.declared.refusal.KeptLine.{KeptLine}
-use Rattle.play_edits.specs.declared.refusal.EditDetail.{EditDetail}
-use Rattle.play_edits.specs.declared.refusal.EditDetail.TheVariants.{Flaw, Lines, Nothing}
 use Rattle.play_edits.specs.declared.refusal.ExpectedLine.{ExpectedLine}
 use Rattle.play_edits.specs.declared.refusal.ExpectedLine.TheVariants.{At, Impossible, Nowhere}
 use Rattle.play_edits.specs.declared.refusal.Refusal.{Refusal}
@@ -42,8 +39,8 @@ shown_kept_line kept = take kept.len kept.bytes
 -- ---- the number of a refusal
 
 abbrev pub edit_number : EditFault → ℕ
-edit_number cause.NoSuchPlace = 1
-edit_number cause.BadLine = 2
+edit_number (cause.NoSuchPlace lines) = 1
+edit_number (cause.BadLine flaw) = 2
 edit_number cause.LogFull = 3
 edit_number cause.BadSeed = 4
 edit_number cause.MeterFull = 5
@@ -52,13 +49,13 @@ edit_number cause.EmptyGroup = 7
 
 -- the number by which a report names a refusal
 abbrev pub refusal_number : Refusal → ℕ
-refusal_number (Edit at fault detail) = edit_number fault
+refusal_number (Edit at fault) = edit_number fault
 refusal_number (NoLine at lines expected) = 8
 refusal_number (OtherLine at line expected) = 8
 
 -- the line of the script that reports name for it
 abbrev pub refusal_line : Refusal → ℕ
-refusal_line (Edit at fault detail) = at
+refusal_line (Edit at fault) = at
 refusal_line (NoLine at lines expected) = at
 refusal_line (OtherLine at line expected) = at
 
@@ -125,26 +122,9 @@ expected_line guard log =
 unfoldable pub group_refusal : List Change → List (List ℕ) → Option GroupFault
 group_refusal changes log = group_fault changes log (2 ^ 64 - 1)
 
--- the line that the change with this number puts into a log, if it puts one
-unfoldable pub line_of_edit : List Change → ℕ → List ℕ
-line_of_edit changes at = option_map_or own_line (slice_get changes at) []
-
--- what is known beyond the fault of a change: how many lines the log has that the changes before it
--- leave, or what is wrong with its line
-abbrev pub detail_by : EditFault → ℕ → LineFlaw → EditDetail
-detail_by cause.NoSuchPlace lines flaw = Lines lines
-detail_by cause.BadLine lines flaw = Flaw flaw
-detail_by _ lines flaw = Nothing
-
-unfoldable pub edit_detail : List Change → List (List ℕ) → GroupFault → EditDetail
-edit_detail changes log fault =
-    detail_by fault.cause (length (log_after_all (take fault.at changes) log))
-    (flaw_of (line_of_edit changes fault.at))
-
 -- an item is refused for a fault of one of its changes
-abbrev pub edit_refusal : Applied → List (List ℕ) → GroupFault → Refusal
-edit_refusal item log fault = Edit (line_of_refusal item fault.at) fault.cause
-    (edit_detail item.changes log fault)
+abbrev pub edit_refusal : Applied → GroupFault → Refusal
+edit_refusal item fault = Edit (line_of_refusal item fault.at) fault.cause
 
 -- why a guard is refused if the log that it is about has this many lines, and this line at its
 -- place, or none
@@ -188,4 +168,4 @@ first_unmet changes (guard ∷ guards) log =
 unfoldable pub item_refusal : Applied → List (List ℕ) → Option Refusal
 item_refusal item log =
     option_or (first_unmet item.changes item.guards log)
-    (option_map (edit_refusal item log) (group_refusal item.changes log))
+    (option_map (edit_refusal item) (group_refusal item.changes log))

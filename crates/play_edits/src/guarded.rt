@@ -1,11 +1,8 @@
 //! An item of a script, each edit with a guard of the line at its place.
 
-ghost use Rattle.std.specs.Prelude.{◌≡◌, ◌++◌, IfOk, None, OnOk};
+ghost use Rattle.std.specs.Prelude.{◌≡◌, ◌++◌, IfOk, OnOk};
 ghost use Rattle.replay_edits.specs.Edit.{change_of, changes_of, log_of};
-ghost use Rattle.replay_edits.specs.Faults.{fault_of_all};
-ghost use Rattle.replay_scripts.specs.ScriptText.{group_text};
-ghost use Rattle.play_edits.specs.Guarded.{text_if_done};
-ghost use Rattle.play_edits.specs.Undo.{with_guards};
+ghost use Rattle.play_edits.specs.Guarded.{guarded_group, text_if_done};
 
 use crate::refusal::Refusal;
 use crate::undo::backs_of;
@@ -39,15 +36,14 @@ fn copy_changes(alloc: Global, edits: &[Edit]) -> Result<Vec<Edit>, AllocError>
 }
 
 /// The text of edits that are made as a whole in a log, each with a guard of the line at its place,
-/// if none of them is refused there.
-pub(crate) fn guarded_text(
+/// or nothing if one of them is refused there.
+pub(crate) fn guarded_group(
     alloc: Global,
     edits: &[Edit],
     log: &Blocks<LineText>,
 ) -> Result<Vec<u8>, AllocError>
-    ensures { let changes = changes_of edits.now in let log = log_of log.now.items in
-        fault_of_all changes log 0 ≡ None
-        → IfOk result (λ text. text.items ≡ group_text (with_guards changes log)) }
+    ensures { IfOk result (λ text. text.items
+        ≡ guarded_group (changes_of edits.now) (log_of log.now.items)) }
 {
     let mut text = Vec::new(alloc);
     if plan_edits(edits, log.len()).is_err() {

@@ -1,15 +1,15 @@
 //! Whether a log meets the guards of an item, and guards that it meets.
 
-ghost use Rattle.std.specs.Prelude.{◌≡◌, ◌≤◌, ℕ, List, None, length};
+ghost use Rattle.std.specs.Prelude.{◌≡◌, ◌≤◌, ◌↔◌, ℕ, IsTrue, List, None, length};
 ghost use Rattle.std.specs.Prelude.{IfOk, OnOk, Some, map, option_map};
 ghost use Rattle.replay_edits.specs.Draft.{IsDraft, edits_in, log_before, made_in};
 ghost use Rattle.replay_edits.specs.Edit.{changes_of, log_of};
-ghost use Rattle.replay_edits.specs.Faults.{fault_of_all, log_after_all};
+ghost use Rattle.replay_edits.specs.Faults.{fault_of_all};
 ghost use Rattle.replay_scripts.specs.Views.{expectation_in, expectations_of};
 ghost use Rattle.play_edits.specs.Refusal.{IsFreeCount, first_unmet, log_in, other_line};
 ghost use Rattle.play_edits.specs.Refusal.{other_line_in};
 
-use crate::details::{expected_line, is_line_of, lines_after};
+use crate::expected::expected_line;
 use crate::refusal::{ExpectedLine, KeptLine, Refusal};
 use cave_replay::Session;
 use play_machine::CaveMachine;
@@ -51,7 +51,7 @@ fn first_unmet(
         let after = guard.after.min(edits.len());
         if after <= free.len() {
             move_to(alloc, free, log, &mut draft, after)?;
-            if let Some(refused) = other_line_now(guard, log, &free[..after], &draft) {
+            if let Some(refused) = other_line_now(guard, &draft) {
                 return Ok(Some(refused));
             }
         }
@@ -92,26 +92,27 @@ fn move_to<'a>(
     Ok(())
 }
 
-/// The refusal for a guard if the log after these edits, which is a draft, doesn't meet it.
-fn other_line_now(
-    guard: &Guard,
-    log: &Blocks<LineText>,
-    before: &[Edit],
-    draft: &Draft<'_>,
-) -> Option<Refusal>
-    requires draft { IsDraft (edits_in draft.now) (log_before draft.now) (made_in draft.now)
-        draft.now }
-    requires free { fault_of_all (changes_of before.now) (log_of log.now.items) 0 ≡ None }
-    requires now { log_in draft.now
-        ≡ log_after_all (changes_of before.now) (log_of log.now.items) }
+/// Whether a line is there and has this text.
+fn is_line_of(line: Option<&[u8]>, text: &[u8]) -> bool
+    ensures { IsTrue result ↔ (option_map (λ line. line.now) line.entry ≡ Some text.now) }
+{
+    match line {
+        Some(line) => line == text,
+        None => false,
+    }
+}
+
+/// The refusal for a guard if a draft doesn't meet it.
+fn other_line_now(guard: &Guard, draft: &Draft<'_>) -> Option<Refusal>
+    requires { IsDraft (edits_in draft.now) (log_before draft.now) (made_in draft.now) draft.now }
     ensures { result ≡ other_line_in (expectation_in guard.now) (log_in draft.now) }
 {
     let line = draft.line(guard.place as usize);
     if is_line_of(line, &guard.text) {
         return None;
     }
-    let lines = lines_after(before, log.len());
-    Some(other_line(guard, expected_line(guard, draft, lines), lines, line))
+    let expected = expected_line(guard, draft);
+    Some(other_line(guard, expected, draft.lines(), line))
 }
 
 /// The refusal for a guard, which expects this line, if the log has this many lines, and another

@@ -1,171 +1,151 @@
-//! Applying an item of a script to a session, with what is written of it, and what takes it back.
+//! Applying the items of a script to a session, while they are watched.
 
-ghost use Rattle.std.specs.Prelude.{◌≡◌, ◌++◌, IfOk, IsTrue, None, OnOk, ◌↔◌};
-ghost use Rattle.replay_edits.specs.Edit.{changes_of};
-ghost use Rattle.replay_edits.specs.Faults.{fault_of_all};
-ghost use Rattle.replay_scripts.specs.Views.{applied_item, expectations_of};
-ghost use Rattle.replay_scripts.specs.ScriptText.{groups_in};
-ghost use Rattle.play_edits.specs.Edits.{Applies, kept_for, text_of_item};
-ghost use Rattle.play_edits.specs.Guarded.{guarded_item};
-ghost use Rattle.play_edits.specs.Refusal.{first_unmet};
-ghost use Rattle.play_edits.specs.Table.{table_row};
-ghost use Rattle.play_edits.specs.Undo.{back_by};
+ghost use Rattle.std.specs.Prelude.{◌≡◌, ◌<◌, ◌^◌, ◌++◌, IfOk, MatchResult, None, OnOk, Some};
+ghost use Rattle.std.specs.Prelude.{length, map, option_map};
+ghost use Rattle.play_command.specs.Aside.{edit_view_of};
+ghost use Rattle.replay_scripts.specs.Views.{applied_item};
+ghost use Rattle.play_edits.specs.Edits.{Applies, IsMade, ending_refusal, if_strict};
+ghost use Rattle.play_edits.specs.Items.{refusal_list};
+ghost use Rattle.play_edits.specs.LogEnds.{shown_ends};
+ghost use Rattle.play_edits.specs.Outcome.{refusal_in};
 
-use crate::details::edit_refusal;
-use crate::guarded::{guarded_text, push_if_done};
 use crate::guards::unmet_guard;
-use crate::refusal::Refusal;
-use crate::reports::{push_account, push_report};
-use crate::table::{last_state, push_row};
-use crate::undo::backs_of;
+use crate::log_ends::{LogEnds, leave_ends};
+use crate::outcome::Totals;
+use crate::refusal::{Refusal, edit_refusal};
+use crate::undo::keep_back;
+use crate::view_text::ViewText;
 use base_lines::Meter;
 use cave_replay::{GroupReport, Session};
-use play_command::{EditView, Editing};
+use play_command::{EditView, Editing, ReportView};
 use play_machine::CaveMachine;
 use replay_edits::EditFault;
-use replay_scripts::{BackEdit, Item};
+use replay_scripts::Item;
 use std::alloc::{AllocError, Global};
 
-fn is_memory(fault: EditFault) -> bool
-    ensures { IsTrue result ↔ (fault ≡ EditFault.Memory) }
-{
-    matches!(fault, EditFault::Memory)
+/// What edits of a log made: the text of the view, how many lines were played for them, how the
+/// lines of the log end, why items were refused, the report beside the view, and the seed that is
+/// left.
+#[derive(Drop)]
+pub struct Edited {
+    pub text: Vec<u8>,
+    pub played: u64,
+    pub ends: LogEnds,
+    pub refused: Vec<Refusal>,
+    pub report: Vec<u8>,
+    pub seed: u32,
 }
 
-/// Applies an item to the held game, all of it or nothing, and appends what the view asks for. Only
-/// views that show states or the score look at these.
-pub(crate) fn apply_item(
+/// Applies the items of a script to the held game, each to what those before it left, and returns
+/// what they made of a log whose lines end like this. If `editing` is strict, they end with the
+/// first one that is refused, and this returns why.
+pub fn apply_items(
     alloc: Global,
     session: &mut Session<CaveMachine<'_>>,
-    item: &Item,
-    view: EditView,
-    text: &mut Vec<u8>,
-) -> Result<Result<GroupReport, Refusal>, AllocError>
-    ensures applies { IfOk result (Applies (applied_item item.now) session.old session.new) }
-    ensures back_free { IfOk result (λ outcome. IfOk outcome (λ done.
-        fault_of_all (changes_of done.inverse.items) session.new.game.log 0 ≡ None)) }
-    ensures told { IfOk result (λ outcome. text.new.items ≡ text.old.items
-        ++ text_of_item view session.old.machine.rules.cave.now (applied_item item.now)
-        session.old.game outcome) }
+    items: &[Item],
+    editing: Editing,
+    report: Option<ReportView>,
+    mut ends: LogEnds,
+) -> Result<Result<Edited, Refusal>, AllocError>
+    requires { length items.now < 2 ^ 32 }
+    ensures made { IfOk result (λ outcome. IfOk outcome (IsMade editing report
+        (map applied_item items.now) session.old (shown_ends ends))) }
+    ensures refused { let refused = ending_refusal editing.strict (map applied_item items.now)
+        session.old.game in
+        IfOk result (λ outcome. MatchResult outcome (λ _. refused ≡ None)
+        (λ refusal. refused ≡ Some refusal)) }
 {
-    match view {
-        EditView::Transcript => {
-            let outcome = edit(alloc, session, item)?;
-            push_report(alloc, text, item, &outcome)?;
-            Ok(outcome)
+    let mut told = ViewText::start(alloc, Some(editing.view))?;
+    let mut beside = ViewText::start(alloc, edit_view_of(report))?;
+    let mut totals = Totals {
+        played: 0,
+        lines: 0,
+    };
+    let mut refused = Vec::new(alloc);
+    let mut backs = Vec::new(alloc);
+    for item in items {
+        told.before(alloc, session, item)?;
+        beside.before(alloc, session, item)?;
+        let outcome = apply_item(alloc, session, item)?;
+        if let Some(refusal) = if_strict(editing.strict, &outcome) {
+            return Ok(Err(refusal));
         }
-        EditView::Reports => {
-            let outcome = edit(alloc, session, item)?;
-            push_account(alloc, text, session, item, &outcome)?;
-            Ok(outcome)
-        }
-        EditView::Table => apply_with_table_row(alloc, session, item, text),
-        EditView::Guarded => apply_guarded_item(alloc, session, item, text),
-        _ => edit(alloc, session, item),
+        told.after(alloc, session, item, &outcome)?;
+        beside.after(alloc, session, item, &outcome)?;
+        totals = totals.with(&outcome);
+        leave_ends(&mut ends, item, &outcome)?;
+        note_refusal(&mut refused, &outcome)?;
+        keep_back(alloc, session, editing, outcome, &mut backs)?;
+    }
+    backs.reverse();
+    told.end(alloc, session, totals, &backs)?;
+    beside.end(alloc, session, totals, &backs)?;
+    Ok(Ok(Edited {
+        text: told.text,
+        played: totals.played,
+        ends,
+        refused,
+        report: beside.text,
+        seed: session.seed(),
+    }))
+}
+
+/// The view that prints a report alone, if one is asked for.
+fn edit_view_of(report: Option<ReportView>) -> Option<EditView>
+    ensures { result ≡ option_map edit_view_of report }
+{
+    match report {
+        Some(view) => Some(view.edit_view()),
+        None => None,
     }
 }
 
-/// Applies an item to the held game, and appends its row, for which the state before it is copied.
-fn apply_with_table_row(
-    alloc: Global,
-    session: &mut Session<CaveMachine<'_>>,
-    item: &Item,
-    text: &mut Vec<u8>,
-) -> Result<Result<GroupReport, Refusal>, AllocError>
-    ensures applies { IfOk result (Applies (applied_item item.now) session.old session.new) }
-    ensures back_free { IfOk result (λ outcome. IfOk outcome (λ done.
-        fault_of_all (changes_of done.inverse.items) session.new.game.log 0 ≡ None)) }
-    ensures told { IfOk result (λ outcome. text.new.items ≡ text.old.items
-        ++ table_row session.old.machine.rules.cave.now (applied_item item.now) session.old.game
-        outcome) }
-{
-    let held = last_state(session);
-    let before = *held;
-    let outcome = edit(alloc, session, item)?;
-    push_row(alloc, text, session, item, &outcome, &before)?;
-    Ok(outcome)
-}
-
-/// Applies an item to the held game, and appends it with guards of the log before it, unless it is
+/// Applies an item to the held game, all of it or nothing, and returns what it did, or why it is
 /// refused.
-fn apply_guarded_item(
-    alloc: Global,
-    session: &mut Session<CaveMachine<'_>>,
-    item: &Item,
-    text: &mut Vec<u8>,
-) -> Result<Result<GroupReport, Refusal>, AllocError>
-    ensures applies { IfOk result (Applies (applied_item item.now) session.old session.new) }
-    ensures back_free { IfOk result (λ outcome. IfOk outcome (λ done.
-        fault_of_all (changes_of done.inverse.items) session.new.game.log 0 ≡ None)) }
-    ensures told { IfOk result (λ outcome. text.new.items ≡ text.old.items
-        ++ guarded_item (applied_item item.now) session.old.game.log outcome) }
-{
-    let guarded = guarded_text(alloc, &item.edits, session.log())?;
-    let outcome = edit(alloc, session, item)?;
-    push_if_done(text, &outcome, &guarded)?;
-    Ok(outcome)
-}
-
-/// Applies an item to the held game, all of it or nothing, and returns what it did.
-fn edit(
+fn apply_item(
     alloc: Global,
     session: &mut Session<CaveMachine<'_>>,
     item: &Item,
 ) -> Result<Result<GroupReport, Refusal>, AllocError>
-    ensures applies { IfOk result (Applies (applied_item item.now) session.old session.new) }
-    ensures back_free { IfOk result (λ outcome. IfOk outcome (λ done.
-        fault_of_all (changes_of done.inverse.items) session.new.game.log 0 ≡ None)) }
+    ensures { IfOk result (Applies (applied_item item.now) session.old session.new) }
 {
-    match unmet_guard(alloc, session, item)? {
-        Some(refusal) => Ok(Err(refusal)),
-        None => edit_group(session, item),
+    if let Some(refusal) = unmet_guard(alloc, session, item)? {
+        return Ok(Err(refusal));
     }
-}
-
-/// Applies an item whose guards the held game meets.
-fn edit_group(
-    session: &mut Session<CaveMachine<'_>>,
-    item: &Item,
-) -> Result<Result<GroupReport, Refusal>, AllocError>
-    requires { let log = session.old.game.log in
-        first_unmet (changes_of item.now.edits.items) (expectations_of item.now.guards) log ≡ None }
-    ensures applies { IfOk result (Applies (applied_item item.now) session.old session.new) }
-    ensures back_free { IfOk result (λ outcome. IfOk outcome (λ done.
-        fault_of_all (changes_of done.inverse.items) session.new.game.log 0 ≡ None)) }
-{
     let mut meter = Meter::new();
     let fault = match session.edit_group(&item.edits, &mut meter) {
         Ok(done) => return Ok(Ok(done)),
         Err(fault) => fault,
     };
-    if is_memory(fault.cause) {
-        return Err(AllocError);
+    match fault.cause {
+        EditFault::Memory => Err(AllocError),
+        _ => Ok(Err(edit_refusal(item, fault))),
     }
-    Ok(Err(edit_refusal(item, session.log(), fault)))
 }
 
-/// Keeps what takes an item back, if that is asked for and the item was accepted.
-pub fn keep_back(
-    alloc: Global,
-    session: &Session<CaveMachine<'_>>,
-    editing: Editing,
-    outcome: Result<GroupReport, Refusal>,
-    backs: &mut Vec<Vec<BackEdit>>,
-) -> Result<(), AllocError>
-    requires { IfOk outcome (λ done.
-        fault_of_all (changes_of done.inverse.items) session.now.game.log 0 ≡ None) }
-    ensures { OnOk result (groups_in backs.new.items ≡ groups_in backs.old.items
-        ++ kept_for editing.view (back_by editing.guarded outcome session.now.game.log)) }
+/// The refusal of an item with which a strict run ends, if it ends with it.
+fn if_strict(strict: bool, outcome: &Result<GroupReport, Refusal>) -> Option<Refusal>
+    ensures { result ≡ if_strict strict (refusal_in outcome.now) }
 {
-    match editing.view {
-        EditView::Undo => match outcome {
-            Ok(done) => {
-                let back = backs_of(alloc, done.inverse, session.log(), editing.guarded)?;
-                backs.push(back)?;
-                Ok(())
-            }
-            Err(_) => Ok(()),
-        },
-        _ => Ok(()),
+    match outcome {
+        Err(refusal) if strict => Some(*refusal),
+        _ => None,
+    }
+}
+
+/// Notes why an item was refused, if it was.
+fn note_refusal(
+    refused: &mut Vec<Refusal>,
+    outcome: &Result<GroupReport, Refusal>,
+) -> Result<(), AllocError>
+    ensures { OnOk result (refused.new.items
+        ≡ refused.old.items ++ refusal_list (refusal_in outcome.now)) }
+{
+    match outcome {
+        Ok(_) => Ok(()),
+        Err(refusal) => {
+            refused.push(*refusal)?;
+            Ok(())
+        }
     }
 }

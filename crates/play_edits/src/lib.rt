@@ -2,8 +2,8 @@
 //! takes it back, what is written of it, and how the lines of the edited log end.
 #![tactic(auto)]
 
-mod details;
 pub mod ended;
+mod expected;
 mod guarded;
 mod guards;
 pub mod items;
@@ -13,14 +13,11 @@ pub mod log_ends;
 pub mod outcome;
 pub mod refusal;
 pub mod reports;
-pub mod side_report;
 mod table;
 mod undo;
+mod view_text;
 
 pub use ended::ended_text;
-pub use items::keep_back;
+pub use items::{Edited, apply_items};
 pub use log_ends::LogEnds;
-pub use outcome::Totals;
-pub use refusal::{EditDetail, ExpectedLine, KeptLine, Refusal};
-pub use reports::{push_end, push_start};
-pub use side_report::{SideReport, apply_reported};
+pub use refusal::{ExpectedLine, KeptLine, Refusal};

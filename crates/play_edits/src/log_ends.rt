@@ -3,12 +3,15 @@
 ghost use Rattle.std.specs.Prelude.{◌≡◌, IfOk, OnOk};
 ghost use Rattle.replay_edits.specs.Edit.{change_of};
 ghost use Rattle.play_edits.specs.LogEnds.{ends_after, ends_after_item, log_ends, shown_ends};
-ghost use Rattle.play_edits.specs.LogEnds.{unlike_ends};
+ghost use Rattle.play_edits.specs.LogEnds.{ends_left, unlike_ends};
+ghost use Rattle.play_edits.specs.Outcome.{refusal_in};
 ghost use Rattle.replay_scripts.specs.Views.{applied_item};
 
 use crate::line_end::{
     LineEnd, TextEnds, are_same_ends, end_of_line, ends_in, first_end, text_ends,
 };
+use crate::refusal::Refusal;
+use cave_replay::GroupReport;
 use replay_edits::Edit;
 use replay_scripts::Item;
 use std::alloc::{AllocError, Global};
@@ -45,7 +48,7 @@ impl LogEnds {
 
     /// Makes the edits of an item among the ends: each line keeps its end, and one that is inserted
     /// ends as its line in the script does. Lines that all end alike go on to end like that.
-    pub fn follow_item(&mut self, item: &Item) -> Result<(), AllocError>
+    fn follow_item(&mut self, item: &Item) -> Result<(), AllocError>
         ensures { OnOk result
             (shown_ends self.new ≡ ends_after_item (applied_item item.now) (shown_ends self.old)) }
     {
@@ -61,6 +64,21 @@ impl LogEnds {
             edits = rest;
         }
         Ok(())
+    }
+}
+
+/// Makes the edits of an item among the ends of the lines of a log, unless it was refused.
+pub(crate) fn leave_ends(
+    ends: &mut LogEnds,
+    item: &Item,
+    outcome: &Result<GroupReport, Refusal>,
+) -> Result<(), AllocError>
+    ensures { OnOk result (shown_ends ends.new
+        ≡ ends_left (applied_item item.now) (refusal_in outcome.now) (shown_ends ends.old)) }
+{
+    match outcome {
+        Ok(_) => ends.follow_item(item),
+        Err(_) => Ok(()),
     }
 }
 

@@ -1,12 +1,12 @@
 //! Why an item of a script is refused, and what is said about that.
 
 ghost use Rattle.std.specs.Prelude.{◌≡◌};
-ghost use Rattle.play_edits.specs.Refusal.{edit_number, kept_line, refusal_line, refusal_number};
-ghost use Rattle.play_edits.specs.Refusal.{shown_kept_line};
-ghost use Rattle.play_edits.specs.Accounts.{edit_fault_words, refusal_words};
+ghost use Rattle.replay_scripts.specs.Views.{applied_item};
+ghost use Rattle.play_edits.specs.Refusal.{edit_number, edit_refusal, kept_line, refusal_line};
+ghost use Rattle.play_edits.specs.Refusal.{refusal_number, shown_kept_line};
 
-use base_lines::LineFlaw;
-use replay_edits::EditFault;
+use replay_edits::{EditFault, GroupFault};
+use replay_scripts::Item;
 use std::{fmt, str};
 
 /// How many bytes of a line are kept: the most that a line of a log may have.
@@ -43,16 +43,6 @@ impl KeptLine {
     }
 }
 
-/// What is known beyond the fault of an edit.
-#[derive(Clone, Copy, Debug, PartialEq, Eq)]
-pub enum EditDetail {
-    Nothing,
-    /// How many lines the log has, where the edit names another place.
-    Lines(usize),
-    /// What is wrong with the edit's line.
-    Flaw(LineFlaw),
-}
-
 /// The line that a guard expects.
 #[derive(Clone, Copy, Debug, PartialEq, Eq)]
 pub enum ExpectedLine {
@@ -64,12 +54,11 @@ pub enum ExpectedLine {
     At(KeptLine, usize),
 }
 
-/// Why an item of a script is refused, as reports say it, with the line of the script that they
-/// name for it, and what is known beyond that.
+/// Why an item of a script is refused, with the line of the script that reports name for it.
 #[derive(Clone, Copy, Debug, PartialEq, Eq)]
 pub enum Refusal {
-    /// An edit is refused.
-    Edit(usize, EditFault, EditDetail),
+    /// An edit meets this fault.
+    Edit(usize, EditFault),
     /// A guard expects a line at a place where the log, which has this many lines, has none.
     NoLine(usize, usize, ExpectedLine),
     /// A guard expects a line other than the one that the log has.
@@ -82,7 +71,7 @@ impl Refusal {
         ensures { result ≡ refusal_line self }
     {
         match self {
-            Refusal::Edit(line, _, _) => line,
+            Refusal::Edit(line, _) => line,
             Refusal::NoLine(line, _, _) | Refusal::OtherLine(line, _, _) => line,
         }
     }
@@ -92,42 +81,31 @@ impl Refusal {
         ensures { result ≡ refusal_number self }
     {
         match self {
-            Refusal::Edit(_, fault, _) => edit_number(fault),
+            Refusal::Edit(_, fault) => edit_number(fault),
             Refusal::NoLine(_, _, _) | Refusal::OtherLine(_, _, _) => 8,
-        }
-    }
-
-    /// What is said beside the number.
-    pub(crate) fn words(self) -> &'static str
-        ensures { result.now ≡ refusal_words self }
-    {
-        match self {
-            Refusal::Edit(_, fault, _) => edit_words(fault),
-            Refusal::NoLine(_, _, _) => "no line",
-            Refusal::OtherLine(_, _, _) => "another line: ",
         }
     }
 }
 
-impl fmt::Display for EditDetail {
-    ghost use Rattle.std.specs.Prelude.{Some};
-    ghost use Rattle.play_edits.specs.Accounts.{edit_detail_text};
+/// The fault of an edit, as it is said of a script.
+#[derive(Clone, Copy)]
+pub(crate) struct EditWords {
+    pub(crate) fault: EditFault,
+}
 
-    ghost output = { λ detail. Some (edit_detail_text detail) };
+impl fmt::Display for EditWords {
+    ghost use Rattle.std.specs.Prelude.{Some};
+    ghost use Rattle.play_edits.specs.Accounts.{edit_words};
+
+    ghost output = { λ words. Some (edit_words words.fault) };
 
     fn fmt<W: fmt::Write>(&self, f: &mut fmt::Formatter<W>) -> fmt::Result {
-        match *self {
-            EditDetail::Nothing => Ok(()),
-            EditDetail::Lines(lines) => write!(f, ": the log has {lines}"),
-            EditDetail::Flaw(LineFlaw::Long(bytes)) => write!(
+        match self.fault {
+            EditFault::EmptyGroup => write!(
                 f,
-                ": the line has {bytes} bytes, and a line of a log has at most 255"
+                "an empty group: put an edit between `begin` and `end`"
             ),
-            EditDetail::Flaw(LineFlaw::Byte(byte, column)) => write!(
-                f,
-                ": the byte in column {column} is {byte}, and a line of a log has printable ASCII, \
-                 32 to 126, and tabs"
-            ),
+            fault => write!(f, "{fault}"),
         }
     }
 }
@@ -150,17 +128,29 @@ impl fmt::Display for ExpectedLine {
 
 impl fmt::Display for Refusal {
     fn fmt<W: fmt::Write>(&self, f: &mut fmt::Formatter<W>) -> fmt::Result {
-        let (number, words) = (self.number(), self.words());
-        write!(f, "refused {number}, {words}")?;
-        match self {
-            Refusal::Edit(_, _, detail) => write!(f, "{detail}"),
-            Refusal::NoLine(_, lines, expected) => write!(f, ": the log has {lines}{expected}"),
+        let number = self.number();
+        write!(f, "refused {number}, ")?;
+        match *self {
+            Refusal::Edit(_, fault) => {
+                let words = EditWords { fault };
+                write!(f, "{words}")
+            }
+            Refusal::NoLine(_, lines, expected) => {
+                write!(f, "no line: the log has {lines}{expected}")
+            }
             Refusal::OtherLine(_, line, expected) => {
                 let line = str::from_utf8(line.as_slice()).unwrap_or("");
-                write!(f, "{line}{expected}")
+                write!(f, "another line: {line}{expected}")
             }
         }
     }
+}
+
+/// The refusal of an item for a fault of its edits.
+pub(crate) fn edit_refusal(item: &Item, fault: GroupFault) -> Refusal
+    ensures { result ≡ edit_refusal (applied_item item.now) fault }
+{
+    Refusal::Edit(item.line_of(fault.at), fault.cause)
 }
 
 /// The number by which a report names the refusal of an edit.
@@ -168,27 +158,12 @@ fn edit_number(fault: EditFault) -> u8
     ensures { result ≡ edit_number fault }
 {
     match fault {
-        EditFault::NoSuchPlace => 1,
-        EditFault::BadLine => 2,
+        EditFault::NoSuchPlace(_) => 1,
+        EditFault::BadLine(_) => 2,
         EditFault::LogFull => 3,
         EditFault::BadSeed => 4,
         EditFault::MeterFull => 5,
         EditFault::Memory => 6,
         EditFault::EmptyGroup => 7,
-    }
-}
-
-/// What is said beside the number of the refusal of an edit.
-fn edit_words(fault: EditFault) -> &'static str
-    ensures { result.now ≡ edit_fault_words fault }
-{
-    match fault {
-        EditFault::NoSuchPlace => "no such line",
-        EditFault::BadLine => "a bad line",
-        EditFault::LogFull => "a full log: a log has at most 65,535 lines",
-        EditFault::BadSeed => "a bad seed: a seed is at most 2147483647",
-        EditFault::MeterFull => "a full meter",
-        EditFault::Memory => "no memory",
-        EditFault::EmptyGroup => "an empty group: put an edit between `begin` and `end`",
     }
 }

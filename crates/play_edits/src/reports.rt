@@ -2,63 +2,22 @@
 
 ghost use Rattle.std.specs.Prelude.{◌≡◌, ◌++◌, IfOk, OnOk, string_bytes};
 ghost use Rattle.replay_scripts.specs.Views.{applied_item};
-ghost use Rattle.replay_scripts.specs.ScriptText.{groups_in};
 ghost use Rattle.play_edits.specs.Accounts.{account_by, ending_text, expected_text};
-ghost use Rattle.play_edits.specs.Accounts.{expected_words, lines_text, place_text};
-ghost use Rattle.play_edits.specs.Accounts.{refusal_detail, refusal_text, replay_text};
+ghost use Rattle.play_edits.specs.Accounts.{expected_words, no_line_text, place_text};
+ghost use Rattle.play_edits.specs.Accounts.{refusal_said, refusal_text, replay_text};
 ghost use Rattle.play_edits.specs.Accounts.{standing_text, totals_line};
-ghost use Rattle.play_edits.specs.Edits.{LogReadsBack, text_at_end, text_at_start};
 ghost use Rattle.play_edits.specs.Items.{item_report_by};
 ghost use Rattle.play_tables.specs.ItemRow.{met_column};
 ghost use Rattle.play_edits.specs.Outcome.{refusal_in, standing_of};
 
 use crate::outcome::{Standing, Totals, standing_of};
-use crate::refusal::{ExpectedLine, KeptLine, Refusal};
+use crate::refusal::{EditWords, ExpectedLine, KeptLine, Refusal};
 use cave_replay::{GroupReport, Session};
 use cave_world::Ending;
-use play_command::EditView;
-use play_machine::{CaveMachine, push_final_state, push_play, push_score, push_steps, push_walk};
+use play_machine::CaveMachine;
 use play_tables::columns::ending_column;
-use play_tables::push_item_head_row;
-use replay_scripts::{BackEdit, Item, push_script};
+use replay_scripts::Item;
 use std::alloc::{AllocError, Global};
-
-/// Appends what is written before all items of a script.
-pub fn push_start(view: EditView, text: &mut Vec<u8>) -> Result<(), AllocError>
-    ensures { OnOk result (text.new.items ≡ text.old.items ++ text_at_start view) }
-{
-    match view {
-        EditView::Table => push_item_head_row(text),
-        _ => Ok(()),
-    }
-}
-
-/// Appends what is written after all items of a script.
-pub fn push_end(
-    alloc: Global,
-    session: &Session<CaveMachine<'_>>,
-    view: EditView,
-    totals: Totals,
-    backs: &[Vec<BackEdit>],
-    text: &mut Vec<u8>,
-) -> Result<(), AllocError>
-    ensures told { OnOk result (text.new.items ≡ text.old.items
-        ++ text_at_end view session.now.machine.rules.cave.now session.now.game totals.played
-        totals.lines (groups_in backs.now)) }
-    ensures reads_back { OnOk result (LogReadsBack view session.now.game.log) }
-{
-    match view {
-        EditView::Transcript | EditView::Play => push_play(alloc, session, text),
-        EditView::Log => session.push_log(text),
-        EditView::Undo => push_script(alloc, text, backs),
-        EditView::Reports => push_totals(alloc, text, totals),
-        EditView::Guarded | EditView::Table => Ok(()),
-        EditView::Steps => push_steps(alloc, session, text),
-        EditView::Walk => push_walk(alloc, session, text),
-        EditView::Score => push_score(alloc, session, text),
-        EditView::FinalState => push_final_state(alloc, session, text),
-    }
-}
 
 /// Writes how many lines were played for all items.
 pub(crate) fn push_totals(
@@ -176,14 +135,6 @@ fn push_replay(
     text.extend_from_slice(told.as_bytes())
 }
 
-/// Writes how many lines a log has.
-fn push_lines(alloc: Global, text: &mut Vec<u8>, lines: usize) -> Result<(), AllocError>
-    ensures { OnOk result (text.new.items ≡ text.old.items ++ lines_text lines) }
-{
-    let told = format!(in alloc; ": the log has {lines}")?;
-    text.extend_from_slice(told.as_bytes())
-}
-
 /// Writes where a line is.
 fn push_place(alloc: Global, text: &mut Vec<u8>, place: usize) -> Result<(), AllocError>
     ensures { OnOk result (text.new.items ≡ text.old.items ++ place_text place) }
@@ -223,20 +174,30 @@ fn push_expected(
     }
 }
 
-/// Writes what is known beyond the reason of a refusal.
-fn push_detail(alloc: Global, text: &mut Vec<u8>, refusal: &Refusal) -> Result<(), AllocError>
-    ensures { OnOk result (text.new.items ≡ text.old.items ++ refusal_detail refusal.now) }
+/// Writes that a log of this many lines has none at a guard's place.
+fn push_no_line(alloc: Global, text: &mut Vec<u8>, lines: usize) -> Result<(), AllocError>
+    ensures { OnOk result (text.new.items ≡ text.old.items ++ no_line_text lines) }
+{
+    let told = format!(in alloc; "no line: the log has {lines}")?;
+    text.extend_from_slice(told.as_bytes())
+}
+
+/// Writes what is said of a refusal after its number.
+fn push_said(alloc: Global, text: &mut Vec<u8>, refusal: &Refusal) -> Result<(), AllocError>
+    ensures { OnOk result (text.new.items ≡ text.old.items ++ refusal_said refusal.now) }
 {
     match refusal {
-        Refusal::Edit(_, _, detail) => {
-            let told = format!(in alloc; "{detail}")?;
+        Refusal::Edit(_, fault) => {
+            let words = EditWords { fault: *fault };
+            let told = format!(in alloc; "{words}")?;
             text.extend_from_slice(told.as_bytes())
         }
         Refusal::NoLine(_, lines, expected) => {
-            push_lines(alloc, text, *lines)?;
+            push_no_line(alloc, text, *lines)?;
             push_expected(alloc, text, expected)
         }
         Refusal::OtherLine(_, line, expected) => {
+            text.extend_from_slice(b"another line: ")?;
             text.extend_from_slice(line.as_slice())?;
             push_expected(alloc, text, expected)
         }
@@ -247,10 +208,10 @@ fn push_detail(alloc: Global, text: &mut Vec<u8>, refusal: &Refusal) -> Result<(
 fn push_refusal(alloc: Global, text: &mut Vec<u8>, refusal: &Refusal) -> Result<(), AllocError>
     ensures { OnOk result (text.new.items ≡ text.old.items ++ refusal_text refusal.now) }
 {
-    let (line, number, words) = (refusal.line(), refusal.number(), refusal.words());
-    let told = format!(in alloc; "line {line}: refused {number}, {words}")?;
+    let (line, number) = (refusal.line(), refusal.number());
+    let told = format!(in alloc; "line {line}: refused {number}, ")?;
     text.extend_from_slice(told.as_bytes())?;
-    push_detail(alloc, text, refusal)?;
+    push_said(alloc, text, refusal)?;
     text.push(b'\n')?;
     Ok(())
 }

@@ -1,17 +1,53 @@
 //! What takes an item back, with the guards of its edits.
 
-ghost use Rattle.std.specs.Prelude.{◌≡◌, IfOk, None, map, option_map, take};
+ghost use Rattle.std.specs.Prelude.{◌≡◌, ◌++◌, IfOk, None, OnOk, map, option_map, take};
 ghost use Rattle.replay_edits.specs.Draft.{IsDraft, edits_in, log_before, made_in};
 ghost use Rattle.replay_edits.specs.Edit.{change_of, changes_of, log_of};
 ghost use Rattle.replay_edits.specs.Faults.{fault_of_all, log_after_all};
-ghost use Rattle.replay_scripts.specs.ScriptText.{backs_in};
-ghost use Rattle.play_edits.specs.Undo.{backs_by, expected_at, expected_lines, expecting};
-ghost use Rattle.play_edits.specs.Undo.{lines_in, without_guard};
+ghost use Rattle.replay_scripts.specs.ScriptText.{backs_in, groups_in};
+ghost use Rattle.play_edits.specs.Undo.{asks_backs, back_by, backs_by, expected_at, expected_lines};
+ghost use Rattle.play_edits.specs.Undo.{expecting, if_asked, lines_in, without_guard};
 
+use crate::refusal::Refusal;
+use cave_replay::{GroupReport, Session};
+use play_command::{EditView, Editing};
+use play_machine::CaveMachine;
 use replay_checkpoints::Blocks;
 use replay_edits::{Draft, Edit, LineText};
 use replay_scripts::BackEdit;
 use std::alloc::{AllocError, Global};
+
+fn asks_backs(view: EditView) -> bool
+    ensures { result ≡ asks_backs view }
+{
+    matches!(view, EditView::Undo)
+}
+
+/// Keeps what takes an item back, if the view asks for it and the item was accepted.
+pub(crate) fn keep_back(
+    alloc: Global,
+    session: &Session<CaveMachine<'_>>,
+    editing: Editing,
+    outcome: Result<GroupReport, Refusal>,
+    backs: &mut Vec<Vec<BackEdit>>,
+) -> Result<(), AllocError>
+    requires { IfOk outcome (λ done.
+        fault_of_all (changes_of done.inverse.items) session.now.game.log 0 ≡ None) }
+    ensures { OnOk result (groups_in backs.new.items ≡ groups_in backs.old.items
+        ++ if_asked editing.view (back_by editing.guarded outcome session.now.game.log)) }
+{
+    if !asks_backs(editing.view) {
+        return Ok(());
+    }
+    match outcome {
+        Ok(done) => {
+            let back = backs_of(alloc, done.inverse, session.log(), editing.guarded)?;
+            backs.push(back)?;
+            Ok(())
+        }
+        Err(_) => Ok(()),
+    }
+}
 
 /// The edits of a log, each with a guard of the line at its place if that is asked for.
 pub(crate) fn backs_of(

@@ -307,8 +307,8 @@ module _ (by : ℕ) where
       (unmet_alike changes guard log) (first_alike changes guards log)
 
   fault_alike : (item : Applied) (log : List (List ℕ)) (found : Option GroupFault)
-      → is_none (option_map (edit_refusal (item_further by item) log) found)
-      ≡ is_none (option_map (edit_refusal item log) found)
+      → is_none (option_map (edit_refusal (item_further by item)) found)
+      ≡ is_none (option_map (edit_refusal item) found)
   fault_alike item log None = refl
   fault_alike item log (Some fault) = refl
 
@@ -329,8 +329,8 @@ module _ (by : ℕ) where
       left_alike item game (item_refusal (item_further by item) log) (item_refusal item log)
       (either_alike (first_unmet item.changes (map (guard_further by) item.guards) log)
       (first_unmet item.changes item.guards log)
-      (option_map (edit_refusal (item_further by item) log) faults)
-      (option_map (edit_refusal item log) faults)
+      (option_map (edit_refusal (item_further by item)) faults)
+      (option_map (edit_refusal item) faults)
       (first_alike item.changes item.guards log) (fault_alike item log faults))
 
   items_alike : (items : List Applied) (game : Game)

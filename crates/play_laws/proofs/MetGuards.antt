@@ -7,7 +7,8 @@ use Rattle.std.specs.Str.Lines.{lines}
 use Rattle.cave_data.specs.CaveView.{CaveView}
 use Rattle.cave_play.proofs.OneOutputLemmas.{script_by-spelled}
 use Rattle.cave_play.specs.EditRun.{IsSideReport}
-use Rattle.cave_play.specs.Ended.{ended_view, ends_after_items, IsEdited, IsEndedEdit}
+use Rattle.cave_play.specs.Ended.{ended_view, IsEdited, IsEndedEdit}
+use Rattle.play_edits.specs.LogEnds.{ends_after_items}
 use Rattle.cave_play.specs.GuardLaws.{AreMet, HasNoGuard, NoGuardsNoOtherOutput}
 use Rattle.cave_play.specs.GuardLaws.{NoGuardsNoOtherScript}
 use Rattle.cave_play.specs.Refused.{refusals_of, seed_after}

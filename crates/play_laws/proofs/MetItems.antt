@@ -4,9 +4,9 @@ use Rattle.std.proofs.Common.{Option, Some, None, Ok, Err, option_map, refl, sym
 use Rattle.std.specs.List.{AllByRecursion}
 use Rattle.std.specs.Option.{option_or}
 use Rattle.cave_data.specs.CaveView.{CaveView}
-use Rattle.cave_play.specs.Ended.{ends_after_items, ends_left}
+use Rattle.play_edits.specs.LogEnds.{ends_after_items, ends_left}
 use Rattle.cave_play.specs.GuardLaws.{AreMet}
-use Rattle.cave_play.specs.Refused.{refusal_list, refusals}
+use Rattle.play_edits.specs.Items.{refusal_list, refusals}
 use Rattle.play_edits.proofs.GuardLemmas.{all_met, guards_refuse_alone}
 use Rattle.play_edits.specs.Accounts.{account, account_by, accounts, text_of_items, totals_line}
 use Rattle.play_edits.specs.Guarded.{guarded_groups, guarded_of, guarded_text}
@@ -49,9 +49,9 @@ refused_alike item log met = by_fault (group_refusal item.changes log)
   where
     by_fault : (found : Option GroupFault)
         → option_or (first_unmet item.changes item.guards log)
-        (option_map (edit_refusal item log) found)
+        (option_map (edit_refusal item) found)
         ≡ option_or (first_unmet item.changes [] log)
-        (option_map (edit_refusal (bare item) log) found)
+        (option_map (edit_refusal (bare item)) found)
     by_fault None = rw met refl
     by_fault (Some fault) = rw met refl
 

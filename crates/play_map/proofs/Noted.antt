@@ -4,7 +4,7 @@ use Rattle.std.specs.Str.Lines.{lines}
 use Rattle.std.proofs.lemmas.List.{length-map}
 use Rattle.std.proofs.lemmas.List.Folds.{flat_map-map}
 use Rattle.cave_data.specs.CaveView.{CaveView}
-use Rattle.play_logs.specs.Faults.{games_of}
+use Rattle.cave_play.specs.Logs.{games_of}
 use Rattle.map_graph.specs.Map.{map_of_places}
 use Rattle.play_command.specs.declared.map_part.MapPart.{MapPart}
 use Rattle.play_map.specs.Parts.{drawn_part}

@@ -4,8 +4,9 @@ use Rattle.std.specs.List.{flat_map}
 use Rattle.std.specs.Str.Lines.{lines}
 use Rattle.cave_data.specs.CaveView.{CaveView}
 use Rattle.cave_data.specs.Reads.{Reads}
-use Rattle.play_logs.specs.Faults.{RunsLogs, first_stages}
-use Rattle.play_logs.specs.declared.fault.LogsFault.{LogsFault}
+use Rattle.cave_play.specs.Logs.{IsMadeReport, JudgesLogs, RunsLogs, first_stages}
+use Rattle.cave_play.specs.declared.logs.Reported.{Reported}
+use Rattle.cave_play.specs.declared.logs_fault.LogsFault.{LogsFault}
 use Rattle.play_machine.specs.Moments.{Moment, noted_of}
 use Rattle.cave_world.specs.declared.part.Part.{Part}
 use Rattle.cave_world.specs.declared.state.State.{State}
@@ -60,6 +61,14 @@ IsMapped database bindings logs seed part output =
 abbrev pub JudgesPlace : List ℕ → List ℕ → MapPart → Stage → Type 0
 JudgesPlace database bindings part judges =
     (cave : CaveView) → Reads database bindings cave → judges ≡ place_stage cave part
+
+-- what is made that is a map: after the cave the place in the middle is judged, and then the logs are
+abbrev pub JudgesMap : List ℕ → List ℕ → List (List ℕ) → ℕ → MapPart
+    → Result (Reported (Unit {0})) LogsFault → Type 0
+JudgesMap database bindings logs seed part made =
+    (judges : Stage) → JudgesPlace database bindings part judges
+    → JudgesLogs (first_stages database bindings seed ++ judges ∷ []) logs
+    (IsMadeReport (λ _. IsMapped database bindings logs seed part)) made
 
 -- what a run leaves that draws a map: after the cave the place in the middle is judged, and then
 -- the logs are

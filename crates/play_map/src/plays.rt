@@ -2,9 +2,9 @@
 
 ghost use Rattle.std.specs.Prelude.{◌≡◌, []};
 
+use cave_play::kept_rows::KeptRows;
 use cave_world::State;
 use map_graph::stops::{Stop, push_ways_by_rows};
-use play_logs::kept_rows::KeptRows;
 use play_machine::{Begun, SeenLine, Watch};
 use std::alloc::{AllocError, Global};
 use std::marker::Model;

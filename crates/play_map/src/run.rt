@@ -1,23 +1,24 @@
-//! The run that draws a map: from readers of the inputs to a writer of the output.
+//! What the run that draws a map makes of its inputs, and the run.
 
-ghost use Rattle.std.specs.Prelude.{◌≡◌, ℕ, List, [], ◌∷◌, None, map};
+ghost use Rattle.std.specs.Prelude.{◌≡◌, ℕ, List, [], ◌∷◌, IfOk, None, length, map};
 ghost use Rattle.std.specs.List.{AllZip};
-ghost use Rattle.play_logs.specs.Faults.{RunsLogs, games_of};
+ghost use Rattle.cave_play.specs.Logs.{IsMadeReport, JudgesLogs, games_of};
 ghost use Rattle.play_map.specs.Parts.{place_stage};
-ghost use Rattle.play_map.specs.Plays.{RunsMap, map_of_games};
+ghost use Rattle.play_map.specs.Plays.{JudgesMap, RunsMap, map_of_games};
 ghost use Rattle.cave_play.specs.Input.{Says};
 ghost use Rattle.cave_play.specs.Judge.{large_seed};
 
 use crate::part::{check_place, drawn_part};
 use crate::plays::Stops;
 use cave_data::Cave;
-use cave_play::CaveReaders;
+use cave_play::inputs::Readers;
 use cave_play::judge::ReadCave;
+use cave_play::logs::{Reported, read_for_logs, report_in_cave, write_report};
+use cave_play::notes::PlayNotes;
+use cave_play::sources::Sources;
+use cave_play::{CaveReaders, LogsFault};
 use map_graph::map::push_map;
 use play_command::MapPart;
-use play_logs::fault::LogsFault;
-use play_logs::notes::PlayNotes;
-use play_logs::run::{read_for_logs, report_logs};
 use std::alloc::{AllocError, Global};
 use std::io::{Read, Write};
 
@@ -49,24 +50,51 @@ impl PlayNotes for Stops {
     }
 }
 
-/// Judges the place in the middle of a part of a cave. Then it plays logs there, and writes the map
-/// of that part.
-fn map_games_in_cave<L: Read, W: Write>(
+/// Judges the place in the middle of a part of a cave. Then it plays this many logs there, and makes
+/// the map of that part.
+fn map_games_in_cave<I: Sources>(
     alloc: Global,
     read: &ReadCave,
-    logs: &mut [L],
+    inputs: &mut I,
+    logs: usize,
     seed: u32,
     part: MapPart,
-    output: &mut W,
-) -> Result<(), LogsFault>
-    requires { large_seed seed ≡ None }
-    ensures runs { (moves : List (List ℕ)) × AllZip Says (map L.remaining logs.old) moves
-        × RunsLogs (place_stage read.now.cave part ∷ []) moves
-        (λ _ text. text ≡ map_of_games read.now.cave part (games_of seed moves))
-        (W.contents output.old) (W.contents output.new) result }
+) -> Result<Reported<()>, LogsFault>
+    requires fits { large_seed seed ≡ None }
+    requires many { logs ≡ length (I.held inputs.old).logs }
+    ensures judged { (moves : List (List ℕ)) × AllZip Says (I.held inputs.old).logs moves
+        × JudgesLogs (place_stage read.now.cave part ∷ []) moves
+        (IsMadeReport (λ _ text. text ≡ map_of_games read.now.cave part (games_of seed moves)))
+        result }
+    ensures all { IfOk result (λ _. (I.held inputs.new).logs ≡ []) }
+    ensures leads { I.Leads inputs.old inputs.new }
 {
     check_place(&read.cave, part.around)?;
-    report_logs::<Stops, L, W>(alloc, read, logs, seed, &part, output)
+    report_in_cave::<Stops, I>(alloc, read, inputs, logs, seed, &part)
+}
+
+/// Plays this many logs, each by itself from its first line, and makes the map of a part of the cave
+/// with what their plays saw of it. Without logs it is just the map.
+pub fn make_map<I: Sources>(
+    alloc: Global,
+    inputs: &mut I,
+    logs: usize,
+    seed: u32,
+    part: MapPart,
+) -> Result<Reported<()>, LogsFault>
+    requires { logs ≡ length (I.held inputs.old).logs }
+    ensures judged { (database : List ℕ) × (bindings : List ℕ) × (moves : List (List ℕ))
+        × Says (I.held inputs.old).cave database × Says (I.held inputs.old).bindings bindings
+        × AllZip Says (I.held inputs.old).logs moves
+        × JudgesMap database bindings moves seed part result }
+    ensures all { IfOk result (λ _. (I.held inputs.new).logs ≡ []) }
+    ensures leads { I.Leads inputs.old inputs.new }
+{
+    let read = read_for_logs(alloc, inputs, seed)?;
+    let made = map_games_in_cave(alloc, &read, inputs, logs, seed, part);
+    // By a call, as in other runs, so the checker goes through the tables of a cave in one place.
+    drop(read);
+    made
 }
 
 /// Plays logs, each by itself from its first line, and writes the map of a part of the cave with
@@ -86,9 +114,9 @@ pub fn run_map<C: Read, B: Read, L: Read, W: Write>(
         × RunsMap database bindings moves seed part
         (W.contents output.old) (W.contents output.new) result }
 {
-    let read = read_for_logs(alloc, cave, seed)?;
-    let ended = map_games_in_cave(alloc, &read, logs, seed, part, output);
-    // By a call, as in other runs, so the checker goes through the tables of a cave in one place.
-    drop(read);
-    ended
+    let count = logs.len();
+    let mut nothing: &[u8] = &[];
+    let mut readers = Readers::of(cave, logs, &mut nothing);
+    let made = make_map(alloc, &mut readers, count, seed, part);
+    write_report(made, output)
 }

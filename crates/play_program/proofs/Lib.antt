@@ -1,7 +1,6 @@
-pub mod OpeningLemmas
-pub mod PeekLemmas
-pub mod LookedLemmas
-pub mod NoticeLemmas
-pub mod BesideLemmas
-mod CoverLemmas
-pub mod ClashLemmas
+mod CallLemmas
+mod MakeLemmas
+mod OpenLemmas
+mod ReadLemmas
+mod SourceLemmas
+mod TakenLemmas

@@ -1,150 +1,181 @@
--- What a run over files leaves, and what the program reports of it.
-use Rattle.std.specs.Prelude.{◌≡◌, ◌⊎◌, ℕ, List, [], ◌∷◌, map, Option, None, Some}
-use Rattle.std.specs.Prelude.{◌==◌, Bool, true, false, Result, Ok, Err, MatchResult, length, take}
+-- What the run of a request leaves, and what the program reports of it.
+use Rattle.std.specs.Prelude.{◌≡◌, ◌<◌, ◌⊎◌, ℕ, List, [], ◌∷◌, length, map, take, Option, None}
+use Rattle.std.specs.Prelude.{Some, Bool, true, IfSome, ◌++◌}
+use Rattle.std.specs.Prelude.{false, Result, Ok, Err, MatchResult, option_map}
 use Rattle.std.specs.Io.KnownBytes.{Appends}
-use Rattle.std.specs.List.{AllZip}
+use Rattle.std.specs.List.{AllZip, flat_map}
 use Rattle.std.specs.declared.io.Error.{Error}
 use Rattle.cave_play.specs.Input.{InputTexts, Says}
+use Rattle.cave_play.specs.Sources.{AreHeld, Held}
 use Rattle.cave_play.specs.declared.edits.EditRun.{EditRun}
 use Rattle.cave_play.specs.declared.fault.PlayFault.{PlayFault}
 use Rattle.cave_play.specs.declared.fault.PlayFault.TheVariants as fault
-use Rattle.play_command.specs.declared.line.Line.{Line}
+use Rattle.cave_play.specs.declared.logs_fault.LogsFault.{LogsFault}
+use Rattle.play_command.specs.declared.input.Input.{Input}
+use Rattle.play_command.specs.declared.input.Input.TheVariants as input
+use Rattle.play_command.specs.declared.line.Request.{Request}
 use Rattle.play_program.specs.Beside.{report_in, told_beside}
 use Rattle.play_program.specs.Calls.{Call, Told, and_then}
 use Rattle.play_program.specs.Calls.Call.{Puts, Tells}
 use Rattle.play_program.specs.Clash.{AreApart, IsClash}
-use Rattle.play_program.specs.Failures.{failure_status, has_output, is_silent, message_of}
-use Rattle.play_program.specs.Names.{FileNames, files_in}
-use Rattle.play_program.specs.Notice.{TellsHeads, logs_named}
-use Rattle.play_program.specs.Opening.{Stops, bytes_named, opening, script_bytes}
-use Rattle.play_program.specs.Runs.{RunsLine}
+use Rattle.play_program.specs.Failures.{failure_status, is_silent, message_of}
+use Rattle.play_program.specs.Files.{FileName, files_in, log_names, name_of_file, names_in}
+use Rattle.play_program.specs.Making.{IsMade, third_of}
+use Rattle.play_program.specs.Sources.{AreTextsOf, IsLast, ReadLog, Shut, Stops, calls_for_log}
+use Rattle.play_program.specs.Sources.{entry_of, first_files, held_of, later_files, opened_names}
+use Rattle.play_program.specs.Sources.{opening, read_names, typed_text}
 use Rattle.play_program.specs.declared.failure.Failure.{Failure}
-use Rattle.play_program.specs.declared.failure.Failure.TheVariants.{Unopened, Run, Unwritten}
-use Rattle.play_program.specs.declared.failure.Failure.TheVariants.{Unprinted, Clash}
+use Rattle.play_program.specs.declared.failure.Failure.TheVariants.{Run, Unopened, Unprinted}
+use Rattle.play_program.specs.declared.failure.Failure.TheVariants.{Unwritten}
+use Rattle.play_program.specs.declared.make.Made.{Made}
 
--- the inputs are the bytes of the files of these names, if they are known
-pub record AreTextsIn (bytes_of : List ℕ → Option (List ℕ)) (names : FileNames)
-    (texts : InputTexts) (logs : List (List ℕ)) : Type 0 where
-  pub database : Says (bytes_named bytes_of names.cave) texts.database
-  pub bindings : Says (bytes_named bytes_of names.bindings) texts.bindings
-  pub log : Says (bytes_named bytes_of names.log) texts.log
-  pub script : Says (script_bytes bytes_of names.script names.typed) texts.script
-  pub each_log : AllZip Says (map bytes_of names.logs) logs
+-- ---- what is made
 
--- all files of the run were opened, what the heads of logs say differently was reported, and what
--- their bytes ask for was done
-pub record RunsOpened (bytes_of : List ℕ → Option (List ℕ)) (asked : Line) (names : FileNames)
-    (calls called : Option (List Call)) (old new : Option (List ℕ))
-    (ended : Result (Option EditRun) Failure) : Type 0 where
-  pub opened : (opened : Option (List Call))
-      × (opened ≡ and_then calls (opening (files_in names)))
-      × TellsHeads asked (logs_named asked names) (map bytes_of (logs_named asked names))
-      opened called
-  pub runs : (texts : InputTexts) × (logs : List (List ℕ))
-      × AreTextsIn bytes_of names texts logs × RunsLine asked texts logs old new ended
+-- what is known of the inputs of a request
+abbrev pub held_by : (List ℕ → Option (List ℕ)) → Request → Held
+held_by bytes_of request =
+    held_of (map (entry_of bytes_of) (first_files request))
+    (typed_text request) (map bytes_of (log_names (later_files request)))
 
--- a file of the run couldn't be opened, and nothing was written
-pub record RunsUnopened (names : FileNames) (calls called : Option (List Call))
-    (old new : Option (List ℕ)) (ended : Result (Option EditRun) Failure) : Type 0 where
-  pub kept : new ≡ old
-  pub stops : (failure : Failure) × (ended ≡ Err failure)
-      × Stops (files_in names) calls called failure
+-- why nothing was made: a log can't be opened, for the system's reason, or a fault was met
+abbrev pub IsShut : Request → Shut → Failure → Type 0
+IsShut request shut (Unopened input.Log name reason) =
+    (name.now ≡ name_of_file request shut.0) × (reason ≡ shut.1)
+IsShut request shut _ = ⊥
 
--- what a run over files whose output goes to a writer leaves
-abbrev pub RunsFiles : (List ℕ → Option (List ℕ)) → Line → FileNames
-    → Option (List Call) → Option (List Call) → Option (List ℕ) → Option (List ℕ)
-    → Result (Option EditRun) Failure → Type 0
-RunsFiles bytes_of asked names calls called old new ended =
-    RunsOpened bytes_of asked names calls called old new ended
-    ⊎ RunsUnopened names calls called old new ended
+abbrev pub IsWhyUnmade : Request → LogsFault → Option Shut → Failure → Type 0
+IsWhyUnmade request found None failure = failure ≡ Run found.fault found.log
+IsWhyUnmade request found (Some shut) failure = IsShut request shut failure
+
+abbrev pub IsMadeWith : Request → Result Made LogsFault → Option Shut → Result Made Failure
+    → Type 0
+IsMadeWith request (Ok made) unopened ended = ended ≡ Ok made
+IsMadeWith request (Err found) unopened ended = (failure : Failure) × (ended ≡ Err failure)
+    × IsWhyUnmade request found unopened failure
+
+-- these names come first among the names of the files of an input
+abbrev pub AreFirst : List (List ℕ) → Input → List FileName → Type 0
+AreFirst names from files = (others : List (List ℕ))
+    × (names_in from files ≡ names ++ others)
+
+-- the files that are opened before the run were opened, and then these logs were read, each of them
+-- once, in the order of their input; several logs were opened in their order for that: all of them,
+-- if something was made, and none after one that can't be opened
+pub record ReadsLogs (bytes_of : List ℕ → Option (List ℕ)) (request : Request)
+    (calls called : Option (List Call)) (unopened : Option Shut) (made : Result Made Failure)
+    (read : List ReadLog) (left : List (List ℕ)) : Type 0 where
+  pub called_are : called ≡ and_then (and_then calls (opening (first_files request)))
+      (flat_map (calls_for_log request) read)
+  pub texts : AreTextsOf bytes_of read
+  pub logs : AreFirst (read_names input.Log read) input.Log (first_files request)
+  pub new_logs : AreFirst (read_names input.NewLog read) input.NewLog (first_files request)
+  pub later : log_names (later_files request) ≡ opened_names read ++ left
+  pub all : MatchResult made (λ _. left ≡ []) (λ _. Unit {0})
+  pub tried : IfSome unopened (λ shut. IsLast (name_of_file request shut.0) (opened_names read))
+
+-- from the bytes of all files this was made
+pub record MakesOpened (bytes_of : List ℕ → Option (List ℕ)) (request : Request)
+    (calls called : Option (List Call)) (made : Result Made Failure) (unopened : Option Shut)
+    : Type 0 where
+  pub logs : (read : List ReadLog) × (left : List (List ℕ))
+      × ReadsLogs bytes_of request calls called unopened made read left
+  pub found : (found : Result Made LogsFault) × (texts : InputTexts)
+      × (each : List (List ℕ)) × AreHeld (third_of request.what) (held_by bytes_of request) texts
+      × AllZip Says (held_by bytes_of request).logs each × IsMade request texts each found
+      × IsMadeWith request found unopened made
+
+-- or one of them couldn't be opened
+abbrev pub MakesOf : (List ℕ → Option (List ℕ)) → Request → Option (List Call)
+    → Option (List Call) → Result Made Failure → Type 0
+MakesOf bytes_of request calls called made =
+    ((unopened : Option Shut) × MakesOpened bytes_of request calls called made unopened)
+    ⊎ ((failure : Failure) × (made ≡ Err failure)
+    × Stops (first_files request) calls called failure)
+
+-- ---- what is delivered
+
+-- a text was printed; or a part of it was, and no more could be, unless there is no text
+abbrev pub Prints : List ℕ → Option (List ℕ) → Option (List ℕ) → Result (Unit {0}) Failure → Type 0
+Prints text old new ended = MatchResult ended (λ _. Appends old new text)
+    (λ failure. (failure ≡ Run fault.Write None) × (0 < length text)
+    × ((n : ℕ) × Appends old new (take n text)))
 
 -- the file can't be written, or memory ran out
 abbrev pub IsUnput : List ℕ → Failure → Type 0
 IsUnput file (Unwritten name reason) = file ≡ name.now
 IsUnput file (Run found log) = (found ≡ fault.Memory) × (log ≡ None)
-IsUnput file (Unopened from name reason) = ⊥
-IsUnput file (Unprinted reason) = ⊥
-IsUnput file (Clash name view) = ⊥
+IsUnput file _ = ⊥
 
--- a list of bytes takes each write, unless memory runs out
-abbrev pub list_failure : PlayFault → Option ℕ → Failure
-list_failure fault.Write log = Run fault.Memory None
-list_failure found log = Run found log
-
-abbrev pub in_list : Failure → Failure
-in_list (Run found log) = list_failure found log
-in_list failure = failure
-
--- the whole output of a run that failed was put into the file, if it has one, and otherwise nothing
--- was
-abbrev pub PutsFailure : Bool → List ℕ → List ℕ → Option (List Call) → Option (List Call)
-    → Failure → Failure → Type 0
-PutsFailure true file output calls called failure found =
+-- once the report was printed, the output was put into its file
+abbrev pub PutsAfter : List ℕ → List ℕ → Option (List Call) → Option (List Call)
+    → Result (Unit {0}) Failure → Result (Unit {0}) Failure → Type 0
+PutsAfter file output calls called (Ok done) ended =
     (called ≡ and_then calls (Puts file output ∷ []))
-    × ((found ≡ failure) ⊎ IsUnput file found)
-PutsFailure false file output calls called failure found =
-    (called ≡ calls) × (found ≡ in_list failure)
+    × MatchResult ended (λ _. Unit {0}) (IsUnput file)
+PutsAfter file output calls called (Err failure) ended = (called ≡ calls) × (ended ≡ Err failure)
 
--- the report of a run was printed, if it has one; or a part of it was, and no more could be
-abbrev pub PrintsReport : Option EditRun → Option (List ℕ) → Option (List ℕ)
-    → Result (Option EditRun) Failure → Type 0
-PrintsReport made old new (Ok said) = (said ≡ made) × Appends old new (report_in made)
-PrintsReport made old new (Err failure) =
-    (failure ≡ Run fault.Write None) × ((length (report_in made) == 0) ≡ false)
-    × ((n : ℕ) × Appends old new (take n (report_in made)))
+-- once the output was printed, the report was
+abbrev pub PrintsAfter : List ℕ → Option (List ℕ) → Option (List ℕ) → Result (Unit {0}) Failure
+    → Result (Unit {0}) Failure → Type 0
+PrintsAfter report old new (Ok done) ended = Prints report old new ended
+PrintsAfter report old new (Err failure) ended = (new ≡ old) × (ended ≡ Err failure)
 
--- once the report was printed, the output was put into the file
-abbrev pub PutsReported : List ℕ → List ℕ → Option (List Call) → Option (List Call)
-    → Result (Option EditRun) Failure → Result (Option EditRun) Failure → Type 0
-PutsReported file output calls called (Ok made) ended =
-    (called ≡ and_then calls (Puts file output ∷ []))
-    × MatchResult ended (λ said. said ≡ made) (IsUnput file)
-PutsReported file output calls called (Err failure) ended = (called ≡ calls) × (ended ≡ Err failure)
+-- the report was printed, and then the output went into the file; or the output was printed, if it
+-- goes into none, and then the report
+abbrev pub Delivers : Option (List ℕ) → Made → Option (List Call) → Option (List Call)
+    → Option (List ℕ) → Option (List ℕ) → Result (Unit {0}) Failure → Type 0
+Delivers (Some file) made calls called old new ended =
+    (printed : Result (Unit {0}) Failure) × Prints (report_in made.edits) old new printed
+    × PutsAfter file made.output.items calls called printed ended
+Delivers None made calls called old new ended =
+    (called ≡ calls)
+    × ((mid : Option (List ℕ)) × (printed : Result (Unit {0}) Failure)
+    × Prints made.output.items old mid printed
+    × PrintsAfter (report_in made.edits) mid new printed ended)
 
--- an output was put into the file if the run ended well and its report was printed, or if it failed
--- only since it is strict
-abbrev pub PutsEnd : List ℕ → List ℕ → Option (List Call) → Option (List Call)
-    → Option (List ℕ) → Option (List ℕ)
-    → Result (Option EditRun) Failure → Result (Option EditRun) Failure → Type 0
-PutsEnd file output calls called old new (Ok made) ended =
-    (reported : Result (Option EditRun) Failure) × PrintsReport made old new reported
-    × PutsReported file output calls called reported ended
-PutsEnd file output calls called old new (Err failure) ended = (new ≡ old)
-    × ((found : Failure) × (ended ≡ Err found)
-    × PutsFailure (has_output failure) file output calls called failure found)
+-- ---- how the run ends
 
--- what a run over files leaves if its output is kept until it is whole and then goes into a file
-abbrev pub RunsIntoFile : (List ℕ → Option (List ℕ)) → Line → FileNames → List ℕ
+-- a run that delivered what it made fails if something is left, since it is strict
+abbrev pub with_left : Option PlayFault → Option EditRun → Result (Option EditRun) Failure
+with_left None edits = Ok edits
+with_left (Some found) edits = Err (Run found None)
+
+abbrev pub ended_by : Made → Result (Unit {0}) Failure → Result (Option EditRun) Failure
+ended_by made (Ok done) = with_left made.left made.edits
+ended_by made (Err failure) = Err failure
+
+-- what was made is delivered; if nothing was, nothing is
+abbrev pub DeliversIf : Option (List ℕ) → Result Made Failure → Option (List Call)
+    → Option (List Call) → Option (List ℕ) → Option (List ℕ) → Result (Option EditRun) Failure
+    → Type 0
+DeliversIf file (Ok made) calls called old new ended =
+    (delivered : Result (Unit {0}) Failure)
+    × Delivers file made calls called old new delivered × (ended ≡ ended_by made delivered)
+DeliversIf file (Err failure) calls called old new ended =
+    (called ≡ calls) × (new ≡ old) × (ended ≡ Err failure)
+
+abbrev pub output_of : Request → Option (List ℕ)
+output_of request = option_map (λ s. s.now) request.output
+
+abbrev pub RunsFiles : (List ℕ → Option (List ℕ)) → Request → Option (List Call)
+    → Option (List Call) → Option (List ℕ) → Option (List ℕ) → Result (Option EditRun) Failure
+    → Type 0
+RunsFiles bytes_of request calls called old new ended =
+    (ran : Option (List Call)) × (made : Result Made Failure)
+    × MakesOf bytes_of request calls ran made
+    × DeliversIf (output_of request) made ran called old new ended
+
+-- the output goes over no file that is read, or over one that it may replace, and the run was done;
+-- or nothing was
+abbrev pub RunsApart : (List ℕ → List ℕ → Option Bool) → (List ℕ → Option (List ℕ)) → Request
     → Option (List Call) → Option (List Call) → Option (List ℕ) → Option (List ℕ)
     → Result (Option EditRun) Failure → Type 0
-RunsIntoFile bytes_of asked names file calls called old new ended =
-    (output : List ℕ) × (opened : Option (List Call)) × (run : Result (Option EditRun) Failure)
-    × RunsFiles bytes_of asked names calls opened (Some []) (Some output) run
-    × PutsEnd file output opened called old new run ended
-
--- after an output that goes to a writer, its report was printed
-abbrev pub ReportsEnd : Option (List ℕ) → Option (List ℕ) → Result (Option EditRun) Failure
-    → Result (Option EditRun) Failure → Type 0
-ReportsEnd old new (Ok made) ended = PrintsReport made old new ended
-ReportsEnd old new (Err failure) ended = (new ≡ old) × (ended ≡ Err failure)
-
--- what a run over files leaves if its output goes to a writer
-abbrev pub RunsIntoWriter : (List ℕ → Option (List ℕ)) → Line → FileNames
-    → Option (List Call) → Option (List Call) → Option (List ℕ) → Option (List ℕ)
-    → Result (Option EditRun) Failure → Type 0
-RunsIntoWriter bytes_of asked names calls called old new ended =
-    (written : Option (List ℕ)) × (run : Result (Option EditRun) Failure)
-    × RunsFiles bytes_of asked names calls called old written run
-    × ReportsEnd written new run ended
-
--- what a run whose output goes where its line says leaves
-abbrev pub RunsTo : Option (List ℕ) → (List ℕ → Option (List ℕ)) → Line → FileNames
-    → Option (List Call) → Option (List Call) → Option (List ℕ) → Option (List ℕ)
-    → Result (Option EditRun) Failure → Type 0
-RunsTo None bytes_of asked names calls called old new ended =
-    RunsIntoWriter bytes_of asked names calls called old new ended
-RunsTo (Some file) bytes_of asked names calls called old new ended =
-    RunsIntoFile bytes_of asked names file calls called old new ended
+RunsApart one_file bytes_of request calls called old new ended =
+    (AreApart one_file request.what (output_of request) (files_in request)
+    × RunsFiles bytes_of request calls called old new ended)
+    ⊎ ((failure : Failure) × (ended ≡ Err failure)
+    × IsClash one_file request.what (output_of request) (files_in request) failure
+    × (called ≡ calls) × (new ≡ old))
 
 -- the output couldn't be written for this reason, if that is what failed
 abbrev pub write_failure : PlayFault → Option ℕ → Error → Failure
@@ -160,50 +191,30 @@ abbrev pub with_reason : Failure → Option Error → Failure
 with_reason failure None = failure
 with_reason failure (Some reason) = failure_by failure reason
 
+-- ---- what is reported
+
 -- a failure is reported, unless nothing is said about it
 abbrev pub TellsUnless : Bool → Told → Option (List Call) → Option (List Call) → Type 0
 TellsUnless true what calls called = called ≡ calls
 TellsUnless false what calls called = called ≡ and_then calls (Tells what ∷ [])
 
--- a failure is reported once, and its status is the program's
-abbrev pub TellsFailure : FileNames → Option (List Call) → Option (List Call) → Failure → ℕ → Type 0
-TellsFailure names calls called failure status =
-    TellsUnless (is_silent failure) (message_of names failure) calls called
-    × (status ≡ failure_status failure)
-
 -- what is reported of a run that ended like this, and the status: of one that ended well, what is
--- said beside its output
-abbrev pub SaysEnd : Line → FileNames → Option (List Call) → Option (List Call)
+-- said beside its output; otherwise why, with the reason that the writer of the output gave
+abbrev pub SaysEnd : Request → Option Error → Option (List Call) → Option (List Call)
     → Result (Option EditRun) Failure → ℕ → Type 0
-SaysEnd asked names calls called (Ok made) status =
-    (called ≡ and_then calls (told_beside asked names made)) × (status ≡ 0)
-SaysEnd asked names calls called (Err failure) status =
-    TellsFailure names calls called failure status
+SaysEnd request reason calls called (Ok edits) status =
+    (called ≡ and_then calls (told_beside request edits)) × (status ≡ 0)
+SaysEnd request reason calls called (Err failure) status =
+    TellsUnless (is_silent (with_reason failure reason))
+    (message_of request (with_reason failure reason)) calls called
+    × (status ≡ failure_status (with_reason failure reason))
 
--- how a run ended, with the reason of a writer that failed
-abbrev pub ended_with : Result (Option EditRun) Failure → Option Error
-    → Result (Option EditRun) Failure
-ended_with (Ok made) reason = Ok made
-ended_with (Err failure) reason = Err (with_reason failure reason)
-
--- the output goes over no file that is read, or over one that it may replace, and the run was done;
--- or nothing was
-abbrev pub RunsApart : (List ℕ → List ℕ → Option Bool) → (List ℕ → Option (List ℕ)) → Line
-    → FileNames → Option (List Call) → Option (List Call) → Option (List ℕ) → Option (List ℕ)
-    → Result (Option EditRun) Failure → Type 0
-RunsApart one_file bytes_of asked names calls called old new ended =
-    (AreApart one_file asked names.output (files_in names)
-    × RunsTo names.output bytes_of asked names calls called old new ended)
-    ⊎ ((failure : Failure) × (ended ≡ Err failure)
-    × IsClash one_file asked names.output (files_in names) failure
-    × (called ≡ calls) × (new ≡ old))
-
--- what the run of a line leaves, with what the program reports of it: this is the reason that the
+-- what the run of a request leaves, with what the program reports of it: this is the reason that the
 -- writer of the output gave last, if it failed
-abbrev pub EndsRun : (List ℕ → List ℕ → Option Bool) → (List ℕ → Option (List ℕ)) → Line
-    → FileNames → Option (List Call) → Option (List Call) → Option (List ℕ) → Option (List ℕ)
+abbrev pub EndsRun : (List ℕ → List ℕ → Option Bool) → (List ℕ → Option (List ℕ)) → Request
+    → Option (List Call) → Option (List Call) → Option (List ℕ) → Option (List ℕ)
     → Option Error → ℕ → Type 0
-EndsRun one_file bytes_of asked names calls called old new reason status =
+EndsRun one_file bytes_of request calls called old new reason status =
     (ran : Option (List Call)) × (ended : Result (Option EditRun) Failure)
-    × RunsApart one_file bytes_of asked names calls ran old new ended
-    × SaysEnd asked names ran called (ended_with ended reason) status
+    × RunsApart one_file bytes_of request calls ran old new ended
+    × SaysEnd request reason ran called ended status

@@ -1,5 +1,5 @@
--- What the head of a log says of how the log is played, and what of it a command line doesn't say.
-use Rattle.std.specs.Prelude.{ℕ, ◌==◌, ◌&&◌, ◌||◌, Bool, true, false, not, bytes_eq, nat_le, nat_lt}
+-- What the head of a log says of how the log is played, and what of it a request doesn't say.
+use Rattle.std.specs.Prelude.{ℕ, ◌==◌, ◌&&◌, ◌||◌, Bool, false, not, bytes_eq, nat_le, nat_lt}
 use Rattle.std.specs.Prelude.{List, [], ◌∷◌, length, take, drop, Option, None, Some, codes}
 use Rattle.std.specs.Prelude.{if◌then◌else◌, option_map, unwrap_or}
 use Rattle.std.specs.Option.{option_and_then, option_map_or, option_or}
@@ -8,23 +8,14 @@ use Rattle.base_lines.specs.Bytes.{after_prefix, is_digit, number_of, prefix_whi
 use Rattle.base_lines.specs.Limits.{MAX_DIGITS}
 use Rattle.base_lines.specs.Line.{is_line}
 use Rattle.data_rows.specs.Fields.{fields}
+use Rattle.play_command.specs.declared.input.Input.TheVariants as input
+use Rattle.play_command.specs.declared.line.Request.{Request}
+use Rattle.play_command.specs.declared.line.What.{What}
+use Rattle.play_command.specs.declared.line.What.TheVariants.{Cover, Edit, Map, Play}
+use Rattle.play_program.specs.Files.{file_of}
 use Rattle.play_program.specs.declared.head.HeadSaid.{HeadSaid}
-use Rattle.play_program.specs.declared.head.HeadWords.{HeadWords}
-
--- how many bytes of a log are looked at: the most that a line and its end may have
-abbrev pub MAX_HEAD_BYTES : ℕ
-MAX_HEAD_BYTES = 257
-
--- what a command line says of how a log is played
-pub record PlayWords : Type 0 where
-  pub cave : List ℕ
-  pub bindings : Option (List ℕ)
-  pub seed : ℕ
 
 -- ---- the words of a head, which are read as those of a command line
-
-abbrev pub is_command : List ℕ → Bool
-is_command word = bytes_eq word (codes "play") || bytes_eq word (codes "edit")
 
 abbrev pub is_option : List ℕ → Bool
 is_option [] = false
@@ -34,16 +25,10 @@ abbrev pub first_word : List (List ℕ) → Option (List ℕ)
 first_word [] = None
 first_word (word ∷ words) = Some word
 
--- the first word, unless it is an option
+-- the database of a head: its first word, unless that is an option
 abbrev pub first_file : List (List ℕ) → Option (List ℕ)
 first_file [] = None
 first_file (word ∷ words) = if is_option word then None else Some word
-
--- the database of a head: its first word, or the one after the name of a command
-abbrev pub head_cave : List (List ℕ) → Option (List ℕ)
-head_cave [] = None
-head_cave (word ∷ words) =
-    if is_command word then first_file words else first_file (word ∷ words)
 
 -- what follows the first bytes of a word, if it begins with them
 abbrev pub after_start : List ℕ → List ℕ → Option (List ℕ)
@@ -71,22 +56,14 @@ value_of name letter (word ∷ words) =
 
 -- ---- the head of a log
 
-abbrev pub first_line : List (List ℕ) → List ℕ
-first_line [] = []
-first_line (line ∷ lines) = line
-
--- what follows `# cave:` on a line that a log may have
-unfoldable pub head_text : List ℕ → Option (List ℕ)
-head_text line =
+-- what follows `# cave:` on the first line, if a log may have it
+abbrev pub head_in : List (List ℕ) → Option (List ℕ)
+head_in [] = None
+head_in (line ∷ lines) =
     if is_line line && bytes_eq (take 7 line) (codes "# cave:") then Some (drop 7 line) else None
 
--- what the head of a log says, if its first line is one
-abbrev pub head_of : List ℕ → Option (List ℕ)
-head_of log = head_text (first_line (lines log))
-
--- its words are its runs of nonblanks
-abbrev pub head_words : List ℕ → Option (List (List ℕ))
-head_words log = option_map fields (head_of log)
+unfoldable pub head_of : List ℕ → Option (List ℕ)
+head_of log = head_in (lines log)
 
 -- ---- what differs
 
@@ -102,6 +79,9 @@ base_name path = base_from path path
 abbrev pub is_same_file : List ℕ → List ℕ → Bool
 is_same_file said given = bytes_eq (base_name said) (base_name given)
 
+abbrev pub is_bound_by : List ℕ → Option (List ℕ) → Bool
+is_bound_by said bindings = option_map_or (is_same_file said) bindings false
+
 -- 1 to 10 digits that write another number
 unfoldable pub is_other_seed : ℕ → List ℕ → Bool
 is_other_seed seed said =
@@ -113,40 +93,39 @@ is_other_seed seed said =
 abbrev pub Said : Type 0
 Said = List ℕ × List ℕ
 
-abbrev pub said_if : Bool → List ℕ → List ℕ → Option Said
-said_if true option text = Some (option, text)
-said_if false option text = None
+abbrev pub said_in : HeadSaid → Said
+said_in said = (said.option.now, said.text.now)
 
-abbrev pub other_cave : List ℕ → List ℕ → Option Said
-other_cave cave said = said_if (not (is_same_file said cave)) [] said
-
-abbrev pub other_bindings : Option (List ℕ) → List ℕ → Option Said
-other_bindings bindings said =
-    said_if (not (option_map_or (is_same_file said) bindings false)) (codes "--bind ") said
-
-abbrev pub other_seed : ℕ → List ℕ → Option Said
-other_seed seed said = said_if (is_other_seed seed said) (codes "--seed ") said
+-- what is said as this option, unless it is nothing or the same
+abbrev pub said_unless : (List ℕ → Bool) → List ℕ → Option (List ℕ) → Option Said
+said_unless is_same option None = None
+said_unless is_same option (Some said) = if is_same said then None else Some (option, said)
 
 -- the first of these that a head says differently: the database, its bindings, the seed; what it
 -- doesn't say doesn't differ
-abbrev pub other_said : PlayWords → List (List ℕ) → Option Said
-other_said words head = option_or (option_and_then (other_cave words.cave) (head_cave head))
-    (option_or (option_and_then (other_bindings words.bindings)
-    (value_of (codes "--bind") (codes "-b") head))
-    (option_and_then (other_seed words.seed) (value_of (codes "--seed") (codes "-s") head)))
+abbrev pub other_said : Request → ℕ → List (List ℕ) → Option Said
+other_said request seed head =
+    let cave = unwrap_or (file_of request input.Cave 0) [] in
+    option_or (said_unless (λ said. is_same_file said cave) [] (first_file head))
+    (option_or (said_unless (λ said. is_bound_by said (file_of request input.Bindings 0))
+    (codes "--bind ") (value_of (codes "--bind") (codes "-b") head))
+    (said_unless (λ said. not (is_other_seed seed said)) (codes "--seed ")
+    (value_of (codes "--seed") (codes "-s") head)))
 
--- what the head of a log says differently from the command line, if it does
-unfoldable pub head_notice : PlayWords → List ℕ → Option Said
-head_notice words log = option_and_then (other_said words) (head_words log)
+-- the seed with which a request plays its logs, if it plays some and isn't quiet
+abbrev pub seed_by : What → Bool → Option ℕ
+seed_by (Edit asked) quiet = if quiet then None else Some asked.editing.seed
+seed_by (Play seed view) quiet = Some seed
+seed_by (Cover seed view strict) quiet = Some seed
+seed_by (Map seed part) quiet = Some seed
+seed_by _ quiet = None
 
--- ---- what the code has
+abbrev pub seed_asked : Request → Option ℕ
+seed_asked request = seed_by request.what request.quiet
 
-abbrev pub play_words : HeadWords → PlayWords
-play_words words = record {
-  cave = words.cave.now;
-  bindings = option_map (λ s. s.now) words.bind;
-  seed = words.seed;
-}
-
-abbrev pub said_in : HeadSaid → Said
-said_in said = (said.option.now, said.text.now)
+-- what the head of a log says differently from a request, if it does; its words are its runs of
+-- nonblanks
+unfoldable pub head_notice : Request → List ℕ → Option Said
+head_notice request log =
+    option_and_then (λ seed. option_and_then (λ head. other_said request seed (fields head))
+    (head_of log)) (seed_asked request)

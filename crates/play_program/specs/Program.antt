@@ -1,23 +1,21 @@
 -- What the program asks of its system for its words, and with which status it ends.
-use Rattle.std.specs.Prelude.{◌≡◌, ◌⊎◌, ℕ, Bool, List, [], ◌∷◌, Option, None, Some, Result, Ok}
-use Rattle.std.specs.Prelude.{Err, IfErr, IfOk, IfSome}
+use Rattle.std.specs.Prelude.{◌≡◌, ◌⊎◌, ℕ, Bool, List, [], ◌∷◌, Option, None, Result, Ok}
+use Rattle.std.specs.Prelude.{Err, IfSome}
 use Rattle.std.specs.IoError.{error_kind}
 use Rattle.std.specs.declared.io.Error.{Error}
-use Rattle.clap.specs.Words.{fault_of, subcommand_of}
 use Rattle.cave_play.specs.Fault.{status_of}
 use Rattle.cave_play.specs.declared.fault.PlayFault.{PlayFault}
 use Rattle.cave_play.specs.declared.fault.PlayFault.TheVariants as fault
-use Rattle.play_command.specs.App.{cave_app}
-use Rattle.play_command.specs.Line.{IsAsked, IsRefused, IsRun, status_of_command}
-use Rattle.play_command.specs.Refusal.{refusal_text}
+use Rattle.play_command.specs.Line.{IsAnswer}
+use Rattle.play_command.specs.Refusal.{refusal_text, status_of_command}
 use Rattle.play_command.specs.declared.fault.CommandFault.{CommandFault}
 use Rattle.play_command.specs.declared.line.Line.{Line}
+use Rattle.play_command.specs.declared.line.Line.TheVariants as line
 use Rattle.play_program.specs.Calls.{Call, Told, and_then}
 use Rattle.play_program.specs.Calls.Call.{Tells}
 use Rattle.play_program.specs.Calls.Told.{faulty, misused, unprinted, unread}
 use Rattle.play_program.specs.Ends.{EndsRun, TellsUnless}
 use Rattle.play_program.specs.Failures.{is_closed_pipe}
-use Rattle.play_program.specs.Names.{FileNames, names_of}
 
 -- this is reported, and nothing else is asked of the system
 abbrev pub TellsOne : Told → Option (List Call) → Option (List Call) → Type 0
@@ -37,7 +35,8 @@ TellsUnprinted reason calls called status =
 -- help or the version was printed, and nothing is asked of the system; or it couldn't be, for the
 -- reason that the writer gave last, if it failed
 abbrev pub EndsText : Option (List Call) → Option (List Call) → Option Error → ℕ → Type 0
-EndsText calls called reason status = ((called ≡ calls) × (status ≡ 0))
+EndsText calls called reason status =
+    ((called ≡ calls) × (status ≡ 0))
     ⊎ ((found : Error) × IfSome reason (λ given. found ≡ given)
     × TellsUnprinted found calls called status)
 
@@ -55,28 +54,14 @@ EndsRefused found calls called status =
     × AreSaidOf found before after × (status ≡ status_of_command found))
     ⊎ TellsFault fault.Memory calls called status
 
--- what a line that names these files, or asks for no run, leaves
-abbrev pub EndsNamed : Option FileNames → (List ℕ → List ℕ → Option Bool)
-    → (List ℕ → Option (List ℕ)) → Line → Option (List Call) → Option (List Call)
-    → Option (List ℕ) → Option (List ℕ) → Option Error → ℕ → Type 0
-EndsNamed None one_file bytes_of asked calls called old new reason status =
-    EndsText calls called reason status
-EndsNamed (Some names) one_file bytes_of asked calls called old new reason status =
-    EndsRun one_file bytes_of asked names calls called old new reason status
-
--- the line is what the words ask for, or the fault is why they ask for nothing
-pub record IsLineOf (words : List (List ℕ)) (line : Result Line CommandFault) : Type 0 where
-  pub found : IfOk line (IsRun (subcommand_of cave_app words))
-  pub asked : IfOk line (IsAsked (fault_of cave_app words))
-  pub refused : IfErr line
-      (IsRefused words (fault_of cave_app words) (subcommand_of cave_app words))
-
 -- what the program leaves for a command line
 abbrev pub EndsLine : Result Line CommandFault → (List ℕ → List ℕ → Option Bool)
     → (List ℕ → Option (List ℕ)) → Option (List Call) → Option (List Call)
     → Option (List ℕ) → Option (List ℕ) → Option Error → ℕ → Type 0
-EndsLine (Ok asked) one_file bytes_of calls called old new reason status =
-    EndsNamed (names_of asked) one_file bytes_of asked calls called old new reason status
+EndsLine (Ok (line.Run request)) one_file bytes_of calls called old new reason status =
+    EndsRun one_file bytes_of request calls called old new reason status
+EndsLine (Ok (line.Text text)) one_file bytes_of calls called old new reason status =
+    EndsText calls called reason status
 EndsLine (Err found) one_file bytes_of calls called old new reason status =
     (new ≡ old) × EndsRefused found calls called status
 
@@ -85,7 +70,7 @@ abbrev pub EndsWords : List (List ℕ) → (List ℕ → List ℕ → Option Boo
     → (List ℕ → Option (List ℕ)) → Option (List Call) → Option (List Call)
     → Option (List ℕ) → Option (List ℕ) → Option Error → ℕ → Type 0
 EndsWords words one_file bytes_of calls called old new reason status =
-    (line : Result Line CommandFault) × IsLineOf words line
+    (line : Result Line CommandFault) × IsAnswer words line
     × EndsLine line one_file bytes_of calls called old new reason status
 
 -- the words can't be read, which is reported with status 2, or memory ran out

@@ -4,13 +4,13 @@ ghost use Rattle.std.specs.Prelude.{◌≡◌, None};
 ghost use Rattle.std.specs.IoError.{error_kind};
 ghost use Rattle.cave_play.specs.declared.fault.PlayFault.TheVariants.{Memory};
 ghost use Rattle.play_program.specs.Calls.{told_of};
-ghost use Rattle.play_program.specs.Failures.{failure_status, has_output, is_closed_pipe};
-ghost use Rattle.play_program.specs.Failures.{is_silent, message_of};
-ghost use Rattle.play_program.specs.Names.{names_in};
+ghost use Rattle.play_program.specs.Failures.{failure_status, is_closed_pipe, is_silent};
+ghost use Rattle.play_program.specs.Failures.{message_of};
 
+use crate::files::file_of;
 use crate::message::Message;
-use crate::names::Names;
-use cave_play::{Complaint, Input, PlayFault};
+use cave_play::{Complaint, PlayFault};
+use play_command::{Input, Request};
 use std::io;
 use std::io::ErrorKind;
 
@@ -60,16 +60,6 @@ impl<'a> Failure<'a> {
         }
     }
 
-    /// Whether the run has a whole output all the same, which says what is left.
-    pub fn has_output(&self) -> bool
-        ensures { result ≡ has_output self.now }
-    {
-        match self {
-            Failure::Run(PlayFault::Doubt(_) | PlayFault::Unshown(_), _) => true,
-            _ => false,
-        }
-    }
-
     /// Whether the program says nothing about it.
     pub fn is_silent(&self) -> bool
         ensures { result ≡ is_silent self.now }
@@ -80,14 +70,14 @@ impl<'a> Failure<'a> {
         }
     }
 
-    /// What the program says about it, if the run has these files.
-    pub fn message(self, names: Names<'a>) -> Message<'a>
-        ensures { told_of result ≡ message_of (names_in names.entry) self.entry }
+    /// What the program says about the failure of a request.
+    pub fn message(self, request: &Request<'a>) -> Message<'a>
+        ensures { told_of result ≡ message_of request.now self.entry }
     {
         match self {
             Failure::Run(fault, log) => {
                 let file = match fault.input() {
-                    Some(input) => names.of(input, log),
+                    Some(input) => file_of(request, input, log.unwrap_or(0)),
                     None => None,
                 };
                 Message::Fault(Complaint { fault, file })

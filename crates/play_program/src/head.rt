@@ -1,29 +1,20 @@
-//! The head of a log: what it says of how the log is played, and what of it a command line
-//! doesn't say.
+//! The head of a log: what it says of how the log is played, and what of it a request doesn't say.
 
 ghost use Rattle.std.specs.Prelude.{◌≡◌, ◌<◌, [], ◌∷◌, IfSome, MatchOption, length, option_map};
 ghost use Rattle.data_rows.specs.Fields.{fields};
 ghost use Rattle.play_program.specs.Head.{after_equals, after_start, base_name, first_file};
-ghost use Rattle.play_program.specs.Head.{first_word, head_cave, head_notice, head_of};
-ghost use Rattle.play_program.specs.Head.{head_text, is_command, is_option, is_other_seed};
-ghost use Rattle.play_program.specs.Head.{is_same_file, other_bindings, other_cave, other_said};
-ghost use Rattle.play_program.specs.Head.{other_seed, play_words, said_if, said_in};
-ghost use Rattle.play_program.specs.Head.{value_in_word, value_of};
+ghost use Rattle.play_program.specs.Head.{head_notice, head_of, is_bound_by, is_option};
+ghost use Rattle.play_program.specs.Head.{is_other_seed, is_same_file, other_said, said_in};
+ghost use Rattle.play_program.specs.Head.{seed_asked, value_in_word, value_of};
 
+use crate::files::file_of;
 use base_lines::bytes::{number_of, skip_blanks, split_digits, split_word};
 use base_lines::limits::is_long_number;
 use base_lines::{check_line, split_line};
+use play_command::{Input, Request, What};
 use std::fmt;
 
-/// What a command line says of how a log is played.
-#[derive(Clone, Copy, Debug)]
-pub struct HeadWords<'a> {
-    pub cave: &'a str,
-    pub bind: Option<&'a str>,
-    pub seed: u32,
-}
-
-/// What the head of a log says differently from the command line.
+/// What the head of a log says differently from a request.
 #[derive(Clone, Copy, Debug)]
 pub struct HeadSaid<'a> {
     /// The option, with the blank after it, or no text for the database.
@@ -42,6 +33,17 @@ impl fmt::Display for HeadSaid<'_> {
     }
 }
 
+/// The seed with which a request plays its logs, if it plays some and isn't quiet.
+fn seed_asked(request: &Request<'_>) -> Option<u32>
+    ensures { result ≡ seed_asked request.now }
+{
+    match request.what {
+        What::Edit(asked) if !request.quiet => Some(asked.editing.seed),
+        What::Play { seed, .. } | What::Cover { seed, .. } | What::Map { seed, .. } => Some(seed),
+        _ => None,
+    }
+}
+
 /// The first word of a text, and what follows it.
 #[tactic(auto, using(data_rows::proofs::FieldLemmas::fields_of_first))]
 fn next_word(text: &[u8]) -> Option<(&[u8], &[u8])>
@@ -57,19 +59,6 @@ fn next_word(text: &[u8]) -> Option<(&[u8], &[u8])>
     }
 }
 
-fn first_word(text: &[u8]) -> Option<&[u8]>
-    ensures { option_map (λ word. word.now) result ≡ first_word (fields text.now) }
-{
-    let (word, _) = next_word(text)?;
-    Some(word)
-}
-
-fn is_command(word: &[u8]) -> bool
-    ensures { result ≡ is_command word.now }
-{
-    word == b"play".as_slice() || word == b"edit".as_slice()
-}
-
 fn is_option(word: &[u8]) -> bool
     ensures { result ≡ is_option word.now }
 {
@@ -79,23 +68,14 @@ fn is_option(word: &[u8]) -> bool
     }
 }
 
-/// The first word of a text, unless it is an option.
+/// The database of a head: its first word, unless that is an option.
 fn first_file(text: &[u8]) -> Option<&[u8]>
     ensures { option_map (λ word. word.now) result ≡ first_file (fields text.now) }
 {
-    let (word, _) = next_word(text)?;
-    if is_option(word) { None } else { Some(word) }
-}
-
-/// The database of a head: its first word, or the one after the name of a command.
-fn head_cave(text: &[u8]) -> Option<&[u8]>
-    ensures { option_map (λ word. word.now) result ≡ head_cave (fields text.now) }
-{
-    let (word, rest) = next_word(text)?;
-    if is_command(word) {
-        return first_file(rest);
+    match next_word(text) {
+        Some((word, _)) if !is_option(word) => Some(word),
+        _ => None,
     }
-    first_file(text)
 }
 
 /// What follows the first bytes of a word, if it begins with them.
@@ -136,7 +116,8 @@ fn value_of<'a>(name: &[u8], letter: &[u8], text: &'a [u8]) -> Option<&'a [u8]>
     let mut rest = text;
     while let Some((word, after)) = next_word(rest) {
         if word == name || word == letter {
-            return first_word(after);
+            let (value, _) = next_word(after)?;
+            return Some(value);
         }
         if let Some(value) = value_in_word(name, letter, word) {
             return Some(value);
@@ -146,25 +127,16 @@ fn value_of<'a>(name: &[u8], letter: &[u8], text: &'a [u8]) -> Option<&'a [u8]>
     None
 }
 
-/// What follows `# cave:` on a line that a log may have.
-#[tactic(auto, unfolding(crate::specs::Head::head_text))]
-fn head_text(line: &[u8]) -> Option<&[u8]>
-    ensures { option_map (λ text. text.now) result ≡ head_text line.now }
+/// What the head of a log says, if its first line is one that a log may have and a head.
+#[tactic(auto, unfolding(crate::specs::Head::head_of))]
+fn head_of(log: &[u8]) -> Option<&[u8]>
+    ensures { option_map (λ text. text.now) result ≡ head_of log.now }
 {
+    let (line, _) = split_line(log)?;
     if check_line(line).is_err() {
         return None;
     }
     line.strip_prefix(b"# cave:")
-}
-
-/// What the head of a log says, if its first line is one.
-fn head_of(log: &[u8]) -> Option<&[u8]>
-    ensures { option_map (λ text. text.now) result ≡ head_of log.now }
-{
-    match split_line(log) {
-        Some((line, _)) => head_text(line),
-        None => head_text(&[]),
-    }
 }
 
 /// The end of a path, after its last slash.
@@ -183,10 +155,20 @@ fn base_name(path: &[u8]) -> &[u8]
 }
 
 /// Whether the files of two paths have the same name, perhaps in other folders.
-fn is_same_file(said: &[u8], given: &[u8]) -> bool
+fn is_same_file(said: &[u8], given: &str) -> bool
     ensures { result ≡ is_same_file said.now given.now }
 {
-    base_name(said) == base_name(given)
+    base_name(said) == base_name(given.as_bytes())
+}
+
+/// Whether the bindings, if there are some, are in a file of the same name.
+fn is_bound_by(said: &[u8], bind: Option<&str>) -> bool
+    ensures { result ≡ is_bound_by said.now (option_map (λ bind. bind.now) bind.entry) }
+{
+    match bind {
+        Some(bind) => is_same_file(said, bind),
+        None => false,
+    }
 }
 
 /// Whether 1 to 10 digits write another number.
@@ -201,64 +183,38 @@ fn is_other_seed(seed: u32, said: &[u8]) -> bool
     number_of(digits) != u64::from(seed)
 }
 
-fn said_if<'a>(differs: bool, option: &'static str, text: &'a [u8]) -> Option<HeadSaid<'a>>
-    ensures { option_map said_in result ≡ said_if differs option.now text.now }
-{
-    if differs {
-        Some(HeadSaid { option, text })
-    } else {
-        None
-    }
-}
-
-fn other_cave<'a>(cave: &str, said: &'a [u8]) -> Option<HeadSaid<'a>>
-    ensures { option_map said_in result ≡ other_cave cave.now said.now }
-{
-    said_if(!is_same_file(said, cave.as_bytes()), "", said)
-}
-
-fn other_bindings<'a>(bind: Option<&str>, said: &'a [u8]) -> Option<HeadSaid<'a>>
-    ensures { option_map said_in result
-        ≡ other_bindings (option_map (λ bind. bind.now) bind.entry) said.now }
-{
-    let same = match bind {
-        Some(bind) => is_same_file(said, bind.as_bytes()),
-        None => false,
-    };
-    said_if(!same, "--bind ", said)
-}
-
-fn other_seed<'a>(seed: u32, said: &'a [u8]) -> Option<HeadSaid<'a>>
-    ensures { option_map said_in result ≡ other_seed seed said.now }
-{
-    said_if(is_other_seed(seed, said), "--seed ", said)
-}
-
 /// The first of these that a head says differently: the database, its bindings, the seed.
-fn other_said<'a>(words: &HeadWords<'_>, text: &'a [u8]) -> Option<HeadSaid<'a>>
-    ensures { option_map said_in result ≡ other_said (play_words words.now) (fields text.now) }
+fn other_said<'a>(request: &Request<'_>, seed: u32, head: &'a [u8]) -> Option<HeadSaid<'a>>
+    ensures { option_map said_in result ≡ other_said request.now seed (fields head.now) }
 {
-    if let Some(said) = head_cave(text) {
-        if let Some(other) = other_cave(words.cave, said) {
-            return Some(other);
+    match first_file(head) {
+        Some(text) if !is_same_file(text, file_of(request, Input::Cave, 0).unwrap_or("")) => {
+            return Some(HeadSaid { option: "", text });
         }
+        _ => {}
     }
-    if let Some(said) = value_of(b"--bind", b"-b", text) {
-        if let Some(other) = other_bindings(words.bind, said) {
-            return Some(other);
+    match value_of(b"--bind", b"-b", head) {
+        Some(text) if !is_bound_by(text, file_of(request, Input::Bindings, 0)) => {
+            let option = "--bind ";
+            return Some(HeadSaid { option, text });
         }
+        _ => {}
     }
-    match value_of(b"--seed", b"-s", text) {
-        Some(said) => other_seed(words.seed, said),
-        None => None,
+    match value_of(b"--seed", b"-s", head) {
+        Some(text) if is_other_seed(seed, text) => {
+            let option = "--seed ";
+            Some(HeadSaid { option, text })
+        }
+        _ => None,
     }
 }
 
-/// What the head of a log says differently from the command line, if it does.
+/// What the head of a log says differently from a request, if it does.
 #[tactic(auto, unfolding(crate::specs::Head::head_notice))]
-pub fn head_notice<'a>(words: &HeadWords<'_>, log: &'a [u8]) -> Option<HeadSaid<'a>>
-    ensures { option_map said_in result ≡ head_notice (play_words words.now) log.now }
+pub fn head_notice<'a>(request: &Request<'_>, log: &'a [u8]) -> Option<HeadSaid<'a>>
+    ensures { option_map said_in result ≡ head_notice request.now log.now }
 {
-    let text = head_of(log)?;
-    other_said(words, text)
+    let seed = seed_asked(request)?;
+    let head = head_of(log)?;
+    other_said(request, seed, head)
 }

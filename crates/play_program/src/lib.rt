@@ -4,29 +4,24 @@
 
 mod beside;
 mod clash;
-pub mod command;
 pub mod failure;
+mod files;
 pub mod head;
-mod looked;
-pub mod looked_file;
+mod make;
 pub mod message;
-pub mod names;
-mod notice;
 pub mod output;
-mod peek;
 pub mod program;
-pub mod readers;
 pub mod run;
+mod sources;
 pub mod system;
 pub mod target;
 pub mod whole;
 
-pub use cave_play::{CaveReaders, PlayFault};
+pub use cave_play::{CaveReaders, LogsFault, PlayFault};
 pub use message::Message;
 pub use output::Output;
 pub use play_command::{CoverView, MapPart, Surroundings, TextView};
 pub use play_cover::run::{CoverAsked, run_cover};
-pub use play_logs::fault::LogsFault;
 pub use play_map::run::run_map;
 pub use program::run_program;
 pub use system::System;

@@ -1,19 +1,18 @@
 //! The program, from its words to its status.
 
-ghost use Rattle.std.specs.Prelude.{◌≡◌, IfErr, IfOk, None, map, string_bytes};
+ghost use Rattle.std.specs.Prelude.{◌≡◌, IfErr, IfOk, None, Ok, map, string_bytes};
 ghost use Rattle.cave_play.specs.Fault.{status_of};
 ghost use Rattle.play_program.specs.Calls.Told.{faulty};
-ghost use Rattle.play_program.specs.Names.{names_of};
-ghost use Rattle.play_program.specs.Program.{EndsNamed, EndsRefused, EndsText, EndsUnread};
+ghost use Rattle.play_program.specs.Program.{EndsLine, EndsRefused, EndsText, EndsUnread};
 ghost use Rattle.play_program.specs.Program.{EndsWords, TellsOne, TellsUnprinted};
 
 use crate::failure::{WRONG_WORDS, is_closed_pipe};
 use crate::message::Message;
-use crate::names::Names;
 use crate::output::Output;
 use crate::run::run;
 use crate::system::System;
 use cave_play::{Complaint, PlayFault};
+use clap::Error;
 use play_command::{CommandFault, Line, command_line};
 use std::alloc::Global;
 use std::io;
@@ -44,16 +43,14 @@ fn fail_output<S: System>(system: &mut S, reason: io::Error) -> u8
     status
 }
 
-/// Prints help or the version, if a command line asks for it.
-fn print<S: System, W: Write>(system: &mut S, asked: &Line<'_>, output: &mut Output<W>) -> u8
-    ensures ends { EndsText (S.calls system.old) (S.calls system.new) output.new.reason result }
+/// Prints help or the version.
+fn print<S: System, W: Write>(system: &mut S, text: &Error, output: &mut Output<W>) -> u8
+    ensures ends { EndsText (S.calls system.old) (S.calls system.new) output.new.reason
+        result }
 {
-    match asked {
-        Line::Text(text) => match write!(output, "{text}") {
-            Ok(()) => DONE,
-            Err(reason) => fail_output(system, output.reason().unwrap_or(reason)),
-        },
-        _ => DONE,
+    match write!(output, "{text}") {
+        Ok(()) => DONE,
+        Err(reason) => fail_output(system, output.reason().unwrap_or(reason)),
     }
 }
 
@@ -64,13 +61,13 @@ fn answer<S: System, W: Write>(
     asked: &Line<'_>,
     output: &mut Output<W>,
 ) -> u8
-    ensures ends { EndsNamed (names_of asked.now) (S.one_file system.old) (S.bytes_of system.old)
-        asked.now (S.calls system.old) (S.calls system.new) (W.contents output.old.writer)
+    ensures ends { EndsLine (Ok asked.now) (S.one_file system.old) (S.bytes_of system.old)
+        (S.calls system.old) (S.calls system.new) (W.contents output.old.writer)
         (W.contents output.new.writer) output.new.reason result }
 {
-    match Names::in_run(asked) {
-        Some(names) => run(alloc, system, asked, names, output),
-        None => print(system, asked, output),
+    match asked {
+        Line::Run(request) => run(alloc, system, request, output),
+        Line::Text(text) => print(system, text, output),
     }
 }
 

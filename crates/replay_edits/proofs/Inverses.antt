@@ -9,7 +9,7 @@ use Rattle.std.proofs.lemmas.List.Edits.{length-insert, length-remove}
 use Rattle.std.proofs.lemmas.List.Elements.{All-append, All-cons, All-take, All-drop, All-set}
 use Rattle.std.proofs.lemmas.List.Elements.{All-get_or}
 use Rattle.std.proofs.lemmas.Bool.{ltb-false, leb-false, le-ltb, lt-leb}
-use Rattle.base_lines.specs.Line.{is_line}
+use Rattle.base_lines.specs.Line.{flaw_of, is_line}
 use Rattle.replay_edits.specs.declared.fault.EditFault.{EditFault}
 use Rattle.replay_edits.specs.declared.fault.EditFault.TheVariants.{NoSuchPlace, BadLine, LogFull}
 use Rattle.replay_edits.specs.declared.fault.EditFault.TheVariants.{BadSeed, MeterFull}
@@ -113,21 +113,23 @@ pub insert_within : (place : ℕ) (line : List ℕ) (log : List (List ℕ))
     → fault_of (inserts place line) log ≡ None
     → (place ≤ length log) × (is_line line ≡ true) × (length log < MAX_LOG_LINES)
 insert_within place line log free =
-    let first = free_choice (ltb (length log) place) NoSuchPlace (added_fault line log) free in
-    let second = free_choice (not (is_line line)) BadLine _ first.1 in
+    let first = free_choice (ltb (length log) place) (NoSuchPlace (length log))
+    (added_fault line log) free in
+    let second = free_choice (not (is_line line)) (BadLine (flaw_of line)) _ first.1 in
     let third = free_choice (leb MAX_LOG_LINES (length log)) LogFull None second.1 in
     (ltb-false _ _ first.0, good_line _ second.0, leb-false _ _ third.0)
 
 pub delete_within : (place : ℕ) (log : List (List ℕ)) → fault_of (deletes place) log ≡ None
     → place < length log
 delete_within place log free =
-    leb-false _ _ (free_choice (leb (length log) place) NoSuchPlace None free).0
+    leb-false _ _ (free_choice (leb (length log) place) (NoSuchPlace (length log)) None free).0
 
 pub replace_within : (place : ℕ) (line : List ℕ) (log : List (List ℕ))
     → fault_of (replaces place line) log ≡ None → (place < length log) × (is_line line ≡ true)
 replace_within place line log free =
-    let first = free_choice (leb (length log) place) NoSuchPlace (replaced_fault line) free in
-    (leb-false _ _ first.0, good_choice (is_line line) BadLine first.1)
+    let first = free_choice (leb (length log) place) (NoSuchPlace (length log))
+    (replaced_fault line) free in
+    (leb-false _ _ first.0, good_choice (is_line line) (BadLine (flaw_of line)) first.1)
 
 reseed_within : (seed : ℕ) (log : List (List ℕ)) → fault_of (reseeds seed) log ≡ None
     → seed ≤ MAX_SEED

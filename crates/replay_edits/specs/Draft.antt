@@ -33,6 +33,7 @@ pub record IsDraft (edits : List Edit) (log : List LineText) (made : ℕ) (draft
     pub made_is : made_in draft ≡ made
     pub now : log_by draft.stock draft.game.numbers
         ≡ log_after_all (take made (changes_of edits)) (log_of log)
+    pub counted : draft.lines ≡ length (log_by draft.stock draft.game.numbers)
     pub ordered : draft.stock.head ≤ draft.stock.rest
     pub within : draft.stock.rest ≤ length log
     pub free : fault_of_all (changes_of (drop made edits)) (log_by draft.stock draft.game.numbers)

@@ -1,8 +1,9 @@
 -- The first fault of an edit, and of a group of edits.
 use Rattle.std.specs.Prelude.{◌≡◌, ℕ, ◌+◌, ◌-◌, ◌^◌, not, nat_lt, nat_le, if◌then◌else◌, List, []}
 use Rattle.std.specs.Prelude.{◌∷◌, length, Option, None, Some, MatchOption, IfErr, Result, Err}
-use Rattle.std.specs.Prelude.{MatchResult}
-use Rattle.base_lines.specs.Line.{is_line}
+use Rattle.std.specs.Prelude.{MatchResult, ◌++◌, codes}
+use Rattle.std.specs.Fmt.{decimal}
+use Rattle.base_lines.specs.Line.{flaw_of, is_line, line_fault_text}
 use Rattle.replay_edits.specs.declared.fault.EditFault.{EditFault}
 use Rattle.replay_edits.specs.declared.fault.EditFault.TheVariants.{NoSuchPlace, BadLine, LogFull}
 use Rattle.replay_edits.specs.declared.fault.EditFault.TheVariants.{BadSeed, MeterFull, EmptyGroup}
@@ -13,22 +14,34 @@ use Rattle.replay_edits.specs.Edit.{Game, Change, inserts, deletes, replaces, re
 use Rattle.replay_edits.specs.Edit.{apply_all, inverses_of, margins_of}
 use Rattle.replay_edits.specs.declared.plan.Plan.{Plan}
 
+-- what is said of a fault
+abbrev pub edit_fault_text : EditFault → List ℕ
+edit_fault_text (NoSuchPlace lines) = codes "no such line: the log has " ++ decimal lines
+edit_fault_text (BadLine flaw) = codes "a bad line: " ++ line_fault_text flaw
+edit_fault_text LogFull = codes "a full log: a log has at most 65,535 lines"
+edit_fault_text BadSeed = codes "a bad seed: a seed is at most 2147483647"
+edit_fault_text MeterFull =
+    codes "a full meter: it has fewer steps left than the log would have lines"
+edit_fault_text Memory = codes "there isn't enough memory"
+edit_fault_text EmptyGroup = codes "an empty group: it has no edit"
+
 abbrev pub replaced_fault : List ℕ → Option EditFault
-replaced_fault line = if is_line line then None else Some BadLine
+replaced_fault line = if is_line line then None else Some (BadLine (flaw_of line))
 
 -- the first fault of a line that is added to a log
 abbrev pub added_fault : List ℕ → List (List ℕ) → Option EditFault
 added_fault line log =
-    if not (is_line line) then Some BadLine
+    if not (is_line line) then Some (BadLine (flaw_of line))
     else (if nat_le MAX_LOG_LINES (length log) then Some LogFull else None)
 
 -- the first fault that a change meets in a log, if memory and the meter suffice
 abbrev pub fault_of : Change → List (List ℕ) → Option EditFault
 fault_of (inserts place line) log =
-    if nat_lt (length log) place then Some NoSuchPlace else added_fault line log
-fault_of (deletes place) log = if nat_le (length log) place then Some NoSuchPlace else None
+    if nat_lt (length log) place then Some (NoSuchPlace (length log)) else added_fault line log
+fault_of (deletes place) log =
+    if nat_le (length log) place then Some (NoSuchPlace (length log)) else None
 fault_of (replaces place line) log =
-    if nat_le (length log) place then Some NoSuchPlace else replaced_fault line
+    if nat_le (length log) place then Some (NoSuchPlace (length log)) else replaced_fault line
 fault_of (reseeds seed) log = if nat_lt MAX_SEED seed then Some BadSeed else None
 
 -- a fault, with the number of the change that met it, or otherwise the fault of a later one

@@ -1,12 +1,12 @@
-ghost use Rattle.std.specs.Prelude.{◌≡◌, ◌+◌, ◌<◌, length, take, IfOk, OnOk, None, option_map};
-ghost use Rattle.std.specs.Prelude.{slice_get};
+ghost use Rattle.std.specs.Prelude.{◌≡◌, ℕ, ◌+◌, ◌<◌, List, length, take, IfOk, OnOk, None};
+ghost use Rattle.std.specs.Prelude.{option_map, slice_get};
 ghost use Rattle.replay_edits.specs.Draft.{IsDraft, edits_in, log_before, made_in};
-ghost use Rattle.replay_edits.specs.Edit.{changes_of, log_of};
-ghost use Rattle.replay_edits.specs.Faults.{fault_of_all, log_after_all};
+ghost use Rattle.replay_edits.specs.Edit.{change_of, changes_of, log_after, log_of};
+ghost use Rattle.replay_edits.specs.Faults.{fault_of, fault_of_all, log_after_all};
 
 use crate::edit::Edit;
 use crate::line_text::LineText;
-use crate::plan::plan_edits;
+use crate::plan::{lines_after, plan_edits};
 use crate::stock::{NumberedGame, Stock};
 use replay_checkpoints::Blocks;
 use std::alloc::{AllocError, Global};
@@ -18,6 +18,18 @@ pub struct Draft<'a> {
     stock: Stock<'a>,
     game: NumberedGame,
     made: usize,
+    lines: usize,
+}
+
+/// How many lines a log of `lines` lines has after an edit that it takes.
+fn lines_with(edit: &Edit, lines: usize) -> usize
+    ensures { let change = change_of edit.now in (log : List (List ℕ)) → length log ≡ lines
+        → fault_of change log ≡ None → result ≡ length (log_after change log) }
+{
+    match lines_after(edit, lines) {
+        Ok(more) => more,
+        Err(_) => lines,
+    }
 }
 
 impl<'a> Draft<'a> {
@@ -45,6 +57,7 @@ impl<'a> Draft<'a> {
             stock,
             game: NumberedGame { seed: 0, numbers },
             made: 0,
+            lines: log.len(),
         })
     }
 
@@ -65,9 +78,21 @@ impl<'a> Draft<'a> {
     {
         let edit = &self.stock.edits[self.made];
         let own = self.stock.log.len() + self.made;
+        let lines = lines_with(edit, self.lines);
         self.stock.make(alloc, edit, own, &mut self.game)?;
         self.made += 1;
+        self.lines = lines;
         Ok(())
+    }
+
+    /// How many lines the log has.
+    pub fn lines(&self) -> usize
+        requires { IsDraft (edits_in self.now) (log_before self.now) (made_in self.now) self.now }
+        ensures { let log = log_after_all (take (made_in self.now) (changes_of (edits_in self.now)))
+            (log_of (log_before self.now)) in
+            result ≡ length log }
+    {
+        self.lines
     }
 
     /// The line at a place, if there is one.

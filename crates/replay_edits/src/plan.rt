@@ -69,18 +69,17 @@ pub fn plan_edits(edits: &[Edit], lines: usize) -> Result<Plan, GroupFault>
 
 /// How many lines a log of `lines` lines has after the edit, or the first fault that the edit meets
 /// there.
-fn lines_after(edit: &Edit, lines: usize) -> Result<usize, EditFault>
+#[tactic(auto, unfolding(base_lines::specs::Line::line_fault))]
+pub(crate) fn lines_after(edit: &Edit, lines: usize) -> Result<usize, EditFault>
     ensures { (log : List (List ℕ)) → length log ≡ lines
         → IsLinesOrFault (change_of edit.now) log result }
 {
     match edit {
         Edit::Insert(place, line) => {
             if *place as usize > lines {
-                return Err(EditFault::NoSuchPlace);
+                return Err(EditFault::NoSuchPlace(lines));
             }
-            if check_line(line).is_err() {
-                return Err(EditFault::BadLine);
-            }
+            check_line(line).map_err(EditFault::BadLine)?;
             if is_full_log(lines) {
                 return Err(EditFault::LogFull);
             }
@@ -88,17 +87,15 @@ fn lines_after(edit: &Edit, lines: usize) -> Result<usize, EditFault>
         }
         Edit::Delete(place) => {
             if *place as usize >= lines {
-                return Err(EditFault::NoSuchPlace);
+                return Err(EditFault::NoSuchPlace(lines));
             }
             Ok(lines - 1)
         }
         Edit::Replace(place, line) => {
             if *place as usize >= lines {
-                return Err(EditFault::NoSuchPlace);
+                return Err(EditFault::NoSuchPlace(lines));
             }
-            if check_line(line).is_err() {
-                return Err(EditFault::BadLine);
-            }
+            check_line(line).map_err(EditFault::BadLine)?;
             Ok(lines)
         }
         Edit::Reseed(seed) => {

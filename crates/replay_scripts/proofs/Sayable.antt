@@ -1,31 +1,18 @@
 -- A script can say what a log takes.
 use Rattle.std.proofs.Common.{◌≡◌, ℕ, ◌≤◌, List, length}
 use Rattle.std.proofs.Common.{refl, arith, true}
-use Rattle.std.specs.Prelude.{Bool, false, None, Some, if◌then◌else◌, is_none, nat_lt}
+use Rattle.std.specs.Prelude.{Bool, false, None, Some, if◌then◌else◌, nat_lt}
 use Rattle.std.specs.List.{list_all}
 use Rattle.std.proofs.lemmas.Bool.Decides.{nat_tests}
-use Rattle.base_lines.specs.Line.{is_line_byte, is_line, line_fault}
-use Rattle.base_lines.specs.declared.line.LineFault.TheVariants.{TooLong, BadByte}
-use Rattle.base_lines.specs.Limits.{MAX_LINE_BYTES, MAX_LOG_LINES, MAX_SEED}
+use Rattle.base_lines.specs.Line.{is_line_byte}
+use Rattle.base_lines.specs.Limits.{MAX_LOG_LINES, MAX_SEED}
+use Rattle.base_lines.proofs.GoodLines.{good_bytes}
 use Rattle.replay_edits.specs.declared.fault.EditFault.TheVariants.{BadSeed}
 use Rattle.replay_edits.specs.Faults.{fault_of}
 use Rattle.replay_edits.specs.Edit.{Change, inserts, deletes, own_line, replaces, reseeds}
 use Rattle.replay_edits.proofs.Inverses.{delete_within, insert_within, replace_within}
 use Rattle.replay_scripts.specs.ScriptText.{Back, CanExpect, IsSpellable}
 use Rattle.replay_scripts.specs.ScriptText.{number_in}
-use Rattle.replay_scripts.proofs.Texts.{IsTextLine}
-
-all_stand : (long stand : Bool)
-    → is_none (if long then Some TooLong else (if stand then None else Some BadByte)) ≡ true
-    → stand ≡ true
-all_stand true stand good = cc
-all_stand false true good = refl
-all_stand false false good = cc
-
-pub one_line : (line : List ℕ) → is_line line ≡ true → IsTextLine line
-unfolding is_line line_fault
-one_line line good =
-    all_stand (nat_lt MAX_LINE_BYTES (length line)) (list_all is_line_byte line) good
 
 seed_within : (large : Bool) → (if large then Some BadSeed else None) ≡ None → large ≡ false
 seed_within true free = cc
@@ -36,12 +23,12 @@ sayable : (change : Change) (log : List (List ℕ)) → length log ≤ MAX_LOG_L
     → (number_in change ≤ 4294967295) × (list_all is_line_byte (own_line change) ≡ true)
 sayable (inserts place line) log few free =
     let within = insert_within place line log free in
-    (omega (arith, few, within.0), one_line line within.1)
+    (omega (arith, few, within.0), good_bytes line within.1)
 sayable (deletes place) log few free =
     let within = delete_within place log free in (omega (arith, few, within), refl)
 sayable (replaces place line) log few free =
     let within = replace_within place line log free in
-    (omega (arith, few, within.0), one_line line within.1)
+    (omega (arith, few, within.0), good_bytes line within.1)
 sayable (reseeds seed) log few free =
     let fits : nat_lt MAX_SEED seed ≡ false = seed_within (nat_lt MAX_SEED seed) free in
     (grind (arith, nat_tests, fits), refl)

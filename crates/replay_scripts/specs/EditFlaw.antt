@@ -4,8 +4,8 @@ use Rattle.std.specs.Prelude.{◌∷◌, length, drop, Option, None, Some, codes
 use Rattle.std.specs.Option.{option_and_then}
 use Rattle.base_lines.specs.Bytes.{after_prefix, is_all_blank, is_blank, is_digit, is_nonblank}
 use Rattle.base_lines.specs.Bytes.{prefix_while}
-use Rattle.base_slips.specs.Mark.{has_byte_order_mark}
-use Rattle.base_slips.specs.Nearest.{near_name}
+use Rattle.base_lines.specs.Mark.{has_byte_order_mark}
+use Rattle.base_lines.specs.Nearest.{near_name}
 use Rattle.replay_scripts.specs.declared.edit_flaw.EditFlaw.{EditFlaw}
 use Rattle.replay_scripts.specs.declared.edit_flaw.EditFlaw.TheVariants.{ByteOrderMark, Indented}
 use Rattle.replay_scripts.specs.declared.edit_flaw.EditFlaw.TheVariants.{NearWord, NoWord, NoNumber}

@@ -11,7 +11,7 @@ ghost use Rattle.replay_scripts.specs.EditFlaw.{script_word_named, script_word_t
 
 use base_lines::bytes::{is_all_blank, is_blank, split_digits, split_word};
 use base_lines::limits::is_long_number;
-use base_slips::{has_byte_order_mark, near_name};
+use base_lines::{has_byte_order_mark, near_name};
 use std::fmt;
 
 /// A word with which a line of a script begins.

@@ -5,7 +5,7 @@ use crate::machines::counter::Counter;
 use crate::machines::counts::Counts;
 use crate::machines::told::Told;
 use crate::play::{Counting, TestSession};
-use base_lines::Meter;
+use base_lines::{LineFault, Meter};
 use replay_edits::EditFault;
 use std::alloc::Global;
 use std::process::Abort;
@@ -15,10 +15,19 @@ use std::test::Fail;
 const REFUSED: [(LineChange<'static>, EditFault); 7] = [
     (LineChange::Insert(0, b"b"), EditFault::LogFull),
     (LineChange::Insert(65_535, b"b"), EditFault::LogFull),
-    (LineChange::Insert(0, b"\x7f"), EditFault::BadLine),
-    (LineChange::Replace(0, b"\x1f"), EditFault::BadLine),
-    (LineChange::Insert(65_536, b"b"), EditFault::NoSuchPlace),
-    (LineChange::Delete(65_535), EditFault::NoSuchPlace),
+    (
+        LineChange::Insert(0, b"\x7f"),
+        EditFault::BadLine(LineFault::BadByte(127, 1)),
+    ),
+    (
+        LineChange::Replace(0, b"\t\x1f"),
+        EditFault::BadLine(LineFault::BadByte(31, 2)),
+    ),
+    (
+        LineChange::Insert(65_536, b"b"),
+        EditFault::NoSuchPlace(65_535),
+    ),
+    (LineChange::Delete(65_535), EditFault::NoSuchPlace(65_535)),
     (LineChange::Reseed(2_147_483_648), EditFault::BadSeed),
 ];
 

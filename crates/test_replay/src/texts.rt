@@ -1,6 +1,6 @@
 //! What faults say.
 
-use base_lines::LineFlaw;
+use base_lines::LineFault;
 use cave_replay::OpenFault;
 use replay_edits::{EditFault, GroupFault};
 use std::test::Fail;
@@ -13,7 +13,7 @@ fn faults_of_an_opening_say_what_is_wrong(rt: HostRuntime) -> Result<(), Fail> {
             "a bad distance of checkpoints: it is from 1 to 10000",
         ),
         (
-            OpenFault::BadLine(12, LineFlaw::Long(256)),
+            OpenFault::BadLine(12, LineFault::TooLong(256)),
             "line 12 of the log can't be played: the line has 256 bytes, and a line of a log has at \
             most 255",
         ),
@@ -34,14 +34,15 @@ fn faults_of_an_opening_say_what_is_wrong(rt: HostRuntime) -> Result<(), Fail> {
 /// edit.
 const TEXTS: [(EditFault, &str, &str); 7] = [
     (
-        EditFault::NoSuchPlace,
+        EditFault::NoSuchPlace(7),
         "edit 3 of the group, counted from 0: ",
-        "no such line: the place is past the end of the log",
+        "no such line: the log has 7",
     ),
     (
-        EditFault::BadLine,
+        EditFault::BadLine(LineFault::BadByte(127, 3)),
         "edit 3 of the group, counted from 0: ",
-        "a bad line: it has over 255 bytes, or one that is neither printable ASCII nor a tab",
+        "a bad line: the byte in column 3 is 127, and a line of a log has printable ASCII, 32 to \
+        126, and tabs",
     ),
     (
         EditFault::LogFull,

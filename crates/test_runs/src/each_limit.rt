@@ -5,9 +5,9 @@ use crate::feeds::{Feeds, RunEnd, edit, play};
 use crate::runs::{COVER, EDIT, PLAY, Run};
 use crate::streams::TestReader;
 use base_lines::limits::MAX_INPUT_BYTES;
-use cave_play::{Input, LogFault, PlayFault, ScriptFault};
+use cave_play::{LogFault, LogsFault, PlayFault, ScriptFault};
 use data_rows::{Cause, CaveError, FaultSite};
-use play_logs::fault::LogsFault;
+use play_command::Input;
 use replay_scripts::{EditFlaw, ScriptFlaw};
 use std::alloc::{AllocError, Global};
 use std::process::Abort;
@@ -20,6 +20,7 @@ fn too_large(input: Input) -> PlayFault {
         Input::Cave => FaultSite::Database,
         Input::Bindings => FaultSite::Bindings,
         Input::Log => return PlayFault::Log(LogFault::TooLarge),
+        Input::NewLog => return PlayFault::NewLog(LogFault::TooLarge),
         Input::Script => return PlayFault::Script(ScriptFault::TooLarge),
         Input::Known => return PlayFault::LargeKnown,
     };

@@ -1,8 +1,9 @@
 //! What the program prints at each fault, and the status with which it then ends.
 
-use base_lines::LineFlaw;
-use cave_play::{Complaint, Input, LogFault, PlayFault, ScriptFault, Unopened};
+use base_lines::LineFault;
+use cave_play::{Complaint, LogFault, PlayFault, ScriptFault, Unopened};
 use data_rows::{Cause, CaveError, FaultSite};
+use play_command::Input;
 use replay_scripts::ScriptFlaw;
 use std::alloc::{AllocError, Global};
 use std::io;
@@ -14,6 +15,7 @@ fn complaint_of(alloc: Global, fault: PlayFault) -> Result<String, AllocError> {
         Some(Input::Cave) => Some("a.txt"),
         Some(Input::Bindings) => Some("a.bind"),
         Some(Input::Log) => Some("a.log"),
+        Some(Input::NewLog) => Some("b.log"),
         Some(Input::Script) => Some("a.script"),
         Some(Input::Known) => Some("a.known"),
         None => None,
@@ -22,7 +24,7 @@ fn complaint_of(alloc: Global, fault: PlayFault) -> Result<String, AllocError> {
 }
 
 /// Faults, the status of each, and the line that is printed.
-const FAULTS: [(PlayFault, u8, &str); 17] = [
+const FAULTS: [(PlayFault, u8, &str); 18] = [
     (
         PlayFault::Cave(
             CaveError {
@@ -66,7 +68,7 @@ const FAULTS: [(PlayFault, u8, &str); 17] = [
         "cave: a.log: the log is too large: a log has at most 1,048,576 bytes",
     ),
     (
-        PlayFault::Log(LogFault::BadLine(7, LineFlaw::Byte(127, 3))),
+        PlayFault::Log(LogFault::BadLine(7, LineFault::BadByte(127, 3))),
         3,
         "cave: a.log:7: the byte in column 3 is 127, and a line of a log has printable ASCII, 32 \
         to 126, and tabs",
@@ -75,6 +77,11 @@ const FAULTS: [(PlayFault, u8, &str); 17] = [
         PlayFault::Log(LogFault::Full),
         3,
         "cave: a.log: the log has more than 65,535 lines",
+    ),
+    (
+        PlayFault::NewLog(LogFault::Full),
+        3,
+        "cave: b.log: the log has more than 65,535 lines",
     ),
     (
         PlayFault::Script(ScriptFault::TooLarge),

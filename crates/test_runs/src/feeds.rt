@@ -2,11 +2,12 @@
 
 use crate::runs::{EDIT, INPUTS, PLAY, Run};
 use crate::streams::{Sink, TestReader};
-use cave_play::{CaveReaders, Inputs, PlayFault, run_check, run_doubts, run_edit, run_play};
+use cave_play::{
+    CaveReaders, Inputs, LogsFault, PlayFault, run_check, run_doubts, run_edit, run_play,
+};
 use check_doubts::DoubtFiles;
 use play_command::{CheckView, CoverView, Editing, MapPart, PlayView};
 use play_cover::run::{CoverAsked, run_cover};
-use play_logs::fault::LogsFault;
 use play_map::run::run_map;
 use std::alloc::Global;
 use std::io::{Read, Write};

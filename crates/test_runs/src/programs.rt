@@ -8,7 +8,8 @@ ghost use Rattle.test_runs.specs.Memory.{bytes_at, calls_by, file_named};
 use crate::calls::{KeptCall, KeptMessage};
 use crate::caves::{EDITED_LOG, LONG_LOG, LONG_TEXT, SCRIPT};
 use crate::in_memory::{FailingSystem, MemorySystem, MemoryTarget};
-use cave_play::{Input, PlayFault};
+use cave_play::{LogFault, PlayFault};
+use play_command::Input;
 use play_program::{Output, run_program};
 use std::alloc::{AllocError, Global};
 use std::io::ErrorKind;
@@ -249,7 +250,7 @@ fn a_head_that_says_another_seed_is_told(rt: HostRuntime) -> Result<(), Fail> {
 }
 
 #[test]
-fn a_head_is_told_only_if_it_can_be_read(rt: HostRuntime) -> Result<(), Fail> {
+fn a_head_is_told_once_its_log_is_read_whole(rt: HostRuntime) -> Result<(), Fail> {
     for failing in 1..3 {
         let end = end_of_failing(&rt, rt.alloc(), failing)?;
         assert_eq!(rt; end.status, 5);
@@ -258,11 +259,47 @@ fn a_head_is_told_only_if_it_can_be_read(rt: HostRuntime) -> Result<(), Fail> {
         assert!(rt; tells_unread(end.kept.get(2)));
         assert_eq!(rt; end.kept.len(), 3);
     }
-    let later = end_of_failing(&rt, rt.alloc(), 3)?;
-    assert_eq!(rt; later.status, 5);
-    assert!(rt; tells_head(later.kept.get(2), "--seed ", b"3"));
-    assert!(rt; tells_unread(later.kept.get(3)));
-    assert_eq!(rt; later.kept.len(), 4);
+    let whole = end_of_failing(&rt, rt.alloc(), 3)?;
+    assert_eq!(rt; whole.status, 0);
+    assert!(rt; tells_head(whole.kept.get(2), "--seed ", b"3"));
+    assert_eq!(rt; whole.kept.len(), 3);
+    Ok(())
+}
+
+/// Whether a call tells that a line of the log is malformed.
+fn tells_bad_line(call: Option<&KeptCall>, line: usize) -> bool {
+    match call {
+        Some(KeptCall::Tells(KeptMessage::Fault(PlayFault::Log(fault), Some(file)))) => {
+            file.as_str() == "log" && matches!(fault, LogFault::BadLine(bad, _) if *bad == line)
+        }
+        _ => false,
+    }
+}
+
+#[test]
+fn the_head_of_a_malformed_log_is_told(rt: HostRuntime) -> Result<(), Fail> {
+    let words = ["play", "cave", "log", "--seed", "4"];
+    let log = b"# cave: cave --seed 3\n\x7f\n";
+    let end = end_with(&rt, rt.alloc(), log, &words, usize::MAX)?;
+    assert_eq!(rt; end.status, 3);
+    assert!(rt; tells_head(end.kept.get(2), "--seed ", b"3"));
+    assert!(rt; tells_bad_line(end.kept.get(3), 2));
+    assert_eq!(rt; end.kept.len(), 4);
+    Ok(())
+}
+
+#[test]
+fn each_of_several_logs_is_opened_when_its_turn_comes(rt: HostRuntime) -> Result<(), Fail> {
+    let words = ["cover", "cave", "log", "walk", "log", "--seed", "4"];
+    let end = end_with(&rt, rt.alloc(), HEADED_LOG, &words, usize::MAX)?;
+    assert_eq!(rt; end.status, 5);
+    assert!(rt; end.written.is_empty());
+    assert!(rt; opens(end.kept.get(0), "cave"));
+    assert!(rt; opens(end.kept.get(1), "log"));
+    assert!(rt; tells_head(end.kept.get(2), "--seed ", b"3"));
+    assert!(rt; opens(end.kept.get(3), "walk"));
+    assert!(rt; tells_missing(end.kept.get(4), "walk"));
+    assert_eq!(rt; end.kept.len(), 5);
     Ok(())
 }
 

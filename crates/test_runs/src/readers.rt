@@ -4,7 +4,7 @@ use crate::caves::{LONG_LOG, LONG_TEXT};
 use crate::feeds::Feeds;
 use crate::runs::{COVER, EDIT, PLAY, RUNS, Run};
 use crate::streams::TestReader;
-use base_lines::LineFlaw;
+use base_lines::LineFault;
 use cave_play::{LogFault, PlayFault, ScriptFault};
 use data_rows::{Cause, CaveError, FaultSite};
 use replay_scripts::{EditFlaw, ScriptFlaw};
@@ -69,9 +69,9 @@ const UNKNOWN_ROLE: PlayFault = PlayFault::Cave(
 
 /// Why a log whose first line begins with an unprintable byte is refused, and one whose second line
 /// does.
-const BAD_FIRST_LINE: PlayFault = PlayFault::Log(LogFault::BadLine(1, LineFlaw::Byte(127, 1)));
+const BAD_FIRST_LINE: PlayFault = PlayFault::Log(LogFault::BadLine(1, LineFault::BadByte(127, 1)));
 
-const BAD_SECOND_LINE: PlayFault = PlayFault::Log(LogFault::BadLine(2, LineFlaw::Byte(127, 1)));
+const BAD_SECOND_LINE: PlayFault = PlayFault::Log(LogFault::BadLine(2, LineFault::BadByte(127, 1)));
 
 /// Why a script whose second line isn't a line of a script is refused.
 const NO_EDIT: PlayFault = PlayFault::Script(ScriptFault::Malformed(

@@ -5,9 +5,8 @@ use crate::caves::{
     GUARDED, KEYS_TAIL, LONG_LOG, LONG_TEXT, MAP_HEAD, MAP_TAIL, REPORTS, SCORE, SCRIPT, SHORT_LOG,
     STEPS, STEPS_HEAD, TABLE, UNDO, WALK, WALK_HEAD,
 };
-use cave_play::{Input, PlayFault};
-use play_command::{CheckView, CoverView, EditView, PlayView, TextView};
-use play_logs::fault::LogsFault;
+use cave_play::{LogsFault, PlayFault};
+use play_command::{CheckView, CoverView, EditView, Input, PlayView, TextView};
 use test_data::caves::CAVE;
 
 /// What the program can be asked to do.

@@ -3,9 +3,8 @@
 use crate::feeds::Feeds;
 use crate::runs::{EDIT, PLAY, Printed, RUNS, Run};
 use crate::streams::Sink;
-use cave_play::PlayFault;
+use cave_play::{LogsFault, PlayFault};
 use play_command::CheckView;
-use play_logs::fault::LogsFault;
 use std::alloc::Global;
 use std::process::Abort;
 

@@ -1,7 +1,9 @@
 //! Words of a command line, with what they ask for.
 
-use play_command::{CommandFault, EditView, Editing, Line, command_line};
+use base_lines::is_near_name;
+use play_command::{CommandFault, EditAsked, EditView, Editing, Line, Request, What, command_line};
 use std::alloc::{AllocError, Global};
+use std::fmt::Write;
 use std::test::Fail;
 
 /// The answer to words. It promises nothing, so that the tests are proved without what a command
@@ -10,25 +12,40 @@ fn answer_to<'a>(alloc: Global, words: &'a [&'a str]) -> Result<Line<'a>, Comman
     command_line(alloc, words)
 }
 
+/// A run: what the command asks, the files that it reads, and what there is of the rest.
+fn shown_run(alloc: Global, run: &Request<'_>) -> Result<String, AllocError> {
+    let mut text = format!(in alloc; "{:?}", run.what)?;
+    for file in &run.files {
+        write!(text, ", {:?} {}", file.input, file.name)?;
+    }
+    if let Some(typed) = &run.typed {
+        write!(text, ", typed {typed:?}")?;
+    }
+    if let Some(output) = run.output {
+        write!(text, ", output {output}")?;
+    }
+    if run.quiet {
+        write!(text, ", quiet")?;
+    }
+    Ok(text)
+}
+
 /// What the answer to words says: a run, the kind of a text, or a status with what is wrong.
 pub(crate) fn shown(alloc: Global, words: &[&str]) -> Result<String, AllocError> {
     match answer_to(alloc, words) {
         Ok(Line::Text(text)) => format!(in alloc; "text {:?}", text.kind()),
-        Ok(line) => format!(in alloc; "{line:?}"),
+        Ok(Line::Run(run)) => shown_run(alloc, &run),
         Err(CommandFault::Usage(fault)) => format!(in alloc; "2 {:?}", fault.kind()),
         Err(fault) => format!(in alloc; "{} {fault:?}", fault.status()),
     }
 }
 
 /// Words that ask for a run or a text, and what the answer to them says.
-const ANSWERS: [(&[&str], &str); 33] = [
-    (
-        &["cave", "check", "a"],
-        "Check { files: Files { cave: \"a\", bind: None, output: None }, view: Maximum }",
-    ),
+const ANSWERS: [(&[&str], &str); 34] = [
+    (&["cave", "check", "a"], "Check(Maximum), Cave a"),
     (
         &["cave", "check", "a", "--print", "unused"],
-        "Check { files: Files { cave: \"a\", bind: None, output: None }, view: Unused }",
+        "Check(Unused), Cave a",
     ),
     (
         &["cave", "check", "a", "--print", "unused", "--strict"],
@@ -36,13 +53,11 @@ const ANSWERS: [(&[&str], &str); 33] = [
     ),
     (
         &["cave", "check", "a", "--print", "doubts", "--strict"],
-        "Doubts { files: Files { cave: \"a\", bind: None, output: None }, known: None, \
-        strict: true }",
+        "Doubts { strict: true }, Cave a",
     ),
     (
         &["cave", "check", "a", "--known", "b"],
-        "Doubts { files: Files { cave: \"a\", bind: None, output: None }, known: Some(\"b\"), \
-        strict: false }",
+        "Doubts { strict: false }, Cave a, Known b",
     ),
     (
         &["cave", "check", "a", "--print", "maximum", "--known=b"],
@@ -50,39 +65,33 @@ const ANSWERS: [(&[&str], &str); 33] = [
     ),
     (
         &["cave", "check", "--print=names", "a"],
-        "Check { files: Files { cave: \"a\", bind: None, output: None }, view: Names }",
+        "Check(Names), Cave a",
     ),
     (
         &["cave", "play", "a", "b", "--seed", "7"],
-        "Play { files: Files { cave: \"a\", bind: None, output: None }, \
-        log: \"b\", seed: 7, view: Transcript }",
+        "Play { seed: 7, view: Transcript }, Cave a, Log b",
     ),
     (
         &["cave", "play", "a", "--bind=c", "b", "--seed", "2147483647"],
-        "Play { files: Files { cave: \"a\", bind: Some(\"c\"), output: None }, \
-        log: \"b\", seed: 2147483647, view: Transcript }",
+        "Play { seed: 2147483647, view: Transcript }, Cave a, Bindings c, Log b",
     ),
     (
         &["cave", "play", "--", "-a", "--seed"],
-        "Play { files: Files { cave: \"-a\", bind: None, output: None }, \
-        log: \"--seed\", seed: 0, view: Transcript }",
+        "Play { seed: 0, view: Transcript }, Cave -a, Log --seed",
     ),
     (
         &["cave", "play", "a", "b", "--print", "state"],
-        "Play { files: Files { cave: \"a\", bind: None, output: None }, \
-        log: \"b\", seed: 0, view: FinalState }",
+        "Play { seed: 0, view: FinalState }, Cave a, Log b",
     ),
     (
         &["cave", "play", "a", "b", "--print", "score"],
-        "Play { files: Files { cave: \"a\", bind: None, output: None }, \
-        log: \"b\", seed: 0, view: Score }",
+        "Play { seed: 0, view: Score }, Cave a, Log b",
     ),
     (
         &["cave", "edit", "a", "b", "c"],
-        "Edit { files: Files { cave: \"a\", bind: None, output: None }, \
-        log: \"b\", script: File(\"c\"), \
-        editing: Editing { seed: 0, every: 50, view: Transcript, strict: false, guarded: false }, \
-        aside: Aside { refusals: false, report: None, quiet: false } }",
+        "Edit(EditAsked { edits_from: Script, editing: Editing { seed: 0, every: 50, view: \
+        Transcript, strict: false, guarded: false }, report: None, refusals: false }), Cave \
+        a, Log b, Script c",
     ),
     (
         &[
@@ -94,10 +103,9 @@ const ANSWERS: [(&[&str], &str); 33] = [
             "b",
             "c",
         ],
-        "Edit { files: Files { cave: \"a\", bind: None, output: None }, \
-        log: \"b\", script: File(\"c\"), \
-        editing: Editing { seed: 3, every: 10000, view: Transcript, strict: false, guarded: false }, \
-        aside: Aside { refusals: false, report: None, quiet: false } }",
+        "Edit(EditAsked { edits_from: Script, editing: Editing { seed: 3, every: 10000, view: \
+        Transcript, strict: false, guarded: false }, report: None, refusals: false }), Cave \
+        a, Log b, Script c",
     ),
     (
         &[
@@ -111,52 +119,45 @@ const ANSWERS: [(&[&str], &str); 33] = [
             "--strict",
             "--output=d",
         ],
-        "Edit { files: Files { cave: \"a\", bind: None, output: Some(\"d\") }, \
-        log: \"b\", script: File(\"c\"), \
-        editing: Editing { seed: 0, every: 50, view: Log, strict: true, guarded: false }, \
-        aside: Aside { refusals: true, report: None, quiet: false } }",
+        "Edit(EditAsked { edits_from: Script, editing: Editing { seed: 0, every: 50, view: \
+        Log, strict: true, guarded: false }, report: None, refusals: true }), Cave a, Log b, \
+        Script c, output d",
     ),
     (
         &["cave", "edit", "a", "b", "c", "--print=reports"],
-        "Edit { files: Files { cave: \"a\", bind: None, output: None }, \
-        log: \"b\", script: File(\"c\"), \
-        editing: Editing { seed: 0, every: 50, view: Reports, strict: false, guarded: false }, \
-        aside: Aside { refusals: false, report: None, quiet: false } }",
+        "Edit(EditAsked { edits_from: Script, editing: Editing { seed: 0, every: 50, view: \
+        Reports, strict: false, guarded: false }, report: None, refusals: false }), Cave a, \
+        Log b, Script c",
     ),
     (
         &["cave", "edit", "a", "b", "c", "--print=steps"],
-        "Edit { files: Files { cave: \"a\", bind: None, output: None }, \
-        log: \"b\", script: File(\"c\"), \
-        editing: Editing { seed: 0, every: 50, view: Steps, strict: false, guarded: false }, \
-        aside: Aside { refusals: true, report: None, quiet: false } }",
+        "Edit(EditAsked { edits_from: Script, editing: Editing { seed: 0, every: 50, view: \
+        Steps, strict: false, guarded: false }, report: None, refusals: true }), Cave a, Log \
+        b, Script c",
     ),
     (
-        &["cave", "edit", "a", "b", "c", "--print=walk"],
-        "Edit { files: Files { cave: \"a\", bind: None, output: None }, \
-        log: \"b\", script: File(\"c\"), \
-        editing: Editing { seed: 0, every: 50, view: Walk, strict: false, guarded: false }, \
-        aside: Aside { refusals: true, report: None, quiet: false } }",
+        &["cave", "edit", "a", "b", "--in-place", "--to", "c"],
+        "Edit(EditAsked { edits_from: NewLog, editing: Editing { seed: 0, every: 50, view: \
+        Log, strict: false, guarded: false }, report: None, refusals: true }), Cave a, Log b, \
+        NewLog c, output b",
     ),
     (
         &["cave", "edit", "--guarded", "a", "b", "c"],
-        "Edit { files: Files { cave: \"a\", bind: None, output: None }, \
-        log: \"b\", script: File(\"c\"), \
-        editing: Editing { seed: 0, every: 50, view: Transcript, strict: false, guarded: true }, \
-        aside: Aside { refusals: false, report: None, quiet: false } }",
+        "Edit(EditAsked { edits_from: Script, editing: Editing { seed: 0, every: 50, view: \
+        Transcript, strict: false, guarded: true }, report: None, refusals: false }), Cave a, \
+        Log b, Script c",
     ),
     (
         &["cave", "edit", "a", "b", "c", "-q", "--print=log"],
-        "Edit { files: Files { cave: \"a\", bind: None, output: None }, \
-        log: \"b\", script: File(\"c\"), \
-        editing: Editing { seed: 0, every: 50, view: Log, strict: false, guarded: false }, \
-        aside: Aside { refusals: false, report: None, quiet: true } }",
+        "Edit(EditAsked { edits_from: Script, editing: Editing { seed: 0, every: 50, view: \
+        Log, strict: false, guarded: false }, report: None, refusals: false }), Cave a, Log \
+        b, Script c, quiet",
     ),
     (
         &["cave", "edit", "a", "b", "c", "--print=table"],
-        "Edit { files: Files { cave: \"a\", bind: None, output: None }, \
-        log: \"b\", script: File(\"c\"), \
-        editing: Editing { seed: 0, every: 50, view: Table, strict: false, guarded: false }, \
-        aside: Aside { refusals: true, report: None, quiet: false } }",
+        "Edit(EditAsked { edits_from: Script, editing: Editing { seed: 0, every: 50, view: \
+        Table, strict: false, guarded: false }, report: None, refusals: true }), Cave a, Log \
+        b, Script c",
     ),
     (
         &[
@@ -169,10 +170,9 @@ const ANSWERS: [(&[&str], &str); 33] = [
             "--output=d",
             "--report=table",
         ],
-        "Edit { files: Files { cave: \"a\", bind: None, output: Some(\"d\") }, \
-        log: \"b\", script: File(\"c\"), \
-        editing: Editing { seed: 0, every: 50, view: Log, strict: false, guarded: false }, \
-        aside: Aside { refusals: true, report: Some(Table), quiet: false } }",
+        "Edit(EditAsked { edits_from: Script, editing: Editing { seed: 0, every: 50, view: \
+        Log, strict: false, guarded: false }, report: Some(Table), refusals: true }), Cave a, \
+        Log b, Script c, output d",
     ),
     (
         &[
@@ -186,10 +186,9 @@ const ANSWERS: [(&[&str], &str); 33] = [
             "--output=d",
             "--report=table",
         ],
-        "Edit { files: Files { cave: \"a\", bind: None, output: Some(\"d\") }, \
-        log: \"b\", script: File(\"c\"), \
-        editing: Editing { seed: 0, every: 50, view: Log, strict: false, guarded: false }, \
-        aside: Aside { refusals: false, report: Some(Table), quiet: true } }",
+        "Edit(EditAsked { edits_from: Script, editing: Editing { seed: 0, every: 50, view: \
+        Log, strict: false, guarded: false }, report: Some(Table), refusals: false }), Cave \
+        a, Log b, Script c, output d, quiet",
     ),
     (
         &[
@@ -200,12 +199,15 @@ const ANSWERS: [(&[&str], &str); 33] = [
             "c",
             "--print=log",
             "--output=d",
-            "--report=reports",
+            "--report",
         ],
-        "Edit { files: Files { cave: \"a\", bind: None, output: Some(\"d\") }, \
-        log: \"b\", script: File(\"c\"), \
-        editing: Editing { seed: 0, every: 50, view: Log, strict: false, guarded: false }, \
-        aside: Aside { refusals: false, report: Some(Reports), quiet: false } }",
+        "Edit(EditAsked { edits_from: Script, editing: Editing { seed: 0, every: 50, view: \
+        Log, strict: false, guarded: false }, report: Some(Reports), refusals: false }), Cave \
+        a, Log b, Script c, output d",
+    ),
+    (
+        &["cave", "script", "b", "a", "--group"],
+        "Script(ScriptForm { guarded: false, grouped: true }), Log b, NewLog a",
     ),
     (&["cave", "help", "edit"], "text DisplayHelp"),
     (&["cave", "-V"], "text DisplayVersion"),
@@ -213,8 +215,8 @@ const ANSWERS: [(&[&str], &str); 33] = [
         &[
             "cave", "cover", "a", "b", "--seed=7", "c", "--bind", "d", "e",
         ],
-        "Cover { files: Files { cave: \"a\", bind: Some(\"d\"), output: None }, \
-        logs: [\"b\", \"c\", \"e\"], seed: 7, view: Said(Counts), known: None, strict: false }",
+        "Cover { seed: 7, view: Said(Counts), strict: false }, Cave a, Bindings d, Log b, Log \
+        c, Log e",
     ),
     (
         &[
@@ -227,38 +229,35 @@ const ANSWERS: [(&[&str], &str); 33] = [
             "--known=c",
             "--strict",
         ],
-        "Cover { files: Files { cave: \"a\", bind: None, output: None }, \
-        logs: [\"b\"], seed: 0, view: Rules, known: Some(\"c\"), strict: true }",
+        "Cover { seed: 0, view: Rules, strict: true }, Cave a, Log b, Known c",
     ),
     (
         &["cave", "map", "a"],
-        "Map { files: Files { cave: \"a\", bind: None, output: None }, logs: [], seed: 0, \
-        part: MapPart { seen: false, around: None } }",
+        "Map { seed: 0, part: MapPart { seen: false, around: None } }, Cave a",
     ),
     (
         &["cave", "map", "--bind", "d", "a", "b", "--seed=7", "c"],
-        "Map { files: Files { cave: \"a\", bind: Some(\"d\"), output: None }, \
-        logs: [\"b\", \"c\"], seed: 7, part: MapPart { seen: false, around: None } }",
+        "Map { seed: 7, part: MapPart { seen: false, around: None } }, Cave a, Bindings d, Log \
+        b, Log c",
     ),
     (
         &["cave", "map", "a", "b", "--seen", "--from", "300"],
-        "Map { files: Files { cave: \"a\", bind: None, output: None }, logs: [\"b\"], seed: 0, \
-        part: MapPart { seen: true, around: Some(Surroundings { place: 300, ways: 2 }) } }",
+        "Map { seed: 0, part: MapPart { seen: true, around: Some(Surroundings { place: 300, \
+        ways: 2 }) } }, Cave a, Log b",
     ),
     (
         &["cave", "map", "a", "--within", "0", "--from=1"],
-        "Map { files: Files { cave: \"a\", bind: None, output: None }, logs: [], seed: 0, \
-        part: MapPart { seen: false, around: Some(Surroundings { place: 1, ways: 0 }) } }",
+        "Map { seed: 0, part: MapPart { seen: false, around: Some(Surroundings { place: 1, \
+        ways: 0 }) } }, Cave a",
     ),
     (
         &[
             "cave", "edit", "-e", "delete 1", "a", "b", "--edit", "seed 2", "-s", "3", "-o", "d",
             "-b", "e", "-p", "log",
         ],
-        "Edit { files: Files { cave: \"a\", bind: Some(\"e\"), output: Some(\"d\") }, \
-        log: \"b\", script: Typed(\"delete 1\\nseed 2\\n\"), \
-        editing: Editing { seed: 3, every: 50, view: Log, strict: false, guarded: false }, \
-        aside: Aside { refusals: true, report: None, quiet: false } }",
+        "Edit(EditAsked { edits_from: Script, editing: Editing { seed: 3, every: 50, view: \
+        Log, strict: false, guarded: false }, report: None, refusals: true }), Cave a, \
+        Bindings e, Log b, typed \"delete 1\\nseed 2\\n\", output d",
     ),
 ];
 
@@ -268,6 +267,13 @@ fn words_ask_for_a_run_or_a_text(rt: HostRuntime) -> Result<(), Fail> {
         assert_eq!(rt; shown(rt.alloc(), words)?.as_str(), want);
     }
     Ok(())
+}
+
+#[test]
+fn a_word_in_capitals_or_with_one_slip_is_near_a_name(rt: HostRuntime) {
+    for (word, want) in [("EDIT", true), ("edti", true), ("et", false)] {
+        assert_eq!(rt; is_near_name(word.as_bytes(), "edit"), want);
+    }
 }
 
 /// The text that is printed for words: help, or a fault.
@@ -324,16 +330,19 @@ fn out_of_memory_is_no_other_fault(rt: HostRuntime) {
         Ok(line) => assert!(rt;
             matches!(
                 &line,
-                Line::Edit {
-                    editing: Editing {
-                        seed: 3,
-                        every: 7,
-                        view: EditView::Transcript,
-                        strict: false,
-                        guarded: false,
-                    },
+                Line::Run(Request {
+                    what: What::Edit(EditAsked {
+                        editing: Editing {
+                            seed: 3,
+                            every: 7,
+                            view: EditView::Transcript,
+                            strict: false,
+                            guarded: false,
+                        },
+                        ..
+                    }),
                     ..
-                }
+                })
             )
         ),
         Err(fault) => assert_eq!(rt; fault.status(), 7),

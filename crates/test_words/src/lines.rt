@@ -19,13 +19,19 @@ fn kind_of(line: &[u8]) -> LogLine {
 #[test]
 fn lines_are_valid_or_their_fault_is_reported(rt: HostRuntime) -> Result<(), AllocError> {
     let long = [b'a'; 256];
-    let bad_byte = "the line has a byte that is neither printable ASCII nor a tab";
+    let third = "the byte in column 3 is 127, and a line of a log has printable ASCII, 32 to 126, \
+        and tabs";
+    let first = "the byte in column 1 is 195, and a line of a log has printable ASCII, 32 to 126, \
+        and tabs";
     let cases: [(&[u8], &str); 5] = [
         (b" ~\t", "it is valid"),
         (&long[..255], "it is valid"),
-        (&long, "the line has over 255 bytes"),
-        (b"in\x7f", bad_byte),
-        (b"\xc3\xa4", bad_byte),
+        (
+            &long,
+            "the line has 256 bytes, and a line of a log has at most 255",
+        ),
+        (b"in\x7f", third),
+        (b"\xc3\xa4", first),
     ];
     for (line, want) in cases {
         assert_eq!(rt; report_of(rt.alloc(), line)?.as_str(), want);

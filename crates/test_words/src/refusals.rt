@@ -5,7 +5,7 @@ use std::test::Fail;
 
 /// Words with which something is wrong, and what the answer to them says: a status, and what is
 /// wrong.
-const REFUSALS: [(&[&str], &str); 22] = [
+const REFUSALS: [(&[&str], &str); 23] = [
     (&[], "2 DisplayHelpOnMissingArgumentOrSubcommand"),
     (&["cave", "map", "a", "--from", "0"], "2 BadPlace(\"0\")"),
     (
@@ -21,7 +21,8 @@ const REFUSALS: [(&[&str], &str); 22] = [
     (&["cave", "play", "a"], "2 MissingRequiredArgument"),
     (&["cave", "cover", "a"], "2 MissingRequiredArgument"),
     (&["cave", "play", "a", "b", "--seed"], "2 InvalidValue"),
-    (&["cave", "sing"], "2 NoCommand(\"sing\")"),
+    (&["cave", "sing"], "2 InvalidSubcommand"),
+    (&["cave", "dif"], "2 OtherName(\"dif\", \"script\")"),
     (&["cave", "help", "sing"], "2 InvalidSubcommand"),
     (&["cave", "edit", "a", "b"], "2 NoScript"),
     (&["cave", "edit", "a", "b", "c", "-e", "d"], "2 TwoScripts"),
@@ -52,11 +53,11 @@ const REFUSALS: [(&[&str], &str); 22] = [
     ),
     (
         &["cave", "edit", "a", "b", "c", "--print", "Log"],
-        "2 BadView(\"Log\")",
+        "2 InvalidValue",
     ),
     (
         &["cave", "play", "a", "b", "--print", "log"],
-        "2 BadPlayView(\"log\")",
+        "2 InvalidValue",
     ),
 ];
 
@@ -69,19 +70,22 @@ fn wrong_words_are_refused(rt: HostRuntime) -> Result<(), Fail> {
 }
 
 /// Such words, and a part of the text that is printed for them.
-const FAULTS: [(&[&str], &str); 16] = [
+const FAULTS: [(&[&str], &str); 17] = [
     (
         &["cave", "sing"],
-        "error: unrecognized subcommand 'sing': expected check, play, edit, script, cover or map\n\n\
-        Usage: cave <COMMAND>\n\n",
+        "error: unrecognized subcommand 'sing'\n\nUsage: cave <COMMAND>\n\n",
     ),
     (
         &["cave", "chek"],
-        "or map\n\n  tip: did you mean 'check'?\n\n",
+        "error: unrecognized subcommand 'chek'\n\n  tip: a similar subcommand exists: 'check'\n\n",
+    ),
+    (
+        &["cave", "test"],
+        "error: unrecognized subcommand 'test'\n\n  tip: did you mean 'check'?\n\nUsage: cave ",
     ),
     (
         &["cave", "play", "a", "b", "-s", "-1"],
-        "error: invalid value '-1' for '--seed <N>': expected 1 to 10 digits",
+        "error: unexpected argument '-1' found",
     ),
     (
         &["cave", "check"],
@@ -102,8 +106,7 @@ const FAULTS: [(&[&str], &str); 16] = [
     ),
     (
         &["cave", "map", "a", "--seed", "-12"],
-        "error: invalid value '-12' for '--seed <N>': expected 1 to 10 digits, from 0 to \
-        2147483647",
+        "error: unexpected argument '-1' found",
     ),
     (
         &["cave", "check", "a", "--seed", "-1"],
@@ -131,12 +134,12 @@ const FAULTS: [(&[&str], &str); 16] = [
     ),
     (
         &["cave", "edit", "a", "b", "c", "--print", "text"],
-        "error: invalid value 'text' for '--print <WHAT>': expected transcript, play, log, \
-        undo, guarded, reports, table, steps, walk, score or state\n\nFor more",
+        "error: invalid value 'text' for '--print <WHAT>'\n  [possible values: transcript, play, log, \
+        undo, guarded, reports, table, steps, walk, score, state]\n\nFor more",
     ),
     (
         &["cave", "edit", "a", "b", "c", "-p", "stpes"],
-        "steps, walk, score or state\n\n  tip: did you mean 'steps'?\n\nFor more",
+        "score, state]\n\n  tip: a similar value exists: 'steps'\n\nFor more",
     ),
 ];
 

@@ -26,6 +26,7 @@ Crashes = tests_of("logs/tools/check-undo /bin/false", [
     ("no edit", CAVE | {"logs/first.log": "# run: play\n", "logs/first.out": ""}, "0 scripts of"),
 ])
 Large = tests_of("logs/tools/check-large-cave /bin/false", [("one that fails", {}, "FAILED")])
+Many = tests_of("logs/tools/check-many-logs /bin/false", [("one that fails", {}, "FAILED cover")])
 Stack = tests_of("tools/measure/stack no-such", [("no program", {}, "is no program")], wrong=2)
 
 # Pairs of logs, and a program whose scripts are empty.
@@ -155,7 +156,7 @@ Passes = tests_of("tools/measure/progress all out/it.log true",
                   [("a command that passes", CRATES, "")])
 
 DOCUMENTS: Files = {
-    "crates/play_command/src/app.rt": "", "logs/map/tour.out": '  1 [label="Oil"]\n',
+    "crates/play_command/src/commands.rt": "", "logs/map/tour.out": '  1 [label="Oil"]\n',
     "docs/shoal.svg": "<text x='1'>Oil</text>\n",
     "crates/cave_play/src/fault.rt": '#[error("a can is empty")]\n',
     "docs/MESSAGES.md": "| `a can is empty` | |\n| `No oil.` | `logs/walk` |\n",

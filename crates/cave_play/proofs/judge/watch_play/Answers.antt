@@ -17,7 +17,12 @@ pub returns-in_err-log : goal.returns-in_err-log
 returns-in_err-log g c =
     let exit = err_from_is_err_and c.from_residual.result c.from_residual.ensures.1 in
     let (bytes, said, refused) = c.in_err-log.ensures.read in
-    rw (exit.1, exit.2) (record { judged = (bytes, said, IsFoundIn-log bytes _ refused) })
+    rw (exit.1, exit.2)
+    (record {
+      judged = (bytes, said, IsFoundIn-log bytes _ refused);
+      taken = c.in_err-log.ensures.taken;
+      leads = c.in_err-log.ensures.leads;
+    })
 
 pub returns-in-Ok : goal.returns-in-Ok
 returns-in-Ok g c =
@@ -39,6 +44,8 @@ returns-in-Ok g c =
               (c.in-Ok.ensures.noted, c.in-Ok.ensures.end),
             ),
       );
+      taken = c.in_ok-log.ensures.taken;
+      leads = c.in_ok-log.ensures.leads;
     }
 
 pub returns : goal.returns
@@ -59,4 +66,6 @@ returns g c =
             (IsFoundIn-watched (lines text) c.args.seed c.in-Err.fault c.requires
             c.in-Err.ensures.faults),
       );
+      taken = c.in_ok-log.ensures.taken;
+      leads = c.in_ok-log.ensures.leads;
     })

@@ -14,12 +14,14 @@ use Rattle.replay_edits.specs.Edit.{Game, IsGame, game_of}
 use Rattle.cave_play.specs.EditRun.{IsMadeOf}
 use Rattle.play_command.specs.declared.aside.ReportView.{ReportView}
 use Rattle.play_edits.specs.LogEnds.{log_ends}
-use Rattle.cave_play.specs.declared.edits.Edited.{Edited}
+use Rattle.play_edits.specs.declared.items.Edited.{Edited}
 use Rattle.cave_play.specs.Run.{IsFoundIn, Judges}
+use Rattle.cave_play.specs.Sources.{next_log}
 use Rattle.cave_play.specs.Stages.{Stage, first_decided, judging_stage}
 use Rattle.cave_play.specs.Stages.{log_stage, script_stage, strict_stage}
 use Rattle.cave_play.proofs.InputLemmas.{Says-some}
 use Rattle.cave_play.proofs.RefusalLemmas.{IsGame-accepted}
+use Rattle.cave_play.proofs.SourceLemmas.{same_script_after_log}
 use Rattle.cave_play.proofs.StageLemmas.{IsFoundIn-first, IsFoundIn-memory, Judges-later}
 use Rattle.cave_play.proofs.StageLemmas.{first_decided-alone}
 use Rattle.cave_play.proofs.run.edit_in_cave.Goals as goal
@@ -66,8 +68,8 @@ pub returns-in_err-lexicon : goal.returns-in_err-lexicon
 returns-in_err-lexicon g c =
     let guarded = c.args.editing.guarded in
     let exit = err_from_is_err_and c.from_residual.result c.from_residual.ensures.1 in
-    let (moves, said) = Says-some (g.L.Read.remaining c.args.log.now) in
-    let (edits, others) = Says-some (g.S.Read.remaining c.args.script.now) in
+    let (moves, said) = Says-some (next_log (g.I.Sources.held c.args.inputs.now).logs) in
+    let (edits, others) = Says-some (g.I.Sources.held c.args.inputs.now).script in
     rw (exit.1, exit.2)
     (record {
       judged = (
@@ -78,6 +80,7 @@ returns-in_err-lexicon g c =
         IsFoundIn-memory (log_stage moves ∷ script_stage guarded edits
             ∷ strict_of c.args.editing moves edits ∷ []),
       );
+      leads = g.met.I.Sources.stays _;
     })
 
 pub returns-in_err-bytes : goal.returns-in_err-bytes
@@ -87,7 +90,7 @@ returns-in_err-bytes g c =
     err_from_is_err_and c.from_residual-in_err-bytes.result
     c.from_residual-in_err-bytes.ensures.1 in
     let (moves, said, refused) = c.in_err-bytes.ensures.read in
-    let (edits, others) = Says-some (g.S.Read.remaining c.args.script.now) in
+    let (edits, others) = Says-some (g.I.Sources.held c.args.inputs.now).script in
     rw (exit.1, exit.2)
     (record {
       judged = (
@@ -99,6 +102,7 @@ returns-in_err-bytes g c =
             (script_stage guarded edits ∷ strict_of c.args.editing moves edits ∷ []) _
             (IsFoundIn-log moves _ refused),
       );
+      leads = c.in_err-bytes.ensures.leads;
     })
 
 pub returns-in_err-session : goal.returns-in_err-session
@@ -108,7 +112,7 @@ returns-in_err-session g c =
     err_from_is_err_and c.from_residual-in_err-session.result
     c.from_residual-in_err-session.ensures.1 in
     let (moves, said, read) = c.in_ok-bytes.ensures.read in
-    let (edits, others) = Says-some (g.S.Read.remaining c.args.script.now) in
+    let (edits, others) = Says-some (g.I.Sources.held c.args.inputs.now).script in
     rw (exit.1, exit.2)
     (record {
       judged = (
@@ -121,13 +125,15 @@ returns-in_err-session g c =
             (log_refused moves c.deref.result.now _ (c.deref.ensures.value ∙ read.0) read.1
             c.in_err-session.ensures.judged),
       );
+      leads = c.in_ok-bytes.ensures.leads;
     })
 
 pub returns : goal.returns
 returns g c =
     let guarded = c.args.editing.guarded in
     let (moves, said, read) = c.in_ok-bytes.ensures.read in
-    let (edits, others, judges) = c.edit_session-made.ensures.judged in
+    let (edits, script, judges) = c.edit_session-made.ensures.judged in
+    let others = same_script_after_log _ _ edits c.in_ok-bytes.ensures.taken script in
     let editing = c.args.editing in
     let cave = c.new-machine.result.rules.cave.now in
     let game = game_of editing.seed (lines moves) in
@@ -165,4 +171,4 @@ returns g c =
     λ (cave : CaveView). Judges (log_stage moves ∷ script_stage guarded edits ∷ strict ∷ [])
     (right cave)
     c.edit_session-made.result in
-    record { judged = (moves, edits, said, others, subst here c.new-machine.ensures judged) }
+    record { judged = (moves, edits, said, others, subst here c.new-machine.ensures judged); leads = g.met.I.Sources.goes_on _ _ _ c.in_ok-bytes.ensures.leads c.edit_session-made.ensures.leads }

@@ -14,7 +14,12 @@ pub returns-in_err-text : goal.returns-in_err-text
 returns-in_err-text g c =
     let exit = err_from_is_err_and c.from_residual.result c.from_residual.ensures.1 in
     let (bytes, said, refused) = c.in_err-text.ensures.read in
-    rw (exit.1, exit.2) (record { judged = (bytes, said, IsFoundIn-log bytes _ refused) })
+    rw (exit.1, exit.2)
+    (record {
+      judged = (bytes, said, IsFoundIn-log bytes _ refused);
+      taken = c.in_err-text.ensures.taken;
+      leads = c.in_err-text.ensures.leads;
+    })
 
 pub returns-in-Ok : goal.returns-in-Ok
 returns-in-Ok g c =
@@ -22,7 +27,11 @@ returns-in-Ok g c =
     let judged =
     Judges-log AreLines bytes c.deref.result.now (Ok c.in-Ok.lines) (c.deref.ensures.value ∙ read.0)
     read.1 c.in-Ok.ensures.judged in
-    record { judged = (bytes, said, (judged.0, (read.0, judged.1))) }
+    record {
+      judged = (bytes, said, (judged.0, (read.0, judged.1)));
+      taken = c.in_ok-text.ensures.taken;
+      leads = c.in_ok-text.ensures.leads;
+    }
 
 pub returns-in-Err : goal.returns-in-Err
 returns-in-Err g c =
@@ -34,4 +43,6 @@ returns-in-Err g c =
         Judges-log AreLines bytes c.deref.result.now (Err c.in-Err.fault)
             (c.deref.ensures.value ∙ read.0) read.1 c.in-Err.ensures.judged,
       );
+      taken = c.in_ok-text.ensures.taken;
+      leads = c.in_ok-text.ensures.leads;
     }

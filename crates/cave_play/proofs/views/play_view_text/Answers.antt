@@ -21,7 +21,7 @@ returns-in_ok-push_play_end-in-Transcript g c =
     ∙ ap (λ t. t ++ last) (played.1.0 [] c.new-text.ensures.items)
     ∙ play_text-watched cave game end played.1.1
     ∙ ap (λ view. play_view_text view cave game) (sym c.in-Transcript.is) in
-    record { judged = (moves, said, (played.0, text)) }
+    record { judged = (moves, said, (played.0, text)); leads = c.in_ok-end-in-Transcript.ensures.leads }
 
 pub returns-in_ok-watch_play-in-Steps : goal.returns-in_ok-watch_play-in-Steps
 returns-in_ok-watch_play-in-Steps g c =
@@ -30,7 +30,7 @@ returns-in_ok-watch_play-in-Steps g c =
     let game = game_of c.args.seed (lines moves) in
     let text = played.1.0 [] c.new-text.ensures.items ∙ steps_text-watched cave game
     ∙ ap (λ view. play_view_text view cave game) (sym c.in-Steps.is) in
-    record { judged = (moves, said, (played.0, text)) }
+    record { judged = (moves, said, (played.0, text)); leads = c.in_ok-watch_play-in-Steps.ensures.leads }
 
 pub returns-in_ok-watch_play-in-Walk : goal.returns-in_ok-watch_play-in-Walk
 returns-in_ok-watch_play-in-Walk g c =
@@ -40,7 +40,7 @@ returns-in_ok-watch_play-in-Walk g c =
     let begun = c.after-walk.ensures ∙ c.new-text.ensures.items in
     let text = played.1.0 [] begun ∙ walk_text-watched cave game
     ∙ ap (λ view. play_view_text view cave game) (sym c.in-Walk.is) in
-    record { judged = (moves, said, (played.0, text)) }
+    record { judged = (moves, said, (played.0, text)); leads = c.in_ok-watch_play-in-Walk.ensures.leads }
 
 pub returns-in_ok-push_score_table-in-Score : goal.returns-in_ok-push_score_table-in-Score
 returns-in_ok-push_score_table-in-Score g c =
@@ -52,7 +52,7 @@ returns-in_ok-push_score_table-in-Score g c =
     ∙ (λ i. c.new-text.ensures.items i ++ score_table (c.rules.ensures i) end.state)
     ∙ score_text-ended cave game end played.1.1
     ∙ ap (λ view. play_view_text view cave game) (sym c.in-Score.is) in
-    record { judged = (moves, said, (played.0, text)) }
+    record { judged = (moves, said, (played.0, text)); leads = c.in_ok-end-in-Score.ensures.leads }
 
 pub returns-in_ok-push_state_after-in-FinalState : goal.returns-in_ok-push_state_after-in-FinalState
 returns-in_ok-push_state_after-in-FinalState g c =
@@ -64,4 +64,4 @@ returns-in_ok-push_state_after-in-FinalState g c =
     ∙ ap (λ t. t ++ state_text_after cave end.turns end.state) c.new-text.ensures.items
     ∙ final_state-ended cave game end played.1.1
     ∙ ap (λ view. play_view_text view cave game) (sym c.in-FinalState.is) in
-    record { judged = (moves, said, (played.0, text)) }
+    record { judged = (moves, said, (played.0, text)); leads = c.in_ok-end-in-FinalState.ensures.leads }

@@ -10,7 +10,7 @@ pub returns-in_err-list : goal.returns-in_err-list
 returns-in_err-list g c =
     let exit = err_from_is_err_and c.from_residual.result c.from_residual.ensures.1 in
     let (list, said, refused) = c.in_err-list.ensures.read in
-    rw (exit.1, exit.2) (record { judged = (list, said, IsFoundIn-known list _ refused) })
+    rw (exit.1, exit.2) (record { judged = (list, said, IsFoundIn-known list _ refused); taken = c.in_err-list.ensures.taken; leads = c.in_err-list.ensures.leads })
 
 pub returns-in_err-known : goal.returns-in_err-known
 returns-in_err-known g c =
@@ -19,7 +19,7 @@ returns-in_err-known g c =
     c.from_residual-in_err-known.ensures.1 in
     let (list, said, is) = c.in_ok-list.ensures.read in
     rw (exit.1, exit.2)
-    (record { judged = (list, said, IsFoundIn-memory (known_stage list ∷ [])) })
+    (record { judged = (list, said, IsFoundIn-memory (known_stage list ∷ [])); taken = c.in_ok-list.ensures.taken; leads = c.in_ok-list.ensures.leads })
 
 pub returns : goal.returns
 returns g c =
@@ -34,4 +34,6 @@ returns g c =
               ∙ ap (known_entries c.args.file.now) (c.deref.ensures.value ∙ is.0),
         ),
       );
+      taken = c.in_ok-list.ensures.taken;
+      leads = c.in_ok-list.ensures.leads;
     }

@@ -3,7 +3,7 @@ use Rattle.std.proofs.lemmas.List.{length-take-le}
 use Rattle.replay_edits.specs.Edit.{changes_of, log_of}
 use Rattle.replay_scripts.specs.Views.{expectation_in}
 use Rattle.play_edits.proofs.GuardLemmas.{draft_own, first_unmet-here, first_unmet-more}
-use Rattle.play_edits.proofs.GuardLemmas.{free-reached, free_changes, log_reached, unmet-past}
+use Rattle.play_edits.proofs.GuardLemmas.{free_changes, log_reached, unmet-past}
 use Rattle.play_edits.proofs.GuardLemmas.{unmet-reached, within_edits}
 use Rattle.replay_edits.proofs.Lines.{length-log_of}
 use Rattle.play_edits.proofs.guards.first_unmet.Goals as goal
@@ -78,20 +78,3 @@ loop-guard-preserved c =
             draft = rw w.draft-is before.draft;
           }
     ]
-
-pub other_line_now-requires-clause-free : goal.other_line_now-requires-clause-free
-other_line_now-requires-clause-free c =
-    let edits = c.args.edits.now in
-    let log = log_of c.args.log.now.items in
-    let counted =
-    c.free_count.ensures log (length-log_of c.args.log.now.items ∙ sym c.len.ensures.len) in
-    let guard = expectation_in c.guard-item.result in
-    let free = length-take-le c.free_count.result edits
-    (within_edits edits log c.free_count.result counted) in
-    free-reached edits log c.free_count.result counted guard c.min-after.result
-    c.min-after.ensures (omega (arith, c.if-after-free.true, free))
-
-pub other_line_now-requires-clause-now : goal.other_line_now-requires-clause-now
-other_line_now-requires-clause-now c =
-    log_reached c.args.edits.now c.args.log.now.items c.free_count.result c.min-after.result
-    c.move_to.new.draft c.in_ok-move_to.ensures

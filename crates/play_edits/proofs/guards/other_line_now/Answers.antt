@@ -1,7 +1,5 @@
 use Rattle.std.proofs.Common.{Some, refl, sym, ap, ◌∙◌, length}
 use Rattle.std.specs.Prelude.{slice_get}
-use Rattle.replay_edits.specs.Edit.{log_of}
-use Rattle.replay_edits.proofs.Lines.{length-log_of}
 use Rattle.replay_scripts.specs.Views.{expectation_in}
 use Rattle.play_edits.specs.Refusal.{expected_line, log_in}
 use Rattle.play_edits.proofs.GuardLemmas.{line_meets}
@@ -14,20 +12,11 @@ returns-then-is_line_of c =
     sym (line_meets guard (expected_line guard now) (length now) (slice_get now guard.place)
     (sym c.line-line.ensures ∙ c.if-is_line_of.ensures.0 refl ∙ ap Some c.deref.ensures))
 
-pub expected_line-requires-clause-lines : goal.expected_line-requires-clause-lines
-expected_line-requires-clause-lines c =
-    c.lines_after-lines.ensures (log_of c.args.log.now.items)
-    (length-log_of c.args.log.now.items ∙ sym c.len.ensures.len) c.requires.free
-    ∙ ap length (sym c.requires.now)
-
 pub other_line-requires : goal.other_line-requires
 other_line-requires c =
     λ same. let yes = c.if-is_line_of.ensures.1 (same ∙ ap Some (sym c.deref.ensures)) in cc
 
 pub returns : goal.returns
 returns c =
-    let counted = c.lines_after-lines.ensures (log_of c.args.log.now.items)
-    (length-log_of c.args.log.now.items ∙ sym c.len.ensures.len) c.requires.free
-    ∙ ap length (sym c.requires.now) in
-    let there = c.line-line.ensures in
-    c.other_line.ensures ∙ rw (c.expected_line.ensures, counted, there) refl
+    c.other_line.ensures
+    ∙ rw (c.expected_line-expected.ensures, c.lines.ensures, c.line-line.ensures) refl

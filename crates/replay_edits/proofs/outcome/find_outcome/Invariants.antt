@@ -1,5 +1,5 @@
 -- The remaining edits are to be made in the game that the numbers describe.
-use Rattle.std.proofs.Common.{◌-◌, drop}
+use Rattle.std.proofs.Common.{drop}
 use Rattle.replay_edits.specs.Edit.{game_of, log_of, changes_of}
 use Rattle.replay_edits.specs.Outcome.{log_by, game_by, AreNumbers}
 use Rattle.replay_edits.specs.Leaves.{LeaveAlone}

@@ -1,5 +1,6 @@
-use Rattle.std.proofs.Common.{◌≡◌, ◌+◌, refl, sym, ap, ◌∙◌}
+use Rattle.std.proofs.Common.{◌≡◌, ◌+◌, None, length, refl, sym, subst, ap, ◌∙◌}
 use Rattle.replay_edits.specs.Edit.{Game, change_of, log_after, log_of, own_line}
+use Rattle.replay_edits.specs.Faults.{fault_of}
 use Rattle.replay_edits.specs.Outcome.{log_by}
 use Rattle.replay_edits.proofs.DraftLemmas.{alone_more, free_more, made_more}
 use Rattle.replay_edits.proofs.OutcomeLemmas.{line_of-own}
@@ -21,18 +22,22 @@ returns c =
     let draft = c.requires.draft in
     let before = log_by old.stock old.game.numbers in
     let after = log_by old.stock c.make.new.game.numbers in
+    let came = ap (λ (g : Game). g.log) c.in_ok-make.ensures.game in
     let next : after ≡ log_after (change_of edit) before =
-    ap (λ (g : Game). g.log) c.in_ok-make.ensures.game
-    ∙ ap (λ e. log_after (change_of e) before) (sym read) in
+    came ∙ ap (λ e. log_after (change_of e) before) (sym read) in
+    let free = free_more edits old.made edit before c.requires.left read draft.free in
     record {
       edits_are = refl;
       log_is = refl;
       made_is = refl;
       now = next ∙ ap (log_after (change_of edit)) draft.now
           ∙ made_more edits old.made edit (log_of old.stock.log.now.items) c.requires.left read;
+      counted = c.lines_with-lines.ensures before (sym draft.counted)
+          (subst (λ e. fault_of (change_of e) before ≡ None) read free.0)
+          ∙ ap length (sym came);
       ordered = draft.ordered;
       within = draft.within;
-      free = rw next (free_more edits old.made edit before c.requires.left read draft.free).1;
+      free = rw next free.1;
       alone = rw next (alone_more edits old.made edit before _ c.requires.left read draft.alone).1;
       numbers = c.in_ok-make.ensures.numbers;
     }

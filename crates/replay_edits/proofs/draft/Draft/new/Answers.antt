@@ -1,4 +1,4 @@
-use Rattle.std.proofs.Common.{◌-◌, max, refl, sym, ap, ◌∙◌, arith}
+use Rattle.std.proofs.Common.{◌-◌, length, max, refl, sym, ap, ◌∙◌, arith}
 use Rattle.replay_edits.specs.Edit.{log_of}
 use Rattle.replay_edits.proofs.DraftLemmas.{alone_at_start, margins_within}
 use Rattle.replay_edits.proofs.Lines.{length-log_of}
@@ -32,6 +32,8 @@ returns c =
       log_is = refl;
       made_is = refl;
       now = begun.log;
+      counted = sym (ap length begun.log ∙ length-log_of c.args.log.now.items
+          ∙ sym c.len-3.ensures.len);
       ordered = omega (arith, c.max.ensures);
       within = omega (arith, inside.0, inside.1, c.max.ensures, c.len-2.ensures.len);
       free = rw begun.log c.requires;

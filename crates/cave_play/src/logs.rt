@@ -1,0 +1,141 @@
+//! Runs over several logs, each of which is played by itself from its first line.
+
+ghost use Rattle.std.specs.Prelude.{◌≡◌, ℕ, List, [], IfOk, None, length};
+ghost use Rattle.std.specs.List.{AllZip};
+ghost use Rattle.cave_play.specs.Doubted.{IsReadOf};
+ghost use Rattle.cave_play.specs.Input.{Says};
+ghost use Rattle.cave_play.specs.Judge.{large_seed};
+ghost use Rattle.cave_play.specs.Logs.{IsMadeReport, IsReportOn, IsReported, JudgesLogs};
+ghost use Rattle.cave_play.specs.Logs.{WritesReport, first_stages, games_of, noted_of_all};
+ghost use Rattle.cave_play.specs.Run.{Judges};
+
+use crate::fault::PlayFault;
+use crate::judge::{ReadCave, check_seed, read_cave, watch_play};
+use crate::logs_fault::LogsFault;
+use crate::notes::PlayNotes;
+use crate::output::write_output;
+use crate::sources::Sources;
+use cave_words::Lexicon;
+use play_machine::CaveMachine;
+use std::alloc::Global;
+use std::io::Write;
+
+/// A report on the plays of logs, and what is found with it.
+#[derive(Drop)]
+pub struct Reported<F: Copy> {
+    pub text: Vec<u8>,
+    pub found: F,
+}
+
+/// Plays this many logs, and makes the report on what is noted of their plays.
+pub fn make_report<N: PlayNotes, I: Sources>(
+    alloc: Global,
+    inputs: &mut I,
+    logs: usize,
+    seed: u32,
+    view: &N::View,
+) -> Result<Reported<N::Found>, LogsFault>
+    requires { logs ≡ length (I.held inputs.old).logs }
+    ensures judged { (database : List ℕ) × (bindings : List ℕ) × (moves : List (List ℕ))
+        × Says (I.held inputs.old).cave database × Says (I.held inputs.old).bindings bindings
+        × AllZip Says (I.held inputs.old).logs moves
+        × JudgesLogs (first_stages database bindings seed) moves
+        (IsMadeReport (IsReported N.report_on N.found_on database bindings moves seed view.now))
+        result }
+    ensures all { IfOk result (λ _. (I.held inputs.new).logs ≡ []) }
+    ensures leads { I.Leads inputs.old inputs.new }
+{
+    let read = read_for_logs(alloc, inputs, seed)?;
+    let made = report_in_cave::<N, I>(alloc, &read, inputs, logs, seed, view);
+    // By a call, as in other runs, so the checker goes through the tables of a cave in one place.
+    drop(read);
+    made
+}
+
+/// Judges the seed with which logs are played, and reads their cave.
+pub fn read_for_logs<I: Sources>(
+    alloc: Global,
+    inputs: &mut I,
+    seed: u32,
+) -> Result<ReadCave, PlayFault>
+    ensures judged { (database : List ℕ) × (bindings : List ℕ)
+        × Says (I.held inputs.old).cave database × Says (I.held inputs.old).bindings bindings
+        × Judges (first_stages database bindings seed) (IsReadOf database bindings) result }
+    ensures logs { (I.held inputs.new).logs ≡ (I.held inputs.old).logs }
+    ensures leads { I.Leads inputs.old inputs.new }
+{
+    check_seed(seed)?;
+    read_cave(alloc, inputs)
+}
+
+/// Plays this many logs in a cave, and makes the report on what is noted of their plays.
+pub fn report_in_cave<N: PlayNotes, I: Sources>(
+    alloc: Global,
+    read: &ReadCave,
+    inputs: &mut I,
+    logs: usize,
+    seed: u32,
+    view: &N::View,
+) -> Result<Reported<N::Found>, LogsFault>
+    requires fits { large_seed seed ≡ None }
+    requires many { logs ≡ length (I.held inputs.old).logs }
+    ensures judged { (moves : List (List ℕ)) × AllZip Says (I.held inputs.old).logs moves
+        × JudgesLogs [] moves
+        (IsMadeReport (IsReportOn N.report_on N.found_on read.now.database.items read.now.cave
+        view.now (games_of seed moves))) result }
+    ensures all { IfOk result (λ _. (I.held inputs.new).logs ≡ []) }
+    ensures leads { I.Leads inputs.old inputs.new }
+{
+    let cave = &read.cave;
+    let lexicon = Lexicon::build(alloc, cave)?;
+    let machine = CaveMachine::new(cave, &lexicon);
+    let mut notes = N::none(alloc)?;
+    note_logs(alloc, machine, inputs, logs, seed, &mut notes)?;
+    let mut text = Vec::new(alloc);
+    let found = notes.push_report(alloc, &read.database, cave, view, logs, &mut text)?;
+    Ok(Reported { text, found })
+}
+
+/// Plays this many logs, each by itself, and notes their plays in notes that are still empty. One
+/// log at a time is held.
+fn note_logs<N: PlayNotes, I: Sources>(
+    alloc: Global,
+    machine: CaveMachine<'_>,
+    inputs: &mut I,
+    logs: usize,
+    seed: u32,
+    notes: &mut N,
+) -> Result<(), LogsFault>
+    requires fits { large_seed seed ≡ None }
+    requires many { logs ≡ length (I.held inputs.old).logs }
+    requires none { N.HasNoted [] notes.old }
+    ensures judged { (moves : List (List ℕ)) × AllZip Says (I.held inputs.old).logs moves
+        × JudgesLogs [] moves
+        (λ _. N.HasNoted (noted_of_all N.first_facts N.facts machine.entry.rules.cave.now
+        (games_of seed moves)) notes.new) result }
+    ensures all { IfOk result (λ _. (I.held inputs.new).logs ≡ []) }
+    ensures leads { I.Leads inputs.old inputs.new }
+{
+    for place in 0..logs {
+        match watch_play(alloc, machine, inputs, seed, notes) {
+            Ok(_) => {}
+            Err(fault) => {
+                let log = Some(place);
+                return Err(LogsFault { fault, log });
+            }
+        }
+    }
+    Ok(())
+}
+
+/// Writes a report that was made, if one was, and returns what is found with it.
+pub fn write_report<F: Copy, W: Write>(
+    made: Result<Reported<F>, LogsFault>,
+    output: &mut W,
+) -> Result<F, LogsFault>
+    ensures { WritesReport made (W.contents output.old) (W.contents output.new) result }
+{
+    let Reported { text, found } = made?;
+    write_output(output, &text)?;
+    Ok(found)
+}

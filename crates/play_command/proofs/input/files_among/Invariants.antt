@@ -1,0 +1,11 @@
+use Rattle.std.proofs.Common.{◌≡◌, ◌++◌, drop, map}
+use Rattle.std.specs.List.{flat_map}
+use Rattle.play_command.specs.Files.{files_at, named_file}
+use Rattle.play_command.specs.Found.{rows_in, with_text}
+use Rattle.play_command.proofs.input.files_among.Given as goal
+
+abbrev pub invariant-loop-id : goal.invariant-loop-id
+invariant-loop-id l =
+    map named_file l.files.items
+    ++ flat_map (files_at (rows_in l.found)) (map with_text (drop l.id-index l.arguments))
+    ≡ flat_map (files_at (rows_in l.found)) (map with_text l.arguments)

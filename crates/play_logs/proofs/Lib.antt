@@ -1,3 +1,0 @@
-pub mod FaultLemmas
-pub mod Lists
-pub mod Progress

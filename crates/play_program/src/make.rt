@@ -1,0 +1,161 @@
+//! What the run of a request makes of its inputs.
+
+ghost use Rattle.std.specs.Prelude.{◌≡◌, ℕ, List, IfOk, length, map};
+ghost use Rattle.std.specs.List.{AllZip};
+ghost use Rattle.cave_play.specs.Input.{InputTexts, Says};
+ghost use Rattle.cave_play.specs.Sources.{AreHeld};
+ghost use Rattle.play_command.specs.Files.{named_file};
+ghost use Rattle.play_program.specs.Files.{log_count};
+ghost use Rattle.play_program.specs.Making.{AreAsked, AreListed, HasReadAll, IsMade, IsMadeEdits};
+ghost use Rattle.play_program.specs.Making.{of_cover, of_doubts, of_edits, of_map, of_text, third_of};
+
+use crate::files::{file_of, log_count};
+use cave_play::doubted::{LeftDoubts, first_doubt, make_doubts};
+use cave_play::edits::MadeEdit;
+use cave_play::logs::Reported;
+use cave_play::run::{make_check, make_edit, make_play};
+use cave_play::sources::Sources;
+use cave_play::two_logs::{make_edit_to, make_script};
+use cave_play::{EditRun, LogsFault, PlayFault};
+use check_doubts::DoubtFiles;
+use play_command::{CoverView, EditAsked, EditsFrom, Input, Request, What};
+use play_cover::run::{CoverAsked, make_cover};
+use play_map::run::make_map;
+use std::alloc::Global;
+
+/// What the run of a request makes of its inputs.
+#[derive(Drop)]
+pub(crate) struct Made {
+    pub(crate) output: Vec<u8>,
+    /// What edits return beside it.
+    pub(crate) edits: Option<EditRun>,
+    /// What is left all the same, for which a strict run fails.
+    pub(crate) left: Option<PlayFault>,
+}
+
+fn of_text(made: Result<Vec<u8>, PlayFault>) -> Result<Made, LogsFault>
+    ensures { result ≡ of_text made }
+{
+    let output = made?;
+    Ok(Made {
+        output,
+        edits: None,
+        left: None,
+    })
+}
+
+fn of_doubts(strict: bool, made: Result<LeftDoubts, PlayFault>) -> Result<Made, LogsFault>
+    ensures { result ≡ of_doubts strict made }
+{
+    let LeftDoubts { left, text } = made?;
+    Ok(Made {
+        output: text,
+        edits: None,
+        left: first_doubt(strict, &left),
+    })
+}
+
+fn of_edits(made: Result<MadeEdit, PlayFault>) -> Result<Made, LogsFault>
+    ensures { result ≡ of_edits made }
+{
+    let MadeEdit { run, text } = made?;
+    Ok(Made {
+        output: text,
+        edits: Some(run),
+        left: None,
+    })
+}
+
+fn of_cover(strict: bool, made: Result<Reported<usize>, LogsFault>) -> Result<Made, LogsFault>
+    ensures { result ≡ of_cover strict made }
+{
+    let Reported { text, found } = made?;
+    let is_left = strict && found > 0;
+    Ok(Made {
+        output: text,
+        edits: None,
+        left: if is_left {
+            Some(PlayFault::Unshown(found))
+        } else {
+            None
+        },
+    })
+}
+
+fn of_map(made: Result<Reported<()>, LogsFault>) -> Result<Made, LogsFault>
+    ensures { result ≡ of_map made }
+{
+    let Reported { text, .. } = made?;
+    of_text(Ok(text))
+}
+
+/// The files that doubts are about, and that of the list of known ones.
+fn doubt_files<'a>(request: &Request<'a>) -> DoubtFiles<'a>
+    ensures { AreListed request.now result }
+{
+    DoubtFiles {
+        database: file_of(request, Input::Cave, 0).unwrap_or(""),
+        bindings: file_of(request, Input::Bindings, 0).unwrap_or(""),
+        known: file_of(request, Input::Known, 0).unwrap_or(""),
+    }
+}
+
+/// What is asked of the coverage of logs.
+fn cover_asked<'a>(request: &Request<'a>, seed: u32, view: CoverView) -> CoverAsked<'a>
+    ensures { AreAsked request.now seed view result }
+{
+    CoverAsked {
+        seed,
+        view,
+        known: file_of(request, Input::Known, 0).unwrap_or(""),
+    }
+}
+
+/// What edits of a log make: those of a script, or those that make another log of it.
+fn make_edits<I: Sources>(
+    alloc: Global,
+    inputs: &mut I,
+    asked: EditAsked,
+) -> Result<MadeEdit, PlayFault>
+    ensures judged { (texts : InputTexts)
+        × AreHeld (third_of (What.Edit asked)) (I.held inputs.old) texts
+        × IsMadeEdits asked texts result }
+    ensures leads { I.Leads inputs.old inputs.new }
+{
+    match asked.edits_from {
+        EditsFrom::Script => make_edit(alloc, inputs, asked.editing, asked.report),
+        EditsFrom::NewLog => make_edit_to(alloc, inputs, asked.editing, asked.report),
+    }
+}
+
+/// What the run of a request makes of its inputs. It asks for each when its turn comes.
+pub(crate) fn make<I: Sources>(
+    alloc: Global,
+    inputs: &mut I,
+    request: &Request<'_>,
+) -> Result<Made, LogsFault>
+    requires { log_count (map named_file request.now.files.items)
+        ≡ length (I.held inputs.old).logs }
+    ensures judged { (texts : InputTexts) × (logs : List (List ℕ))
+        × AreHeld (third_of request.now.what) (I.held inputs.old) texts
+        × AllZip Says (I.held inputs.old).logs logs × IsMade request.now texts logs result }
+    ensures all { IfOk result (λ _. HasReadAll request.now.what (I.held inputs.new)) }
+    ensures leads { I.Leads inputs.old inputs.new }
+{
+    let logs = log_count(&request.files);
+    match request.what {
+        What::Check(view) => of_text(make_check(alloc, inputs, view)),
+        What::Doubts { strict } => {
+            let files = doubt_files(request);
+            of_doubts(strict, make_doubts(alloc, inputs, &files))
+        }
+        What::Play { seed, view } => of_text(make_play(alloc, inputs, seed, view)),
+        What::Edit(asked) => of_edits(make_edits(alloc, inputs, asked)),
+        What::Script(form) => of_text(make_script(alloc, inputs, form)),
+        What::Cover { seed, view, strict } => {
+            let asked = cover_asked(request, seed, view);
+            of_cover(strict, make_cover(alloc, inputs, logs, &asked))
+        }
+        What::Map { seed, part } => of_map(make_map(alloc, inputs, logs, seed, part)),
+    }
+}
