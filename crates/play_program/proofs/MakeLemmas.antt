@@ -1,6 +1,7 @@
 -- What a run has of its inputs before it, and of several logs after it.
 use Rattle.std.proofs.Common.{◌≡◌, ℕ, Bool, true, false, List, [], ◌∷◌, ◌++◌, map, Option, ap}
-use Rattle.std.proofs.Common.{None, Result, Some, Ok, Err, inl, inr, append-nil, length, refl, sym, subst, ◌∙◌}
+use Rattle.std.proofs.Common.{None, Result, Some, Ok, Err, inl, inr, append-nil, length, refl}
+use Rattle.std.proofs.Common.{sym, subst, ◌∙◌}
 use Rattle.std.proofs.lemmas.List.{length-map}
 use Rattle.std.specs.List.{AllZip, filter, flat_map}
 use Rattle.std.specs.Prelude.{⊤, IfOk, IfSome, MatchResult, if◌then◌else◌, not, unwrap_or}
@@ -22,7 +23,8 @@ use Rattle.play_cover.specs.declared.run.CoverAsked.{CoverAsked}
 use Rattle.play_program.specs.Calls.{Call, and_then}
 use Rattle.play_program.specs.Ends.{AreFirst, IsMadeWith, IsWhyUnmade, MakesOpened, ReadsLogs}
 use Rattle.play_program.specs.Ends.{held_by}
-use Rattle.play_program.specs.Files.{FileName, file_of, files_in, is_same_input, log_count, log_names, name_of_file}
+use Rattle.play_program.specs.Files.{FileName, file_of, files_in, is_same_input, log_count}
+use Rattle.play_program.specs.Files.{log_names, name_of_file}
 use Rattle.play_program.specs.Making.{AreAsked, HasReadAll, IsCoverage, IsMade, IsMadeBy, of_cover}
 use Rattle.play_program.specs.Making.{of_map, third_of}
 use Rattle.play_program.specs.Sources.{entry_of, first_files, held_in, held_of, is_first, later_files}

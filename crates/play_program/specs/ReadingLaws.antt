@@ -134,7 +134,8 @@ module _ {S F : Type 0} (calls_of : S → Option (List Call))
           (subst (λ b. AreTextsOf b more) first.bytes (second.texts (next_of first are)));
       open_logs = read-more input.Log logs more _ _ _ first.open_logs second.open_logs;
       open_new_logs = read-more input.NewLog logs more _ _ _ first.open_new_logs second.open_new_logs;
-      tried = subst (AreTried one.request.now one.unopened.now last.unopened.now) (sym (opened_names-append logs more))
+      tried = subst (AreTried one.request.now one.unopened.now last.unopened.now)
+          (sym (opened_names-append logs more))
           (tried-more one.request.now one.unopened.now next.unopened.now last.unopened.now
           (opened_names logs)
           (opened_names more) first.tried

@@ -39,7 +39,8 @@ returns-in-Err-2-clause-leads g c =
     let rest = log_names (map named_file (drop (c.in-Some.place + 1) files.request.now.files.items)) in
     let later = c.in-Some.ensures.later ∙ ap (λ name. name ∷ rest) (sym c.name_of_file-log.ensures) in
     Leads-part g.S.System.calls g.S.System.bytes_of g.S.File.Read.remaining files _ refl refl
-    refl c.in-Err.ensures.kept refl log (sym c.name_of_file-log.ensures) (some_bytes known) later (said known) c.in-Err.ensures.call
+    refl c.in-Err.ensures.kept refl log (sym c.name_of_file-log.ensures) (some_bytes known) later
+    (said known) c.in-Err.ensures.call
 
 pub returns-in_err-text-clause-leads : goal.returns-in_err-text-clause-leads
 returns-in_err-text-clause-leads g c =
@@ -73,5 +74,6 @@ returns-clause-leads g c =
     c.tell_head.ensures.place (c.tell_head.ensures.bytes ∙ c.in-Ok.ensures.kept)
     (ap (λ o. map (opened_in g.S.File.Read.remaining) o.items) c.tell_head.ensures.opened)
     log (subst (λ (s : Option Shut). IfSome s (λ shut. name_of_file files.request.now shut.0 ≡ log))
-    (sym c.tell_head.ensures.unopened) tt) text _ (later ∙ ap (λ l. log ∷ log_names l) (sym same)) said_text c.in-Ok.ensures.call
+    (sym c.tell_head.ensures.unopened) tt) text _ (later ∙ ap (λ l. log ∷ log_names l) (sym same))
+    said_text c.in-Ok.ensures.call
     c.tell_head.ensures.calls
