@@ -1,12 +1,10 @@
 -- The bytes of an input, if only a prefix of them was read.
 use Rattle.std.proofs.Common.{ℕ, ◌≤◌, List, [], ◌++◌, length, None, Some, sym, ap, ◌∙◌, refl, arith}
-use Rattle.std.proofs.Common.{inl, inr}
-use Rattle.std.proofs.Common.{append-nil, length-append, le_refl}
+use Rattle.std.proofs.Common.{inl, inr, append-nil, length-append, le_refl}
 use Rattle.std.specs.declared.option.Option.{Option}
 use Rattle.std.specs.Io.KnownBytes.{Consumes, IsAtEnd}
 use Rattle.std.proofs.KnownBytes.{Consumes-trans}
-use Rattle.cave_play.specs.Input.{Says}
-use Rattle.cave_play.specs.Reading.{Exceeds, IsUnread}
+use Rattle.cave_play.specs.Sources.{Says, Exceeds, IsUnread}
 use Rattle.cave_play.specs.declared.fault.PlayFault.{PlayFault}
 use Rattle.play_command.specs.declared.input.Input.{Input}
 

@@ -1,6 +1,8 @@
 -- A script has no more items than lines, and no more lines than bytes.
-use Rattle.std.proofs.Common.{◌≡◌, ℕ, ◌+◌, ◌<◌, ◌≤◌, ◌^◌, Bool, true, false, List, [], ◌∷◌, length}
-use Rattle.std.proofs.Common.{map, ap, arith, length-append}
+use Rattle.replay_scripts.proofs.Grammar.{script_of-only}
+use Rattle.std.proofs.Common.{Ok, ◌≡◌, ℕ, ◌+◌, ◌<◌, ◌≤◌, ◌^◌, Bool, true, false, List, [], ◌∷◌}
+use Rattle.std.proofs.Common.{length, map, ap, arith, length-append}
+use Rattle.replay_scripts.specs.Guards.{script_by, IsScriptBy, unguarded, unguarded_items}
 use Rattle.std.specs.Prelude.{◌==◌, if◌then◌else◌}
 use Rattle.std.specs.List.{slice_split}
 use Rattle.std.specs.Str.Lines.{lines, lines_of_parts}
@@ -9,7 +11,6 @@ use Rattle.std.proofs.lemmas.List.{length-map}
 use Rattle.std.proofs.lemmas.List.Sums.{count_by-le-length}
 use Rattle.std.proofs.lemmas.List.Splits.{length-slice_split}
 use Rattle.replay_scripts.specs.Script.{Applied, IsScript, done, skips, spells, groups}
-use Rattle.replay_scripts.specs.Guards.{IsScriptBy, unguarded, unguarded_items}
 use Rattle.replay_scripts.specs.Views.{applied_item, items_of}
 use Rattle.replay_scripts.specs.declared.script.Item.{Item}
 
@@ -58,3 +59,17 @@ pub few_items : (guarded : Bool) (items : Vec Item) (text bytes : List ℕ)
 few_items guarded items text bytes script same fits =
     let shown : length (map applied_item items.items) ≡ length items.items = simp length-map in
     omega (arith, few_by guarded (items_of items) text script, shown, ap length same)
+
+-- items that a script spells are what is read of it
+pub script_by-spelled : (guarded : Bool) (script : List ℕ) (items : List Applied)
+    → IsScriptBy guarded script items → script_by guarded script ≡ Ok items
+script_by-spelled false script items spelled = script_of-only script items spelled
+script_by-spelled true script items (read, spelled) = read
+
+-- so it spells the same items each time it is read
+pub same_items : (guarded : Bool) (script : List ℕ) (items others : List Applied)
+    → IsScriptBy guarded script items → IsScriptBy guarded script others → items ≡ others
+same_items guarded script items others spelled respelled =
+    let first = script_by-spelled guarded script items spelled in
+    let second = script_by-spelled guarded script others respelled in
+    cc

@@ -1,11 +1,65 @@
--- What is known of the inputs of a run before they are read.
-use Rattle.std.specs.Prelude.{◌≡◌, ℕ, List, [], ◌∷◌, drop, map, Option, None}
+-- The bytes of the inputs of a run, and what is known of them before they are read.
+use Rattle.std.specs.Prelude.{◌≡◌, ℕ, ⊤, List, Option, None, Some, ◌⊎◌, ◌+◌, ◌<◌, ◌≤◌, Bool, true}
+use Rattle.std.specs.Prelude.{false, ◌++◌, length, MatchResult, Result, [], ◌∷◌, drop, map}
 use Rattle.std.specs.Prelude.{if◌then◌else◌}
-use Rattle.cave_play.specs.Input.{InputTexts, Says}
+use Rattle.cave_play.specs.declared.inputs.Inputs.{Inputs}
+use Rattle.std.specs.Global.{Vec}
+use Rattle.std.specs.Io.KnownBytes.{Consumes, IsAtEnd}
+use Rattle.base_lines.specs.Limits.{MAX_INPUT_BYTES}
+use Rattle.cave_play.specs.Judge.{too_large}
+use Rattle.cave_play.specs.Run.{IsOutsideOf}
+use Rattle.cave_play.specs.declared.fault.PlayFault.{PlayFault}
+use Rattle.play_command.specs.declared.input.Input.{Input}
+use Rattle.cave_play.specs.declared.inputs.CaveReaders.{CaveReaders}
 use Rattle.cave_play.specs.declared.inputs.OneLog.{OneLog}
 use Rattle.cave_play.specs.declared.inputs.Readers.{Readers}
-use Rattle.play_command.specs.declared.input.Input.{Input}
 use Rattle.play_command.specs.declared.input.Input.TheVariants as input
+
+-- the bytes are those that a reader is known to have left, if that is known
+abbrev pub Says : Option (List ℕ) → List ℕ → Type 0
+Says None bytes = ⊤
+Says (Some known) bytes = bytes ≡ known
+
+-- the bytes of each input
+pub record InputTexts : Type 0 where
+  pub database : List ℕ
+  pub bindings : List ℕ
+  pub log : List ℕ
+  pub script : List ℕ
+
+-- the texts are those that the readers of the inputs are known to have left, if that is known: the
+-- first four say what a reader has left
+pub record AreTextsOf {C B L S : Type 0} (left_database : C → Option (List ℕ))
+    (left_bindings : B → Option (List ℕ)) (left_log : L → Option (List ℕ))
+    (left_script : S → Option (List ℕ)) (inputs : Inputs C B L S) (texts : InputTexts)
+    : Type 0 where
+  pub database : Says (left_database inputs.cave.database) texts.database
+  pub bindings : Says (left_bindings inputs.cave.bindings) texts.bindings
+  pub log : Says (left_log inputs.log) texts.log
+  pub script : Says (left_script inputs.script) texts.script
+
+-- a reading failed, or the input is too large
+abbrev pub IsUnread : Input → List ℕ → PlayFault → Type 0
+IsUnread from bytes found =
+    IsOutsideOf (Some from) found ⊎ ((MAX_INPUT_BYTES < length bytes) × (found ≡ too_large from))
+
+-- what a reading of an input returns that is known to have these bytes
+abbrev pub IsReading : Option (List ℕ) → Input → Result (Vec ℕ) PlayFault → Type 0
+IsReading known from result = (bytes : List ℕ) × Says known bytes
+    × MatchResult result (λ text. (text.items ≡ bytes) × (length bytes ≤ MAX_INPUT_BYTES))
+    (IsUnread from bytes)
+
+-- one ask of a reader added some bytes to the input, or reached the reader's end
+pub record Gives (old new : Option (List ℕ)) (before after : List ℕ) (some : Bool) : Type 0 where
+  pub bytes : (given : List ℕ) × (after ≡ before ++ given) × Consumes old new given
+  pub more : some ≡ true → length before < length after
+  pub end : some ≡ false → (after ≡ before) × IsAtEnd new
+
+-- one ask failed, or took the bytes that were too many
+abbrev pub Exceeds : Input → Option (List ℕ) → Option (List ℕ) → List ℕ → PlayFault → Type 0
+Exceeds from old new before found = IsOutsideOf (Some from) found
+    ⊎ ((given : List ℕ) × Consumes old new given
+    × (MAX_INPUT_BYTES < length before + length given) × (found ≡ too_large from))
 
 -- the bytes of each input that wasn't read, if they are known; the logs come one after another, and
 -- a run has at most one of the last three
@@ -63,30 +117,48 @@ pub record AreHeld (third : Input) (held : Held) (texts : InputTexts) : Type 0 w
   pub log : Says (next_log held.logs) texts.log
   pub script : Says (held_for third held) texts.script
 
--- ---- readers of the inputs
+-- inputs were read, one after another
+abbrev pub AreRead : {I : Type 0} → (Input → I → I → Type 0) → List Input → I → I → Type 0
+AreRead reads [] old new = new ≡ old
+AreRead {I} reads (input ∷ inputs) old new =
+    (next : I) × reads input old next × AreRead reads inputs next new
 
--- what readers of a run over one log have: the first four say what one has left
-abbrev pub held_by_one : {C B L S : Type 0} (left_database : C → Option (List ℕ))
-    (left_bindings : B → Option (List ℕ)) (left_log : L → Option (List ℕ))
-    (left_script : S → Option (List ℕ)) → OneLog C B L S → Held
-held_by_one left_database left_bindings left_log left_script readers = record {
-  cave = left_database readers.inputs.now.cave.database;
-  bindings = left_bindings readers.inputs.now.cave.bindings;
-  logs = if readers.is_read then [] else left_log readers.inputs.now.log ∷ [];
-  new_log = left_script readers.inputs.now.script;
-  script = left_script readers.inputs.now.script;
-  known = left_script readers.inputs.now.script;
-}
+-- nothing was done but that some inputs were read
+abbrev pub Leads : {I : Type 0} → (Input → I → I → Type 0) → I → I → Type 0
+Leads reads old new = (inputs : List Input) × AreRead reads inputs old new
 
--- and those of a run over any number of logs
-abbrev pub held_by : {C B L S : Type 0} (left_database : C → Option (List ℕ))
+-- ---- readers
+
+-- these are readers of a cave, logs and a script, before anything is read
+pub record AreReadersOf {C B L S : Type 0} (cave : CaveReaders C B) (logs : List L) (script : S)
+    (readers : Readers C B L S) : Type 0 where
+  pub cave_is : readers.cave.now ≡ cave
+  pub logs_are : readers.logs.now ≡ logs
+  pub script_is : readers.script.now ≡ script
+  pub unread : readers.read ≡ 0
+
+-- and these of one log
+abbrev pub IsOneLogOf : {C B L S : Type 0} → Inputs C B L S → OneLog C B L S → Type 0
+IsOneLogOf inputs readers = (readers.inputs.now ≡ inputs) × (readers.is_read ≡ false)
+
+-- what they have, if these functions say what one has left
+module _ {C B L S : Type 0} (left_database : C → Option (List ℕ))
     (left_bindings : B → Option (List ℕ)) (left_log : L → Option (List ℕ))
-    (left_script : S → Option (List ℕ)) → Readers C B L S → Held
-held_by left_database left_bindings left_log left_script readers = record {
-  cave = left_database readers.cave.now.database;
-  bindings = left_bindings readers.cave.now.bindings;
-  logs = map left_log (drop readers.read readers.logs.now);
-  new_log = left_script readers.script.now;
-  script = left_script readers.script.now;
-  known = left_script readers.script.now;
-}
+    (left_script : S → Option (List ℕ)) where
+  abbrev pub held_of : CaveReaders C B → List L → S → Held
+  held_of cave logs script = record {
+    cave = left_database cave.database;
+    bindings = left_bindings cave.bindings;
+    logs = map left_log logs;
+    new_log = left_script script;
+    script = left_script script;
+    known = left_script script;
+  }
+
+  abbrev pub held_by : Readers C B L S → Held
+  held_by readers =
+      held_of readers.cave.now (drop readers.read readers.logs.now) readers.script.now
+
+  abbrev pub held_by_one : OneLog C B L S → Held
+  held_by_one readers = let inputs = readers.inputs.now in
+      held_of inputs.cave (if readers.is_read then [] else inputs.log ∷ []) inputs.script

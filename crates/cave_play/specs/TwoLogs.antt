@@ -1,29 +1,26 @@
 -- Runs over two logs: the edits that make one of the other, and what they lead to.
-use Rattle.std.specs.Prelude.{◌≡◌, ◌⊎◌, ℕ, ◌<◌, ◌≤◌, false, List, [], ◌∷◌, length, Option, None}
-use Rattle.std.specs.Prelude.{Some, option_map, Result, Err, if◌then◌else◌}
+use Rattle.std.specs.Prelude.{◌≡◌, ◌⊎◌, ℕ, false, List, [], ◌∷◌, length, Option, None, Some}
+use Rattle.std.specs.Prelude.{option_map, Result, Err, if◌then◌else◌, ◌++◌, nat_lt}
+use Rattle.cave_play.specs.Stages.{judging_stage, Stage, edit_stages, log_stage, reading_stage}
 use Rattle.std.specs.Global.{Vec}
 use Rattle.std.specs.Io.KnownBytes.{Keeps}
 use Rattle.std.specs.Str.Lines.{lines}
 use Rattle.base_lines.specs.Limits.{MAX_INPUT_BYTES}
-use Rattle.play_command.specs.declared.aside.ReportView.{ReportView}
-use Rattle.play_command.specs.declared.editing.Editing.{Editing}
+use Rattle.play_command.specs.declared.views.ReportView.{ReportView}
+use Rattle.play_command.specs.declared.line.Editing.{Editing}
 use Rattle.replay_difference.specs.ScriptTo.{IsScriptTo}
 use Rattle.replay_difference.specs.declared.script.ScriptForm.{ScriptForm}
-use Rattle.replay_edits.specs.Edit.{Game, IsGame, game_of, log_of}
-use Rattle.replay_scripts.specs.Guards.{IsScriptBy}
-use Rattle.replay_scripts.specs.Script.{Applied}
-use Rattle.play_edits.specs.Items.{game_after_items}
-use Rattle.cave_play.specs.Input.{InputTexts}
+use Rattle.replay_edits.specs.Edit.{log_of}
+use Rattle.cave_play.specs.Sources.{InputTexts, Held, Leads}
 use Rattle.cave_play.specs.Judge.{log_fault}
 use Rattle.cave_play.specs.Run.{IsFoundIn, Judges, Runs, RunsWith}
-use Rattle.cave_play.specs.Sources.{Held}
-use Rattle.cave_play.specs.Stages.{Stage, edit_stages, first_decided, log_stage, reading_stage}
-use Rattle.cave_play.specs.EditRun.{IsEditRun, IsMadeEdit}
+use Rattle.play_command.specs.declared.input.Input.{Input}
+use Rattle.cave_play.specs.Output.{IsEditRun, IsMadeEdit}
 use Rattle.play_command.specs.declared.input.Input.TheVariants as input
 use Rattle.cave_play.specs.declared.fault.PlayFault.{PlayFault}
 use Rattle.cave_play.specs.declared.fault.PlayFault.TheVariants as fault
-use Rattle.cave_play.specs.declared.edits.EditRun.{EditRun}
-use Rattle.cave_play.specs.declared.edits.MadeEdit.{MadeEdit}
+use Rattle.play_edits.specs.declared.items.EditRun.{EditRun}
+use Rattle.play_edits.specs.declared.items.MadeEdit.{MadeEdit}
 use Rattle.cave_play.specs.declared.two_logs.Compared.{Compared}
 use Rattle.cave_play.specs.declared.two_logs.ReadLog.{ReadLog}
 use Rattle.cave_play.specs.declared.two_logs.WithCompared.{WithCompared}
@@ -49,40 +46,32 @@ abbrev pub IsDifferenceOf : ScriptForm → List ℕ → List ℕ → List ℕ �
 IsDifferenceOf form old new script =
     IsScriptTo form script (lines old) (lines new) × (lines old ≡ lines new → script ≡ [])
 
--- the script has as many bytes as a script may have
-abbrev pub IsReadDifferenceOf : ScriptForm → List ℕ → List ℕ → List ℕ → Type 0
-IsReadDifferenceOf form old new script =
-    IsDifferenceOf form old new script × (length script ≤ MAX_INPUT_BYTES)
+-- the size of the script is judged last, since a run has to be able to read it
+abbrev pub script_size_stage : List ℕ → Stage
+script_size_stage script = judging_stage
+    (if nat_lt MAX_INPUT_BYTES (length script) then Some fault.LargeScript else None)
 
--- or it has more
-abbrev pub IsLargeDifferenceOf : ScriptForm → List ℕ → List ℕ → List ℕ → Type 0
-IsLargeDifferenceOf form old new script =
-    IsDifferenceOf form old new script × (MAX_INPUT_BYTES < length script)
+abbrev pub script_stages : InputTexts → List ℕ → List Stage
+script_stages texts script =
+    two_logs_stages texts.log texts.script ++ script_size_stage script ∷ []
 
--- the logs are compared, and nothing is written, since no run could read the script
-abbrev pub IsTooLarge : ScriptForm → InputTexts → Option (List ℕ) → Option (List ℕ)
-    → Result (Unit {0}) PlayFault → Type 0
-IsTooLarge form texts old new ended =
-    (first_decided (two_logs_stages texts.log texts.script) ≡ None)
-    × ((script : List ℕ) × IsLargeDifferenceOf form texts.log texts.script script)
-    × (ended ≡ Err fault.LargeScript) × Keeps old new
+-- one of two logs is refused
+abbrev pub AreRefused : {A : Type 0} → InputTexts → Result A PlayFault → Type 0
+AreRefused texts made = (found : PlayFault) × (made ≡ Err found)
+    × IsFoundIn (two_logs_stages texts.log texts.script) found
 
--- the script that is made of two logs, unless one of them is refused or it is too large
+-- the script that is made of two logs
 abbrev pub JudgesScript : ScriptForm → InputTexts → Result (Vec ℕ) PlayFault → Type 0
-JudgesScript form texts made =
-    Judges (two_logs_stages texts.log texts.script)
-    (λ script. IsReadDifferenceOf form texts.log texts.script script.items) made
-    ⊎ ((first_decided (two_logs_stages texts.log texts.script) ≡ None)
-    × ((script : List ℕ) × IsLargeDifferenceOf form texts.log texts.script script)
-    × (made ≡ Err fault.LargeScript))
+JudgesScript form texts made = AreRefused texts made
+    ⊎ ((script : List ℕ) × IsDifferenceOf form texts.log texts.script script
+    × Judges (script_stages texts script) (λ text. text.items ≡ script) made)
 
--- what a run leaves that writes the script of two logs
+-- what a run leaves that writes it
 abbrev pub RunsScript : ScriptForm → InputTexts → Option (List ℕ) → Option (List ℕ)
     → Result (Unit {0}) PlayFault → Type 0
-RunsScript form texts old new ended =
-    Runs (two_logs_stages texts.log texts.script)
-    (IsReadDifferenceOf form texts.log texts.script) old new ended
-    ⊎ IsTooLarge form texts old new ended
+RunsScript form texts old new ended = (AreRefused texts ended × Keeps old new)
+    ⊎ ((script : List ℕ) × IsDifferenceOf form texts.log texts.script script
+    × Runs (script_stages texts script) (λ output. output ≡ script) old new ended)
 
 -- the script of the old log, which is kept
 abbrev pub IsCompared : ScriptForm → List ℕ → List ℕ → Compared → Type 0
@@ -102,40 +91,25 @@ with_compared held with = record (held with.inputs.now) {
 }
 
 -- reading makes of the other inputs what it makes of them by themselves
-abbrev pub LeadsWith : {I : Type 0} → (I → I → Type 0) → WithCompared I → WithCompared I → Type 0
-LeadsWith leads one other =
-    (other.inputs.ghost_name ≡ one.inputs.ghost_name) × leads one.inputs.now other.inputs.now
+abbrev pub ReadsWith : {I : Type 0} → (Input → I → I → Type 0) → Input → WithCompared I
+    → WithCompared I → Type 0
+ReadsWith reads from old new =
+    (new.inputs.ghost_name ≡ old.inputs.ghost_name) × Leads reads old.inputs.now new.inputs.now
 
 -- what is made of a log so that it becomes another: what the script makes of it that makes the new
 -- log of the old one; or one of the logs is refused
 abbrev pub JudgesEditTo : InputTexts → Editing → Option ReportView → Result MadeEdit PlayFault
     → Type 0
-JudgesEditTo texts editing report made =
-    ((found : PlayFault) × (made ≡ Err found)
-    × IsFoundIn (two_logs_stages texts.log texts.script) found)
+JudgesEditTo texts editing report made = AreRefused texts made
     ⊎ ((script : List ℕ) × IsDifferenceOf (form_of editing) texts.log texts.script script
     × Judges (edit_stages texts.database texts.bindings texts.log script editing)
     (IsMadeEdit (record texts { script = script }) editing report) made)
-
--- one of two logs is refused, and nothing is written
-abbrev pub IsUncompared : InputTexts → Option (List ℕ) → Option (List ℕ)
-    → Result EditRun PlayFault → Type 0
-IsUncompared texts old new ended = (found : PlayFault) × (ended ≡ Err found)
-    × IsFoundIn (two_logs_stages texts.log texts.script) found × Keeps old new
 
 -- what a run leaves that edits a log so that it becomes another: what the run of a script leaves
 -- that makes the new log of the old one; or one of the logs is refused
 abbrev pub RunsEditTo : InputTexts → Editing → Option ReportView → Option (List ℕ) → Option (List ℕ)
     → Result EditRun PlayFault → Type 0
-RunsEditTo texts editing report old new ended =
-    IsUncompared texts old new ended
+RunsEditTo texts editing report old new ended = (AreRefused texts ended × Keeps old new)
     ⊎ ((script : List ℕ) × IsDifferenceOf (form_of editing) texts.log texts.script script
     × RunsWith (edit_stages texts.database texts.bindings texts.log script editing)
     (IsEditRun texts.database texts.bindings texts.log script editing report) old new ended)
-
--- a script that makes one log of another leaves that log of a game that has the first, with its seed
-abbrev pub DifferencesMakeTheLog : Type 0
-DifferencesMakeTheLog =
-    (form : ScriptForm) (script : List ℕ) (game : Game) (new : List (List ℕ))
-    (items : List Applied) → IsGame game → IsScriptTo form script game.log new
-    → IsScriptBy form.guarded script items → game_after_items items game ≡ game_of game.seed new

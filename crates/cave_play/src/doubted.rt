@@ -1,11 +1,10 @@
 //! The run that lists what is doubtful about a cave.
 
-ghost use Rattle.std.specs.Prelude.{◌≡◌, IfOk, MatchOption};
+ghost use Rattle.std.specs.Prelude.{◌≡◌, IfOk};
 ghost use Rattle.check_doubts.specs.Doubts.{doubts};
-ghost use Rattle.cave_play.specs.Doubted.{AreLeft, AreLeftIn, IsFirstDoubt, IsTaken, RunsDoubts, first_doubt};
-ghost use Rattle.cave_play.specs.Input.{AreTextsOf, InputTexts};
+ghost use Rattle.cave_play.specs.Output.{AreLeft, AreLeftIn, RunsDoubts, first_doubt};
+ghost use Rattle.cave_play.specs.Sources.{AreTextsOf, InputTexts, AreHeld, Leads};
 ghost use Rattle.cave_play.specs.Run.{Judges};
-ghost use Rattle.cave_play.specs.Sources.{AreHeld};
 ghost use Rattle.cave_play.specs.Stages.{doubts_stages};
 
 use crate::fault::PlayFault;
@@ -20,15 +19,11 @@ use std::io::{Read, Write};
 
 /// The fault of a strict run in a doubtful cave.
 pub fn first_doubt(strict: bool, left: &[Doubt]) -> Option<PlayFault>
-    ensures value { result ≡ first_doubt strict left.now }
-    ensures told { MatchOption result (IsTaken strict left.now) (IsFirstDoubt strict left.now) }
+    ensures { result ≡ first_doubt strict left.now }
 {
-    if !strict {
-        return None;
-    }
     match left {
-        [first, ..] => Some(PlayFault::Doubt(*first)),
-        [] => None,
+        [first, ..] if strict => Some(PlayFault::Doubt(*first)),
+        _ => None,
     }
 }
 
@@ -67,7 +62,7 @@ pub fn make_doubts<I: Sources>(
     ensures judged { (texts : InputTexts) × AreHeld Input.Known (I.held inputs.old) texts
         × Judges (doubts_stages texts.database texts.bindings texts.script)
         (AreLeftIn files.now texts.database texts.bindings texts.script) result }
-    ensures leads { I.Leads inputs.old inputs.new }
+    ensures leads { Leads I.Reads inputs.old inputs.new }
 {
     let read = read_cave(alloc, inputs)?;
     let listed = inputs.read(alloc, Input::Known)?;

@@ -1,7 +1,6 @@
 //! The readers of a run.
 
-ghost use Rattle.std.specs.Prelude.{◌≡◌, false};
-ghost use Rattle.cave_play.specs.Sources.{held_by, held_by_one};
+ghost use Rattle.cave_play.specs.Sources.{AreReadersOf, IsOneLogOf, held_by, held_by_one};
 
 use crate::fault::PlayFault;
 use crate::read::read;
@@ -38,24 +37,17 @@ pub(crate) struct OneLog<'r, C, B, L, S> {
 impl<'r, C: Read, B: Read, L: Read, S: Read> OneLog<'r, C, B, L, S> {
     /// These readers, before anything is read.
     pub(crate) fn of(inputs: &'r mut Inputs<C, B, L, S>) -> OneLog<'r, C, B, L, S>
-        ensures inputs { result.inputs.now ≡ inputs.old }
-        ensures read { result.is_read ≡ false }
+        ensures { IsOneLogOf inputs.old result }
     {
-        OneLog {
-            inputs,
-            is_read: false,
-        }
+        let is_read = false;
+        OneLog { inputs, is_read }
     }
 }
 
 impl<C: Read, B: Read, L: Read, S: Read> Sources for OneLog<'_, C, B, L, S> {
     ghost held = { held_by_one C.remaining B.remaining L.remaining S.remaining };
 
-    ghost Leads = { λ _ _. Unit {0} };
-
-    ghost stays = { λ _. tt };
-
-    ghost goes_on = { λ _ _ _ _ _. tt };
+    ghost Reads = { λ _ _ _. Unit {0} };
 
     fn read(&mut self, alloc: Global, input: Input) -> Result<Vec<u8>, PlayFault> {
         match input {
@@ -89,10 +81,7 @@ impl<'r, C: Read, B: Read, L: Read, S: Read> Readers<'r, C, B, L, S> {
         logs: &'r mut [L],
         script: &'r mut S,
     ) -> Readers<'r, C, B, L, S>
-        ensures cave { result.cave.now ≡ cave.old }
-        ensures logs { result.logs.now ≡ logs.old }
-        ensures script { result.script.now ≡ script.old }
-        ensures read { result.read ≡ 0 }
+        ensures { AreReadersOf cave.old logs.old script.old result }
     {
         Readers {
             cave,
@@ -106,11 +95,7 @@ impl<'r, C: Read, B: Read, L: Read, S: Read> Readers<'r, C, B, L, S> {
 impl<C: Read, B: Read, L: Read, S: Read> Sources for Readers<'_, C, B, L, S> {
     ghost held = { held_by C.remaining B.remaining L.remaining S.remaining };
 
-    ghost Leads = { λ _ _. Unit {0} };
-
-    ghost stays = { λ _. tt };
-
-    ghost goes_on = { λ _ _ _ _ _. tt };
+    ghost Reads = { λ _ _ _. Unit {0} };
 
     fn read(&mut self, alloc: Global, input: Input) -> Result<Vec<u8>, PlayFault> {
         match input {

@@ -3,15 +3,10 @@
 
 pub mod doubted;
 pub mod edits;
-mod ended;
 pub mod fault;
 pub mod inputs;
 pub mod judge;
-pub mod kept_rows;
-pub mod laws;
 pub mod logs;
-pub mod logs_fault;
-pub mod notes;
 pub mod output;
 pub mod read;
 pub mod run;
@@ -28,15 +23,14 @@ pub use check_doubts::DoubtFiles;
 pub use check_tables::Clue;
 pub use data_rows::{Cause, CaveError, FaultSite, Role};
 pub use doubted::run_doubts;
-pub use edits::EditRun;
 pub use fault::{Complaint, LogFault, PlayFault, ScriptFault, Unopened};
 pub use inputs::{CaveReaders, Inputs};
-pub use logs_fault::LogsFault;
+pub use logs::LogsFault;
 pub use play_command::{
     CheckView, CommandFault, CoverView, EditAsked, EditView, Editing, EditsFrom, Input, Line,
     NamedFile, PlayView, ReportView, Request, TextView, What, command_line,
 };
-pub use play_edits::{ExpectedLine, KeptLine, Refusal};
+pub use play_edits::{EditRun, ExpectedLine, KeptLine, Refusal};
 pub use play_machine::{
     CaveMachine, Piece, push_final_state, push_play, push_score, push_steps, push_walk,
 };

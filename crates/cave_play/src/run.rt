@@ -4,18 +4,17 @@
 ghost use Rattle.std.specs.Prelude.{◌≡◌, ℕ, List, [], ◌∷◌, None};
 ghost use Rattle.std.specs.Str.Lines.{lines};
 ghost use Rattle.replay_edits.specs.Edit.{game_of};
-ghost use Rattle.cave_play.specs.Input.{Says, InputTexts, AreTextsOf};
+ghost use Rattle.cave_play.specs.Sources.{Says, InputTexts, AreTextsOf, AreHeld, next_log, Leads};
 ghost use Rattle.cave_play.specs.Judge.{large_seed, every_fault};
-ghost use Rattle.cave_play.specs.Output.{IsChecked, IsPlayed, play_view_text};
+ghost use Rattle.cave_play.specs.Output.{IsChecked, IsPlayed, play_view_text, IsEditRun};
+ghost use Rattle.cave_play.specs.Output.{IsMadeEdit};
 ghost use Rattle.cave_play.specs.Run.{Judges, Runs, RunsWith};
-ghost use Rattle.cave_play.specs.Sources.{AreHeld, next_log};
 ghost use Rattle.cave_play.specs.Stages.{cave_stages, log_stage, script_stage, strict_stage};
 ghost use Rattle.cave_play.specs.Stages.{play_stages, edit_stages};
-ghost use Rattle.cave_play.specs.EditRun.{IsEditRun, IsMadeEdit, IsMadeOf};
-ghost use Rattle.play_edits.specs.LogEnds.{log_ends};
+ghost use Rattle.play_edits.specs.Views.{IsMadeOf};
+ghost use Rattle.play_edits.specs.Ends.{log_ends};
 
-use crate::edits::{EditRun, MadeEdit, edit_session};
-use crate::ended::finish_edit;
+use crate::edits::{edit_session, finish_edit};
 use crate::fault::PlayFault;
 use crate::inputs::{Inputs, OneLog};
 use crate::judge::{check_every, check_seed, open_session, read_cave};
@@ -25,7 +24,7 @@ use crate::views::{check_text, play_view_text};
 use cave_data::Cave;
 use cave_words::Lexicon;
 use play_command::{CheckView, Editing, Input, PlayView, ReportView};
-use play_edits::Edited;
+use play_edits::{EditRun, MadeEdit};
 use play_machine::CaveMachine;
 use std::alloc::Global;
 use std::io::{Read, Write};
@@ -43,7 +42,7 @@ pub fn make_check<I: Sources>(
     ensures judged { (texts : InputTexts) × AreHeld Input.Script (I.held inputs.old) texts
         × Judges (cave_stages texts.database texts.bindings)
         (λ text. IsChecked view texts.database texts.bindings text.items) result }
-    ensures leads { I.Leads inputs.old inputs.new }
+    ensures leads { Leads I.Reads inputs.old inputs.new }
 {
     let read = read_cave(alloc, inputs)?;
     let made = check_text(alloc, &read.cave, view);
@@ -62,7 +61,7 @@ pub fn make_play<I: Sources>(
     ensures judged { (texts : InputTexts) × AreHeld Input.Script (I.held inputs.old) texts
         × Judges (play_stages texts.database texts.bindings texts.log seed)
         (λ text. IsPlayed texts.database texts.bindings texts.log seed view text.items) result }
-    ensures leads { I.Leads inputs.old inputs.new }
+    ensures leads { Leads I.Reads inputs.old inputs.new }
 {
     check_seed(seed)?;
     let read = read_cave(alloc, inputs)?;
@@ -84,14 +83,14 @@ pub fn make_edit<I: Sources>(
     ensures judged { (texts : InputTexts) × AreHeld Input.Script (I.held inputs.old) texts
         × Judges (edit_stages texts.database texts.bindings texts.log texts.script editing)
         (IsMadeEdit texts editing report) result }
-    ensures leads { I.Leads inputs.old inputs.new }
+    ensures leads { Leads I.Reads inputs.old inputs.new }
 {
     check_seed(editing.seed)?;
     check_every(editing.every)?;
     let read = read_cave(alloc, inputs)?;
     let made = edit_in_cave(alloc, &read.cave, inputs, editing, report);
     drop(read);
-    finish_edit(alloc, editing.view, made)
+    finish_edit(editing.view, made)
 }
 
 /// What a view asks for of a play in a cave.
@@ -106,7 +105,7 @@ fn play_in_cave<I: Sources>(
     ensures judged { (moves : List ℕ) × Says (next_log (I.held inputs.old).logs) moves
         × Judges (log_stage moves ∷ [])
         (λ text. text.items ≡ play_view_text view cave.now (game_of seed (lines moves))) result }
-    ensures leads { I.Leads inputs.old inputs.new }
+    ensures leads { Leads I.Reads inputs.old inputs.new }
 {
     let lexicon = Lexicon::build(alloc, cave)?;
     let machine = CaveMachine::new(cave, &lexicon);
@@ -120,7 +119,7 @@ fn edit_in_cave<I: Sources>(
     inputs: &mut I,
     editing: Editing,
     report: Option<ReportView>,
-) -> Result<Edited, PlayFault>
+) -> Result<MadeEdit, PlayFault>
     requires seed_fits { large_seed editing.seed ≡ None }
     requires every_fits { every_fault editing.every ≡ None }
     ensures judged { (moves : List ℕ) × (edits : List ℕ)
@@ -130,7 +129,7 @@ fn edit_in_cave<I: Sources>(
         ∷ [])
         (IsMadeOf editing.view report cave.now editing.every (game_of editing.seed (lines moves))
         editing.guarded edits (log_ends moves edits)) result }
-    ensures leads { I.Leads inputs.old inputs.new }
+    ensures leads { Leads I.Reads inputs.old inputs.new }
 {
     let lexicon = Lexicon::build(alloc, cave)?;
     let machine = CaveMachine::new(cave, &lexicon);

@@ -1,13 +1,13 @@
 -- If all guards of a script are met, blank lines in their place change nothing in a run.
 use Rattle.std.specs.Prelude.{◌≡◌, ◌↔◌, ℕ, Bool, true, false, List, Option, Ok, ⊤}
 use Rattle.std.specs.Str.Lines.{lines}
-use Rattle.cave_play.specs.EditRun.{IsEditRun}
-use Rattle.cave_play.specs.GuardLaws.{AreMet, PrintsNoGuards}
-use Rattle.cave_play.specs.declared.edits.EditRun.{EditRun}
-use Rattle.play_command.specs.declared.aside.ReportView.{ReportView}
-use Rattle.play_command.specs.declared.editing.Editing.{Editing}
-use Rattle.play_command.specs.declared.editing.EditView.{EditView}
-use Rattle.play_edits.specs.LineEnds.{ends_in}
+use Rattle.cave_play.specs.Output.{IsEditRun}
+use Rattle.play_laws.specs.GuardLaws.{AreMet, PrintsNoGuards}
+use Rattle.play_edits.specs.declared.items.EditRun.{EditRun}
+use Rattle.play_command.specs.declared.views.ReportView.{ReportView}
+use Rattle.play_command.specs.declared.line.Editing.{Editing}
+use Rattle.play_command.specs.declared.views.EditView.{EditView}
+use Rattle.play_edits.specs.Ends.{ends_in}
 use Rattle.replay_edits.specs.Edit.{game_of}
 use Rattle.replay_scripts.specs.Guards.{script_by, unguarded}
 use Rattle.replay_scripts.specs.Script.{Applied}

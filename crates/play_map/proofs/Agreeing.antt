@@ -2,13 +2,12 @@
 use Rattle.std.proofs.Common.{◌≡◌, ℕ, Bool, cond, List, [], ◌∷◌, ◌++◌, length, refl, ap, ap₂, ◌∙◌}
 use Rattle.std.specs.Prelude.{◌&&◌, ◌||◌, not, nat_lt, codes, if◌then◌else◌}
 use Rattle.std.specs.List.{filter}
-use Rattle.cave_play.proofs.Lists.{agree_flat, agree_sum}
+use Rattle.play_machine.proofs.Lists.{agree_flat, agree_sum}
 use Rattle.cave_data.specs.CaveView.{CaveView}
 use Rattle.map_graph.specs.Captions.{caption}
 use Rattle.map_graph.specs.Edges.{MAX_EDGES_WITH_TEXT, drawn_edge, edge, edges, is_crowded}
 use Rattle.map_graph.specs.Edges.{is_drawn_between, is_shown, labelled_edge, plain_edge}
-use Rattle.map_graph.specs.Map.{count_taken, drawing, ends_taken, graph_opening}
-use Rattle.map_graph.specs.Map.{labels_opening}
+use Rattle.map_graph.specs.Map.{count_taken, drawing, ends_taken, graph_opening, labels_opening}
 use Rattle.map_graph.specs.Map.{map_of_places, nodes_and_edges, places_visited, seen_counts, sums}
 use Rattle.map_ways.specs.Regions.{ends_among, is_one_of, places_around}
 use Rattle.map_graph.specs.Parts.{drawn_places}

@@ -6,14 +6,14 @@ use Rattle.cave_data.specs.CaveView.{CaveView}
 use Rattle.cave_data.specs.Reads.{Reads}
 use Rattle.cave_play.specs.Logs.{IsMadeReport, JudgesLogs, RunsLogs, first_stages}
 use Rattle.cave_play.specs.declared.logs.Reported.{Reported}
-use Rattle.cave_play.specs.declared.logs_fault.LogsFault.{LogsFault}
+use Rattle.cave_play.specs.declared.logs.LogsFault.{LogsFault}
 use Rattle.play_machine.specs.Moments.{Moment, noted_of}
 use Rattle.cave_world.specs.declared.part.Part.{Part}
 use Rattle.cave_world.specs.declared.state.State.{State}
 use Rattle.replay_edits.specs.Edit.{Game, game_of}
 use Rattle.map_graph.specs.Map.{map_of_places}
 use Rattle.map_graph.specs.Stops.{ways_by_rows}
-use Rattle.play_command.specs.declared.map_part.MapPart.{MapPart}
+use Rattle.play_command.specs.declared.line.MapPart.{MapPart}
 use Rattle.play_map.specs.Parts.{drawn_part, place_stage}
 use Rattle.map_graph.specs.declared.stops.Stop.{Stop}
 use Rattle.map_graph.specs.declared.stops.Stop.TheVariants.{InState}

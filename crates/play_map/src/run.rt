@@ -5,7 +5,7 @@ ghost use Rattle.std.specs.List.{AllZip};
 ghost use Rattle.cave_play.specs.Logs.{IsMadeReport, JudgesLogs, games_of};
 ghost use Rattle.play_map.specs.Parts.{place_stage};
 ghost use Rattle.play_map.specs.Plays.{JudgesMap, RunsMap, map_of_games};
-ghost use Rattle.cave_play.specs.Input.{Says};
+ghost use Rattle.cave_play.specs.Sources.{Says, Leads};
 ghost use Rattle.cave_play.specs.Judge.{large_seed};
 
 use crate::part::{check_place, drawn_part};
@@ -13,8 +13,7 @@ use crate::plays::Stops;
 use cave_data::Cave;
 use cave_play::inputs::Readers;
 use cave_play::judge::ReadCave;
-use cave_play::logs::{Reported, read_for_logs, report_in_cave, write_report};
-use cave_play::notes::PlayNotes;
+use cave_play::logs::{PlayNotes, Reported, read_for_logs, report_in_cave, write_report};
 use cave_play::sources::Sources;
 use cave_play::{CaveReaders, LogsFault};
 use map_graph::map::push_map;
@@ -67,7 +66,7 @@ fn map_games_in_cave<I: Sources>(
         (IsMadeReport (λ _ text. text ≡ map_of_games read.now.cave part (games_of seed moves)))
         result }
     ensures all { IfOk result (λ _. (I.held inputs.new).logs ≡ []) }
-    ensures leads { I.Leads inputs.old inputs.new }
+    ensures leads { Leads I.Reads inputs.old inputs.new }
 {
     check_place(&read.cave, part.around)?;
     report_in_cave::<Stops, I>(alloc, read, inputs, logs, seed, &part)
@@ -88,7 +87,7 @@ pub fn make_map<I: Sources>(
         × AllZip Says (I.held inputs.old).logs moves
         × JudgesMap database bindings moves seed part result }
     ensures all { IfOk result (λ _. (I.held inputs.new).logs ≡ []) }
-    ensures leads { I.Leads inputs.old inputs.new }
+    ensures leads { Leads I.Reads inputs.old inputs.new }
 {
     let read = read_for_logs(alloc, inputs, seed)?;
     let made = map_games_in_cave(alloc, &read, inputs, logs, seed, part);

@@ -1,22 +1,19 @@
 -- What the run of a request makes of its inputs.
-use Rattle.std.specs.Prelude.{◌≡◌, ℕ, ⊤, ◌&&◌, nat_lt, Bool, List, [], Option, None, Some}
-use Rattle.std.specs.Prelude.{Result, Ok, Err, if◌then◌else◌, unwrap_or}
+use Rattle.std.specs.Prelude.{◌≡◌, ℕ, ⊤, ◌&&◌, nat_lt, Bool, List, [], Option, None, Some, Result}
+use Rattle.std.specs.Prelude.{Ok, Err, if◌then◌else◌, unwrap_or}
 use Rattle.std.specs.Global.{Vec}
-use Rattle.cave_play.specs.Doubted.{AreLeftIn, first_doubt}
-use Rattle.cave_play.specs.EditRun.{IsMadeEdit}
-use Rattle.cave_play.specs.Input.{InputTexts}
+use Rattle.cave_play.specs.Output.{AreLeftIn, first_doubt, IsMadeEdit, IsChecked, IsPlayed}
+use Rattle.cave_play.specs.Sources.{InputTexts}
 use Rattle.cave_play.specs.Logs.{IsMadeReport, JudgesLogs, at_none}
-use Rattle.cave_play.specs.Output.{IsChecked, IsPlayed}
 use Rattle.cave_play.specs.Run.{Judges}
-use Rattle.cave_play.specs.Sources.{Held}
 use Rattle.cave_play.specs.Stages.{Stage, cave_stages, doubts_stages, edit_stages, play_stages}
 use Rattle.cave_play.specs.TwoLogs.{JudgesEditTo, JudgesScript}
 use Rattle.cave_play.specs.declared.doubted.LeftDoubts.{LeftDoubts}
-use Rattle.cave_play.specs.declared.edits.MadeEdit.{MadeEdit}
+use Rattle.play_edits.specs.declared.items.MadeEdit.{MadeEdit}
 use Rattle.cave_play.specs.declared.fault.PlayFault.{PlayFault}
 use Rattle.cave_play.specs.declared.fault.PlayFault.TheVariants as fault
 use Rattle.cave_play.specs.declared.logs.Reported.{Reported}
-use Rattle.cave_play.specs.declared.logs_fault.LogsFault.{LogsFault}
+use Rattle.cave_play.specs.declared.logs.LogsFault.{LogsFault}
 use Rattle.check_doubts.specs.declared.listing.DoubtFiles.{DoubtFiles}
 use Rattle.play_command.specs.declared.input.Input.{Input}
 use Rattle.play_command.specs.declared.input.Input.TheVariants as input
@@ -148,8 +145,8 @@ pub record AreAsked (request : Request) (seed : ℕ) (view : CoverView) (asked :
   pub view_is : asked.view ≡ view
   pub known_is : asked.known.now ≡ unwrap_or (file_of request input.Known 0) []
 
--- of a command that reads several logs, all were read
-abbrev pub HasReadAll : What → Held → Type 0
-HasReadAll (Cover seed view strict) held = held.logs ≡ []
-HasReadAll (Map seed part) held = held.logs ≡ []
-HasReadAll _ held = ⊤
+-- of a command that reads several logs, none of these is left
+abbrev pub HasReadAll : {L : Type 0} → What → List L → Type 0
+HasReadAll (Cover seed view strict) logs = logs ≡ []
+HasReadAll (Map seed part) logs = logs ≡ []
+HasReadAll _ logs = ⊤

@@ -1,12 +1,14 @@
 //! Over which of the files that it reads a run may write.
 
 ghost use Rattle.std.specs.Prelude.{◌≡◌, ◌↔◌, IsTrue, MatchResult, Some, map, option_map};
-ghost use Rattle.play_command.specs.Files.{named_file};
-ghost use Rattle.play_program.specs.Clash.{AreApart, IsClash, MayReplace, view_over};
+ghost use Rattle.play_command.specs.Found.{named_file};
+ghost use Rattle.play_program.specs.Calls.{told_by};
+ghost use Rattle.play_program.specs.Files.{AreApart, IsClash, MayReplace, files_in, output_of};
+ghost use Rattle.play_program.specs.Files.{view_over};
 
-use crate::failure::Failure;
+use crate::message::Message;
 use crate::system::System;
-use play_command::{EditView, Input, NamedFile, What};
+use play_command::{EditView, Input, NamedFile, Request, What};
 
 /// The view of an edit whose output may go over an input, with its name: the edited log over the
 /// log, and the script with guards over the script.
@@ -42,13 +44,13 @@ fn may_replace(what: What, input: Input) -> bool
 }
 
 /// Checks that the output goes over none of these files, or over one that it may replace.
-pub(crate) fn check_output<'a, S: System>(
+fn check_files<'a, S: System>(
     system: &S,
     what: What,
     output: &str,
     files: &[NamedFile<'a>],
-) -> Result<(), Failure<'a>>
-    ensures { MatchResult result
+) -> Result<(), Message<'a>>
+    ensures { MatchResult (told_by result)
         (λ _. AreApart (S.one_file system.now) what (Some output.now) (map named_file files.now))
         (IsClash (S.one_file system.now) what (Some output.now) (map named_file files.now)) }
 {
@@ -59,10 +61,28 @@ pub(crate) fn check_output<'a, S: System>(
         match system.is_one_file(output, file.name) {
             Ok(false) => {}
             Ok(true) => {
-                return Err(Failure::Clash(file.name, name_over(what, file.input)));
+                return Err(Message::Clash(file.name, name_over(what, file.input)));
             }
-            Err(_) => return Err(Failure::memory()),
+            Err(_) => return Err(Message::memory()),
         }
     }
     Ok(())
+}
+
+/// Checks that the output of a request goes over no file that it reads, or over one that it may
+/// replace.
+pub(crate) fn check_output<'a, S: System>(
+    system: &S,
+    request: &Request<'a>,
+) -> Result<(), Message<'a>>
+    ensures { MatchResult (told_by result)
+        (λ _. AreApart (S.one_file system.now) request.now.what (output_of request.now)
+        (files_in request.now))
+        (IsClash (S.one_file system.now) request.now.what (output_of request.now)
+        (files_in request.now)) }
+{
+    match request.output {
+        Some(output) => check_files(system, request.what, output, &request.files),
+        None => Ok(()),
+    }
 }

@@ -2,24 +2,24 @@
 
 ghost use Rattle.std.specs.Prelude.{◌≡◌, ℕ, List, IfOk, length, map};
 ghost use Rattle.std.specs.List.{AllZip};
-ghost use Rattle.cave_play.specs.Input.{InputTexts, Says};
-ghost use Rattle.cave_play.specs.Sources.{AreHeld};
-ghost use Rattle.play_command.specs.Files.{named_file};
+ghost use Rattle.cave_play.specs.Sources.{InputTexts, Says, AreHeld, Leads};
+ghost use Rattle.play_command.specs.Found.{named_file};
 ghost use Rattle.play_program.specs.Files.{log_count};
 ghost use Rattle.play_program.specs.Making.{AreAsked, AreListed, HasReadAll, IsMade, IsMadeEdits};
-ghost use Rattle.play_program.specs.Making.{of_cover, of_doubts, of_edits, of_map, of_text, third_of};
+ghost use Rattle.play_program.specs.Making.{of_cover, of_doubts, of_edits, of_map, of_text};
+ghost use Rattle.play_program.specs.Making.{third_of};
 
 use crate::files::{file_of, log_count};
 use cave_play::doubted::{LeftDoubts, first_doubt, make_doubts};
-use cave_play::edits::MadeEdit;
 use cave_play::logs::Reported;
 use cave_play::run::{make_check, make_edit, make_play};
 use cave_play::sources::Sources;
 use cave_play::two_logs::{make_edit_to, make_script};
-use cave_play::{EditRun, LogsFault, PlayFault};
+use cave_play::{LogsFault, PlayFault};
 use check_doubts::DoubtFiles;
 use play_command::{CoverView, EditAsked, EditsFrom, Input, Request, What};
 use play_cover::run::{CoverAsked, make_cover};
+use play_edits::{EditRun, MadeEdit};
 use play_map::run::make_map;
 use std::alloc::Global;
 
@@ -120,7 +120,7 @@ fn make_edits<I: Sources>(
     ensures judged { (texts : InputTexts)
         × AreHeld (third_of (What.Edit asked)) (I.held inputs.old) texts
         × IsMadeEdits asked texts result }
-    ensures leads { I.Leads inputs.old inputs.new }
+    ensures leads { Leads I.Reads inputs.old inputs.new }
 {
     match asked.edits_from {
         EditsFrom::Script => make_edit(alloc, inputs, asked.editing, asked.report),
@@ -139,8 +139,8 @@ pub(crate) fn make<I: Sources>(
     ensures judged { (texts : InputTexts) × (logs : List (List ℕ))
         × AreHeld (third_of request.now.what) (I.held inputs.old) texts
         × AllZip Says (I.held inputs.old).logs logs × IsMade request.now texts logs result }
-    ensures all { IfOk result (λ _. HasReadAll request.now.what (I.held inputs.new)) }
-    ensures leads { I.Leads inputs.old inputs.new }
+    ensures all { IfOk result (λ _. HasReadAll request.now.what (I.held inputs.new).logs) }
+    ensures leads { Leads I.Reads inputs.old inputs.new }
 {
     let logs = log_count(&request.files);
     match request.what {

@@ -1,3 +1,4 @@
+use Rattle.cave_play.proofs.SourceLemmas.{goes_on, once, stays, same_script_after_log}
 use Rattle.std.proofs.Common.{◌≡◌, ◌≤◌, ℕ, List, [], ◌∷◌, length, None, Ok, Err, Option, subst, sym}
 use Rattle.std.proofs.Common.{◌∙◌}
 use Rattle.std.specs.Prelude.{⊤}
@@ -9,19 +10,18 @@ use Rattle.cave_play.proofs.JudgeLemmas.{IsFoundIn-log, Judges-log}
 use Rattle.std.specs.Str.Lines.{lines}
 use Rattle.std.proofs.lemmas.Result.{err_from_is_err_and}
 use Rattle.cave_data.specs.CaveView.{CaveView}
-use Rattle.play_command.specs.declared.editing.Editing.{Editing}
+use Rattle.play_command.specs.declared.line.Editing.{Editing}
 use Rattle.replay_edits.specs.Edit.{Game, IsGame, game_of}
-use Rattle.cave_play.specs.EditRun.{IsMadeOf}
-use Rattle.play_command.specs.declared.aside.ReportView.{ReportView}
-use Rattle.play_edits.specs.LogEnds.{log_ends}
-use Rattle.play_edits.specs.declared.items.Edited.{Edited}
+use Rattle.play_edits.specs.Views.{IsMadeOf}
+use Rattle.play_command.specs.declared.views.ReportView.{ReportView}
+use Rattle.play_edits.specs.Ends.{log_ends}
+use Rattle.play_edits.specs.declared.items.MadeEdit.{MadeEdit}
 use Rattle.cave_play.specs.Run.{IsFoundIn, Judges}
 use Rattle.cave_play.specs.Sources.{next_log}
-use Rattle.cave_play.specs.Stages.{Stage, first_decided, judging_stage}
-use Rattle.cave_play.specs.Stages.{log_stage, script_stage, strict_stage}
+use Rattle.cave_play.specs.Stages.{Stage, first_decided, judging_stage, log_stage, script_stage}
+use Rattle.cave_play.specs.Stages.{strict_stage}
 use Rattle.cave_play.proofs.InputLemmas.{Says-some}
-use Rattle.cave_play.proofs.RefusalLemmas.{IsGame-accepted}
-use Rattle.cave_play.proofs.SourceLemmas.{same_script_after_log}
+use Rattle.cave_play.proofs.AcceptedLogs.{IsGame-accepted}
 use Rattle.cave_play.proofs.StageLemmas.{IsFoundIn-first, IsFoundIn-memory, Judges-later}
 use Rattle.cave_play.proofs.StageLemmas.{first_decided-alone}
 use Rattle.cave_play.proofs.run.edit_in_cave.Goals as goal
@@ -32,7 +32,7 @@ strict_of editing moves edits =
     strict_stage editing.strict (game_of editing.seed (lines moves)) editing.guarded edits
 
 -- what edits made is right for a cave, a distance of checkpoints, a game and the bytes of its log
-abbrev right_in : Option ReportView → Editing → List ℕ → CaveView → ℕ → Game → List ℕ → Edited
+abbrev right_in : Option ReportView → Editing → List ℕ → CaveView → ℕ → Game → List ℕ → MadeEdit
     → Type 0
 right_in report editing edits cave every game log edited =
     IsMadeOf editing.view report cave every game editing.guarded edits (log_ends log edits) edited
@@ -80,7 +80,7 @@ returns-in_err-lexicon g c =
         IsFoundIn-memory (log_stage moves ∷ script_stage guarded edits
             ∷ strict_of c.args.editing moves edits ∷ []),
       );
-      leads = g.met.I.Sources.stays _;
+      leads = stays g.I.Sources.Reads _;
     })
 
 pub returns-in_err-bytes : goal.returns-in_err-bytes
@@ -102,7 +102,7 @@ returns-in_err-bytes g c =
             (script_stage guarded edits ∷ strict_of c.args.editing moves edits ∷ []) _
             (IsFoundIn-log moves _ refused),
       );
-      leads = c.in_err-bytes.ensures.leads;
+      leads = once g.I.Sources.Reads _ _ _ c.in_err-bytes.ensures.reads;
     })
 
 pub returns-in_err-session : goal.returns-in_err-session
@@ -125,7 +125,7 @@ returns-in_err-session g c =
             (log_refused moves c.deref.result.now _ (c.deref.ensures.value ∙ read.0) read.1
             c.in_err-session.ensures.judged),
       );
-      leads = c.in_ok-bytes.ensures.leads;
+      leads = once g.I.Sources.Reads _ _ _ c.in_ok-bytes.ensures.reads;
     })
 
 pub returns : goal.returns
@@ -147,17 +147,9 @@ returns g c =
     let log_is = c.deref-2.ensures.value ∙ read.0 in
     let held_cave = held.machine.rules.cave.now in
     let held_right = right_in c.args.report editing edits held_cave held.every held.game log in
-    let gives =
-    λ (edited : Edited) (is : held_right edited).
-    subst (λ bytes. right_in c.args.report editing edits cave editing.every game bytes edited)
-    log_is
-    (subst (λ now. right_in c.args.report editing edits cave editing.every now log edited)
-    made.1.game_is
-    (subst (λ every. right_in c.args.report editing edits cave every held.game log edited)
-    c.in_ok-session.ensures.every
-    (subst
-    (λ (k : CaveView). right_in c.args.report editing edits k held.every held.game log edited)
-    made.1.cave_is is))) in
+    let gives : (edited : MadeEdit) → held_right edited → right cave edited =
+    λ edited is.
+    rw (← made.1.game_is, ← log_is, ← c.in_ok-session.ensures.every, ← made.1.cave_is) is in
     let strict = strict_of editing moves edits in
     let staged =
     subst (λ (game : Game). Judges (script_stage guarded edits
@@ -171,4 +163,4 @@ returns g c =
     λ (cave : CaveView). Judges (log_stage moves ∷ script_stage guarded edits ∷ strict ∷ [])
     (right cave)
     c.edit_session-made.result in
-    record { judged = (moves, edits, said, others, subst here c.new-machine.ensures judged); leads = g.met.I.Sources.goes_on _ _ _ c.in_ok-bytes.ensures.leads c.edit_session-made.ensures.leads }
+    record { judged = (moves, edits, said, others, subst here c.new-machine.ensures judged); leads = goes_on g.I.Sources.Reads _ _ _ (once g.I.Sources.Reads _ _ _ c.in_ok-bytes.ensures.reads) c.edit_session-made.ensures.leads }

@@ -1,11 +1,11 @@
 -- The items that are left lead to what all items lead to, and a strict run ends as all items end it.
 use Rattle.std.proofs.Common.{◌≡◌, ◌≤◌, ◌*◌, ◌^◌, drop, map, option_map, Some}
-use Rattle.play_command.specs.Aside.{edit_view_of}
+use Rattle.play_command.specs.Asked.{edit_view_of}
 use Rattle.replay_scripts.specs.ScriptText.{groups_in}
 use Rattle.replay_scripts.specs.Views.{applied_item}
 use Rattle.play_edits.specs.Edits.{ending_refusal}
 use Rattle.play_edits.specs.Items.{game_after_items}
-use Rattle.play_edits.specs.LogEnds.{shown_ends}
+use Rattle.play_edits.specs.Ends.{shown_ends}
 use Rattle.play_edits.proofs.NoteLemmas.{Leads}
 use Rattle.play_edits.proofs.items.apply_items.Given as goal
 

@@ -7,6 +7,6 @@ returns-in-Ok g c = record {
     g.S.System.calls c.run_apart.new.system,
     Ok c.in-Ok.edits,
     c.in-Ok.ensures,
-    (c.tell_beside.ensures, refl),
+    (c.tell_notices.ensures, refl),
   );
 }

@@ -1,0 +1,166 @@
+//! A file of the system, which a draft in the same folder replaces.
+
+ghost use Rattle.std.specs.Prelude.{None};
+
+use crate::draft::DraftFile;
+use crate::seen::{SeenFile, Stamp};
+use play_program::Target;
+use std::fs::{File, Metadata, Permissions};
+use std::io::ErrorKind;
+use std::path::Path;
+use std::{fs, io};
+
+/// A file of the system.
+#[derive(Drop)]
+pub(crate) struct ReplacedFile<'a> {
+    rt: &'a HostRuntime,
+    path: String,
+    /// Who may read and write the file, if it exists.
+    permissions: Option<Permissions>,
+    /// What this run saw of the file, if it has read it.
+    read: Option<Stamp>,
+}
+
+/// Whether a name leads to the file of a path.
+fn leads_to(rt: &HostRuntime, name: &str, path: &str) -> io::Result<bool> {
+    match fs::canonicalize(rt, name) {
+        Ok(real) => Ok(real.as_str() == path),
+        Err(reason) if reason.kind() == ErrorKind::OutOfMemory => Err(reason),
+        Err(_) => Ok(false),
+    }
+}
+
+/// What was seen of the file of a path and a name, if it was opened by this name, or by another one
+/// that leads to it.
+fn stamp_of(
+    rt: &HostRuntime,
+    seen: &[SeenFile],
+    path: &str,
+    name: &str,
+) -> io::Result<Option<Stamp>> {
+    for file in seen {
+        let known = file.name.as_str();
+        if known == name || leads_to(rt, known, path)? {
+            return Ok(Some(file.stamp));
+        }
+    }
+    Ok(None)
+}
+
+/// The folder of a path.
+fn folder_of(path: &str) -> &str {
+    match Path::new(path).parent() {
+        Some(folder) if !folder.as_str().is_empty() => folder.as_str(),
+        _ => ".",
+    }
+}
+
+/// The name by which the system knows where standard output goes.
+const STANDARD_OUTPUT: &str = "/dev/stdout";
+
+/// Whether a file is the one that standard output goes to, which would lose what is in it.
+fn is_standard_output(rt: &HostRuntime, found: &Metadata) -> io::Result<bool> {
+    match Stamp::found(rt, STANDARD_OUTPUT)? {
+        Some(output) => Ok(output.is_of_file(Stamp::of(found))),
+        None => Ok(false),
+    }
+}
+
+impl<'a> ReplacedFile<'a> {
+    /// The file of a name, which is a file or doesn't exist yet, with what was seen of it if it is
+    /// one of those that were opened. A link is followed, so the file to which it leads is replaced
+    /// and the link stays.
+    pub(crate) fn at(
+        rt: &'a HostRuntime,
+        name: &str,
+        seen: &[SeenFile],
+    ) -> io::Result<ReplacedFile<'a>> {
+        let (path, permissions) = match fs::metadata(rt, name) {
+            Ok(found) if found.is_dir() => {
+                return Err(io::Error::from(ErrorKind::IsADirectory));
+            }
+            Ok(found) if !found.is_file() => {
+                return Err(io::Error::other("is no regular file"));
+            }
+            Ok(found) if is_standard_output(rt, &found)? => {
+                return Err(io::Error::other(
+                    "it is where standard output goes: leave --output out",
+                ));
+            }
+            Ok(found) => (
+                fs::canonicalize(rt, name)?.into_string(),
+                Some(found.permissions()),
+            ),
+            Err(reason) if reason.kind() == ErrorKind::NotFound => {
+                (String::from_str(rt.alloc(), name)?, None)
+            }
+            Err(reason) => return Err(reason),
+        };
+        let read = stamp_of(rt, seen, path.as_str(), name)?;
+        Ok(ReplacedFile {
+            rt,
+            path,
+            permissions,
+            read,
+        })
+    }
+
+    /// Whether the file is still what this run has read, if it has read it.
+    fn is_as_read(&self) -> io::Result<bool> {
+        let Some(read) = self.read else {
+            return Ok(true);
+        };
+        match fs::metadata(self.rt, self.path.as_str()) {
+            Ok(found) => Ok(Stamp::of(&found) == read),
+            Err(reason) if reason.kind() == ErrorKind::NotFound => Ok(false),
+            Err(reason) => Err(reason),
+        }
+    }
+
+    /// Gives a draft the permissions of the file, or those of a new one.
+    fn permit(&self, draft: &DraftFile) -> io::Result<()> {
+        let permissions = self.permissions.as_ref().unwrap_or(&draft.usual);
+        draft.file.set_permissions(permissions.clone()?)
+    }
+
+    /// Puts a draft that is on the disk in the place of the file. The permissions come last, since
+    /// they may keep the next run from opening an abandoned draft.
+    fn put(&self, draft: &DraftFile) -> io::Result<()> {
+        draft.file.sync_all()?;
+        if !self.is_as_read()? {
+            return Err(io::Error::other("it has changed since it was read: run this again"));
+        }
+        self.permit(draft)?;
+        fs::rename(self.rt, draft.path.as_str(), self.path.as_str())
+    }
+
+    /// Has the system write the folder to the disk as well, if it can: the file is replaced anyway.
+    fn sync_folder(&self) {
+        if let Ok(folder) = File::open(self.rt, folder_of(self.path.as_str())) {
+            let _ = folder.sync_all();
+        }
+    }
+}
+
+impl Target for ReplacedFile<'_> {
+    type Draft = DraftFile;
+
+    ghost shown = { λ _. None };
+
+    fn begin(&mut self) -> io::Result<DraftFile> {
+        DraftFile::for_file(self.rt, self.path.as_str(), self.permissions.is_some())
+    }
+
+    fn publish(&mut self, draft: DraftFile) -> io::Result<()> {
+        let put = self.put(&draft);
+        match &put {
+            Ok(()) => self.sync_folder(),
+            Err(_) => draft.remove(self.rt),
+        }
+        put
+    }
+
+    fn discard(&mut self, draft: DraftFile) {
+        draft.remove(self.rt);
+    }
+}

@@ -1,8 +1,0 @@
-use Rattle.std.proofs.Common.{◌≡◌, drop, map}
-use Rattle.play_command.specs.Found.{named, with_text}
-use Rattle.play_command.proofs.view_names.named.Given as goal
-
-abbrev pub invariant-loop-known : goal.invariant-loop-known
-invariant-loop-known g l =
-    named (map with_text (drop l.known-index l.items)) l.name
-    ≡ named (map with_text l.items) l.name
