@@ -125,10 +125,6 @@ def unexpected(word, usage):
 
 def judged_options(command, files, options):
     """The options, and what they are if they aren't given."""
-    if command == "edit" and len(files) == 3 and "--edit" in options:
-        raise wrong("only one of SCRIPT, '--edit <EDIT>' and '--to <FILE>' can be used")
-    if command == "edit" and len(files) == 2 and "--edit" not in options:
-        raise wrong("SCRIPT, '--edit <EDIT>' or '--to <FILE>' is required")
     seed = number_in("--seed", options.get("--seed", "0"), 0, GREATEST_SEED)
     number_in("--every", options.get("--every", "50"), 1, 10_000)
     asks_left = "--strict" in options or "--known" in options
@@ -136,6 +132,10 @@ def judged_options(command, files, options):
     prints = options.get("--print", usual or PRINTS[command][0])
     if command == "check" and asks_left and prints != "doubts":
         raise wrong("'--strict' and '--known <FILE>' are for '--print doubts'")
+    if command == "edit" and len(files) == 3 and "--edit" in options:
+        raise wrong("only one of SCRIPT, '--edit <EDIT>' and '--to <FILE>' can be used")
+    if command == "edit" and len(files) == 2 and "--edit" not in options:
+        raise wrong("SCRIPT, '--edit <EDIT>' or '--to <FILE>' is required")
     if "--report" in options:
         raise wrong("'--report <WHAT>' is for '--output <FILE>' or '--in-place': without these,"
                     " '--print <WHAT>' prints reports")

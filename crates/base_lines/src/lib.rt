@@ -19,4 +19,4 @@ pub use log_line::{LogLine, is_skipped};
 pub use mark::has_byte_order_mark;
 pub use meter::{Meter, Steps};
 pub use near::is_near;
-pub use nearest::{is_near_name, near_name};
+pub use nearest::near_name;

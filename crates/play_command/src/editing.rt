@@ -121,8 +121,8 @@ pub(crate) fn edit_in<'a>(found: &ArgMatches<'a>) -> Result<EditAsked, CommandFa
     if is_in_place(found) && is_given {
         return Err(CommandFault::TwoOutputs);
     }
-    let edits_from = edits_from_in(found)?;
     let editing = editing_in(found)?;
+    let edits_from = edits_from_in(found)?;
     let report = report_in(found)?;
     Ok(EditAsked {
         edits_from,

@@ -25,7 +25,7 @@ pub struct Request<'a> {
     pub typed: Option<String>,
     /// The file of the output, unless it goes to standard output.
     pub output: Option<&'a str>,
-    /// Whether standard error gets nothing except why the run failed.
+    /// Whether edits are to say nothing beside their output but why they failed. Only `edit` asks.
     pub quiet: bool,
     pub what: What,
 }

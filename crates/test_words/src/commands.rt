@@ -1,6 +1,5 @@
 //! Words of a command line, with what they ask for.
 
-use base_lines::is_near_name;
 use play_command::{CommandFault, EditAsked, EditView, Editing, Line, Request, What, command_line};
 use std::alloc::{AllocError, Global};
 use std::fmt::Write;
@@ -267,13 +266,6 @@ fn words_ask_for_a_run_or_a_text(rt: HostRuntime) -> Result<(), Fail> {
         assert_eq!(rt; shown(rt.alloc(), words)?.as_str(), want);
     }
     Ok(())
-}
-
-#[test]
-fn a_word_in_capitals_or_with_one_slip_is_near_a_name(rt: HostRuntime) {
-    for (word, want) in [("EDIT", true), ("edti", true), ("et", false)] {
-        assert_eq!(rt; is_near_name(word.as_bytes(), "edit"), want);
-    }
 }
 
 /// The text that is printed for words: help, or a fault.
