@@ -1,6 +1,6 @@
 -- What is made of a log by the items of a script.
-use Rattle.std.proofs.Common.{◌≡◌, ℕ, List, length, reverse, None, Ok, Option, Some, ap}
-use Rattle.std.proofs.Common.{sym, ◌∙◌, refl, append-nil, option_map}
+use Rattle.std.proofs.Common.{◌≡◌, ℕ, List, length, reverse, None, Ok, Option, Some, ap, sym, ◌∙◌}
+use Rattle.std.proofs.Common.{refl, append-nil, option_map}
 use Rattle.std.specs.Str.Lines.{lines}
 use Rattle.cave_data.specs.CaveView.{CaveView}
 use Rattle.cave_data.specs.Reads.{Reads}

@@ -1,6 +1,6 @@
 -- What a run makes of what edits made.
-use Rattle.std.proofs.Common.{◌≡◌, ℕ, List, [], ◌∷◌, ◌++◌, length, Ok, Err, Result}
-use Rattle.std.proofs.Common.{inl, inr, ap, refl, sym, subst, ◌∙◌}
+use Rattle.std.proofs.Common.{◌≡◌, ℕ, List, [], ◌∷◌, ◌++◌, length, Ok, Err, Result, inl, inr, ap}
+use Rattle.std.proofs.Common.{refl, sym, subst, ◌∙◌}
 use Rattle.std.specs.Str.Lines.{lines}
 use Rattle.cave_data.specs.CaveView.{CaveView}
 use Rattle.cave_data.specs.Reads.{Reads}
@@ -10,17 +10,15 @@ use Rattle.play_edits.specs.LogEnds.{EndsOfLog, log_ends, shown_ends}
 use Rattle.replay_edits.specs.Edit.{game_of}
 use Rattle.replay_scripts.specs.Guards.{script_by}
 use Rattle.std.specs.declared.option.Option.{Option}
-use Rattle.cave_play.specs.EditRun.{FinishesEdit, IsEditRun, IsFinished, IsMadeOf}
-use Rattle.cave_play.specs.EditRun.{IsSideReport}
+use Rattle.cave_play.specs.EditRun.{FinishesEdit, IsEditRun, IsFinished, IsMadeOf, IsSideReport}
 use Rattle.cave_play.specs.Ended.{IsEdited, IsEndedEditOf, ended_view}
 use Rattle.cave_play.specs.Run.{IsFoundIn, Judges}
 use Rattle.cave_play.specs.Size.{size_fault}
-use Rattle.cave_play.specs.Stages.{Stage, log_stage, script_stage, size_stage}
-use Rattle.cave_play.specs.Stages.{strict_stage}
+use Rattle.cave_play.specs.Stages.{Stage, log_stage, script_stage, size_stage, strict_stage}
 use Rattle.play_edits.specs.declared.items.Edited.{Edited}
 use Rattle.cave_play.specs.declared.edits.MadeEdit.{MadeEdit}
 use Rattle.cave_play.specs.declared.fault.PlayFault.{PlayFault}
-use Rattle.cave_play.proofs.OneOutputLemmas.{script_by-spelled}
+use Rattle.cave_play.proofs.ScriptLemmas.{script_by-spelled}
 use Rattle.cave_play.proofs.EditedLemmas.{report_printed}
 use Rattle.cave_play.proofs.SizeLemmas.{output_fault-printed}
 use Rattle.cave_play.proofs.StageLemmas.{IsFoundIn-first, IsFoundIn-later, IsFoundIn-memory}

@@ -1,7 +1,6 @@
 -- The bytes of an input, if only a prefix of them was read.
 use Rattle.std.proofs.Common.{ℕ, ◌≤◌, List, [], ◌++◌, length, None, Some, sym, ap, ◌∙◌, refl, arith}
-use Rattle.std.proofs.Common.{inl, inr}
-use Rattle.std.proofs.Common.{append-nil, length-append, le_refl}
+use Rattle.std.proofs.Common.{inl, inr, append-nil, length-append, le_refl}
 use Rattle.std.specs.declared.option.Option.{Option}
 use Rattle.std.specs.Io.KnownBytes.{Consumes, IsAtEnd}
 use Rattle.std.proofs.KnownBytes.{Consumes-trans}

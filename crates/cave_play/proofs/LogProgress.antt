@@ -1,7 +1,7 @@
 -- How far several logs are read.
-use Rattle.std.proofs.Common.{◌≡◌, ℕ, ◌+◌, ◌<◌, ◌≤◌, List, [], ◌∷◌, ◌++◌, drop, length}
-use Rattle.std.proofs.Common.{append-nil, append_assoc, Option, None, inr, refl, sym, ap, ◌∙◌, subst}
-use Rattle.std.proofs.Common.{arith, length-append}
+use Rattle.std.proofs.Common.{◌≡◌, ℕ, ◌+◌, ◌<◌, ◌≤◌, List, [], ◌∷◌, ◌++◌, drop, length, append-nil}
+use Rattle.std.proofs.Common.{append_assoc, Option, None, inr, refl, sym, ap, ◌∙◌, subst, arith}
+use Rattle.std.proofs.Common.{length-append}
 use Rattle.std.proofs.lemmas.List.{map-append}
 use Rattle.std.specs.List.{AllZip}
 use Rattle.std.specs.Str.Lines.{lines}
@@ -18,10 +18,10 @@ use Rattle.cave_world.specs.declared.part.Part.{Part}
 use Rattle.cave_world.specs.declared.state.State.{State}
 use Rattle.play_machine.specs.Moments.{Moment, noted_of}
 use Rattle.play_machine.specs.Watch.{NotesMore}
-use Rattle.cave_play.specs.Logs.{AreValidLogs, IsFoundFrom, IsFoundInLogs, at_log}
-use Rattle.cave_play.specs.Logs.{games_of, noted_of_all}
-use Rattle.cave_play.proofs.LogLemmas.{AllSay-some, AllZip-append, AllZip-length}
-use Rattle.cave_play.proofs.LogLemmas.{AreValidLogs-more, IsFoundFrom-here, IsFoundFrom-later}
+use Rattle.cave_play.specs.Logs.{AreValidLogs, IsFoundFrom, IsFoundInLogs, at_log, games_of}
+use Rattle.cave_play.specs.Logs.{noted_of_all}
+use Rattle.cave_play.proofs.LogLemmas.{AllSay-some, AllZip-append, AllZip-length, AreValidLogs-more}
+use Rattle.cave_play.proofs.LogLemmas.{IsFoundFrom-here, IsFoundFrom-later}
 
 module _ {Fact N : Type 0} (HasNoted : List Fact → N → Type 0)
     (first : CaveView → State → List Part → List Fact) (facts : CaveView → Moment → List Fact)

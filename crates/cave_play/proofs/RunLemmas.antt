@@ -18,17 +18,17 @@ use Rattle.replay_scripts.specs.Script.{Applied}
 use Rattle.replay_scripts.specs.declared.fault.ScriptRefusal.{ScriptRefusal}
 use Rattle.replay_scripts.specs.declared.fault.ScriptRefusal.TheVariants.{Malformed, Memory}
 use Rattle.cave_play.specs.Judge.{cave_refusal, lines_fault, or_too_many, large_seed, every_fault}
-use Rattle.cave_play.specs.Judge.{too_large}
-use Rattle.cave_play.specs.Judge.{input_size_fault, log_fault, script_fault, first_malformed}
+use Rattle.cave_play.specs.Judge.{too_large, input_size_fault, log_fault, script_fault}
+use Rattle.cave_play.specs.Judge.{first_malformed}
 use Rattle.cave_play.proofs.StageLemmas.{first_is_found}
-use Rattle.cave_play.specs.Laws.{IsDecided}
+use Rattle.play_laws.specs.RunLaws.{IsDecided}
 use Rattle.cave_play.specs.Run.{EndsBy, IsFoundIn, Judges, Runs, RunsWith}
 use Rattle.cave_play.specs.Writing.{Writes, WritesEdit}
 use Rattle.cave_play.specs.declared.edits.EditRun.{EditRun}
 use Rattle.cave_play.specs.declared.edits.MadeEdit.{MadeEdit}
-use Rattle.cave_play.specs.Stages.{Stage, first_decided}
-use Rattle.cave_play.specs.Stages.{cave_stages, log_stage, script_stage, strict_stage, play_stages}
-use Rattle.cave_play.specs.Stages.{doubts_stages, edit_stages, known_stage, size_stage}
+use Rattle.cave_play.specs.Stages.{Stage, first_decided, cave_stages, log_stage, script_stage}
+use Rattle.cave_play.specs.Stages.{strict_stage, play_stages, doubts_stages, edit_stages}
+use Rattle.cave_play.specs.Stages.{known_stage, size_stage}
 use Rattle.cave_play.proofs.SizeLemmas.{unwritten_by_output}
 use Rattle.cave_play.proofs.StrictLemmas.{unwritten_by_strict}
 use Rattle.play_command.specs.declared.editing.Editing.{Editing}

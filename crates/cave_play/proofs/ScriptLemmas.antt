@@ -58,3 +58,17 @@ pub few_items : (guarded : Bool) (items : Vec Item) (text bytes : List ℕ)
 few_items guarded items text bytes script same fits =
     let shown : length (map applied_item items.items) ≡ length items.items = simp length-map in
     omega (arith, few_by guarded (items_of items) text script, shown, ap length same)
+
+-- items that a script spells are what is read of it
+pub script_by-spelled : (guarded : Bool) (script : List ℕ) (items : List Applied)
+    → IsScriptBy guarded script items → script_by guarded script ≡ Ok items
+script_by-spelled false script items spelled = script_of-only script items spelled
+script_by-spelled true script items (read, spelled) = read
+
+-- so it spells the same items each time it is read
+pub same_items : (guarded : Bool) (script : List ℕ) (items others : List Applied)
+    → IsScriptBy guarded script items → IsScriptBy guarded script others → items ≡ others
+same_items guarded script items others spelled respelled =
+    let first = script_by-spelled guarded script items spelled in
+    let second = script_by-spelled guarded script others respelled in
+    cc

@@ -9,11 +9,10 @@ use Rattle.play_command.specs.declared.editing.EditView.{EditView}
 use Rattle.play_command.specs.declared.editing.EditView.TheVariants as asked
 use Rattle.play_edits.specs.Outcome.{ItemOutcome}
 use Rattle.replay_edits.specs.Edit.{Game, game_of}
-use Rattle.play_edits.specs.LogEnds.{EndsOfLog, log_ends}
+use Rattle.play_edits.specs.LogEnds.{EndsOfLog, log_ends, ends_after_items}
 use Rattle.replay_scripts.specs.Script.{Applied}
 use Rattle.replay_scripts.specs.declared.fault.ScriptRefusal.{ScriptRefusal}
 use Rattle.cave_play.specs.Ended.{ended_view}
-use Rattle.play_edits.specs.LogEnds.{ends_after_items}
 use Rattle.cave_play.specs.Size.{bytes_to_read, output_fault, size_fault}
 use Rattle.cave_play.specs.Views.{IsViewOf}
 use Rattle.cave_play.specs.declared.fault.PlayFault.{PlayFault}

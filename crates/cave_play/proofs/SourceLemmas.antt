@@ -1,11 +1,11 @@
 -- What the inputs of a run still have after some of them were read.
-use Rattle.std.proofs.Common.{◌≡◌, ℕ, false, List, [], ◌∷◌, None, Some, refl, ap, drop, map}
-use Rattle.std.proofs.Common.{subst, ◌∙◌}
+use Rattle.std.proofs.Common.{◌≡◌, ℕ, false, List, [], ◌∷◌, None, Some, refl, ap, drop, map, subst}
+use Rattle.std.proofs.Common.{◌∙◌}
 use Rattle.std.specs.Prelude.{if◌then◌else◌}
 use Rattle.std.specs.declared.option.Option.{Option}
 use Rattle.cave_play.specs.Input.{AreTextsOf, InputTexts, Says}
-use Rattle.cave_play.specs.Sources.{AreHeld, Held, IsTaken, held_by, held_by_one, held_for, next_log}
-use Rattle.cave_play.specs.Sources.{without_cave}
+use Rattle.cave_play.specs.Sources.{AreHeld, Held, IsTaken, held_by, held_by_one, held_for}
+use Rattle.cave_play.specs.Sources.{next_log, without_cave}
 use Rattle.cave_play.specs.declared.inputs.CaveReaders.{CaveReaders}
 use Rattle.cave_play.specs.declared.inputs.Inputs.{Inputs}
 use Rattle.cave_play.specs.declared.inputs.OneLog.{OneLog}

@@ -4,10 +4,8 @@ use Rattle.std.proofs.Common.{refl, subst, sym, MatchResult}
 use Rattle.std.specs.Prelude.{Result}
 use Rattle.std.specs.Option.{option_or}
 use Rattle.std.specs.declared.option.Option.{Option}
-use Rattle.cave_play.specs.Run.{IsOutsideOf}
+use Rattle.cave_play.specs.Run.{IsOutsideOf, IsFoundIn, Judges}
 use Rattle.cave_play.specs.Stages.{Stage, reading_stage, judging_stage, first_decided}
-use Rattle.cave_play.specs.Run.{IsFoundIn, Judges}
-use Rattle.cave_play.specs.Laws.{IsFromOutside, IsDecided}
 use Rattle.play_command.specs.declared.input.Input.{Input}
 use Rattle.cave_play.specs.declared.fault.PlayFault.{PlayFault}
 use Rattle.cave_play.specs.declared.fault.PlayFault.TheVariants as fault
@@ -116,40 +114,3 @@ Judges-read input decides P (Err found) (inl (inl outside)) =
     rw (memory_alone found outside) (inl (inl tt))
 Judges-read input decides P (Err found) (inl (inr is)) = inl (inr is)
 Judges-read input decides P (Err found) (inr rest) = inr rest
-
--- ---- laws
-
-outside_of : (reads : Option Input) (found : PlayFault) → IsOutsideOf reads found
-    → IsFromOutside found
-outside_of reads fault.Memory outside = tt
-outside_of reads (fault.Read from) outside = tt
-outside_of reads (fault.Cave error clue) outside = absurd outside
-outside_of reads (fault.Doubt found) outside = absurd outside
-outside_of reads fault.LargeKnown outside = absurd outside
-outside_of reads (fault.Unshown count) outside = absurd outside
-outside_of reads (fault.Unmapped place) outside = absurd outside
-outside_of reads fault.Seed outside = absurd outside
-outside_of reads fault.Every outside = absurd outside
-outside_of reads (fault.Log refused) outside = absurd outside
-outside_of reads (fault.NewLog refused) outside = absurd outside
-outside_of reads (fault.Script refused) outside = absurd outside
-outside_of reads (fault.Refused refusal) outside = absurd outside
-outside_of reads fault.LargeLog outside = absurd outside
-outside_of reads fault.LargeScript outside = absurd outside
-outside_of reads fault.Write outside = absurd outside
-
-decided_after : (stage : Stage) (stages : List Stage) (found : PlayFault)
-    → stage.decides ≡ None → IsDecided stages found → IsDecided (stage ∷ stages) found
-decided_after stage stages found none (inl outside) = inl outside
-decided_after stage stages found none (inr is) =
-    inr (ap (λ f. option_or f (first_decided stages)) none ∙ is)
-
-pub first_is_found : (stages : List Stage) (found : PlayFault)
-    → IsFoundIn stages found → IsDecided stages found
-first_is_found [] found memory = rw memory (inl tt)
-first_is_found (stage ∷ stages) found (inl (inl outside)) =
-    inl (outside_of stage.reads found outside)
-first_is_found (stage ∷ stages) found (inl (inr is)) =
-    inr (ap (λ f. option_or f (first_decided stages)) is)
-first_is_found (stage ∷ stages) found (inr (none, there)) =
-    decided_after stage stages found none (first_is_found stages found there)

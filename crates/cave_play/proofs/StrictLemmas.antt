@@ -1,6 +1,6 @@
 -- Where a strict run ends.
-use Rattle.std.proofs.Common.{◌≡◌, ℕ, List, [], ◌∷◌, None, Some, Bool, Ok, Err, sym, subst}
-use Rattle.std.proofs.Common.{inl, inr}
+use Rattle.std.proofs.Common.{◌≡◌, ℕ, List, [], ◌∷◌, None, Some, Bool, Ok, Err, sym, subst, inl}
+use Rattle.std.proofs.Common.{inr}
 use Rattle.std.specs.Prelude.{Result, option_map}
 use Rattle.std.specs.declared.option.Option.{Option}
 use Rattle.replay_edits.specs.Edit.{Game}

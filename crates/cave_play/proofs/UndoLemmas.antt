@@ -1,15 +1,12 @@
 -- What takes items back gives the old game.
-use Rattle.std.proofs.Common.{◌≡◌, ℕ, Bool, true, false, List, [], ◌∷◌}
-use Rattle.std.proofs.Common.{◌++◌, map, reverse, Option, None, Some}
-use Rattle.std.proofs.Common.{sym, ap, subst, ◌∙◌, refl}
+use Rattle.std.proofs.Common.{◌≡◌, ℕ, Bool, true, false, List, [], ◌∷◌, ◌++◌, map, reverse, Option}
+use Rattle.std.proofs.Common.{None, Some, sym, ap, subst, ◌∙◌, refl}
 use Rattle.std.specs.Prelude.{option_map, slice_get}
 use Rattle.std.proofs.lemmas.List.{reverse-append}
 use Rattle.replay_edits.specs.Edit.{Change, Game, IsGame, apply_all, inverses_of, log_after}
 use Rattle.replay_scripts.specs.Guards.{IsScriptBy}
 use Rattle.replay_scripts.specs.Script.{Applied}
-use Rattle.replay_scripts.specs.ScriptText.{Back}
-use Rattle.replay_scripts.specs.ScriptText.{number_after}
-use Rattle.replay_scripts.specs.ScriptText.{spelled_item, spelled_items}
+use Rattle.replay_scripts.specs.ScriptText.{Back, number_after, spelled_item, spelled_items}
 use Rattle.replay_scripts.proofs.Spelled.{reads_back}
 use Rattle.play_edits.specs.Items.{game_after_item, game_after_items, game_left, refusal_list}
 use Rattle.play_edits.specs.Items.{refusals}

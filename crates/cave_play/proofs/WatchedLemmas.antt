@@ -1,7 +1,6 @@
 -- What is written of a play, as it is watched and as it ends.
 use Rattle.std.proofs.Common.{◌≡◌, ℕ, suc, ◌+◌, Bool, List, [], ◌∷◌, ◌++◌, take, count_by}
-use Rattle.std.proofs.Common.{append_assoc}
-use Rattle.std.proofs.Common.{ap, ap₂, sym, ◌∙◌, refl, arith}
+use Rattle.std.proofs.Common.{append_assoc, ap, ap₂, sym, ◌∙◌, refl, arith}
 use Rattle.std.specs.Prelude.{if◌then◌else◌}
 use Rattle.std.specs.List.{enumerate_from, flat_map, zip}
 use Rattle.std.proofs.lemmas.List.Sums.{sum_by-cons}

@@ -8,7 +8,6 @@ pub mod Fault
 pub mod Judge
 pub mod Strict
 pub mod Stages
-pub mod Laws
 pub mod Run
 pub mod Output
 pub mod Views
@@ -16,8 +15,6 @@ pub mod Ended
 pub mod Refused
 pub mod EditRun
 pub mod Size
-pub mod Bytes
-pub mod GuardLaws
 pub mod TwoLogs
 pub use Rattle.base_lines.specs.Limits
 pub use Rattle.base_lines.specs.Line

@@ -10,11 +10,10 @@ use Rattle.play_edits.specs.Guarded.{guarded_text}
 use Rattle.play_edits.specs.Items.{game_after_items}
 use Rattle.play_edits.specs.Undo.{undo_text}
 use Rattle.replay_edits.specs.Edit.{Game, game_of}
-use Rattle.play_edits.specs.LogEnds.{EndsOfLog, log_ends}
+use Rattle.play_edits.specs.LogEnds.{EndsOfLog, log_ends, ends_after_items}
 use Rattle.replay_scripts.specs.Script.{Applied}
 use Rattle.replay_scripts.specs.declared.fault.ScriptRefusal.{ScriptRefusal}
 use Rattle.cave_play.specs.Ended.{ended_view}
-use Rattle.play_edits.specs.LogEnds.{ends_after_items}
 use Rattle.cave_play.specs.declared.fault.PlayFault.{PlayFault}
 use Rattle.cave_play.specs.declared.fault.PlayFault.TheVariants as fault
 

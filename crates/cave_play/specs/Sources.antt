@@ -1,8 +1,6 @@
 -- What is known of the inputs of a run before they are read.
 use Rattle.std.specs.Prelude.{◌≡◌, ℕ, List, [], ◌∷◌, drop, map, Option, None}
-use Rattle.std.specs.Prelude.{if◌then◌else◌}
 use Rattle.cave_play.specs.Input.{InputTexts, Says}
-use Rattle.cave_play.specs.declared.inputs.OneLog.{OneLog}
 use Rattle.cave_play.specs.declared.inputs.Readers.{Readers}
 use Rattle.play_command.specs.declared.input.Input.{Input}
 use Rattle.play_command.specs.declared.input.Input.TheVariants as input
@@ -63,22 +61,17 @@ pub record AreHeld (third : Input) (held : Held) (texts : InputTexts) : Type 0 w
   pub log : Says (next_log held.logs) texts.log
   pub script : Says (held_for third held) texts.script
 
--- ---- readers of the inputs
+-- inputs were read, one after another
+abbrev pub AreRead : {I : Type 0} → (Input → I → I → Type 0) → List Input → I → I → Type 0
+AreRead reads [] old new = new ≡ old
+AreRead {I} reads (input ∷ inputs) old new =
+    (next : I) × reads input old next × AreRead reads inputs next new
 
--- what readers of a run over one log have: the first four say what one has left
-abbrev pub held_by_one : {C B L S : Type 0} (left_database : C → Option (List ℕ))
-    (left_bindings : B → Option (List ℕ)) (left_log : L → Option (List ℕ))
-    (left_script : S → Option (List ℕ)) → OneLog C B L S → Held
-held_by_one left_database left_bindings left_log left_script readers = record {
-  cave = left_database readers.inputs.now.cave.database;
-  bindings = left_bindings readers.inputs.now.cave.bindings;
-  logs = if readers.is_read then [] else left_log readers.inputs.now.log ∷ [];
-  new_log = left_script readers.inputs.now.script;
-  script = left_script readers.inputs.now.script;
-  known = left_script readers.inputs.now.script;
-}
+-- nothing was done but that some inputs were read
+abbrev pub Leads : {I : Type 0} → (Input → I → I → Type 0) → I → I → Type 0
+Leads reads old new = (inputs : List Input) × AreRead reads inputs old new
 
--- and those of a run over any number of logs
+-- what readers have: the first four say what one has left
 abbrev pub held_by : {C B L S : Type 0} (left_database : C → Option (List ℕ))
     (left_bindings : B → Option (List ℕ)) (left_log : L → Option (List ℕ))
     (left_script : S → Option (List ℕ)) → Readers C B L S → Held

@@ -9,14 +9,12 @@ use Rattle.play_command.specs.declared.aside.ReportView.{ReportView}
 use Rattle.play_command.specs.declared.editing.Editing.{Editing}
 use Rattle.replay_difference.specs.ScriptTo.{IsScriptTo}
 use Rattle.replay_difference.specs.declared.script.ScriptForm.{ScriptForm}
-use Rattle.replay_edits.specs.Edit.{Game, IsGame, game_of, log_of}
-use Rattle.replay_scripts.specs.Guards.{IsScriptBy}
-use Rattle.replay_scripts.specs.Script.{Applied}
-use Rattle.play_edits.specs.Items.{game_after_items}
+use Rattle.replay_edits.specs.Edit.{log_of}
 use Rattle.cave_play.specs.Input.{InputTexts}
 use Rattle.cave_play.specs.Judge.{log_fault}
 use Rattle.cave_play.specs.Run.{IsFoundIn, Judges, Runs, RunsWith}
-use Rattle.cave_play.specs.Sources.{Held}
+use Rattle.cave_play.specs.Sources.{Held, Leads}
+use Rattle.play_command.specs.declared.input.Input.{Input}
 use Rattle.cave_play.specs.Stages.{Stage, edit_stages, first_decided, log_stage, reading_stage}
 use Rattle.cave_play.specs.EditRun.{IsEditRun, IsMadeEdit}
 use Rattle.play_command.specs.declared.input.Input.TheVariants as input
@@ -102,9 +100,10 @@ with_compared held with = record (held with.inputs.now) {
 }
 
 -- reading makes of the other inputs what it makes of them by themselves
-abbrev pub LeadsWith : {I : Type 0} → (I → I → Type 0) → WithCompared I → WithCompared I → Type 0
-LeadsWith leads one other =
-    (other.inputs.ghost_name ≡ one.inputs.ghost_name) × leads one.inputs.now other.inputs.now
+abbrev pub ReadsWith : {I : Type 0} → (Input → I → I → Type 0) → Input → WithCompared I
+    → WithCompared I → Type 0
+ReadsWith reads from old new =
+    (new.inputs.ghost_name ≡ old.inputs.ghost_name) × Leads reads old.inputs.now new.inputs.now
 
 -- what is made of a log so that it becomes another: what the script makes of it that makes the new
 -- log of the old one; or one of the logs is refused
@@ -132,10 +131,3 @@ RunsEditTo texts editing report old new ended =
     ⊎ ((script : List ℕ) × IsDifferenceOf (form_of editing) texts.log texts.script script
     × RunsWith (edit_stages texts.database texts.bindings texts.log script editing)
     (IsEditRun texts.database texts.bindings texts.log script editing report) old new ended)
-
--- a script that makes one log of another leaves that log of a game that has the first, with its seed
-abbrev pub DifferencesMakeTheLog : Type 0
-DifferencesMakeTheLog =
-    (form : ScriptForm) (script : List ℕ) (game : Game) (new : List (List ℕ))
-    (items : List Applied) → IsGame game → IsScriptTo form script game.log new
-    → IsScriptBy form.guarded script items → game_after_items items game ≡ game_of game.seed new

@@ -2,14 +2,15 @@
 
 ghost use Rattle.std.specs.Prelude.{◌≡◌, IfOk, MatchOption};
 ghost use Rattle.check_doubts.specs.Doubts.{doubts};
-ghost use Rattle.cave_play.specs.Doubted.{AreLeft, AreLeftIn, IsFirstDoubt, IsTaken, RunsDoubts, first_doubt};
+ghost use Rattle.cave_play.specs.Doubted.{AreLeft, AreLeftIn, IsFirstDoubt, IsTaken, RunsDoubts};
+ghost use Rattle.cave_play.specs.Doubted.{first_doubt};
 ghost use Rattle.cave_play.specs.Input.{AreTextsOf, InputTexts};
 ghost use Rattle.cave_play.specs.Run.{Judges};
-ghost use Rattle.cave_play.specs.Sources.{AreHeld};
+ghost use Rattle.cave_play.specs.Sources.{AreHeld, Leads};
 ghost use Rattle.cave_play.specs.Stages.{doubts_stages};
 
 use crate::fault::PlayFault;
-use crate::inputs::{Inputs, OneLog};
+use crate::inputs::{Inputs, Readers};
 use crate::judge::{ReadCave, read_cave};
 use crate::output::write_output;
 use crate::sources::Sources;
@@ -67,7 +68,7 @@ pub fn make_doubts<I: Sources>(
     ensures judged { (texts : InputTexts) × AreHeld Input.Known (I.held inputs.old) texts
         × Judges (doubts_stages texts.database texts.bindings texts.script)
         (AreLeftIn files.now texts.database texts.bindings texts.script) result }
-    ensures leads { I.Leads inputs.old inputs.new }
+    ensures leads { Leads I.Reads inputs.old inputs.new }
 {
     let read = read_cave(alloc, inputs)?;
     let listed = inputs.read(alloc, Input::Known)?;
@@ -90,7 +91,7 @@ pub fn run_doubts<C: Read, B: Read, L: Read, S: Read, W: Write>(
         × RunsDoubts strict files.now texts (W.contents output.old) (W.contents output.new)
         result }
 {
-    let mut readers = OneLog::of(inputs);
+    let mut readers = Readers::of_one(inputs);
     let listed = make_doubts(alloc, &mut readers, files)?;
     write_output(output, &listed.text)?;
     match first_doubt(strict, &listed.left) {

@@ -8,6 +8,7 @@ ghost use Rattle.cave_play.specs.Input.{Says};
 ghost use Rattle.cave_play.specs.Run.{Judges};
 ghost use Rattle.cave_play.specs.Stages.{script_stage, strict_stage};
 ghost use Rattle.play_edits.specs.LogEnds.{log_ends};
+ghost use Rattle.cave_play.specs.Sources.{Leads};
 
 use crate::fault::PlayFault;
 use crate::judge::read_script;
@@ -53,7 +54,7 @@ pub(crate) fn edit_session<I: Sources>(
         ∷ strict_stage editing.strict session.old.game editing.guarded edits ∷ [])
         (IsMadeOf editing.view report session.old.machine.rules.cave.now session.old.every
         session.old.game editing.guarded edits (log_ends log.now edits)) result }
-    ensures leads { I.Leads inputs.old inputs.new }
+    ensures leads { Leads I.Reads inputs.old inputs.new }
 {
     let read = read_script(alloc, inputs, editing.guarded)?;
     let ends = LogEnds::of(alloc, log, &read.text)?;

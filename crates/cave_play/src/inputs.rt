@@ -1,7 +1,7 @@
 //! The readers of a run.
 
-ghost use Rattle.std.specs.Prelude.{◌≡◌, false};
-ghost use Rattle.cave_play.specs.Sources.{held_by, held_by_one};
+ghost use Rattle.std.specs.Prelude.{◌≡◌, [], ◌∷◌};
+ghost use Rattle.cave_play.specs.Sources.{held_by};
 
 use crate::fault::PlayFault;
 use crate::read::read;
@@ -9,6 +9,7 @@ use crate::sources::Sources;
 use play_command::Input;
 use std::alloc::Global;
 use std::io::Read;
+use std::slice;
 
 /// The readers of a cave.
 #[derive(Drop)]
@@ -25,52 +26,6 @@ pub struct Inputs<C, B, L, S> {
     pub cave: CaveReaders<C, B>,
     pub log: L,
     pub script: S,
-}
-
-/// The readers of a run over one log.
-#[derive(Drop)]
-pub(crate) struct OneLog<'r, C, B, L, S> {
-    inputs: &'r mut Inputs<C, B, L, S>,
-    /// Whether the log was read.
-    is_read: bool,
-}
-
-impl<'r, C: Read, B: Read, L: Read, S: Read> OneLog<'r, C, B, L, S> {
-    /// These readers, before anything is read.
-    pub(crate) fn of(inputs: &'r mut Inputs<C, B, L, S>) -> OneLog<'r, C, B, L, S>
-        ensures inputs { result.inputs.now ≡ inputs.old }
-        ensures read { result.is_read ≡ false }
-    {
-        OneLog {
-            inputs,
-            is_read: false,
-        }
-    }
-}
-
-impl<C: Read, B: Read, L: Read, S: Read> Sources for OneLog<'_, C, B, L, S> {
-    ghost held = { held_by_one C.remaining B.remaining L.remaining S.remaining };
-
-    ghost Leads = { λ _ _. Unit {0} };
-
-    ghost stays = { λ _. tt };
-
-    ghost goes_on = { λ _ _ _ _ _. tt };
-
-    fn read(&mut self, alloc: Global, input: Input) -> Result<Vec<u8>, PlayFault> {
-        match input {
-            Input::Cave => read(alloc, input, &mut self.inputs.cave.database),
-            Input::Bindings => read(alloc, input, &mut self.inputs.cave.bindings),
-            Input::Log if self.is_read => Ok(Vec::new(alloc)),
-            Input::Log => {
-                self.is_read = true;
-                read(alloc, input, &mut self.inputs.log)
-            }
-            Input::NewLog | Input::Script | Input::Known => {
-                read(alloc, input, &mut self.inputs.script)
-            }
-        }
-    }
 }
 
 /// The readers of a run over any number of logs, the first of which were read.
@@ -101,16 +56,23 @@ impl<'r, C: Read, B: Read, L: Read, S: Read> Readers<'r, C, B, L, S> {
             read: 0,
         }
     }
+
+    /// The readers of a run over one log, before anything is read.
+    pub(crate) fn of_one(inputs: &'r mut Inputs<C, B, L, S>) -> Readers<'r, C, B, L, S>
+        ensures cave { result.cave.now ≡ inputs.old.cave }
+        ensures log { result.logs.now ≡ inputs.old.log ∷ [] }
+        ensures script { result.script.now ≡ inputs.old.script }
+        ensures read { result.read ≡ 0 }
+    {
+        let log = slice::from_mut(&mut inputs.log);
+        Readers::of(&mut inputs.cave, log, &mut inputs.script)
+    }
 }
 
 impl<C: Read, B: Read, L: Read, S: Read> Sources for Readers<'_, C, B, L, S> {
     ghost held = { held_by C.remaining B.remaining L.remaining S.remaining };
 
-    ghost Leads = { λ _ _. Unit {0} };
-
-    ghost stays = { λ _. tt };
-
-    ghost goes_on = { λ _ _ _ _ _. tt };
+    ghost Reads = { λ _ _ _. Unit {0} };
 
     fn read(&mut self, alloc: Global, input: Input) -> Result<Vec<u8>, PlayFault> {
         match input {

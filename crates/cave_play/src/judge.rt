@@ -16,9 +16,8 @@ ghost use Rattle.play_machine.specs.HeldGame.{HoldsGame};
 ghost use Rattle.play_machine.specs.Moments.{noted_of};
 ghost use Rattle.play_machine.specs.Watch.{IsEndOf, NotesMore};
 ghost use Rattle.cave_play.specs.Run.{Judges};
-ghost use Rattle.cave_play.specs.Sources.{IsTaken, next_log, without_cave};
-ghost use Rattle.cave_play.specs.Stages.{judging_stage};
-ghost use Rattle.cave_play.specs.Stages.{cave_stages, log_stage, script_stage};
+ghost use Rattle.cave_play.specs.Sources.{IsTaken, next_log, without_cave, Leads};
+ghost use Rattle.cave_play.specs.Stages.{judging_stage, cave_stages, log_stage, script_stage};
 
 use crate::fault::{LogFault, PlayFault, ScriptFault};
 use crate::sources::Sources;
@@ -96,7 +95,7 @@ pub(crate) fn read_cave<I: Sources>(alloc: Global, inputs: &mut I) -> Result<Rea
         × Says (I.held inputs.old).cave database × Says (I.held inputs.old).bindings bindings
         × Judges (cave_stages database bindings) (IsReadOf database bindings) result }
     ensures others { without_cave (I.held inputs.new) ≡ without_cave (I.held inputs.old) }
-    ensures leads { I.Leads inputs.old inputs.new }
+    ensures leads { Leads I.Reads inputs.old inputs.new }
 {
     let database = inputs.read(alloc, Input::Cave)?;
     let bindings = inputs.read(alloc, Input::Bindings)?;
@@ -161,7 +160,7 @@ pub(crate) fn watch_play<W: Watch, I: Sources>(
         (game_of seed (lines bytes))) watch.old watch.new
         × IsEndOf machine.entry.rules.cave.now (game_of seed (lines bytes)) end) result }
     ensures taken { IsTaken Input.Log (I.held inputs.old) (I.held inputs.new) }
-    ensures leads { I.Leads inputs.old inputs.new }
+    ensures leads { Leads I.Reads inputs.old inputs.new }
 {
     let log = inputs.read(alloc, Input::Log)?;
     match watch_log(alloc, machine, &log, seed, watch) {
@@ -189,7 +188,7 @@ pub(crate) fn read_script<I: Sources>(
         × (length read.script.items.items < 2 ^ 32)
         × (script_by guarded bytes ≡ Ok (items_of read.script.items))
         × (read.text.items ≡ bytes)) result }
-    ensures leads { I.Leads inputs.old inputs.new }
+    ensures leads { Leads I.Reads inputs.old inputs.new }
 {
     let text = inputs.read(alloc, Input::Script)?;
     match script_in(alloc, &text, guarded) {

@@ -8,7 +8,6 @@ pub mod fault;
 pub mod inputs;
 pub mod judge;
 pub mod kept_rows;
-pub mod laws;
 pub mod logs;
 pub mod logs_fault;
 pub mod notes;

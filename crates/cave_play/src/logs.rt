@@ -8,6 +8,7 @@ ghost use Rattle.cave_play.specs.Judge.{large_seed};
 ghost use Rattle.cave_play.specs.Logs.{IsMadeReport, IsReportOn, IsReported, JudgesLogs};
 ghost use Rattle.cave_play.specs.Logs.{WritesReport, first_stages, games_of, noted_of_all};
 ghost use Rattle.cave_play.specs.Run.{Judges};
+ghost use Rattle.cave_play.specs.Sources.{Leads};
 
 use crate::fault::PlayFault;
 use crate::judge::{ReadCave, check_seed, read_cave, watch_play};
@@ -43,7 +44,7 @@ pub fn make_report<N: PlayNotes, I: Sources>(
         (IsMadeReport (IsReported N.report_on N.found_on database bindings moves seed view.now))
         result }
     ensures all { IfOk result (λ _. (I.held inputs.new).logs ≡ []) }
-    ensures leads { I.Leads inputs.old inputs.new }
+    ensures leads { Leads I.Reads inputs.old inputs.new }
 {
     let read = read_for_logs(alloc, inputs, seed)?;
     let made = report_in_cave::<N, I>(alloc, &read, inputs, logs, seed, view);
@@ -62,7 +63,7 @@ pub fn read_for_logs<I: Sources>(
         × Says (I.held inputs.old).cave database × Says (I.held inputs.old).bindings bindings
         × Judges (first_stages database bindings seed) (IsReadOf database bindings) result }
     ensures logs { (I.held inputs.new).logs ≡ (I.held inputs.old).logs }
-    ensures leads { I.Leads inputs.old inputs.new }
+    ensures leads { Leads I.Reads inputs.old inputs.new }
 {
     check_seed(seed)?;
     read_cave(alloc, inputs)
@@ -84,7 +85,7 @@ pub fn report_in_cave<N: PlayNotes, I: Sources>(
         (IsMadeReport (IsReportOn N.report_on N.found_on read.now.database.items read.now.cave
         view.now (games_of seed moves))) result }
     ensures all { IfOk result (λ _. (I.held inputs.new).logs ≡ []) }
-    ensures leads { I.Leads inputs.old inputs.new }
+    ensures leads { Leads I.Reads inputs.old inputs.new }
 {
     let cave = &read.cave;
     let lexicon = Lexicon::build(alloc, cave)?;
@@ -114,7 +115,7 @@ fn note_logs<N: PlayNotes, I: Sources>(
         (λ _. N.HasNoted (noted_of_all N.first_facts N.facts machine.entry.rules.cave.now
         (games_of seed moves)) notes.new) result }
     ensures all { IfOk result (λ _. (I.held inputs.new).logs ≡ []) }
-    ensures leads { I.Leads inputs.old inputs.new }
+    ensures leads { Leads I.Reads inputs.old inputs.new }
 {
     for place in 0..logs {
         match watch_play(alloc, machine, inputs, seed, notes) {

@@ -8,7 +8,7 @@ ghost use Rattle.cave_play.specs.Input.{Says, InputTexts, AreTextsOf};
 ghost use Rattle.cave_play.specs.Judge.{large_seed, every_fault};
 ghost use Rattle.cave_play.specs.Output.{IsChecked, IsPlayed, play_view_text};
 ghost use Rattle.cave_play.specs.Run.{Judges, Runs, RunsWith};
-ghost use Rattle.cave_play.specs.Sources.{AreHeld, next_log};
+ghost use Rattle.cave_play.specs.Sources.{AreHeld, next_log, Leads};
 ghost use Rattle.cave_play.specs.Stages.{cave_stages, log_stage, script_stage, strict_stage};
 ghost use Rattle.cave_play.specs.Stages.{play_stages, edit_stages};
 ghost use Rattle.cave_play.specs.EditRun.{IsEditRun, IsMadeEdit, IsMadeOf};
@@ -17,7 +17,7 @@ ghost use Rattle.play_edits.specs.LogEnds.{log_ends};
 use crate::edits::{EditRun, MadeEdit, edit_session};
 use crate::ended::finish_edit;
 use crate::fault::PlayFault;
-use crate::inputs::{Inputs, OneLog};
+use crate::inputs::{Inputs, Readers};
 use crate::judge::{check_every, check_seed, open_session, read_cave};
 use crate::output::{write_edit, write_made};
 use crate::sources::Sources;
@@ -43,7 +43,7 @@ pub fn make_check<I: Sources>(
     ensures judged { (texts : InputTexts) × AreHeld Input.Script (I.held inputs.old) texts
         × Judges (cave_stages texts.database texts.bindings)
         (λ text. IsChecked view texts.database texts.bindings text.items) result }
-    ensures leads { I.Leads inputs.old inputs.new }
+    ensures leads { Leads I.Reads inputs.old inputs.new }
 {
     let read = read_cave(alloc, inputs)?;
     let made = check_text(alloc, &read.cave, view);
@@ -62,7 +62,7 @@ pub fn make_play<I: Sources>(
     ensures judged { (texts : InputTexts) × AreHeld Input.Script (I.held inputs.old) texts
         × Judges (play_stages texts.database texts.bindings texts.log seed)
         (λ text. IsPlayed texts.database texts.bindings texts.log seed view text.items) result }
-    ensures leads { I.Leads inputs.old inputs.new }
+    ensures leads { Leads I.Reads inputs.old inputs.new }
 {
     check_seed(seed)?;
     let read = read_cave(alloc, inputs)?;
@@ -84,7 +84,7 @@ pub fn make_edit<I: Sources>(
     ensures judged { (texts : InputTexts) × AreHeld Input.Script (I.held inputs.old) texts
         × Judges (edit_stages texts.database texts.bindings texts.log texts.script editing)
         (IsMadeEdit texts editing report) result }
-    ensures leads { I.Leads inputs.old inputs.new }
+    ensures leads { Leads I.Reads inputs.old inputs.new }
 {
     check_seed(editing.seed)?;
     check_every(editing.every)?;
@@ -106,7 +106,7 @@ fn play_in_cave<I: Sources>(
     ensures judged { (moves : List ℕ) × Says (next_log (I.held inputs.old).logs) moves
         × Judges (log_stage moves ∷ [])
         (λ text. text.items ≡ play_view_text view cave.now (game_of seed (lines moves))) result }
-    ensures leads { I.Leads inputs.old inputs.new }
+    ensures leads { Leads I.Reads inputs.old inputs.new }
 {
     let lexicon = Lexicon::build(alloc, cave)?;
     let machine = CaveMachine::new(cave, &lexicon);
@@ -130,7 +130,7 @@ fn edit_in_cave<I: Sources>(
         ∷ [])
         (IsMadeOf editing.view report cave.now editing.every (game_of editing.seed (lines moves))
         editing.guarded edits (log_ends moves edits)) result }
-    ensures leads { I.Leads inputs.old inputs.new }
+    ensures leads { Leads I.Reads inputs.old inputs.new }
 {
     let lexicon = Lexicon::build(alloc, cave)?;
     let machine = CaveMachine::new(cave, &lexicon);
@@ -155,7 +155,7 @@ pub fn run_check<C: Read, B: Read, L: Read, S: Read, W: Write>(
         (IsChecked view texts.database texts.bindings)
         (W.contents output.old) (W.contents output.new) result }
 {
-    let mut readers = OneLog::of(inputs);
+    let mut readers = Readers::of_one(inputs);
     let made = make_check(alloc, &mut readers, view);
     write_made(made, output)
 }
@@ -174,7 +174,7 @@ pub fn run_play<C: Read, B: Read, L: Read, S: Read, W: Write>(
         (IsPlayed texts.database texts.bindings texts.log seed view)
         (W.contents output.old) (W.contents output.new) result }
 {
-    let mut readers = OneLog::of(inputs);
+    let mut readers = Readers::of_one(inputs);
     let made = make_play(alloc, &mut readers, seed, view);
     write_made(made, output)
 }
@@ -195,7 +195,7 @@ pub fn run_edit<C: Read, B: Read, L: Read, S: Read, W: Write>(
         (IsEditRun texts.database texts.bindings texts.log texts.script editing report)
         (W.contents output.old) (W.contents output.new) result }
 {
-    let mut readers = OneLog::of(inputs);
+    let mut readers = Readers::of_one(inputs);
     let made = make_edit(alloc, &mut readers, editing, report);
     write_edit(made, output)
 }

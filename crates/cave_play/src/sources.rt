@@ -1,5 +1,6 @@
 //! Where a run has its inputs from.
 
+ghost use Rattle.play_command.specs.declared.input.Input.{Input};
 ghost use Rattle.cave_play.specs.Reading.{IsReading};
 ghost use Rattle.cave_play.specs.Sources.{Held, IsTaken, held_for};
 
@@ -13,18 +14,12 @@ pub trait Sources {
     /// What it is known to have for the inputs that weren't asked for.
     ghost held: { Self → Held };
 
-    /// What reading may make of it.
-    ghost Leads: { Self → Self → Type 0 };
+    /// What reading an input makes of it.
+    ghost Reads: { Input → Self → Self → Type 0 };
 
     /// Reads an input whole: of several logs the next one, and nothing for one that isn't there.
     fn read(&mut self, alloc: Global, input: Input) -> Result<Vec<u8>, PlayFault>
         ensures read { IsReading (held_for input (held self.old)) input result }
         ensures taken { IsTaken input (held self.old) (held self.new) }
-        ensures leads { Leads self.old self.new };
-
-    /// Reading nothing makes nothing of it.
-    ghost stays: { (one : Self) → Leads one one };
-
-    /// What is read in turn is read.
-    ghost goes_on: { (one next last : Self) → Leads one next → Leads next last → Leads one last };
+        ensures reads { Reads input self.old self.new };
 }

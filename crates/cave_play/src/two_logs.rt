@@ -1,22 +1,21 @@
 //! Runs over two logs: the edits that make one of the other, and what they lead to.
 
 ghost use Rattle.std.specs.Prelude.{◌≡◌, ℕ, List, [], ◌∷◌, Some};
-ghost use Rattle.std.proofs.Common.{refl, ◌∙◌};
 ghost use Rattle.std.specs.Str.Lines.{lines};
 ghost use Rattle.replay_edits.specs.Edit.{log_of};
 ghost use Rattle.cave_play.specs.Input.{AreTextsOf, InputTexts, Says};
 ghost use Rattle.cave_play.specs.Judge.{lines_fault};
 ghost use Rattle.cave_play.specs.Reading.{IsReading};
 ghost use Rattle.cave_play.specs.Run.{Judges};
-ghost use Rattle.cave_play.specs.Sources.{AreHeld, IsTaken, next_log};
+ghost use Rattle.cave_play.specs.Sources.{AreHeld, IsTaken, next_log, Leads};
 ghost use Rattle.cave_play.specs.Stages.{judging_stage, log_stage};
 ghost use Rattle.cave_play.specs.TwoLogs.{IsCompared, IsReadLog, JudgesEditTo, JudgesScript};
 ghost use Rattle.cave_play.specs.TwoLogs.{RunsEditTo, RunsScript, new_log_fault, new_log_stage};
-ghost use Rattle.cave_play.specs.TwoLogs.{LeadsWith, two_logs_stages, with_compared};
+ghost use Rattle.cave_play.specs.TwoLogs.{ReadsWith, two_logs_stages, with_compared};
 
 use crate::edits::{EditRun, MadeEdit};
 use crate::fault::PlayFault;
-use crate::inputs::{Inputs, OneLog};
+use crate::inputs::{Inputs, Readers};
 use crate::judge::opening_fault;
 use crate::output::{write_edit, write_made};
 use crate::read::too_large;
@@ -60,7 +59,7 @@ fn read_log<I: Sources>(alloc: Global, inputs: &mut I) -> Result<ReadLog, PlayFa
     ensures judged { (bytes : List ℕ) × Says (next_log (I.held inputs.old).logs) bytes
         × Judges (log_stage bytes ∷ []) (IsReadLog bytes) result }
     ensures taken { IsTaken Input.Log (I.held inputs.old) (I.held inputs.new) }
-    ensures leads { I.Leads inputs.old inputs.new }
+    ensures leads { Leads I.Reads inputs.old inputs.new }
 {
     let text = inputs.read(alloc, Input::Log)?;
     match log_lines(alloc, &text) {
@@ -84,7 +83,7 @@ fn read_new_log<I: Sources>(alloc: Global, inputs: &mut I) -> Result<ReadLog, Pl
     ensures judged { (bytes : List ℕ) × Says (I.held inputs.old).new_log bytes
         × Judges (new_log_stage bytes ∷ []) (IsReadLog bytes) result }
     ensures taken { IsTaken Input.NewLog (I.held inputs.old) (I.held inputs.new) }
-    ensures leads { I.Leads inputs.old inputs.new }
+    ensures leads { Leads I.Reads inputs.old inputs.new }
 {
     let text = inputs.read(alloc, Input::NewLog)?;
     match log_lines(alloc, &text) {
@@ -104,7 +103,7 @@ fn compare<I: Sources>(
         × Judges (two_logs_stages old made) (IsCompared form old made) result }
     ensures cave { (I.held inputs.new).cave ≡ (I.held inputs.old).cave }
     ensures bindings { (I.held inputs.new).bindings ≡ (I.held inputs.old).bindings }
-    ensures leads { I.Leads inputs.old inputs.new }
+    ensures leads { Leads I.Reads inputs.old inputs.new }
 {
     let old = read_log(alloc, inputs)?;
     let made = read_new_log(alloc, inputs)?;
@@ -125,7 +124,7 @@ pub fn make_script<I: Sources>(
 ) -> Result<Vec<u8>, PlayFault>
     ensures judged { (texts : InputTexts) × AreHeld Input.NewLog (I.held inputs.old) texts
         × JudgesScript form texts result }
-    ensures leads { I.Leads inputs.old inputs.new }
+    ensures leads { Leads I.Reads inputs.old inputs.new }
 {
     let compared = compare(alloc, inputs, form)?;
     let Compared { script, .. } = compared;
@@ -158,14 +157,7 @@ fn give(alloc: Global, input: Input, text: &mut Vec<u8>) -> Result<Vec<u8>, Play
 impl<I: Sources> Sources for WithCompared<'_, I> {
     ghost held = { with_compared I.held };
 
-    ghost Leads = { LeadsWith I.Leads };
-
-    ghost stays = { λ one. (refl, I.stays one.inputs.now) };
-
-    ghost goes_on = { λ one next last first second. (
-      second.0 ∙ first.0,
-      I.goes_on one.inputs.now next.inputs.now last.inputs.now first.1 second.1,
-    ) };
+    ghost Reads = { ReadsWith I.Reads };
 
     fn read(&mut self, alloc: Global, input: Input) -> Result<Vec<u8>, PlayFault> {
         match input {
@@ -190,7 +182,7 @@ pub fn make_edit_to<I: Sources>(
 ) -> Result<MadeEdit, PlayFault>
     ensures judged { (texts : InputTexts) × AreHeld Input.NewLog (I.held inputs.old) texts
         × JudgesEditTo texts editing report result }
-    ensures leads { I.Leads inputs.old inputs.new }
+    ensures leads { Leads I.Reads inputs.old inputs.new }
 {
     let form = ScriptForm {
         guarded: editing.guarded,
@@ -217,7 +209,7 @@ pub fn run_script<C: Read, B: Read, L: Read, S: Read, W: Write>(
         × AreTextsOf C.remaining B.remaining L.remaining S.remaining inputs.old texts
         × RunsScript form texts (W.contents output.old) (W.contents output.new) result }
 {
-    let mut readers = OneLog::of(inputs);
+    let mut readers = Readers::of_one(inputs);
     let made = make_script(alloc, &mut readers, form);
     write_made(made, output)
 }
@@ -235,7 +227,7 @@ pub fn run_edit_to<C: Read, B: Read, L: Read, S: Read, W: Write>(
         × AreTextsOf C.remaining B.remaining L.remaining S.remaining inputs.old texts
         × RunsEditTo texts editing report (W.contents output.old) (W.contents output.new) result }
 {
-    let mut readers = OneLog::of(inputs);
+    let mut readers = Readers::of_one(inputs);
     let made = make_edit_to(alloc, &mut readers, editing, report);
     write_edit(made, output)
 }

@@ -6,7 +6,7 @@ ghost use Rattle.replay_edits.specs.Edit.{game_of};
 ghost use Rattle.cave_play.specs.Input.{Says};
 ghost use Rattle.cave_play.specs.Judge.{large_seed};
 ghost use Rattle.cave_play.specs.Run.{Judges};
-ghost use Rattle.cave_play.specs.Sources.{next_log};
+ghost use Rattle.cave_play.specs.Sources.{next_log, Leads};
 ghost use Rattle.cave_play.specs.Stages.{log_stage};
 ghost use Rattle.cave_play.specs.Output.{cave_line, check_text, play_view_text};
 ghost use Rattle.turn_ends.specs.Score.{max_score_of};
@@ -62,7 +62,7 @@ pub(crate) fn play_view_text<I: Sources>(
     ensures judged { (moves : List ℕ) × Says (next_log (I.held inputs.old).logs) moves
         × Judges (log_stage moves ∷ []) (λ text. text.items
         ≡ play_view_text view machine.entry.rules.cave.now (game_of seed (lines moves))) result }
-    ensures leads { I.Leads inputs.old inputs.new }
+    ensures leads { Leads I.Reads inputs.old inputs.new }
 {
     let mut text = Vec::new(alloc);
     match view {

@@ -7,7 +7,7 @@ ghost use Rattle.play_cover.specs.Plays.{IsCovered, cover_stages};
 ghost use Rattle.cave_play.specs.Input.{Says};
 ghost use Rattle.cave_play.specs.Logs.{IsMadeReport, JudgesLogs, RunsLogs};
 ghost use Rattle.cave_play.specs.Run.{Judges};
-ghost use Rattle.cave_play.specs.Sources.{IsTaken};
+ghost use Rattle.cave_play.specs.Sources.{IsTaken, Leads};
 ghost use Rattle.cave_play.specs.Stages.{known_stage};
 
 use crate::known::KnownList;
@@ -36,7 +36,7 @@ fn read_known<I: Sources>(alloc: Global, file: &str, inputs: &mut I) -> Result<K
     ensures judged { (list : List ℕ) × Says (I.held inputs.old).known list
         × Judges (known_stage list ∷ []) (λ known. known ≡ known_entries file.now list) result }
     ensures taken { IsTaken Input.Known (I.held inputs.old) (I.held inputs.new) }
-    ensures leads { I.Leads inputs.old inputs.new }
+    ensures leads { Leads I.Reads inputs.old inputs.new }
 {
     let list = inputs.read(alloc, Input::Known)?;
     let known = KnownList::entries_of(alloc, file, &list)?;
@@ -61,7 +61,7 @@ pub fn make_cover<I: Sources>(
         (IsMadeReport (IsCovered database bindings (known_entries asked.now.known.now list) moves
         asked.now.seed asked.now.view)) result }
     ensures all { IfOk result (λ _. (I.held inputs.new).logs ≡ []) }
-    ensures leads { I.Leads inputs.old inputs.new }
+    ensures leads { Leads I.Reads inputs.old inputs.new }
 {
     let known = read_known(alloc, asked.known, inputs)?;
     match asked.view {

@@ -12,9 +12,9 @@ use Rattle.replay_edits.specs.declared.fault.EditFault.TheVariants.{LogFull}
 use Rattle.replay_edits.specs.Edit.{Game, game_of, Change, inserts, deletes, replaces, reseeds}
 use Rattle.replay_edits.specs.Edit.{log_after, seed_after, apply_all}
 use Rattle.replay_edits.specs.Faults.{fault_of, fault_of_all, first_of_two}
-use Rattle.play_laws.specs.ApartEdits.{AreApart, ApartEditsCommute}
-use Rattle.play_laws.specs.ApartEdits.{adds_line, gap_before, line_itself, one_by_one, shifted_place}
-use Rattle.play_laws.specs.ApartEdits.{shifted_by, touched_by}
+use Rattle.play_laws.specs.ApartEdits.{AreApart, ApartEditsCommute, adds_line, gap_before}
+use Rattle.play_laws.specs.ApartEdits.{line_itself, one_by_one, shifted_place, shifted_by}
+use Rattle.play_laws.specs.ApartEdits.{touched_by}
 use Rattle.play_laws.proofs.ApartLogs.{place_of, rank, same_before}
 
 -- ---- the logs

@@ -1,7 +1,6 @@
 -- The classes among the rows of a database are those of the cave.
-use Rattle.std.proofs.Common.{◌≡◌, ◌∙◌, ◌+◌, ◌++◌, ◌∷◌, ℕ, suc, Bool, true, false, List, []}
-use Rattle.std.proofs.Common.{Option, Some, None, length, map, refl, sym, ap, cond, arith}
-use Rattle.std.proofs.Common.{◌≤◌, ◌<◌}
+use Rattle.std.proofs.Common.{◌≡◌, ◌∙◌, ◌+◌, ◌++◌, ◌∷◌, ℕ, suc, Bool, true, false, List, [], Option}
+use Rattle.std.proofs.Common.{Some, None, length, map, refl, sym, ap, cond, arith, ◌≤◌, ◌<◌}
 use Rattle.std.specs.Prelude.{nat_le, nat_lt, ◌||◌, ◌&&◌, not, is_some}
 use Rattle.std.specs.List.{filter_map, list_any}
 use Rattle.std.proofs.lemmas.Bool.{false≢true}
@@ -13,9 +12,9 @@ use Rattle.cave_data.specs.Texts.{names_object}
 use Rattle.data_rows.specs.DatabaseGrammar.{HasRows, blank_line, database_ends, row_line}
 use Rattle.data_rows.specs.DatabaseGrammar.{section_ends, section_number, section_opens}
 use Rattle.data_rows.specs.Grammar.{position_after_line}
-use Rattle.data_rows.specs.Rows.{Entry, TextLine, LongLine, ShortLine, Way, Word}
-use Rattle.data_rows.specs.Rows.{ObjectLine, MessageLine, PlacementRow, DefaultRow, ConditionRow}
-use Rattle.data_rows.specs.Rows.{ClassLine, HintRow, MagicLine}
+use Rattle.data_rows.specs.Rows.{Entry, TextLine, LongLine, ShortLine, Way, Word, ObjectLine}
+use Rattle.data_rows.specs.Rows.{MessageLine, PlacementRow, DefaultRow, ConditionRow, ClassLine}
+use Rattle.data_rows.specs.Rows.{HintRow, MagicLine}
 use Rattle.data_rows.specs.SectionRows.{class_line_of}
 use Rattle.data_rows.specs.declared.number.Number.TheVariants.{Natural, Negative}
 use Rattle.data_rows.specs.declared.position.Position.{Position}

@@ -1,6 +1,10 @@
 pub mod ApartEdits
 pub mod ApartLogs
+pub mod BytesLemmas
 pub mod ClassRows
+pub mod DifferenceLaws
+pub mod FaultLaws
+pub mod GuardLawLemmas
 pub mod GuardedLines
 pub mod GuardedReading
 pub mod GuardedSpelling
@@ -11,7 +15,9 @@ pub mod LongerLogs
 pub mod MetGuards
 pub mod MetItems
 pub mod NeverTaken
+pub mod OneOutputLemmas
 pub mod Period
 pub mod Redo
-pub mod WaySteps
+pub mod UndoLines
 pub mod UnusedMessages
+pub mod WaySteps

@@ -1,6 +1,6 @@
 -- Transcripts by the moments of a play, which a longer log begins with.
-use Rattle.std.proofs.Common.{◌≡◌, ℕ, ◌+◌, Bool, false, List, [], ◌∷◌, ◌++◌, length, take}
-use Rattle.std.proofs.Common.{arith, append_assoc, inl, inr, sym, ap, ap₂, ◌∙◌, refl}
+use Rattle.std.proofs.Common.{◌≡◌, ℕ, ◌+◌, Bool, false, List, [], ◌∷◌, ◌++◌, length, take, arith}
+use Rattle.std.proofs.Common.{append_assoc, inl, inr, sym, ap, ap₂, ◌∙◌, refl}
 use Rattle.std.proofs.Math.Seq.{take-append_seam}
 use Rattle.std.specs.Prelude.{◌⊎◌, count_by, if◌then◌else◌}
 use Rattle.std.specs.List.{enumerate_from, flat_map, zip}

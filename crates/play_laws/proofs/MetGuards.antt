@@ -5,12 +5,12 @@ use Rattle.std.specs.Prelude.{◌↔◌}
 use Rattle.std.proofs.lemmas.List.Elements.{All-cons, All-nil}
 use Rattle.std.specs.Str.Lines.{lines}
 use Rattle.cave_data.specs.CaveView.{CaveView}
-use Rattle.cave_play.proofs.OneOutputLemmas.{script_by-spelled}
+use Rattle.cave_play.proofs.ScriptLemmas.{script_by-spelled}
 use Rattle.cave_play.specs.EditRun.{IsSideReport}
 use Rattle.cave_play.specs.Ended.{ended_view, IsEdited, IsEndedEdit}
-use Rattle.play_edits.specs.LogEnds.{ends_after_items}
-use Rattle.cave_play.specs.GuardLaws.{AreMet, HasNoGuard, NoGuardsNoOtherOutput}
-use Rattle.cave_play.specs.GuardLaws.{NoGuardsNoOtherScript}
+use Rattle.play_edits.specs.LogEnds.{ends_after_items, ends_by, log_ends}
+use Rattle.play_laws.specs.GuardLaws.{AreMet, HasNoGuard, NoGuardsNoOtherOutput}
+use Rattle.play_laws.specs.GuardLaws.{NoGuardsNoOtherScript}
 use Rattle.cave_play.specs.Refused.{refusals_of, seed_after}
 use Rattle.cave_play.specs.Strict.{first_strict_fault}
 use Rattle.cave_play.specs.Views.{IsEditOf, IsLogOf, IsViewOf}
@@ -22,7 +22,6 @@ use Rattle.play_command.specs.declared.editing.EditView.{EditView}
 use Rattle.play_command.specs.declared.editing.EditView.TheVariants as asked
 use Rattle.play_edits.specs.Items.{game_after_items}
 use Rattle.play_edits.specs.LineEnds.{ends_in, is_unended}
-use Rattle.play_edits.specs.LogEnds.{ends_by, log_ends}
 use Rattle.play_edits.specs.Outcome.{AreOutcomes, ItemOutcome}
 use Rattle.play_machine.specs.FinalState.{final_state_text}
 use Rattle.play_machine.specs.Score.{score_text}

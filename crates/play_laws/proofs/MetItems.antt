@@ -1,20 +1,18 @@
 -- Items whose guards are met do what they do without guards.
-use Rattle.std.proofs.Common.{◌≡◌, ◌∙◌, ℕ, ◌+◌, Bool, List, [], ◌∷◌, ◌++◌, length, reverse}
-use Rattle.std.proofs.Common.{Option, Some, None, Ok, Err, option_map, refl, sym, ap, ap₂, subst}
-use Rattle.std.specs.List.{AllByRecursion}
+use Rattle.std.proofs.Common.{◌≡◌, ◌∙◌, ℕ, ◌+◌, Bool, List, [], ◌∷◌, ◌++◌, length, reverse, Option}
+use Rattle.std.proofs.Common.{Some, None, Ok, Err, option_map, refl, sym, ap, ap₂, subst}
+use Rattle.std.specs.List.{AllByRecursion, sum_by}
 use Rattle.std.specs.Option.{option_or}
 use Rattle.cave_data.specs.CaveView.{CaveView}
-use Rattle.play_edits.specs.LogEnds.{ends_after_items, ends_left}
-use Rattle.cave_play.specs.GuardLaws.{AreMet}
-use Rattle.play_edits.specs.Items.{refusal_list, refusals}
+use Rattle.play_edits.specs.LogEnds.{ends_after_items, ends_left, EndsOfLog, each_after, ends_after}
+use Rattle.play_edits.specs.LogEnds.{ends_after_changes, ends_with}
+use Rattle.play_laws.specs.GuardLaws.{AreMet}
+use Rattle.play_edits.specs.Items.{refusal_list, refusals, game_after_item, game_after_items}
+use Rattle.play_edits.specs.Items.{item_report, item_report_by, reports}
 use Rattle.play_edits.proofs.GuardLemmas.{all_met, guards_refuse_alone}
 use Rattle.play_edits.specs.Accounts.{account, account_by, accounts, text_of_items, totals_line}
 use Rattle.play_edits.specs.Guarded.{guarded_groups, guarded_of, guarded_text}
-use Rattle.play_edits.specs.Items.{game_after_item, game_after_items, item_report, item_report_by}
-use Rattle.play_edits.specs.Items.{reports}
 use Rattle.play_edits.specs.Laws.{IsMet}
-use Rattle.play_edits.specs.LogEnds.{EndsOfLog, each_after, ends_after, ends_after_changes}
-use Rattle.play_edits.specs.LogEnds.{ends_with}
 use Rattle.play_edits.specs.LineEnds.{end_of_line}
 use Rattle.play_edits.specs.Outcome.{AreLeft, AreOutcomes, IsItemOutcome, ItemOutcome, lines_in}
 use Rattle.play_edits.specs.Outcome.{played_in, standing_of}
@@ -31,7 +29,6 @@ use Rattle.replay_edits.specs.declared.fault.GroupFault.{GroupFault}
 use Rattle.replay_scripts.specs.Guards.{unguarded_items}
 use Rattle.replay_scripts.specs.Script.{Applied, guarded_by, line_of_refusal}
 use Rattle.replay_scripts.specs.ScriptText.{script_text}
-use Rattle.std.specs.List.{sum_by}
 
 abbrev bare : Applied → Applied
 bare item = guarded_by [] item

@@ -1,7 +1,6 @@
 -- A journey comes to a way only if doubts say that some journey does.
 use Rattle.std.proofs.Common.{◌≡◌, ℕ, zero, suc, ◌+◌, Bool, true, false, List, [], ◌∷◌, ◌++◌, refl}
-use Rattle.std.proofs.Common.{map}
-use Rattle.std.proofs.Common.{sym, ap, ◌∙◌, Option, None, Some, arith, subst, take}
+use Rattle.std.proofs.Common.{map, sym, ap, ◌∙◌, Option, None, Some, arith, subst, take}
 use Rattle.std.proofs.Common.{append_assoc, append-nil, ap₂, cond}
 use Rattle.std.specs.Prelude.{◌==◌, not, is_some, Contains}
 use Rattle.std.specs.List.{list_any, slice_get}
@@ -15,15 +14,13 @@ use Rattle.cave_world.specs.declared.state.State.{State}
 use Rattle.cave_world.specs.declared.travel_rows.Outcome.{Outcome}
 use Rattle.cave_world.specs.declared.tables.RuleRow.{RuleRow}
 use Rattle.cave_world.specs.declared.tables.RuleRow.TheVariants.{OfPlace}
-use Rattle.cave_world.specs.Travel.{Try, after_trying_row}
-use Rattle.cave_world.specs.Travel.{count_unlisted, from_listed, holds, lists_motion}
-use Rattle.cave_world.specs.Travel.{row_condition, row_outcome}
-use Rattle.cave_world.specs.Travel.{rows_tried_by, rows_tried_from, tries, tries_by_rows, try_of}
+use Rattle.cave_world.specs.Travel.{Try, after_trying_row, count_unlisted, from_listed, holds}
+use Rattle.cave_world.specs.Travel.{lists_motion, row_condition, row_outcome, rows_tried_by}
+use Rattle.cave_world.specs.Travel.{rows_tried_from, tries, tries_by_rows, try_of}
 use Rattle.turn_laws.proofs.NotesOfLines.{noted_rows_are_rows}
 use Rattle.play_laws.specs.NeverTaken.{NeverTakenIsNeverNoted, NeverTakenIsNeverTried}
 use Rattle.check_doubts.specs.Ways.{begins_journey, comes_to, ends_journey, failed_after}
-use Rattle.check_doubts.specs.Ways.{failed_from, is_never_taken_after, is_never_taken_at}
-use Rattle.check_doubts.specs.Ways.{is_other}
+use Rattle.check_doubts.specs.Ways.{failed_from, is_never_taken_after, is_never_taken_at, is_other}
 use Rattle.play_laws.proofs.WaySteps.{begins, ends_by, fails, index_same, neither, or_first}
 use Rattle.play_laws.proofs.WaySteps.{or_second, other_way, place_same, some_same, stays}
 

@@ -1,13 +1,12 @@
 -- Edits that were taken back are done again.
-use Rattle.std.proofs.Common.{◌≡◌, ℕ, Bool, true, false, List, [], refl, sym, ap, ap₂, subst}
-use Rattle.std.proofs.Common.{◌∙◌}
+use Rattle.std.proofs.Common.{◌≡◌, ℕ, Bool, true, false, List, [], refl, sym, ap, ap₂, subst, ◌∙◌}
 use Rattle.std.specs.Str.Lines.{lines}
 use Rattle.cave_data.specs.CaveView.{CaveView}
-use Rattle.cave_play.proofs.BytesLemmas.{by_lines, bytes_undone, ends_stay, lines_printed}
-use Rattle.cave_play.proofs.BytesLemmas.{lines_undone, text_lines}
-use Rattle.cave_play.proofs.OneOutputLemmas.{same_items}
-use Rattle.cave_play.proofs.RefusalLemmas.{IsGame-accepted}
-use Rattle.cave_play.specs.Bytes.{EndsAlike}
+use Rattle.play_laws.proofs.BytesLemmas.{by_lines, bytes_undone, ends_stay, lines_printed}
+use Rattle.play_laws.proofs.BytesLemmas.{lines_undone, text_lines}
+use Rattle.cave_play.proofs.ScriptLemmas.{same_items}
+use Rattle.cave_play.proofs.AcceptedLogs.{IsGame-accepted}
+use Rattle.play_laws.specs.Bytes.{EndsAlike}
 use Rattle.cave_play.specs.Ended.{IsEndedEdit, ended_view}
 use Rattle.cave_play.specs.Strict.{first_strict_fault}
 use Rattle.cave_play.specs.Views.{IsUndo}

@@ -5,8 +5,8 @@ use Rattle.std.proofs.Common.{inl, inr}
 use Rattle.std.proofs.lemmas.Bool.{false≢true, true≢false}
 use Rattle.std.proofs.lemmas.Bool.Decides.{nat_tests}
 use Rattle.std.proofs.lemmas.List.{reverse-append}
-use Rattle.std.specs.Prelude.{◌==◌, ◌&&◌, ◌||◌, ◌/◌, ◌%◌, not, nat_le, nat_lt, is_some, reverse, filter}
-use Rattle.std.specs.Prelude.{option_map, unwrap_or, Contains}
+use Rattle.std.specs.Prelude.{◌==◌, ◌&&◌, ◌||◌, ◌/◌, ◌%◌, not, nat_le, nat_lt, is_some, reverse}
+use Rattle.std.specs.Prelude.{filter, option_map, unwrap_or, Contains}
 use Rattle.std.specs.FinMap.{get}
 use Rattle.std.specs.List.{filter_map, find, list_any, range_with_len}
 use Rattle.base_lines.specs.Numbers.{LAST_MESSAGE}

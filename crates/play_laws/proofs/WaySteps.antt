@@ -1,7 +1,6 @@
 -- Steps of a journey by the ways of a place: how it begins, and how a way fails.
-use Rattle.std.proofs.Common.{◌≡◌, ℕ, Bool, true, false, List, [], ◌∷◌, refl}
-use Rattle.std.proofs.Common.{sym, ap, ◌∙◌, None, Some, inl, inr, arith}
-use Rattle.std.proofs.Common.{ap₂, cond, ◌⊎◌}
+use Rattle.std.proofs.Common.{◌≡◌, ℕ, Bool, true, false, List, [], ◌∷◌, refl, sym, ap, ◌∙◌, None}
+use Rattle.std.proofs.Common.{Some, inl, inr, arith, ap₂, cond, ◌⊎◌}
 use Rattle.std.specs.Prelude.{◌==◌, ◌&&◌, ◌||◌, not, is_some}
 use Rattle.std.specs.List.{list_any}
 use Rattle.std.proofs.lemmas.Bool.{cases_eq, eq-eqb, false≢true, ne_eqb}
@@ -13,11 +12,10 @@ use Rattle.data_rows.specs.declared.targets.Destination.TheVariants as destinati
 use Rattle.cave_world.specs.Motions.{any_motion}
 use Rattle.cave_world.specs.declared.state.State.{State}
 use Rattle.cave_world.specs.declared.tables.RuleRow.TheVariants.{OfPlace}
-use Rattle.cave_world.specs.Travel.{after_condition, after_go, after_trying_row}
-use Rattle.cave_world.specs.Travel.{holds, lists_motion}
-use Rattle.cave_world.specs.Travel.{outcome_at, row_condition, row_destination, row_outcome}
-use Rattle.check_doubts.specs.Ways.{begins_journey, ends_journey, ends_there}
-use Rattle.check_doubts.specs.Ways.{is_certain}
+use Rattle.cave_world.specs.Travel.{after_condition, after_go, after_trying_row, holds}
+use Rattle.cave_world.specs.Travel.{lists_motion, outcome_at, row_condition, row_destination}
+use Rattle.cave_world.specs.Travel.{row_outcome}
+use Rattle.check_doubts.specs.Ways.{begins_journey, ends_journey, ends_there, is_certain}
 
 pub some_same : {A : Type 0} {a b : A} → Some a ≡ Some b → a ≡ b
 some_same same = grind (arith, same)

@@ -1,5 +1,7 @@
 pub mod ApartEdits
+pub mod Bytes
 pub mod DrawsMade
+pub mod GuardLaws
 pub mod GuardedScripts
 pub mod Held
 pub mod JoinedScripts
@@ -8,5 +10,6 @@ pub mod LongerLogs
 pub mod MetGuards
 pub mod NeverTaken
 pub mod Redo
+pub mod RunLaws
 pub mod Unreached
 pub mod UnusedMessages

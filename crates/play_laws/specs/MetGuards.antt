@@ -2,7 +2,7 @@
 use Rattle.std.specs.Prelude.{◌≡◌, ◌↔◌, ℕ, Bool, true, false, List, Option, Ok, ⊤}
 use Rattle.std.specs.Str.Lines.{lines}
 use Rattle.cave_play.specs.EditRun.{IsEditRun}
-use Rattle.cave_play.specs.GuardLaws.{AreMet, PrintsNoGuards}
+use Rattle.play_laws.specs.GuardLaws.{AreMet, PrintsNoGuards}
 use Rattle.cave_play.specs.declared.edits.EditRun.{EditRun}
 use Rattle.play_command.specs.declared.aside.ReportView.{ReportView}
 use Rattle.play_command.specs.declared.editing.Editing.{Editing}

@@ -2,7 +2,7 @@
 use Rattle.std.specs.Prelude.{◌≡◌, ℕ, Bool, true, List, None}
 use Rattle.std.specs.Str.Lines.{lines}
 use Rattle.cave_data.specs.CaveView.{CaveView}
-use Rattle.cave_play.specs.Bytes.{EndsAlike}
+use Rattle.play_laws.specs.Bytes.{EndsAlike}
 use Rattle.cave_play.specs.Ended.{IsEndedEdit}
 use Rattle.cave_play.specs.Judge.{large_seed, log_fault}
 use Rattle.cave_play.specs.Strict.{first_strict_fault}

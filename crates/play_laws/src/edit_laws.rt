@@ -4,10 +4,8 @@
 ghost use Rattle.play_laws.specs.ApartEdits.{ApartEditsCommute};
 ghost use Rattle.play_laws.specs.GuardedScripts.{GuardsBelongToItems};
 ghost use Rattle.play_laws.specs.JoinedScripts.{ScriptsJoin};
-ghost use Rattle.play_laws.specs.MetGuards.{MetGuardsNoOtherRun};
 ghost use Rattle.play_laws.specs.Redo.{RedoGivesTheEdits};
 
-use cave_play::laws::{no_guards_no_other_output, no_guards_no_other_script};
 use play_edits::laws::scripts_run_in_turn;
 
 /// Two edits apart from each other, each of which a log accepts, may be made in either order, the
@@ -27,14 +25,6 @@ pub fn guards_belong_to_items()
 pub fn redo_gives_the_edits()
     ensures { RedoGivesTheEdits }
 {}
-
-/// If all guards of a script are met, a run is the same with blank lines in their place.
-pub fn met_guards_no_other_run()
-    ensures { MetGuardsNoOtherRun }
-{
-    no_guards_no_other_script();
-    no_guards_no_other_output();
-}
 
 /// A script that has the lines of one script, and then those of another, does what the one does and
 /// then what the other does.

@@ -7,6 +7,7 @@ ghost use Rattle.play_map.specs.Parts.{place_stage};
 ghost use Rattle.play_map.specs.Plays.{JudgesMap, RunsMap, map_of_games};
 ghost use Rattle.cave_play.specs.Input.{Says};
 ghost use Rattle.cave_play.specs.Judge.{large_seed};
+ghost use Rattle.cave_play.specs.Sources.{Leads};
 
 use crate::part::{check_place, drawn_part};
 use crate::plays::Stops;
@@ -67,7 +68,7 @@ fn map_games_in_cave<I: Sources>(
         (IsMadeReport (λ _ text. text ≡ map_of_games read.now.cave part (games_of seed moves)))
         result }
     ensures all { IfOk result (λ _. (I.held inputs.new).logs ≡ []) }
-    ensures leads { I.Leads inputs.old inputs.new }
+    ensures leads { Leads I.Reads inputs.old inputs.new }
 {
     check_place(&read.cave, part.around)?;
     report_in_cave::<Stops, I>(alloc, read, inputs, logs, seed, &part)
@@ -88,7 +89,7 @@ pub fn make_map<I: Sources>(
         × AllZip Says (I.held inputs.old).logs moves
         × JudgesMap database bindings moves seed part result }
     ensures all { IfOk result (λ _. (I.held inputs.new).logs ≡ []) }
-    ensures leads { I.Leads inputs.old inputs.new }
+    ensures leads { Leads I.Reads inputs.old inputs.new }
 {
     let read = read_for_logs(alloc, inputs, seed)?;
     let made = map_games_in_cave(alloc, &read, inputs, logs, seed, part);

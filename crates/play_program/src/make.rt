@@ -3,11 +3,12 @@
 ghost use Rattle.std.specs.Prelude.{◌≡◌, ℕ, List, IfOk, length, map};
 ghost use Rattle.std.specs.List.{AllZip};
 ghost use Rattle.cave_play.specs.Input.{InputTexts, Says};
-ghost use Rattle.cave_play.specs.Sources.{AreHeld};
+ghost use Rattle.cave_play.specs.Sources.{AreHeld, Leads};
 ghost use Rattle.play_command.specs.Files.{named_file};
 ghost use Rattle.play_program.specs.Files.{log_count};
 ghost use Rattle.play_program.specs.Making.{AreAsked, AreListed, HasReadAll, IsMade, IsMadeEdits};
-ghost use Rattle.play_program.specs.Making.{of_cover, of_doubts, of_edits, of_map, of_text, third_of};
+ghost use Rattle.play_program.specs.Making.{of_cover, of_doubts, of_edits, of_map, of_text};
+ghost use Rattle.play_program.specs.Making.{third_of};
 
 use crate::files::{file_of, log_count};
 use cave_play::doubted::{LeftDoubts, first_doubt, make_doubts};
@@ -120,7 +121,7 @@ fn make_edits<I: Sources>(
     ensures judged { (texts : InputTexts)
         × AreHeld (third_of (What.Edit asked)) (I.held inputs.old) texts
         × IsMadeEdits asked texts result }
-    ensures leads { I.Leads inputs.old inputs.new }
+    ensures leads { Leads I.Reads inputs.old inputs.new }
 {
     match asked.edits_from {
         EditsFrom::Script => make_edit(alloc, inputs, asked.editing, asked.report),
@@ -140,7 +141,7 @@ pub(crate) fn make<I: Sources>(
         × AreHeld (third_of request.now.what) (I.held inputs.old) texts
         × AllZip Says (I.held inputs.old).logs logs × IsMade request.now texts logs result }
     ensures all { IfOk result (λ _. HasReadAll request.now.what (I.held inputs.new)) }
-    ensures leads { I.Leads inputs.old inputs.new }
+    ensures leads { Leads I.Reads inputs.old inputs.new }
 {
     let logs = log_count(&request.files);
     match request.what {

@@ -17,10 +17,10 @@ use Rattle.play_edits.specs.LogEnds.{log_ends}
 use Rattle.play_edits.specs.declared.items.Edited.{Edited}
 use Rattle.cave_play.specs.Run.{IsFoundIn, Judges}
 use Rattle.cave_play.specs.Sources.{next_log}
-use Rattle.cave_play.specs.Stages.{Stage, first_decided, judging_stage}
-use Rattle.cave_play.specs.Stages.{log_stage, script_stage, strict_stage}
+use Rattle.cave_play.specs.Stages.{Stage, first_decided, judging_stage, log_stage, script_stage}
+use Rattle.cave_play.specs.Stages.{strict_stage}
 use Rattle.cave_play.proofs.InputLemmas.{Says-some}
-use Rattle.cave_play.proofs.RefusalLemmas.{IsGame-accepted}
+use Rattle.cave_play.proofs.AcceptedLogs.{IsGame-accepted}
 use Rattle.cave_play.proofs.SourceLemmas.{same_script_after_log}
 use Rattle.cave_play.proofs.StageLemmas.{IsFoundIn-first, IsFoundIn-memory, Judges-later}
 use Rattle.cave_play.proofs.StageLemmas.{first_decided-alone}

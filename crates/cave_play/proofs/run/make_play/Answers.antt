@@ -3,8 +3,8 @@ use Rattle.std.proofs.lemmas.Result.{err_from_is_err_and}
 use Rattle.cave_play.specs.Judge.{large_seed}
 use Rattle.cave_play.specs.Sources.{Held, next_log}
 use Rattle.cave_play.specs.Stages.{cave_stages, log_stage}
-use Rattle.cave_play.proofs.SourceLemmas.{AreHeld-by, AreHeld-some, said}
-use Rattle.cave_play.proofs.SourceLemmas.{same_said, some_bytes, some_texts, texts_by}
+use Rattle.cave_play.proofs.SourceLemmas.{AreHeld-by, AreHeld-some, said, same_said, some_bytes}
+use Rattle.cave_play.proofs.SourceLemmas.{some_texts, texts_by}
 use Rattle.cave_play.proofs.StageLemmas.{IsFoundIn-first, Judges-after, Judges-later}
 use Rattle.cave_play.proofs.run.make_play.Goals as goal
 use Rattle.play_command.specs.declared.input.Input.TheVariants.{Script}

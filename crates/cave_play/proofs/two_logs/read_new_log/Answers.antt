@@ -4,7 +4,8 @@ use Rattle.std.specs.Global.{Vec}
 use Rattle.replay_edits.specs.Edit.{log_of}
 use Rattle.replay_edits.specs.LineText.{LineText}
 use Rattle.cave_play.proofs.JudgeLemmas.{Judges-log}
-use Rattle.cave_play.proofs.TwoLogLemmas.{IsFoundIn-new_log, IsFoundIn-unread, first_decided-new_log}
+use Rattle.cave_play.proofs.TwoLogLemmas.{IsFoundIn-new_log, IsFoundIn-unread}
+use Rattle.cave_play.proofs.TwoLogLemmas.{first_decided-new_log}
 use Rattle.cave_play.proofs.two_logs.read_new_log.Goals as goal
 
 -- the lines are those of a log
