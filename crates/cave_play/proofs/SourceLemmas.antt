@@ -1,14 +1,11 @@
 -- What the inputs of a run still have after some of them were read.
-use Rattle.std.proofs.Common.{◌≡◌, ℕ, false, List, [], ◌∷◌, None, Some, refl, ap, drop, map, subst}
-use Rattle.std.proofs.Common.{◌∙◌}
-use Rattle.std.specs.Prelude.{if◌then◌else◌}
+use Rattle.std.proofs.Common.{◌≡◌, ℕ, List, [], ◌∷◌, None, Some, refl, ap, drop, subst, ◌∙◌}
 use Rattle.std.specs.declared.option.Option.{Option}
 use Rattle.cave_play.specs.Input.{AreTextsOf, InputTexts, Says}
-use Rattle.cave_play.specs.Sources.{AreHeld, Held, IsTaken, held_by, held_by_one, held_for}
-use Rattle.cave_play.specs.Sources.{next_log, without_cave}
+use Rattle.cave_play.specs.Sources.{AreHeld, Held, IsTaken, held_by, held_for, next_log}
+use Rattle.cave_play.specs.Sources.{without_cave}
 use Rattle.cave_play.specs.declared.inputs.CaveReaders.{CaveReaders}
 use Rattle.cave_play.specs.declared.inputs.Inputs.{Inputs}
-use Rattle.cave_play.specs.declared.inputs.OneLog.{OneLog}
 use Rattle.cave_play.specs.declared.inputs.Readers.{Readers}
 use Rattle.play_command.specs.declared.input.Input.{Input}
 use Rattle.play_command.specs.declared.input.Input.TheVariants as input
@@ -57,6 +54,28 @@ same_cave_bindings old mid new first second =
     ap (λ (held : Held). held.bindings) second.others
     ∙ ap (λ (held : Held). held.bindings) first.others
 
+-- ---- readings
+
+pub stays : {I : Type 0} (reads : Input → I → I → Type 0) (one : I) → Leads reads one one
+stays reads one = ([], refl)
+
+pub once : {I : Type 0} (reads : Input → I → I → Type 0) (from : Input) (one next : I)
+    → reads from one next → Leads reads one next
+once reads from one next is = (from ∷ [], (next, is, refl))
+
+pub ruleset readings = (stays, once)
+
+after_all : {I : Type 0} (reads : Input → I → I → Type 0) (inputs : List Input) (one next last : I)
+    → AreRead reads inputs one next → Leads reads next last → Leads reads one last
+after_all reads [] one next last same rest = subst (λ i. Leads reads i last) same rest
+after_all reads (input ∷ inputs) one next last (mid, is, more) rest =
+    let later = after_all reads inputs mid next last more rest in
+    (input ∷ later.0, (mid, is, later.1))
+
+pub goes_on : {I : Type 0} (reads : Input → I → I → Type 0) (one next last : I)
+    → Leads reads one next → Leads reads next last → Leads reads one last
+goes_on reads one next last (inputs, first) rest = after_all reads inputs one next last first rest
+
 -- ---- texts
 
 -- some bytes that an input has
@@ -95,45 +114,34 @@ some_texts third held =
 pub AreHeld-some : (third : Input) (held : Held) → AreHeld third held (some_texts third held)
 AreHeld-some third held = AreHeld-by third held _ _ (said held.cave) (said held.bindings)
 
--- the texts of readers of a run over one log
+-- ---- readers before anything is read
+
 module _ {C B L S : Type 0} (left_database : C → Option (List ℕ))
     (left_bindings : B → Option (List ℕ)) (left_log : L → Option (List ℕ))
-    (left_script : S → Option (List ℕ)) (inputs : Inputs C B L S) (readers : OneLog C B L S)
-    (same : readers.inputs.now ≡ inputs) (read : readers.is_read ≡ false) where
-  abbrev held : Held
-  held = held_by_one left_database left_bindings left_log left_script readers
+    (left_script : S → Option (List ℕ)) where
+  pub held_first : (cave : CaveReaders C B) (logs : List L) (script : S)
+      (readers : Readers C B L S) → AreReadersOf cave logs script readers
+      → held_by left_database left_bindings left_log left_script readers
+      ≡ held_of left_database left_bindings left_log left_script cave logs script
+  held_first cave logs script readers are =
+      ap (λ n. held_of left_database left_bindings left_log left_script readers.cave.now
+      (drop n readers.logs.now) readers.script.now) are.unread
+      ∙ (λ i. held_of left_database left_bindings left_log left_script (are.cave_is i)
+      (are.logs_are i) (are.script_is i))
 
-  log_is : next_log held.logs ≡ left_log inputs.log
-  log_is = ap (λ r. next_log (if r then [] else left_log readers.inputs.now.log ∷ [])) read
-      ∙ ap (λ (there : Inputs C B L S). left_log there.log) same
-
-  pub AreTextsOf-held : (third : Input) (texts : InputTexts)
-      → held_for third held ≡ left_script readers.inputs.now.script → AreHeld third held texts
+  -- the texts of a run over one log
+  pub AreTextsOf-held : (inputs : Inputs C B L S) (readers : Readers C B L S)
+      → AreReadersOf inputs.cave (inputs.log ∷ []) inputs.script readers
+      → (third : Input) (texts : InputTexts)
+      → held_for third (held_of left_database left_bindings left_log left_script inputs.cave
+      (inputs.log ∷ []) inputs.script) ≡ left_script inputs.script
+      → AreHeld third (held_by left_database left_bindings left_log left_script readers) texts
       → AreTextsOf left_database left_bindings left_log left_script inputs texts
-  AreTextsOf-held third texts script are = record {
-    database = subst (λ known. Says known texts.database)
-        (ap (λ (there : Inputs C B L S). left_database there.cave.database) same) are.database;
-    bindings = subst (λ known. Says known texts.bindings)
-        (ap (λ (there : Inputs C B L S). left_bindings there.cave.bindings) same) are.bindings;
-    log = subst (λ known. Says known texts.log) log_is are.log;
-    script = subst (λ known. Says known texts.script)
-        (script ∙ ap (λ (there : Inputs C B L S). left_script there.script) same) are.script;
-  }
-
--- what readers of several logs have before anything is read
-module _ {C B L S : Type 0} (left_database : C → Option (List ℕ))
-    (left_bindings : B → Option (List ℕ)) (left_log : L → Option (List ℕ))
-    (left_script : S → Option (List ℕ)) (cave : CaveReaders C B) (logs : List L)
-    (readers : Readers C B L S) (cave_is : readers.cave.now ≡ cave)
-    (logs_are : readers.logs.now ≡ logs) (read : readers.read ≡ 0) where
-  abbrev all_held : Held
-  all_held = held_by left_database left_bindings left_log left_script readers
-
-  pub held_database : all_held.cave ≡ left_database cave.database
-  held_database = ap (λ there. left_database there.database) cave_is
-
-  pub held_bindings : all_held.bindings ≡ left_bindings cave.bindings
-  held_bindings = ap (λ there. left_bindings there.bindings) cave_is
-
-  pub held_logs : all_held.logs ≡ map left_log logs
-  held_logs = ap (λ n. map left_log (drop n readers.logs.now)) read ∙ ap (map left_log) logs_are
+  AreTextsOf-held inputs readers of_one third texts same are =
+      let held = subst (λ h. AreHeld third h texts) (held_first _ _ _ readers of_one) are in
+      record {
+        database = held.database;
+        bindings = held.bindings;
+        log = held.log;
+        script = subst (λ known. Says known texts.script) same held.script;
+      }

@@ -16,7 +16,7 @@ use Rattle.cave_play.specs.EditRun.{IsEditRun}
 use Rattle.cave_play.specs.Input.{InputTexts}
 use Rattle.cave_play.specs.TwoLogs.{IsDifferenceOf, IsReadDifferenceOf, JudgesEditTo, JudgesScript}
 use Rattle.cave_play.specs.TwoLogs.{RunsEditTo, RunsScript, new_log_fault, new_log_stage}
-use Rattle.cave_play.specs.TwoLogs.{two_logs_stages}
+use Rattle.cave_play.specs.TwoLogs.{two_logs_stages, ReadsWith}
 use Rattle.cave_play.specs.Writing.{Writes, WritesEdit}
 use Rattle.cave_play.specs.declared.edits.EditRun.{EditRun}
 use Rattle.cave_play.specs.declared.edits.MadeEdit.{MadeEdit}
@@ -25,6 +25,10 @@ use Rattle.play_command.specs.declared.editing.Editing.{Editing}
 use Rattle.play_command.specs.declared.input.Input.TheVariants as input
 use Rattle.cave_play.specs.declared.fault.PlayFault.{PlayFault}
 use Rattle.cave_play.specs.declared.fault.PlayFault.TheVariants as fault
+use Rattle.cave_play.proofs.SourceLemmas.{goes_on, stays}
+use Rattle.cave_play.specs.Sources.{AreRead, Leads}
+use Rattle.cave_play.specs.declared.two_logs.WithCompared.{WithCompared}
+use Rattle.play_command.specs.declared.input.Input.{Input}
 use Rattle.cave_play.proofs.AcceptedLogs.{IsGame-accepted}
 use Rattle.cave_play.proofs.RunLemmas.{Runs-made, RunsWith-made, unwritten_by_both}
 use Rattle.cave_play.proofs.RunLemmas.{unwritten_by_edit, unwritten_by_log, unwritten_by_none}
@@ -151,3 +155,21 @@ IsDifferenceOf-grown form old new copies others before after same same' none (sc
       subst (λ log. IsScriptTo form after (lines old) log) same' from,
       λ lines_equal. equal (same ∙ lines_equal ∙ sym same') ∙ none,
     )
+
+-- what reading makes of the inputs that a run has beside two logs
+within : {I : Type 0} (reads : Input → I → I → Type 0) (inputs : List Input)
+    (old new : WithCompared I) → AreRead (ReadsWith reads) inputs old new
+    → (new.inputs.ghost_name ≡ old.inputs.ghost_name) × Leads reads old.inputs.now new.inputs.now
+within {I} reads [] old new same = (
+  ap (λ (with : WithCompared I). with.inputs.ghost_name) same,
+  subst (λ (with : WithCompared I). Leads reads old.inputs.now with.inputs.now) (sym same)
+      (stays reads old.inputs.now),
+)
+within reads (input ∷ inputs) old new (next, (name, leads), more) =
+    let later = within reads inputs next new more in
+    (later.0 ∙ name, goes_on reads old.inputs.now next.inputs.now new.inputs.now leads later.1)
+
+pub leads_within : {I : Type 0} (reads : Input → I → I → Type 0) (old new : WithCompared I)
+    → Leads (ReadsWith reads) old new
+    → (new.inputs.ghost_name ≡ old.inputs.ghost_name) × Leads reads old.inputs.now new.inputs.now
+leads_within reads old new (inputs, read) = within reads inputs old new read

@@ -1,6 +1,7 @@
 -- What is known of the inputs of a run before they are read.
 use Rattle.std.specs.Prelude.{◌≡◌, ℕ, List, [], ◌∷◌, drop, map, Option, None}
 use Rattle.cave_play.specs.Input.{InputTexts, Says}
+use Rattle.cave_play.specs.declared.inputs.CaveReaders.{CaveReaders}
 use Rattle.cave_play.specs.declared.inputs.Readers.{Readers}
 use Rattle.play_command.specs.declared.input.Input.{Input}
 use Rattle.play_command.specs.declared.input.Input.TheVariants as input
@@ -71,15 +72,30 @@ AreRead {I} reads (input ∷ inputs) old new =
 abbrev pub Leads : {I : Type 0} → (Input → I → I → Type 0) → I → I → Type 0
 Leads reads old new = (inputs : List Input) × AreRead reads inputs old new
 
--- what readers have: the first four say what one has left
-abbrev pub held_by : {C B L S : Type 0} (left_database : C → Option (List ℕ))
+-- ---- readers
+
+-- these are readers of a cave, logs and a script, before anything is read
+pub record AreReadersOf {C B L S : Type 0} (cave : CaveReaders C B) (logs : List L) (script : S)
+    (readers : Readers C B L S) : Type 0 where
+  pub cave_is : readers.cave.now ≡ cave
+  pub logs_are : readers.logs.now ≡ logs
+  pub script_is : readers.script.now ≡ script
+  pub unread : readers.read ≡ 0
+
+-- what they have, if these functions say what one has left
+module _ {C B L S : Type 0} (left_database : C → Option (List ℕ))
     (left_bindings : B → Option (List ℕ)) (left_log : L → Option (List ℕ))
-    (left_script : S → Option (List ℕ)) → Readers C B L S → Held
-held_by left_database left_bindings left_log left_script readers = record {
-  cave = left_database readers.cave.now.database;
-  bindings = left_bindings readers.cave.now.bindings;
-  logs = map left_log (drop readers.read readers.logs.now);
-  new_log = left_script readers.script.now;
-  script = left_script readers.script.now;
-  known = left_script readers.script.now;
-}
+    (left_script : S → Option (List ℕ)) where
+  abbrev pub held_of : CaveReaders C B → List L → S → Held
+  held_of cave logs script = record {
+    cave = left_database cave.database;
+    bindings = left_bindings cave.bindings;
+    logs = map left_log logs;
+    new_log = left_script script;
+    script = left_script script;
+    known = left_script script;
+  }
+
+  abbrev pub held_by : Readers C B L S → Held
+  held_by readers =
+      held_of readers.cave.now (drop readers.read readers.logs.now) readers.script.now

@@ -1,7 +1,7 @@
 //! The readers of a run.
 
-ghost use Rattle.std.specs.Prelude.{◌≡◌, [], ◌∷◌};
-ghost use Rattle.cave_play.specs.Sources.{held_by};
+ghost use Rattle.std.specs.Prelude.{[], ◌∷◌};
+ghost use Rattle.cave_play.specs.Sources.{AreReadersOf, held_by};
 
 use crate::fault::PlayFault;
 use crate::read::read;
@@ -44,10 +44,7 @@ impl<'r, C: Read, B: Read, L: Read, S: Read> Readers<'r, C, B, L, S> {
         logs: &'r mut [L],
         script: &'r mut S,
     ) -> Readers<'r, C, B, L, S>
-        ensures cave { result.cave.now ≡ cave.old }
-        ensures logs { result.logs.now ≡ logs.old }
-        ensures script { result.script.now ≡ script.old }
-        ensures read { result.read ≡ 0 }
+        ensures { AreReadersOf cave.old logs.old script.old result }
     {
         Readers {
             cave,
@@ -59,10 +56,7 @@ impl<'r, C: Read, B: Read, L: Read, S: Read> Readers<'r, C, B, L, S> {
 
     /// The readers of a run over one log, before anything is read.
     pub(crate) fn of_one(inputs: &'r mut Inputs<C, B, L, S>) -> Readers<'r, C, B, L, S>
-        ensures cave { result.cave.now ≡ inputs.old.cave }
-        ensures log { result.logs.now ≡ inputs.old.log ∷ [] }
-        ensures script { result.script.now ≡ inputs.old.script }
-        ensures read { result.read ≡ 0 }
+        ensures { AreReadersOf inputs.old.cave (inputs.old.log ∷ []) inputs.old.script result }
     {
         let log = slice::from_mut(&mut inputs.log);
         Readers::of(&mut inputs.cave, log, &mut inputs.script)

@@ -159,6 +159,7 @@ impl<I: Sources> Sources for WithCompared<'_, I> {
 
     ghost Reads = { ReadsWith I.Reads };
 
+    #[tactic(auto, using(crate::proofs::SourceLemmas::readings))]
     fn read(&mut self, alloc: Global, input: Input) -> Result<Vec<u8>, PlayFault> {
         match input {
             Input::Log if self.is_read => Ok(Vec::new(alloc)),

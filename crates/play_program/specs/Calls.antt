@@ -1,15 +1,23 @@
--- What a program asks of its system.
-use Rattle.std.specs.Prelude.{ℕ, List, ◌++◌, Option, option_map}
+-- What the program asks of its system, what it says, and with which status it ends.
+use Rattle.std.specs.Prelude.{◌≡◌, ℕ, Bool, true, false, List, [], ◌∷◌, ◌++◌, Option, None, Result}
+use Rattle.std.specs.Prelude.{Ok, Err, option_map}
+use Rattle.std.specs.IoError.{error_kind}
 use Rattle.std.specs.declared.io.Error.{Error}
+use Rattle.std.specs.declared.io.ErrorKind.{ErrorKind}
+use Rattle.std.specs.declared.io.ErrorKind.TheVariants as kind
+use Rattle.cave_play.specs.Fault.{status_of}
 use Rattle.cave_play.specs.declared.fault.PlayFault.{PlayFault}
+use Rattle.cave_play.specs.declared.fault.PlayFault.TheVariants as fault
 use Rattle.play_program.specs.declared.message.Message.{Message}
 use Rattle.play_program.specs.declared.message.Message.TheVariants as message
 
+-- ---- what is said
+
 -- what a message reports: a fault and the file that it is about; a file that can't be opened or
--- written, and an output that can't be written, with the system's reason; what is wrong with
--- the words, in two parts, or why they can't be read; what the head of a log says, and the
--- words don't: the log, the option and its text; a file that is read, over which the output may not
--- go, with the view that may; and a seed that edits set and their log doesn't hold
+-- written, and an output that can't be written, with the system's reason; what is wrong with the
+-- words, in two parts, or why they can't be read; what the head of a log says, and the words don't:
+-- the log, the option and its text; a file that is read, over which the output may not go, with the
+-- view that may; and a seed that edits set and their log doesn't hold
 pub data Told : Type 0 where
   faulty : PlayFault → Option (List ℕ) → Told
   unopened : List ℕ → Error → Told
@@ -34,6 +42,36 @@ told_of (message.Head log said) = headed log.now said.option.now said.text.now
 told_of (message.Clash file view) = clashing file.now (option_map (λ s. s.now) view)
 told_of (message.Reseeded seed) = reseeded seed
 
+-- what a message reports of what wasn't done
+abbrev pub told_by : {A : Type 0} → Result A Message → Result A Told
+told_by (Ok done) = Ok done
+told_by (Err failure) = Err (told_of failure)
+
+abbrev pub out_of_memory : Told
+out_of_memory = faulty fault.Memory None
+
+-- the status of a program that ends with this; a notice ends none
+abbrev pub status_told : Told → ℕ
+status_told (faulty found file) = status_of found
+status_told (unopened file reason) = 5
+status_told (unwritten file reason) = 6
+status_told (unprinted reason) = 6
+status_told (headed log option text) = 0
+status_told (reseeded seed) = 0
+status_told _ = 2
+
+-- nobody reads any more what is written
+abbrev pub is_closed_pipe : ErrorKind → Bool
+is_closed_pipe kind.BrokenPipe = true
+is_closed_pipe _ = false
+
+-- nothing is said about an output that nobody reads any more
+abbrev pub is_silent : Told → Bool
+is_silent (unprinted reason) = is_closed_pipe (error_kind reason)
+is_silent _ = false
+
+-- ---- what is asked
+
 -- one call of the system: a file is opened, bytes are put into a file, or something is reported
 pub data Call : Type 0 where
   Opens : List ℕ → Call
@@ -43,3 +81,13 @@ pub data Call : Type 0 where
 -- the known calls, followed by these
 abbrev pub and_then : Option (List Call) → List Call → Option (List Call)
 and_then known more = option_map (λ calls. calls ++ more) known
+
+-- this is said, unless nothing is to be said about it, and nothing else is asked
+abbrev pub TellsUnless : Bool → Told → Option (List Call) → Option (List Call) → Type 0
+TellsUnless true said calls called = called ≡ calls
+TellsUnless false said calls called = called ≡ and_then calls (Tells said ∷ [])
+
+-- so the program ends
+abbrev pub EndsTold : Told → Option (List Call) → Option (List Call) → ℕ → Type 0
+EndsTold said calls called status =
+    TellsUnless (is_silent said) said calls called × (status ≡ status_told said)

@@ -1,213 +1,223 @@
--- What the run of a request leaves, and what the program reports of it.
-use Rattle.std.specs.Prelude.{◌≡◌, ◌<◌, ◌⊎◌, ℕ, List, [], ◌∷◌, length, map, take, Option, None}
-use Rattle.std.specs.Prelude.{Some, Bool, true, IfSome, ◌++◌}
-use Rattle.std.specs.Prelude.{false, Result, Ok, Err, MatchResult, option_map}
+-- What the program leaves for its words: what it makes of its files, where that goes, what it says,
+-- and with which status it ends.
+use Rattle.std.specs.Prelude.{◌≡◌, ◌<◌, ◌⊎◌, ◌==◌, ◌&&◌, ℕ, Bool, true, false, not, List, [], ◌∷◌}
+use Rattle.std.specs.Prelude.{◌++◌, length, map, take, All, Option, None, Some, IfSome, option_map}
+use Rattle.std.specs.Prelude.{Result, Ok, Err, MatchResult, if◌then◌else◌}
 use Rattle.std.specs.Io.KnownBytes.{Appends}
 use Rattle.std.specs.List.{AllZip, flat_map}
 use Rattle.std.specs.declared.io.Error.{Error}
+use Rattle.cave_play.specs.Fault.{input_of}
 use Rattle.cave_play.specs.Input.{InputTexts, Says}
 use Rattle.cave_play.specs.Sources.{AreHeld, Held}
 use Rattle.cave_play.specs.declared.edits.EditRun.{EditRun}
 use Rattle.cave_play.specs.declared.fault.PlayFault.{PlayFault}
 use Rattle.cave_play.specs.declared.fault.PlayFault.TheVariants as fault
 use Rattle.cave_play.specs.declared.logs_fault.LogsFault.{LogsFault}
+use Rattle.play_command.specs.Line.{IsAnswer}
+use Rattle.play_command.specs.Refusal.{refusal_text, status_of_command}
+use Rattle.play_command.specs.declared.editing.EditView.{EditView}
+use Rattle.play_command.specs.declared.editing.EditView.TheVariants as view
+use Rattle.play_command.specs.declared.fault.CommandFault.{CommandFault}
 use Rattle.play_command.specs.declared.input.Input.{Input}
 use Rattle.play_command.specs.declared.input.Input.TheVariants as input
+use Rattle.play_command.specs.declared.line.EditAsked.{EditAsked}
+use Rattle.play_command.specs.declared.line.Line.{Line}
+use Rattle.play_command.specs.declared.line.Line.TheVariants as line
 use Rattle.play_command.specs.declared.line.Request.{Request}
-use Rattle.play_program.specs.Beside.{report_in, told_beside}
-use Rattle.play_program.specs.Calls.{Call, Told, and_then}
+use Rattle.play_command.specs.declared.line.What.{What}
+use Rattle.play_command.specs.declared.line.What.TheVariants.{Edit}
+use Rattle.play_edits.specs.declared.refusal.Refusal.{Refusal}
+use Rattle.play_program.specs.Calls.{Call, EndsTold, Told, and_then, out_of_memory}
 use Rattle.play_program.specs.Calls.Call.{Puts, Tells}
-use Rattle.play_program.specs.Clash.{AreApart, IsClash}
-use Rattle.play_program.specs.Failures.{failure_status, is_silent, message_of}
-use Rattle.play_program.specs.Files.{FileName, files_in, log_names, name_of_file, names_in}
-use Rattle.play_program.specs.Making.{IsMade, third_of}
-use Rattle.play_program.specs.Sources.{AreTextsOf, IsLast, ReadLog, Shut, Stops, calls_for_log}
-use Rattle.play_program.specs.Sources.{entry_of, first_files, held_of, later_files, opened_names}
-use Rattle.play_program.specs.Sources.{opening, read_names, typed_text}
-use Rattle.play_program.specs.declared.failure.Failure.{Failure}
-use Rattle.play_program.specs.declared.failure.Failure.TheVariants.{Run, Unopened, Unprinted}
-use Rattle.play_program.specs.declared.failure.Failure.TheVariants.{Unwritten}
+use Rattle.play_program.specs.Calls.Told.{faulty, misused, reseeded, unopened, unprinted, unread}
+use Rattle.play_program.specs.Calls.Told.{unwritten}
+use Rattle.play_program.specs.Files.{AreApart, IsClash, fault_told, file_of_input, files_in}
+use Rattle.play_program.specs.Making.{HasReadAll, IsMade, third_of}
+use Rattle.play_program.specs.Sources.{Entry, Opened, ReadFile, calls_for, entries_by, held_of}
+use Rattle.play_program.specs.Sources.{of_input, opening, typed_text}
 use Rattle.play_program.specs.declared.make.Made.{Made}
 
 -- ---- what is made
 
 -- what is known of the inputs of a request
 abbrev pub held_by : (List ℕ → Option (List ℕ)) → Request → Held
-held_by bytes_of request =
-    held_of (map (entry_of bytes_of) (first_files request))
-    (typed_text request) (map bytes_of (log_names (later_files request)))
+held_by bytes_of request = held_of (typed_text request) (entries_by bytes_of request)
 
--- why nothing was made: a log can't be opened, for the system's reason, or a fault was met
-abbrev pub IsShut : Request → Shut → Failure → Type 0
-IsShut request shut (Unopened input.Log name reason) =
-    (name.now ≡ name_of_file request shut.0) × (reason ≡ shut.1)
-IsShut request shut _ = ⊥
+-- why nothing was made: a fault was met, or its file can't be opened, for this reason
+abbrev pub unmade_told : Option (List ℕ) → PlayFault → Option Error → Told
+unmade_told (Some name) (fault.Read from) (Some reason) = unopened name reason
+unmade_told file found reason = faulty found file
 
-abbrev pub IsWhyUnmade : Request → LogsFault → Option Shut → Failure → Type 0
-IsWhyUnmade request found None failure = failure ≡ Run found.fault found.log
-IsWhyUnmade request found (Some shut) failure = IsShut request shut failure
+abbrev pub why_unmade : Request → LogsFault → Option Error → Told
+why_unmade request found reason =
+    unmade_told (file_of_input request (input_of found.fault) found.log) found.fault reason
 
-abbrev pub IsMadeWith : Request → Result Made LogsFault → Option Shut → Result Made Failure
-    → Type 0
-IsMadeWith request (Ok made) unopened ended = ended ≡ Ok made
-IsMadeWith request (Err found) unopened ended = (failure : Failure) × (ended ≡ Err failure)
-    × IsWhyUnmade request found unopened failure
+abbrev pub made_with : Request → Result Made LogsFault → Option Error → Result Made Told
+made_with request (Ok made) reason = Ok made
+made_with request (Err found) reason = Err (why_unmade request found reason)
 
--- these names come first among the names of the files of an input
-abbrev pub AreFirst : List (List ℕ) → Input → List FileName → Type 0
-AreFirst names from files = (others : List (List ℕ))
-    × (names_in from files ≡ names ++ others)
+-- these files were read: of each input the first ones, and of several logs all, if something was
+-- made
+pub record ReadsFiles (bytes_of : List ℕ → Option (List ℕ)) (request : Request)
+    (calls called : Option (List Call)) (made : Result Made Told) (read : List ReadFile)
+    (left : Input → List Entry) : Type 0 where
+  pub called_are : called ≡ and_then calls (flat_map (calls_for request) read)
+  pub texts : All (λ file. Says file.entry.known file.text) read
+  pub first : (from : Input) → of_input from (entries_by bytes_of request)
+      ≡ of_input from (map (λ file. file.entry) read) ++ left from
+  pub all : MatchResult made (λ _. HasReadAll request.what (left input.Log)) (λ _. Unit {0})
 
--- the files that are opened before the run were opened, and then these logs were read, each of them
--- once, in the order of their input; several logs were opened in their order for that: all of them,
--- if something was made, and none after one that can't be opened
-pub record ReadsLogs (bytes_of : List ℕ → Option (List ℕ)) (request : Request)
-    (calls called : Option (List Call)) (unopened : Option Shut) (made : Result Made Failure)
-    (read : List ReadLog) (left : List (List ℕ)) : Type 0 where
-  pub called_are : called ≡ and_then (and_then calls (opening (first_files request)))
-      (flat_map (calls_for_log request) read)
-  pub texts : AreTextsOf bytes_of read
-  pub logs : AreFirst (read_names input.Log read) input.Log (first_files request)
-  pub new_logs : AreFirst (read_names input.NewLog read) input.NewLog (first_files request)
-  pub later : log_names (later_files request) ≡ opened_names read ++ left
-  pub all : MatchResult made (λ _. left ≡ []) (λ _. Unit {0})
-  pub tried : IfSome unopened (λ shut. IsLast (name_of_file request shut.0) (opened_names read))
-
--- from the bytes of all files this was made
-pub record MakesOpened (bytes_of : List ℕ → Option (List ℕ)) (request : Request)
-    (calls called : Option (List Call)) (made : Result Made Failure) (unopened : Option Shut)
-    : Type 0 where
-  pub logs : (read : List ReadLog) × (left : List (List ℕ))
-      × ReadsLogs bytes_of request calls called unopened made read left
-  pub found : (found : Result Made LogsFault) × (texts : InputTexts)
-      × (each : List (List ℕ)) × AreHeld (third_of request.what) (held_by bytes_of request) texts
-      × AllZip Says (held_by bytes_of request).logs each × IsMade request texts each found
-      × IsMadeWith request found unopened made
+-- from the bytes of files that are open this was made
+abbrev pub MakesOpened : (List ℕ → Option (List ℕ)) → Request → Option (List Call)
+    → Option (List Call) → Result Made Told → Type 0
+MakesOpened bytes_of request calls called made =
+    ((read : List ReadFile) × (left : Input → List Entry)
+    × ReadsFiles bytes_of request calls called made read left)
+    × ((found : Result Made LogsFault) × (reason : Option Error) × (texts : InputTexts)
+    × (each : List (List ℕ)) × AreHeld (third_of request.what) (held_by bytes_of request) texts
+    × AllZip Says (held_by bytes_of request).logs each × IsMade request texts each found
+    × (made ≡ made_with request found reason))
 
 -- or one of them couldn't be opened
 abbrev pub MakesOf : (List ℕ → Option (List ℕ)) → Request → Option (List Call)
-    → Option (List Call) → Result Made Failure → Type 0
+    → Option (List Call) → Result Made Told → Type 0
 MakesOf bytes_of request calls called made =
-    ((unopened : Option Shut) × MakesOpened bytes_of request calls called made unopened)
-    ⊎ ((failure : Failure) × (made ≡ Err failure)
-    × Stops (first_files request) calls called failure)
+    MakesOpened bytes_of request (and_then calls (opening request.what (files_in request))) called
+    made
+    ⊎ ((said : Told) × (made ≡ Err said)
+    × Opened {Made} request.what (files_in request) calls called (Err said))
 
 -- ---- what is delivered
 
+-- the report that a run has made, if it was asked for one
+abbrev pub report_in : Option EditRun → List ℕ
+report_in None = []
+report_in (Some run) = run.report.items
+
 -- a text was printed; or a part of it was, and no more could be, unless there is no text
-abbrev pub Prints : List ℕ → Option (List ℕ) → Option (List ℕ) → Result (Unit {0}) Failure → Type 0
+abbrev pub Prints : List ℕ → Option (List ℕ) → Option (List ℕ) → Result (Unit {0}) Told → Type 0
 Prints text old new ended = MatchResult ended (λ _. Appends old new text)
-    (λ failure. (failure ≡ Run fault.Write None) × (0 < length text)
+    (λ said. (said ≡ faulty fault.Write None) × (0 < length text)
     × ((n : ℕ) × Appends old new (take n text)))
 
 -- the file can't be written, or memory ran out
-abbrev pub IsUnput : List ℕ → Failure → Type 0
-IsUnput file (Unwritten name reason) = file ≡ name.now
-IsUnput file (Run found log) = (found ≡ fault.Memory) × (log ≡ None)
-IsUnput file _ = ⊥
+abbrev pub IsUnput : List ℕ → Told → Type 0
+IsUnput file said = (said ≡ out_of_memory) ⊎ ((reason : Error) × (said ≡ unwritten file reason))
 
 -- once the report was printed, the output was put into its file
 abbrev pub PutsAfter : List ℕ → List ℕ → Option (List Call) → Option (List Call)
-    → Result (Unit {0}) Failure → Result (Unit {0}) Failure → Type 0
+    → Result (Unit {0}) Told → Result (Unit {0}) Told → Type 0
 PutsAfter file output calls called (Ok done) ended =
     (called ≡ and_then calls (Puts file output ∷ []))
     × MatchResult ended (λ _. Unit {0}) (IsUnput file)
-PutsAfter file output calls called (Err failure) ended = (called ≡ calls) × (ended ≡ Err failure)
+PutsAfter file output calls called (Err said) ended = (called ≡ calls) × (ended ≡ Err said)
 
 -- once the output was printed, the report was
-abbrev pub PrintsAfter : List ℕ → Option (List ℕ) → Option (List ℕ) → Result (Unit {0}) Failure
-    → Result (Unit {0}) Failure → Type 0
+abbrev pub PrintsAfter : List ℕ → Option (List ℕ) → Option (List ℕ) → Result (Unit {0}) Told
+    → Result (Unit {0}) Told → Type 0
 PrintsAfter report old new (Ok done) ended = Prints report old new ended
-PrintsAfter report old new (Err failure) ended = (new ≡ old) × (ended ≡ Err failure)
+PrintsAfter report old new (Err said) ended = (new ≡ old) × (ended ≡ Err said)
 
 -- the report was printed, and then the output went into the file; or the output was printed, if it
 -- goes into none, and then the report
 abbrev pub Delivers : Option (List ℕ) → Made → Option (List Call) → Option (List Call)
-    → Option (List ℕ) → Option (List ℕ) → Result (Unit {0}) Failure → Type 0
+    → Option (List ℕ) → Option (List ℕ) → Result (Unit {0}) Told → Type 0
 Delivers (Some file) made calls called old new ended =
-    (printed : Result (Unit {0}) Failure) × Prints (report_in made.edits) old new printed
+    (printed : Result (Unit {0}) Told) × Prints (report_in made.edits) old new printed
     × PutsAfter file made.output.items calls called printed ended
 Delivers None made calls called old new ended =
     (called ≡ calls)
-    × ((mid : Option (List ℕ)) × (printed : Result (Unit {0}) Failure)
+    × ((mid : Option (List ℕ)) × (printed : Result (Unit {0}) Told)
     × Prints made.output.items old mid printed
     × PrintsAfter (report_in made.edits) mid new printed ended)
 
 -- ---- how the run ends
 
 -- a run that delivered what it made fails if something is left, since it is strict
-abbrev pub with_left : Option PlayFault → Option EditRun → Result (Option EditRun) Failure
-with_left None edits = Ok edits
-with_left (Some found) edits = Err (Run found None)
+abbrev pub with_left : Request → Option PlayFault → Option EditRun → Result (Option EditRun) Told
+with_left request None edits = Ok edits
+with_left request (Some found) edits = Err (fault_told request found None)
 
-abbrev pub ended_by : Made → Result (Unit {0}) Failure → Result (Option EditRun) Failure
-ended_by made (Ok done) = with_left made.left made.edits
-ended_by made (Err failure) = Err failure
-
--- what was made is delivered; if nothing was, nothing is
-abbrev pub DeliversIf : Option (List ℕ) → Result Made Failure → Option (List Call)
-    → Option (List Call) → Option (List ℕ) → Option (List ℕ) → Result (Option EditRun) Failure
-    → Type 0
-DeliversIf file (Ok made) calls called old new ended =
-    (delivered : Result (Unit {0}) Failure)
-    × Delivers file made calls called old new delivered × (ended ≡ ended_by made delivered)
-DeliversIf file (Err failure) calls called old new ended =
-    (called ≡ calls) × (new ≡ old) × (ended ≡ Err failure)
+abbrev pub ended_by : Request → Made → Result (Unit {0}) Told → Result (Option EditRun) Told
+ended_by request made (Ok done) = with_left request made.left made.edits
+ended_by request made (Err said) = Err said
 
 abbrev pub output_of : Request → Option (List ℕ)
 output_of request = option_map (λ s. s.now) request.output
 
+-- what was made is delivered; if nothing was, nothing is
+abbrev pub DeliversIf : Request → Result Made Told → Option (List Call)
+    → Option (List Call) → Option (List ℕ) → Option (List ℕ) → Result (Option EditRun) Told
+    → Type 0
+DeliversIf request (Ok made) calls called old new ended =
+    (delivered : Result (Unit {0}) Told)
+    × Delivers (output_of request) made calls called old new delivered
+    × (ended ≡ ended_by request made delivered)
+DeliversIf request (Err said) calls called old new ended =
+    (called ≡ calls) × (new ≡ old) × (ended ≡ Err said)
+
 abbrev pub RunsFiles : (List ℕ → Option (List ℕ)) → Request → Option (List Call)
-    → Option (List Call) → Option (List ℕ) → Option (List ℕ) → Result (Option EditRun) Failure
+    → Option (List Call) → Option (List ℕ) → Option (List ℕ) → Result (Option EditRun) Told
     → Type 0
 RunsFiles bytes_of request calls called old new ended =
-    (ran : Option (List Call)) × (made : Result Made Failure)
-    × MakesOf bytes_of request calls ran made
-    × DeliversIf (output_of request) made ran called old new ended
+    (ran : Option (List Call)) × (made : Result Made Told)
+    × MakesOf bytes_of request calls ran made × DeliversIf request made ran called old new ended
 
 -- the output goes over no file that is read, or over one that it may replace, and the run was done;
 -- or nothing was
 abbrev pub RunsApart : (List ℕ → List ℕ → Option Bool) → (List ℕ → Option (List ℕ)) → Request
     → Option (List Call) → Option (List Call) → Option (List ℕ) → Option (List ℕ)
-    → Result (Option EditRun) Failure → Type 0
+    → Result (Option EditRun) Told → Type 0
 RunsApart one_file bytes_of request calls called old new ended =
     (AreApart one_file request.what (output_of request) (files_in request)
     × RunsFiles bytes_of request calls called old new ended)
-    ⊎ ((failure : Failure) × (ended ≡ Err failure)
-    × IsClash one_file request.what (output_of request) (files_in request) failure
+    ⊎ ((said : Told) × (ended ≡ Err said)
+    × IsClash one_file request.what (output_of request) (files_in request) said
     × (called ≡ calls) × (new ≡ old))
 
--- the output couldn't be written for this reason, if that is what failed
-abbrev pub write_failure : PlayFault → Option ℕ → Error → Failure
-write_failure fault.Write log reason = Unprinted reason
-write_failure found log reason = Run found log
+-- ---- what is said
 
-abbrev pub failure_by : Failure → Error → Failure
-failure_by (Run found log) reason = write_failure found log reason
-failure_by failure reason = failure
+-- each refused item is reported as it is if the run is strict, in their order, if that is asked for
+abbrev pub refusal_notice : Request → Refusal → Call
+refusal_notice request refusal = Tells (fault_told request (fault.Refused refusal) None)
 
--- the failure with the reason that the writer of the output gave, if it gave one
-abbrev pub with_reason : Failure → Option Error → Failure
-with_reason failure None = failure
-with_reason failure (Some reason) = failure_by failure reason
+abbrev pub refusal_notices : Request → EditAsked → EditRun → List Call
+refusal_notices request asked run =
+    if asked.refusals then map (refusal_notice request) run.refused.items else []
 
--- ---- what is reported
+abbrev pub prints_log : EditView → Bool
+prints_log view.Log = true
+prints_log _ = false
 
--- a failure is reported, unless nothing is said about it
-abbrev pub TellsUnless : Bool → Told → Option (List Call) → Option (List Call) → Type 0
-TellsUnless true what calls called = called ≡ calls
-TellsUnless false what calls called = called ≡ and_then calls (Tells what ∷ [])
+-- if edits set another seed than that of the run, and their log is printed, which doesn't hold it,
+-- that is reported, unless nothing is to be said beside the output
+abbrev pub seed_notice : Request → EditAsked → EditRun → List Call
+seed_notice request asked run =
+    if not request.quiet && prints_log asked.editing.view && not (asked.editing.seed == run.seed)
+    then Tells (reseeded run.seed) ∷ [] else []
 
--- what is reported of a run that ended like this, and the status: of one that ended well, what is
--- said beside its output; otherwise why, with the reason that the writer of the output gave
+abbrev pub notices_by : What → Request → EditRun → List Call
+notices_by (Edit asked) request run =
+    refusal_notices request asked run ++ seed_notice request asked run
+notices_by _ request run = []
+
+-- what is reported of a run that ended well
+abbrev pub notices : Request → Option EditRun → List Call
+notices request None = []
+notices request (Some run) = notices_by request.what request run
+
+-- what is said, with the reason that the writer of the output gave, if that is what failed
+abbrev pub with_reason : Told → Option Error → Told
+with_reason (faulty fault.Write file) (Some reason) = unprinted reason
+with_reason said reason = said
+
+-- what is reported of a run that ended like this, and the status
 abbrev pub SaysEnd : Request → Option Error → Option (List Call) → Option (List Call)
-    → Result (Option EditRun) Failure → ℕ → Type 0
+    → Result (Option EditRun) Told → ℕ → Type 0
 SaysEnd request reason calls called (Ok edits) status =
-    (called ≡ and_then calls (told_beside request edits)) × (status ≡ 0)
-SaysEnd request reason calls called (Err failure) status =
-    TellsUnless (is_silent (with_reason failure reason))
-    (message_of request (with_reason failure reason)) calls called
-    × (status ≡ failure_status (with_reason failure reason))
+    (called ≡ and_then calls (notices request edits)) × (status ≡ 0)
+SaysEnd request reason calls called (Err said) status =
+    EndsTold (with_reason said reason) calls called status
 
 -- what the run of a request leaves, with what the program reports of it: this is the reason that the
 -- writer of the output gave last, if it failed
@@ -215,6 +225,56 @@ abbrev pub EndsRun : (List ℕ → List ℕ → Option Bool) → (List ℕ → O
     → Option (List Call) → Option (List Call) → Option (List ℕ) → Option (List ℕ)
     → Option Error → ℕ → Type 0
 EndsRun one_file bytes_of request calls called old new reason status =
-    (ran : Option (List Call)) × (ended : Result (Option EditRun) Failure)
+    (ran : Option (List Call)) × (ended : Result (Option EditRun) Told)
     × RunsApart one_file bytes_of request calls ran old new ended
     × SaysEnd request reason ran called ended status
+
+-- ---- the program
+
+-- help or the version was printed, and nothing is asked of the system; or it couldn't be, for the
+-- reason that the writer gave last, if it failed
+abbrev pub EndsText : Option (List Call) → Option (List Call) → Option Error → ℕ → Type 0
+EndsText calls called reason status =
+    ((called ≡ calls) × (status ≡ 0))
+    ⊎ ((found : Error) × IfSome reason (λ given. found ≡ given)
+    × EndsTold (unprinted found) calls called status)
+
+-- these two parts are what is said of the fault; they are free if it is the parser's or that of a
+-- name
+abbrev pub AreSaidOf : CommandFault → List ℕ → List ℕ → Type 0
+AreSaidOf found before after =
+    IfSome (refusal_text found) (λ text. (before ≡ text) × (after ≡ []))
+
+-- what a refused line leaves: the reason is reported, unless memory runs out, and nothing else is
+-- asked of the system
+abbrev pub EndsRefused : CommandFault → Option (List Call) → Option (List Call) → ℕ → Type 0
+EndsRefused found calls called status =
+    ((before : List ℕ) × (after : List ℕ)
+    × (called ≡ and_then calls (Tells (misused before after) ∷ []))
+    × AreSaidOf found before after × (status ≡ status_of_command found))
+    ⊎ EndsTold out_of_memory calls called status
+
+-- what the program leaves for a command line
+abbrev pub EndsLine : Result Line CommandFault → (List ℕ → List ℕ → Option Bool)
+    → (List ℕ → Option (List ℕ)) → Option (List Call) → Option (List Call)
+    → Option (List ℕ) → Option (List ℕ) → Option Error → ℕ → Type 0
+EndsLine (Ok (line.Run request)) one_file bytes_of calls called old new reason status =
+    EndsRun one_file bytes_of request calls called old new reason status
+EndsLine (Ok (line.Text text)) one_file bytes_of calls called old new reason status =
+    EndsText calls called reason status
+EndsLine (Err found) one_file bytes_of calls called old new reason status =
+    (new ≡ old) × EndsRefused found calls called status
+
+-- what the program leaves for these words
+abbrev pub EndsWords : List (List ℕ) → (List ℕ → List ℕ → Option Bool)
+    → (List ℕ → Option (List ℕ)) → Option (List Call) → Option (List Call)
+    → Option (List ℕ) → Option (List ℕ) → Option Error → ℕ → Type 0
+EndsWords words one_file bytes_of calls called old new reason status =
+    (line : Result Line CommandFault) × IsAnswer words line
+    × EndsLine line one_file bytes_of calls called old new reason status
+
+-- the words can't be read, or memory ran out
+abbrev pub EndsUnread : Option (List Call) → Option (List Call) → ℕ → Type 0
+EndsUnread calls called status =
+    ((reason : Error) × EndsTold (unread reason) calls called status)
+    ⊎ EndsTold out_of_memory calls called status

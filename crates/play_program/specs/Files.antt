@@ -1,12 +1,21 @@
--- The files that a request names.
-use Rattle.std.specs.Prelude.{ℕ, ◌-◌, ◌==◌, Bool, List, [], ◌∷◌, length, map, codes, Option}
-use Rattle.std.specs.Prelude.{None, Some, get_or, if◌then◌else◌, option_map}
+-- The files that a request names, and over which of them its output may go.
+use Rattle.std.specs.Prelude.{◌≡◌, ◌⊎◌, ℕ, ◌-◌, ◌==◌, Bool, true, false, List, [], ◌∷◌, length, map}
+use Rattle.std.specs.Prelude.{All, Contains, IfSome, codes, Option, None, Some, if◌then◌else◌}
+use Rattle.std.specs.Prelude.{option_map, unwrap_or}
 use Rattle.std.specs.Option.{option_or}
+use Rattle.cave_play.specs.Fault.{input_of}
+use Rattle.cave_play.specs.declared.fault.PlayFault.{PlayFault}
 use Rattle.play_command.specs.Files.{named_file}
+use Rattle.play_command.specs.declared.editing.EditView.{EditView}
+use Rattle.play_command.specs.declared.editing.EditView.TheVariants as asked
 use Rattle.play_command.specs.declared.input.Input.{Input}
 use Rattle.play_command.specs.declared.input.Input.TheVariants as input
 use Rattle.play_command.specs.declared.input.NamedFile.{NamedFile}
 use Rattle.play_command.specs.declared.line.Request.{Request}
+use Rattle.play_command.specs.declared.line.What.{What}
+use Rattle.play_command.specs.declared.line.What.TheVariants.{Edit}
+use Rattle.play_program.specs.Calls.{Told, out_of_memory}
+use Rattle.play_program.specs.Calls.Told.{clashing, faulty}
 
 -- a file that is read: its input, and its name
 abbrev pub FileName : Type 0
@@ -31,9 +40,6 @@ files_in request = map named_file request.files.items
 abbrev pub no_file : NamedFile
 no_file = record { input = input.Cave; name = record { ref_ptr = (0, 0); now = [] } }
 
-abbrev pub name_of_file : Request → ℕ → List ℕ
-name_of_file request place = (get_or request.files.items place no_file).name.now
-
 -- the file of an input; of several that at a place, from 0
 abbrev pub name_at : Input → List FileName → ℕ → Option (List ℕ)
 name_at from [] place = None
@@ -54,15 +60,62 @@ abbrev pub file_of : Request → Input → ℕ → Option (List ℕ)
 file_of request from place =
     option_or (name_at from (files_in request) place) (made_name request from)
 
--- the names of the files of an input
-abbrev pub names_in : Input → List FileName → List (List ℕ)
-names_in from [] = []
-names_in from (file ∷ files) =
-    if is_same_input file.0 from then file.1 ∷ names_in from files else names_in from files
+-- the file that a fault is about, of several logs that at a place
+abbrev pub file_of_input : Request → Option Input → Option ℕ → Option (List ℕ)
+file_of_input request None place = None
+file_of_input request (Some from) place = file_of request from (unwrap_or place 0)
 
--- the logs among files
+abbrev pub fault_told : Request → PlayFault → Option ℕ → Told
+fault_told request found log = faulty found (file_of_input request (input_of found) log)
+
+-- the names of the logs among files
 abbrev pub log_names : List FileName → List (List ℕ)
-log_names files = names_in input.Log files
+log_names [] = []
+log_names (file ∷ files) =
+    if is_same_input file.0 input.Log then file.1 ∷ log_names files else log_names files
 
 abbrev pub log_count : List FileName → ℕ
 log_count files = length (log_names files)
+
+-- ---- the file of the output
+
+-- the view of an edit whose output may go over an input, by its name: the edited log over the log,
+-- and the script with guards over the script
+abbrev pub view_over : What → Input → Option (List ℕ × EditView)
+view_over (Edit what) input.Log = Some (codes "log", asked.Log)
+view_over (Edit what) input.Script = Some (codes "guarded", asked.Guarded)
+view_over _ _ = None
+
+abbrev pub IsView : What → Option (List ℕ × EditView) → Type 0
+IsView (Edit what) (Some view) = what.editing.view ≡ view.1
+IsView _ _ = ⊥
+
+-- the output of a run may go over an input of its own kind
+abbrev pub MayReplace : What → Input → Type 0
+MayReplace what from = IsView what (view_over what from)
+
+-- the answer is this, if it is known
+abbrev pub IsKnownAs : Bool → Option Bool → Type 0
+IsKnownAs answer known = IfSome known (λ same. answer ≡ same)
+
+-- the output doesn't go over a file that is read, or may
+abbrev pub IsApart : (List ℕ → List ℕ → Option Bool) → What → List ℕ → FileName → Type 0
+IsApart one_file what output file =
+    MayReplace what file.0 ⊎ IsKnownAs false (one_file output file.1)
+
+-- it goes over none of them that it may not go over
+abbrev pub AreApart : (List ℕ → List ℕ → Option Bool) → What → Option (List ℕ) → List FileName
+    → Type 0
+AreApart one_file what None files = Unit {0}
+AreApart one_file what (Some output) files = All (IsApart one_file what output) files
+
+-- it would go over one of them, which is said, with the view that may, if there is one; or memory
+-- ran out
+abbrev pub IsClash : (List ℕ → List ℕ → Option Bool) → What → Option (List ℕ) → List FileName → Told
+    → Type 0
+IsClash one_file what None files said = ⊥
+IsClash one_file what (Some output) files said =
+    ((file : FileName) × Contains files file × (¬ MayReplace what file.0)
+    × IsKnownAs true (one_file output file.1)
+    × (said ≡ clashing file.1 (option_map (λ over. over.0) (view_over what file.0))))
+    ⊎ (said ≡ out_of_memory)

@@ -1,12 +1,7 @@
-pub mod Beside
 pub mod Calls
-pub mod Clash
 pub mod Ends
-pub mod Failures
 pub mod Files
 pub mod Head
 pub mod Making
-pub mod Program
-pub mod ReadingLaws
 pub mod Sources
 pub mod Target

@@ -1,6 +1,6 @@
 -- What the run of a request makes of its inputs.
-use Rattle.std.specs.Prelude.{◌≡◌, ℕ, ⊤, ◌&&◌, nat_lt, Bool, List, [], Option, None, Some}
-use Rattle.std.specs.Prelude.{Result, Ok, Err, if◌then◌else◌, unwrap_or}
+use Rattle.std.specs.Prelude.{◌≡◌, ℕ, ⊤, ◌&&◌, nat_lt, Bool, List, [], Option, None, Some, Result}
+use Rattle.std.specs.Prelude.{Ok, Err, if◌then◌else◌, unwrap_or}
 use Rattle.std.specs.Global.{Vec}
 use Rattle.cave_play.specs.Doubted.{AreLeftIn, first_doubt}
 use Rattle.cave_play.specs.EditRun.{IsMadeEdit}
@@ -8,7 +8,6 @@ use Rattle.cave_play.specs.Input.{InputTexts}
 use Rattle.cave_play.specs.Logs.{IsMadeReport, JudgesLogs, at_none}
 use Rattle.cave_play.specs.Output.{IsChecked, IsPlayed}
 use Rattle.cave_play.specs.Run.{Judges}
-use Rattle.cave_play.specs.Sources.{Held}
 use Rattle.cave_play.specs.Stages.{Stage, cave_stages, doubts_stages, edit_stages, play_stages}
 use Rattle.cave_play.specs.TwoLogs.{JudgesEditTo, JudgesScript}
 use Rattle.cave_play.specs.declared.doubted.LeftDoubts.{LeftDoubts}
@@ -148,8 +147,8 @@ pub record AreAsked (request : Request) (seed : ℕ) (view : CoverView) (asked :
   pub view_is : asked.view ≡ view
   pub known_is : asked.known.now ≡ unwrap_or (file_of request input.Known 0) []
 
--- of a command that reads several logs, all were read
-abbrev pub HasReadAll : What → Held → Type 0
-HasReadAll (Cover seed view strict) held = held.logs ≡ []
-HasReadAll (Map seed part) held = held.logs ≡ []
-HasReadAll _ held = ⊤
+-- of a command that reads several logs, none of these is left
+abbrev pub HasReadAll : {L : Type 0} → What → List L → Type 0
+HasReadAll (Cover seed view strict) logs = logs ≡ []
+HasReadAll (Map seed part) logs = logs ≡ []
+HasReadAll _ logs = ⊤

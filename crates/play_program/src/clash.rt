@@ -2,9 +2,10 @@
 
 ghost use Rattle.std.specs.Prelude.{◌≡◌, ◌↔◌, IsTrue, MatchResult, Some, map, option_map};
 ghost use Rattle.play_command.specs.Files.{named_file};
-ghost use Rattle.play_program.specs.Clash.{AreApart, IsClash, MayReplace, view_over};
+ghost use Rattle.play_program.specs.Calls.{told_by};
+ghost use Rattle.play_program.specs.Files.{AreApart, IsClash, MayReplace, view_over};
 
-use crate::failure::Failure;
+use crate::message::Message;
 use crate::system::System;
 use play_command::{EditView, Input, NamedFile, What};
 
@@ -47,8 +48,8 @@ pub(crate) fn check_output<'a, S: System>(
     what: What,
     output: &str,
     files: &[NamedFile<'a>],
-) -> Result<(), Failure<'a>>
-    ensures { MatchResult result
+) -> Result<(), Message<'a>>
+    ensures { MatchResult (told_by result)
         (λ _. AreApart (S.one_file system.now) what (Some output.now) (map named_file files.now))
         (IsClash (S.one_file system.now) what (Some output.now) (map named_file files.now)) }
 {
@@ -59,9 +60,9 @@ pub(crate) fn check_output<'a, S: System>(
         match system.is_one_file(output, file.name) {
             Ok(false) => {}
             Ok(true) => {
-                return Err(Failure::Clash(file.name, name_over(what, file.input)));
+                return Err(Message::Clash(file.name, name_over(what, file.input)));
             }
-            Err(_) => return Err(Failure::memory()),
+            Err(_) => return Err(Message::memory()),
         }
     }
     Ok(())

@@ -3,7 +3,7 @@
 ghost use Rattle.std.specs.Prelude.{◌≡◌, map, option_map};
 ghost use Rattle.play_command.specs.Files.{named_file};
 ghost use Rattle.play_program.specs.Files.{file_of, is_same_input, log_count, made_name, name_at};
-ghost use Rattle.play_program.specs.Files.{name_of_file, number_of};
+ghost use Rattle.play_program.specs.Files.{number_of};
 
 use play_command::{Input, NamedFile, Request};
 
@@ -25,16 +25,6 @@ pub(crate) fn is_same_input(one: Input, other: Input) -> bool
     ensures { result ≡ is_same_input one other }
 {
     number_of(one) == number_of(other)
-}
-
-/// The name of the file at a place.
-pub(crate) fn name_of_file<'a>(request: &Request<'a>, place: usize) -> &'a str
-    ensures { result.now ≡ name_of_file request.now place }
-{
-    match request.files.get(place) {
-        Some(file) => file.name,
-        None => "",
-    }
 }
 
 /// The name of a file of an input: of several the one at a place.

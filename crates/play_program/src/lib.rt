@@ -2,13 +2,12 @@
 //! a fault.
 #![tactic(auto)]
 
-mod beside;
 mod clash;
-pub mod failure;
 mod files;
 pub mod head;
 mod make;
 pub mod message;
+mod notices;
 pub mod output;
 pub mod program;
 pub mod run;

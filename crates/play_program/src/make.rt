@@ -140,7 +140,7 @@ pub(crate) fn make<I: Sources>(
     ensures judged { (texts : InputTexts) × (logs : List (List ℕ))
         × AreHeld (third_of request.now.what) (I.held inputs.old) texts
         × AllZip Says (I.held inputs.old).logs logs × IsMade request.now texts logs result }
-    ensures all { IfOk result (λ _. HasReadAll request.now.what (I.held inputs.new)) }
+    ensures all { IfOk result (λ _. HasReadAll request.now.what (I.held inputs.new).logs) }
     ensures leads { Leads I.Reads inputs.old inputs.new }
 {
     let logs = log_count(&request.files);

@@ -1,7 +1,17 @@
-//! What the program says apart from its output.
+//! What the program says apart from its output, and the status with which it ends if that is why.
 
+ghost use Rattle.std.specs.Prelude.{◌≡◌, None};
+ghost use Rattle.std.specs.IoError.{error_kind};
+ghost use Rattle.play_program.specs.Calls.{is_closed_pipe, is_silent, out_of_memory, status_told};
+ghost use Rattle.play_program.specs.Calls.{told_of};
+ghost use Rattle.play_program.specs.Calls.Told.{faulty};
+ghost use Rattle.play_program.specs.Files.{fault_told};
+
+use crate::files::file_of;
 use crate::head::HeadSaid;
 use cave_play::{Complaint, PlayFault, Unopened};
+use play_command::Request;
+use std::io::ErrorKind;
 use std::{fmt, io};
 
 /// What the program says apart from its output, in whole lines.
@@ -27,18 +37,72 @@ pub enum Message<'a> {
     Reseeded(u32),
 }
 
+/// Whether nobody reads any more what is written.
+fn is_closed_pipe(reason: &io::Error) -> bool
+    ensures { result ≡ is_closed_pipe (error_kind reason.now) }
+{
+    matches!(reason.kind(), ErrorKind::BrokenPipe)
+}
+
+impl<'a> Message<'a> {
+    /// A fault that is about no file.
+    pub(crate) fn of(fault: PlayFault) -> Message<'a>
+        ensures { told_of result ≡ faulty fault None }
+    {
+        Message::Fault(Complaint { fault, file: None })
+    }
+
+    /// Memory ran out.
+    pub(crate) fn memory() -> Message<'a>
+        ensures { told_of result ≡ out_of_memory }
+    {
+        Message::of(PlayFault::Memory)
+    }
+
+    /// The fault of the run of a request, with the file that it is about, of several logs the one at
+    /// this place, from 0.
+    pub(crate) fn of_run(request: &Request<'a>, fault: PlayFault, log: Option<usize>) -> Message<'a>
+        ensures { told_of result ≡ fault_told request.now fault log }
+    {
+        let file = match fault.input() {
+            Some(input) => file_of(request, input, log.unwrap_or(0)),
+            None => None,
+        };
+        Message::Fault(Complaint { fault, file })
+    }
+
+    /// The status of the program that ends with it.
+    pub fn status(&self) -> u8
+        ensures { result ≡ status_told (told_of self.now) }
+    {
+        match self {
+            Message::Fault(complaint) => complaint.fault.status(),
+            Message::Unopened(_, _) => 5,
+            Message::Unwritten(_, _) | Message::Unprinted(_) => 6,
+            Message::Usage(_, _) | Message::Unread(_) | Message::Clash(_, _) => 2,
+            Message::Head(_, _) | Message::Reseeded(_) => 0,
+        }
+    }
+
+    /// Whether the program says nothing about it.
+    pub fn is_silent(&self) -> bool
+        ensures { result ≡ is_silent (told_of self.now) }
+    {
+        match self {
+            Message::Unprinted(reason) => is_closed_pipe(reason),
+            _ => false,
+        }
+    }
+}
+
 impl fmt::Display for Message<'_> {
     fn fmt<W: fmt::Write>(&self, f: &mut fmt::Formatter<W>) -> fmt::Result {
         match self {
             Message::Fault(complaint) => writeln!(f, "{complaint}"),
-            Message::Unopened(file, reason) => writeln!(
-                f,
-                "{}",
-                Unopened {
-                    file: *file,
-                    reason
-                }
-            ),
+            Message::Unopened(file, reason) => {
+                let file = *file;
+                writeln!(f, "{}", Unopened { file, reason })
+            }
             Message::Unwritten(file, reason) => {
                 writeln!(f, "cave: {file}: {}: {reason}", PlayFault::Write)
             }

@@ -1,56 +1,28 @@
 //! The program, from its words to its status.
 
-ghost use Rattle.std.specs.Prelude.{◌≡◌, IfErr, IfOk, None, Ok, map, string_bytes};
-ghost use Rattle.cave_play.specs.Fault.{status_of};
-ghost use Rattle.play_program.specs.Calls.Told.{faulty};
-ghost use Rattle.play_program.specs.Program.{EndsLine, EndsRefused, EndsText, EndsUnread};
-ghost use Rattle.play_program.specs.Program.{EndsWords, TellsOne, TellsUnprinted};
+ghost use Rattle.std.specs.Prelude.{◌≡◌, IfErr, IfOk, Ok, map, string_bytes};
+ghost use Rattle.play_program.specs.Ends.{EndsLine, EndsRefused, EndsText, EndsUnread, EndsWords};
 
-use crate::failure::{WRONG_WORDS, is_closed_pipe};
 use crate::message::Message;
 use crate::output::Output;
-use crate::run::run;
+use crate::run::{DONE, end_with, run};
 use crate::system::System;
-use cave_play::{Complaint, PlayFault};
 use clap::Error;
 use play_command::{CommandFault, Line, command_line};
 use std::alloc::Global;
 use std::io;
 use std::io::{ErrorKind, Write};
 
-/// The status of a program that printed what was asked for.
-const DONE: u8 = 0;
-
-/// Reports a fault that is about no file, and returns the status that goes with it.
-fn fail<S: System>(system: &mut S, fault: PlayFault) -> u8
-    ensures told { TellsOne (faulty fault None) (S.calls system.old) (S.calls system.new) }
-    ensures status { result ≡ status_of fault }
-{
-    system.tell(Message::Fault(Complaint { fault, file: None }));
-    fault.status()
-}
-
-/// Reports why the output can't be written, unless nobody reads it any more, and returns the
-/// status.
-fn fail_output<S: System>(system: &mut S, reason: io::Error) -> u8
-    ensures { TellsUnprinted reason (S.calls system.old) (S.calls system.new) result }
-{
-    let status = PlayFault::Write.status();
-    if is_closed_pipe(&reason) {
-        return status;
-    }
-    system.tell(Message::Unprinted(reason));
-    status
-}
-
 /// Prints help or the version.
 fn print<S: System, W: Write>(system: &mut S, text: &Error, output: &mut Output<W>) -> u8
-    ensures ends { EndsText (S.calls system.old) (S.calls system.new) output.new.reason
-        result }
+    ensures ends { EndsText (S.calls system.old) (S.calls system.new) output.new.reason result }
 {
     match write!(output, "{text}") {
         Ok(()) => DONE,
-        Err(reason) => fail_output(system, output.reason().unwrap_or(reason)),
+        Err(reason) => {
+            let reason = output.reason().unwrap_or(reason);
+            end_with(system, Message::Unprinted(reason))
+        }
     }
 }
 
@@ -96,7 +68,7 @@ fn refuse<S: System>(alloc: Global, system: &mut S, fault: &CommandFault<'_>) ->
             system.tell(Message::Usage(before, after));
             fault.status()
         }
-        Err(_) => fail(system, PlayFault::Memory),
+        Err(_) => end_with(system, Message::memory()),
     }
 }
 
@@ -132,10 +104,9 @@ pub fn run_program<S: System, W: Write>(
 {
     match words {
         Ok(words) => begin(alloc, system, words.as_slice(), output),
-        Err(reason) if reason.kind() == ErrorKind::OutOfMemory => fail(system, PlayFault::Memory),
-        Err(reason) => {
-            system.tell(Message::Unread(reason));
-            WRONG_WORDS
+        Err(reason) if reason.kind() == ErrorKind::OutOfMemory => {
+            end_with(system, Message::memory())
         }
+        Err(reason) => end_with(system, Message::Unread(reason)),
     }
 }

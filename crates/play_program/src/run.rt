@@ -1,46 +1,47 @@
 //! The run of a request: what it makes of its files, and where that goes.
 
 ghost use Rattle.std.specs.Prelude.{◌≡◌, [], ◌∷◌, IfErr, option_map};
-ghost use Rattle.play_program.specs.Calls.{and_then};
+ghost use Rattle.play_program.specs.Calls.{EndsTold, and_then, told_by, told_of};
 ghost use Rattle.play_program.specs.Calls.Call.{Puts};
-ghost use Rattle.play_program.specs.Ends.{Delivers, EndsRun, IsUnput, IsWhyUnmade, MakesOf, Prints};
-ghost use Rattle.play_program.specs.Ends.{RunsApart, TellsUnless, with_reason};
-ghost use Rattle.play_program.specs.Failures.{failure_status, is_silent, message_of};
+ghost use Rattle.play_program.specs.Ends.{Delivers, EndsRun, IsUnput, MakesOf, Prints, RunsApart};
+ghost use Rattle.play_program.specs.Ends.{why_unmade, with_reason};
 
-use crate::beside::{report_in, tell_beside};
 use crate::clash::check_output;
-use crate::failure::Failure;
-use crate::files::name_of_file;
+use crate::files::file_of;
 use crate::make::{Made, make};
+use crate::message::Message;
+use crate::notices::{report_in, tell_notices};
 use crate::output::Output;
 use crate::sources::{Files, open_first};
 use crate::system::System;
 use cave_play::output::write_output;
-use cave_play::{EditRun, LogsFault, PlayFault};
+use cave_play::{Complaint, EditRun, LogsFault, PlayFault};
 use play_command::{Input, Request};
 use std::alloc::Global;
 use std::io;
 use std::io::{ErrorKind, Write};
 
-/// The status of a run that succeeded.
-const DONE: u8 = 0;
+/// The status of a program that did what was asked.
+pub(crate) const DONE: u8 = 0;
 
-/// Why nothing was made: a log can't be opened, or a fault was met.
+/// Why nothing was made: a log can't be opened, for this reason, or a fault was met.
 fn why_unmade<'a>(
     request: &Request<'a>,
     found: LogsFault,
-    unopened: Option<(usize, io::Error)>,
-) -> Failure<'a>
-    ensures { IsWhyUnmade request.now found unopened result }
+    unopened: Option<io::Error>,
+) -> Message<'a>
+    ensures { told_of result ≡ why_unmade request.now found unopened }
 {
-    match unopened {
-        Some((place, reason)) => {
-            Failure::Unopened(Input::Log, name_of_file(request, place), reason)
-        }
-        None => {
-            let LogsFault { fault, log } = found;
-            Failure::Run(fault, log)
-        }
+    let LogsFault { fault, log } = found;
+    match (Message::of_run(request, fault, log), unopened) {
+        (
+            Message::Fault(Complaint {
+                fault: PlayFault::Read(_),
+                file: Some(name),
+            }),
+            Some(reason),
+        ) => Message::Unopened(name, reason),
+        (message, _) => message,
     }
 }
 
@@ -49,13 +50,18 @@ fn make_of_files<'a, S: System>(
     alloc: Global,
     system: &mut S,
     request: &Request<'a>,
-) -> Result<Made, Failure<'a>>
+) -> Result<Made, Message<'a>>
     ensures { MakesOf (S.bytes_of system.old) request.now (S.calls system.old) (S.calls system.new)
-        result }
+        (told_by result) }
 {
-    let mut opened = open_first(alloc, system, request)?;
+    let mut waiting = open_first(alloc, system, request)?;
     let mut unopened = None;
-    let mut files = Files::of(system, &*request, &mut opened, &mut unopened);
+    let mut files = Files {
+        system,
+        request: &*request,
+        waiting: &mut waiting,
+        unopened: &mut unopened,
+    };
     match make(alloc, &mut files, request) {
         Ok(made) => Ok(made),
         Err(found) => Err(why_unmade(request, found, unopened)),
@@ -63,28 +69,28 @@ fn make_of_files<'a, S: System>(
 }
 
 /// Prints a text.
-fn print<'a, W: Write>(output: &mut W, text: &[u8]) -> Result<(), Failure<'a>>
-    ensures { Prints text.now (W.contents output.old) (W.contents output.new) result }
+fn print<'a, W: Write>(output: &mut W, text: &[u8]) -> Result<(), Message<'a>>
+    ensures { Prints text.now (W.contents output.old) (W.contents output.new) (told_by result) }
 {
     if text.is_empty() {
         return Ok(());
     }
     match write_output(output, text) {
         Ok(()) => Ok(()),
-        Err(fault) => Err(Failure::Run(fault, None)),
+        Err(fault) => Err(Message::of(fault)),
     }
 }
 
 /// Puts a whole output into a file.
-fn put<'a, S: System>(system: &mut S, file: &'a str, output: &[u8]) -> Result<(), Failure<'a>>
+fn put<'a, S: System>(system: &mut S, file: &'a str, output: &[u8]) -> Result<(), Message<'a>>
     ensures call { S.calls system.new
         ≡ and_then (S.calls system.old) (Puts file.now output.now ∷ []) }
-    ensures failed { IfErr result (IsUnput file.now) }
+    ensures failed { IfErr (told_by result) (IsUnput file.now) }
 {
     match system.put(file, output) {
         Ok(()) => Ok(()),
-        Err(reason) if reason.kind() == ErrorKind::OutOfMemory => Err(Failure::memory()),
-        Err(reason) => Err(Failure::Unwritten(file, reason)),
+        Err(reason) if reason.kind() == ErrorKind::OutOfMemory => Err(Message::memory()),
+        Err(reason) => Err(Message::Unwritten(file, reason)),
     }
 }
 
@@ -95,9 +101,9 @@ fn deliver<'a, S: System, W: Write>(
     file: Option<&'a str>,
     made: &Made,
     output: &mut W,
-) -> Result<(), Failure<'a>>
+) -> Result<(), Message<'a>>
     ensures { Delivers (option_map (λ s. s.now) file.entry) made.now (S.calls system.old)
-        (S.calls system.new) (W.contents output.old) (W.contents output.new) result }
+        (S.calls system.new) (W.contents output.old) (W.contents output.new) (told_by result) }
 {
     let report = report_in(&made.edits);
     match file {
@@ -119,10 +125,10 @@ fn run_apart<'a, S: System, W: Write>(
     system: &mut S,
     request: &Request<'a>,
     output: &mut W,
-) -> Result<Option<EditRun>, Failure<'a>>
+) -> Result<Option<EditRun>, Message<'a>>
     ensures { RunsApart (S.one_file system.old) (S.bytes_of system.old) request.now
         (S.calls system.old) (S.calls system.new) (W.contents output.old) (W.contents output.new)
-        result }
+        (told_by result) }
 {
     if let Some(file) = request.output {
         check_output(system, request.what, file, &request.files)?;
@@ -130,33 +136,36 @@ fn run_apart<'a, S: System, W: Write>(
     let made = make_of_files(alloc, system, request)?;
     deliver(system, request.output, &made, output)?;
     match made.left {
-        Some(fault) => Err(Failure::Run(fault, None)),
+        Some(fault) => Err(Message::of_run(request, fault, None)),
         None => Ok(made.edits),
     }
 }
 
-/// The failure with the reason that the writer of the output gave, if it gave one and that is what
+/// What is said, with the reason that the writer of the output gave, if it gave one and that is what
 /// failed.
-fn with_reason<'a>(failure: Failure<'a>, reason: Option<io::Error>) -> Failure<'a>
-    ensures { result ≡ with_reason failure.entry reason }
+fn with_reason<'a>(message: Message<'a>, reason: Option<io::Error>) -> Message<'a>
+    ensures { told_of result ≡ with_reason (told_of message.entry) reason }
 {
-    match (failure, reason) {
-        (Failure::Run(PlayFault::Write, _), Some(reason)) => Failure::Unprinted(reason),
-        (failure, _) => failure,
+    match (message, reason) {
+        (
+            Message::Fault(Complaint {
+                fault: PlayFault::Write,
+                ..
+            }),
+            Some(reason),
+        ) => Message::Unprinted(reason),
+        (message, _) => message,
     }
 }
 
-/// Reports why a run wasn't done, unless nobody reads its output any more, and returns the status.
-fn tell_failure<S: System>(system: &mut S, failure: Failure<'_>, request: &Request<'_>) -> u8
-    ensures told { TellsUnless (is_silent failure.entry) (message_of request.now failure.entry)
-        (S.calls system.old) (S.calls system.new) }
-    ensures status { result ≡ failure_status failure.entry }
+/// Says why the program ends, unless nobody reads its output any more, and returns the status.
+pub(crate) fn end_with<S: System>(system: &mut S, message: Message<'_>) -> u8
+    ensures { EndsTold (told_of message.entry) (S.calls system.old) (S.calls system.new) result }
 {
-    let status = failure.status();
-    if failure.is_silent() {
-        return status;
+    let status = message.status();
+    if !message.is_silent() {
+        system.tell(message);
     }
-    system.tell(failure.message(request));
     status
 }
 
@@ -174,9 +183,9 @@ pub fn run<S: System, W: Write>(
 {
     match run_apart(alloc, system, request, output) {
         Ok(edits) => {
-            tell_beside(system, request, &edits);
+            tell_notices(system, request, &edits);
             DONE
         }
-        Err(failure) => tell_failure(system, with_reason(failure, output.reason()), request),
+        Err(message) => end_with(system, with_reason(message, output.reason())),
     }
 }

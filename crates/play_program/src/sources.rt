@@ -1,22 +1,20 @@
-//! The files of a run as its inputs: some are opened before it, and its logs, if they are several,
-//! one after another as their turn comes.
+//! The files of a run as its inputs: they are opened before it, or, if they are several logs, one
+//! after another as their turn comes.
 
-ghost use Rattle.std.specs.Prelude.{◌≡◌, ◌+◌, ◌<◌, [], ◌∷◌, IfOk, IfSome, MatchOption, drop, length};
-ghost use Rattle.std.specs.Prelude.{map, option_map};
+ghost use Rattle.std.specs.Prelude.{◌≡◌, ◌⊎◌, ℕ, List, [], ◌∷◌, Option, IfErr, IfOk, Some, map};
+ghost use Rattle.std.specs.Prelude.{option_map};
 ghost use Rattle.std.specs.List.{position};
 ghost use Rattle.cave_play.specs.Reading.{IsReading};
 ghost use Rattle.play_command.specs.Files.{named_file};
-ghost use Rattle.play_program.specs.ReadingLaws.{goes_on_reading, stays_read};
-ghost use Rattle.play_program.specs.Calls.{and_then};
-ghost use Rattle.play_program.specs.Files.{is_same_input, log_names, name_of_file};
-ghost use Rattle.play_program.specs.Sources.{IsTakenFrom, LeadsTo, Opened, calls_for_head};
-ghost use Rattle.play_program.specs.Sources.{calls_for_read, is_log};
-ghost use Rattle.play_program.specs.Sources.{entry_of, first_files, held_in, held_unopened, is_first};
-ghost use Rattle.play_program.specs.Sources.{later_files, later_of, names_after, next_known, opened_in};
-ghost use Rattle.play_program.specs.Sources.{typed_text};
+ghost use Rattle.play_program.specs.Calls.{and_then, told_by};
+ghost use Rattle.play_program.specs.Calls.Call.{Opens};
+ghost use Rattle.play_program.specs.Files.{files_in, is_same_input};
+ghost use Rattle.play_program.specs.Head.{head_notice};
+ghost use Rattle.play_program.specs.Sources.{AsksFor, IsTakenFrom, Opened, ReadsOne, entries_by};
+ghost use Rattle.play_program.specs.Sources.{entry_of, held_in, is_first, is_log, missing_text};
+ghost use Rattle.play_program.specs.Sources.{told_of_head, typed_text, waiting_entry};
 
-use crate::failure::Failure;
-use crate::files::{is_same_input, name_of_file};
+use crate::files::is_same_input;
 use crate::head::head_notice;
 use crate::message::Message;
 use crate::system::System;
@@ -28,25 +26,23 @@ use std::alloc::Global;
 use std::io;
 use std::io::{ErrorKind, Read};
 
-/// A file of an input that was opened.
+/// A file that is still to be read.
 #[derive(Drop)]
-pub(crate) struct OpenFile<'a, F> {
+pub(crate) struct WaitingFile<'a, F> {
     input: Input,
     name: &'a str,
-    file: F,
+    /// It, if it was opened before the run.
+    file: Option<F>,
 }
 
 /// The files of a run.
 #[derive(Drop)]
 pub(crate) struct Files<'v, 'a, S, F> {
-    system: &'v mut S,
-    request: &'v Request<'a>,
-    /// Those that were opened before the run and aren't read yet.
-    opened: &'v mut Vec<OpenFile<'a, F>>,
-    /// The place among the request's files after the last log that was opened, if there are several.
-    later: usize,
-    /// The place of the last log that was opened, if it couldn't be, with the system's reason.
-    unopened: &'v mut Option<(usize, io::Error)>,
+    pub(crate) system: &'v mut S,
+    pub(crate) request: &'v Request<'a>,
+    pub(crate) waiting: &'v mut Vec<WaitingFile<'a, F>>,
+    /// Why the last of several logs couldn't be opened, if it couldn't be.
+    pub(crate) unopened: &'v mut Option<io::Error>,
 }
 
 /// Whether a file of an input is opened before the run: it is, unless it is one of several logs.
@@ -56,6 +52,104 @@ fn is_first(what: What, input: Input) -> bool
     match (what, input) {
         (What::Cover { .. } | What::Map { .. }, Input::Log) => false,
         _ => true,
+    }
+}
+
+/// Opens a file, if it is one that is opened before the run.
+fn wait_for<'a, S: System>(
+    system: &mut S,
+    what: What,
+    file: &NamedFile<'a>,
+) -> Result<WaitingFile<'a, S::File>, Message<'a>>
+    ensures opened { Opened what (named_file file.now ∷ []) (S.calls system.old)
+        (S.calls system.new) (told_by result) }
+    ensures reads { IfOk result (λ waiting. waiting_entry (S.bytes_of system.old)
+        S.File.remaining waiting ≡ entry_of what (S.bytes_of system.old) (named_file file.now)) }
+    ensures kept { S.bytes_of system.new ≡ S.bytes_of system.old }
+{
+    let NamedFile { input, name } = *file;
+    if !is_first(what, input) {
+        let file = None;
+        return Ok(WaitingFile { input, name, file });
+    }
+    match system.open(name) {
+        Ok(opened) => {
+            let file = Some(opened);
+            Ok(WaitingFile { input, name, file })
+        }
+        Err(reason) if reason.kind() == ErrorKind::OutOfMemory => Err(Message::memory()),
+        Err(reason) => Err(Message::Unopened(name, reason)),
+    }
+}
+
+/// Opens the files that are opened before a run, one after another, and stops at one that can't be
+/// opened.
+pub(crate) fn open_first<'a, S: System>(
+    alloc: Global,
+    system: &mut S,
+    request: &Request<'a>,
+) -> Result<Vec<WaitingFile<'a, S::File>>, Message<'a>>
+    ensures opened { Opened request.now.what (files_in request.now) (S.calls system.old)
+        (S.calls system.new) (told_by result) }
+    ensures reads { IfOk result (λ waiting.
+        map (waiting_entry (S.bytes_of system.old) S.File.remaining) waiting.items
+        ≡ entries_by (S.bytes_of system.old) request.now) }
+    ensures kept { S.bytes_of system.new ≡ S.bytes_of system.old }
+{
+    let mut waiting = Vec::new(alloc);
+    for file in &request.files {
+        let next = wait_for(system, request.what, file)?;
+        match waiting.push(next) {
+            Ok(()) => {}
+            Err(_) => return Err(Message::memory()),
+        }
+    }
+    Ok(waiting)
+}
+
+/// The place of the first file of an input among those that wait.
+fn place_of<F>(waiting: &[WaitingFile<'_, F>], input: Input) -> Option<usize>
+    ensures { result ≡ position (λ file. is_same_input file.input input) waiting.now }
+{
+    waiting
+        .iter()
+        .position(|file| is_same_input(file.input, input))
+}
+
+/// Takes the first file of an input out of those that wait.
+fn take<'a, F: Read>(
+    waiting: &mut Vec<WaitingFile<'a, F>>,
+    input: Input,
+) -> Option<WaitingFile<'a, F>>
+    ensures { (bytes_of : List ℕ → Option (List ℕ)) →
+        IsTakenFrom input (map (waiting_entry bytes_of F.remaining) waiting.old.items)
+        (map (waiting_entry bytes_of F.remaining) waiting.new.items)
+        (option_map (waiting_entry bytes_of F.remaining) result) }
+{
+    let place = place_of(waiting, input)?;
+    Some(waiting.remove(place))
+}
+
+/// Opens a file as its turn comes, and keeps the system's reason if it can't be opened.
+fn open_now<S: System>(
+    system: &mut S,
+    input: Input,
+    name: &str,
+    unopened: &mut Option<io::Error>,
+) -> Result<S::File, PlayFault>
+    ensures file { IfOk result (λ file. S.File.remaining file ≡ S.bytes_of system.old name.now) }
+    ensures failed { IfErr result (λ found.
+        (found ≡ PlayFault.Memory) ⊎ (found ≡ PlayFault.Read input)) }
+    ensures call { S.calls system.new ≡ and_then (S.calls system.old) (Opens name.now ∷ []) }
+    ensures kept { S.bytes_of system.new ≡ S.bytes_of system.old }
+{
+    match system.open(name) {
+        Ok(file) => Ok(file),
+        Err(reason) if reason.kind() == ErrorKind::OutOfMemory => Err(PlayFault::Memory),
+        Err(reason) => {
+            *unopened = Some(reason);
+            Err(PlayFault::Read(input))
+        }
     }
 }
 
@@ -69,229 +163,67 @@ fn is_log(input: Input) -> bool
     }
 }
 
-/// Opens the file of an input.
-fn open<'a, S: System>(
-    system: &mut S,
-    file: &NamedFile<'a>,
-) -> Result<OpenFile<'a, S::File>, Failure<'a>>
-    ensures opened { Opened (named_file file.now ∷ []) (S.calls system.old) (S.calls system.new)
-        result }
-    ensures reads { IfOk result (λ opened. opened_in S.File.remaining opened
-        ≡ entry_of (S.bytes_of system.old) (named_file file.now)) }
+/// Reports what the head of a log says differently from the request, if it does.
+fn tell_head<S: System>(system: &mut S, request: &Request<'_>, log: &str, text: &[u8])
+    ensures call { S.calls system.new ≡ and_then (S.calls system.old)
+        (told_of_head log.now (head_notice request.now text.now)) }
     ensures kept { S.bytes_of system.new ≡ S.bytes_of system.old }
 {
-    let NamedFile { input, name } = *file;
-    match system.open(name) {
-        Ok(file) => Ok(OpenFile { input, name, file }),
-        Err(reason) if reason.kind() == ErrorKind::OutOfMemory => Err(Failure::memory()),
-        Err(reason) => Err(Failure::Unopened(input, name, reason)),
+    if let Some(said) = head_notice(request, text) {
+        system.tell(Message::Head(log, said));
     }
 }
 
-/// Opens the files that are opened before a run, one after another, and stops at one that can't be
-/// opened.
-pub(crate) fn open_first<'a, S: System>(
+/// Reads a file, which is opened for that if it isn't open, and reports what its head says
+/// differently from the request, if it is a log.
+fn read_file<S: System>(
     alloc: Global,
     system: &mut S,
-    request: &Request<'a>,
-) -> Result<Vec<OpenFile<'a, S::File>>, Failure<'a>>
-    ensures opened { Opened (first_files request.now) (S.calls system.old) (S.calls system.new)
-        result }
-    ensures reads { IfOk result (λ opened. map (opened_in S.File.remaining) opened.items
-        ≡ map (entry_of (S.bytes_of system.old)) (first_files request.now)) }
+    request: &Request<'_>,
+    unopened: &mut Option<io::Error>,
+    waiting: WaitingFile<'_, S::File>,
+) -> Result<Vec<u8>, PlayFault>
+    ensures read { let entry = waiting_entry (S.bytes_of system.old) S.File.remaining waiting.entry in
+        IsReading entry.known waiting.entry.input result }
+    ensures asks { let entry = waiting_entry (S.bytes_of system.old) S.File.remaining waiting.entry in
+        AsksFor request.now (Some entry) (S.calls system.old) (S.calls system.new) }
     ensures kept { S.bytes_of system.new ≡ S.bytes_of system.old }
 {
-    let mut opened = Vec::new(alloc);
-    for file in &request.files {
-        if is_first(request.what, file.input) {
-            let file = open(system, file)?;
-            match opened.push(file) {
-                Ok(()) => {}
-                Err(_) => return Err(Failure::memory()),
-            }
-        }
+    let WaitingFile { input, name, file } = waiting;
+    let mut file = match file {
+        Some(file) => file,
+        None => open_now(system, input, name, unopened)?,
+    };
+    let text = read(alloc, input, &mut file)?;
+    if is_log(input) {
+        tell_head(system, request, name, &text);
     }
-    Ok(opened)
+    Ok(text)
 }
 
-/// The place of the first file of an input among those that were opened.
-fn place_of<F>(opened: &[OpenFile<'_, F>], input: Input) -> Option<usize>
-    ensures { result ≡ position (λ file. is_same_input file.input input) opened.now }
+/// Reads an input that has no file: the lines of a script may be on the command line.
+fn read_missing(
+    alloc: Global,
+    request: &Request<'_>,
+    input: Input,
+) -> Result<Vec<u8>, PlayFault>
+    ensures { IsReading (Some (missing_text (typed_text request.now) input)) input result }
 {
-    opened
-        .iter()
-        .position(|file| is_same_input(file.input, input))
-}
-
-/// Takes the first file of an input out of those that were opened.
-fn take<'a, F: Read>(opened: &mut Vec<OpenFile<'a, F>>, input: Input) -> Option<OpenFile<'a, F>>
-    ensures { IsTakenFrom input (map (opened_in F.remaining) opened.old.items)
-        (map (opened_in F.remaining) opened.new.items)
-        (option_map (opened_in F.remaining) result) }
-{
-    let place = place_of(opened, input)?;
-    Some(opened.remove(place))
-}
-
-/// The place of the first log among the files of a request, from a place on.
-fn later_log(request: &Request<'_>, from: usize) -> Option<usize>
-    ensures later { let files = request.now.files.items in
-        MatchOption result (log_names (map named_file (drop from files)) ≡ [])
-        (λ place. log_names (map named_file (drop from files))
-        ≡ name_of_file request.now place ∷ log_names (map named_file (drop (place + 1) files))) }
-    ensures within { IfSome result (λ place. place < length request.now.files.items) }
-{
-    let files = request.files.as_slice();
-    let mut place = from;
-    while let Some(file) = files.get(place) {
-        if is_same_input(file.input, Input::Log) {
-            return Some(place);
-        }
-        place += 1;
-    }
-    None
-}
-
-/// The place of the first file of a request that is opened when its turn comes.
-fn later_files_from(request: &Request<'_>) -> usize
-    ensures { map named_file (drop result request.now.files.items) ≡ later_files request.now }
-{
-    if is_first(request.what, Input::Log) {
-        request.files.len()
-    } else {
-        0
-    }
-}
-
-impl<'v, 'a, S: System> Files<'v, 'a, S, S::File> {
-    /// The files of a request, those of which were opened that are opened before a run.
-    pub(crate) fn of(
-        system: &'v mut S,
-        request: &'v Request<'a>,
-        opened: &'v mut Vec<OpenFile<'a, S::File>>,
-        unopened: &'v mut Option<(usize, io::Error)>,
-    ) -> Files<'v, 'a, S, S::File>
-        ensures reference { result.system.ghost_name ≡ system.entry.ghost_name }
-        ensures place { result.unopened.ghost_name ≡ unopened.entry.ghost_name }
-        ensures system { result.system.now ≡ system.old }
-        ensures request { result.request.now ≡ request.now }
-        ensures opened { result.opened.now ≡ opened.old }
-        ensures unopened { result.unopened.now ≡ unopened.old }
-        ensures later { later_of result ≡ later_files request.now }
-    {
-        Files {
-            system,
-            request,
-            opened,
-            later: later_files_from(request),
-            unopened,
-        }
-    }
-
-    /// Reports what the head of a log says differently from the request, if it does.
-    fn tell_head(&mut self, log: &str, text: &[u8])
-        ensures reference { self.new.system.ghost_name ≡ self.old.system.ghost_name }
-        ensures place { self.new.unopened.ghost_name ≡ self.old.unopened.ghost_name }
-        ensures request { self.new.request.now ≡ self.old.request.now }
-        ensures opened { self.new.opened.now ≡ self.old.opened.now }
-        ensures later { self.new.later ≡ self.old.later }
-        ensures unopened { self.new.unopened.now ≡ self.old.unopened.now }
-        ensures bytes { S.bytes_of self.new.system.now ≡ S.bytes_of self.old.system.now }
-        ensures calls { S.calls self.new.system.now ≡ and_then (S.calls self.old.system.now)
-            (calls_for_head self.old.request.now log.now text.now) }
-    {
-        if let Some(said) = head_notice(self.request, text) {
-            self.system.tell(Message::Head(log, said));
-        }
-    }
-
-    /// Opens and reads the next of several logs, if there is one.
-    fn read_next_log(&mut self, alloc: Global) -> Result<Vec<u8>, PlayFault>
-        ensures read { let logs = log_names (later_of self.old) in
-            IsReading (next_known (S.bytes_of self.old.system.now) logs) Input.Log result }
-        ensures opened { self.new.opened.now ≡ self.old.opened.now }
-        ensures later { log_names (later_of self.new) ≡ drop 1 (log_names (later_of self.old)) }
-        ensures leads { LeadsTo S.calls S.bytes_of S.File.remaining self.old self.new }
-    {
-        let Some(place) = later_log(self.request, self.later) else {
-            return Ok(Vec::new(alloc));
-        };
-        let log = name_of_file(self.request, place);
-        self.later = place + 1;
-        *self.unopened = None;
-        let mut file = match self.system.open(log) {
-            Ok(file) => file,
-            Err(reason) if reason.kind() == ErrorKind::OutOfMemory => {
-                return Err(PlayFault::Memory);
-            }
-            Err(reason) => {
-                *self.unopened = Some((place, reason));
-                return Err(PlayFault::Read(Input::Log));
-            }
-        };
-        let text = read(alloc, Input::Log, &mut file)?;
-        self.tell_head(log, &text);
-        Ok(text)
-    }
-
-    /// Reads a file that was opened, and reports what its head says differently, if it is a log.
-    fn read_opened(
-        &mut self,
-        alloc: Global,
-        input: Input,
-        opened: OpenFile<'a, S::File>,
-    ) -> Result<Vec<u8>, PlayFault>
-        ensures read { IsReading (S.File.remaining opened.entry.file) input result }
-        ensures reference { self.new.system.ghost_name ≡ self.old.system.ghost_name }
-        ensures place { self.new.unopened.ghost_name ≡ self.old.unopened.ghost_name }
-        ensures request { self.new.request.now ≡ self.old.request.now }
-        ensures opened { self.new.opened.now ≡ self.old.opened.now }
-        ensures later { self.new.later ≡ self.old.later }
-        ensures unopened { self.new.unopened.now ≡ self.old.unopened.now }
-        ensures bytes { S.bytes_of self.new.system.now ≡ S.bytes_of self.old.system.now }
-        ensures calls { S.calls self.new.system.now ≡ and_then (S.calls self.old.system.now)
-            (calls_for_read self.old.request.now input opened.entry.name.now result) }
-    {
-        let OpenFile { name, file, .. } = opened;
-        let mut file = file;
-        let text = read(alloc, input, &mut file)?;
-        if is_log(input) {
-            self.tell_head(name, &text);
-        }
-        Ok(text)
-    }
-
-    /// Reads an input of which no file was opened.
-    fn read_unopened(&mut self, alloc: Global, input: Input) -> Result<Vec<u8>, PlayFault>
-        ensures read { IsReading (held_unopened (S.bytes_of self.old.system.now)
-            (typed_text self.old.request.now) (log_names (later_of self.old)) input) input result }
-        ensures opened { self.new.opened.now ≡ self.old.opened.now }
-        ensures later { log_names (later_of self.new)
-            ≡ names_after input (log_names (later_of self.old)) }
-        ensures leads { LeadsTo S.calls S.bytes_of S.File.remaining self.old self.new }
-    {
-        match (input, &self.request.typed) {
-            (Input::Log, _) => self.read_next_log(alloc),
-            (Input::Script, Some(text)) => read(alloc, input, &mut text.as_bytes()),
-            _ => Ok(Vec::new(alloc)),
-        }
+    match (input, &request.typed) {
+        (Input::Script, Some(text)) => read(alloc, input, &mut text.as_bytes()),
+        _ => Ok(Vec::new(alloc)),
     }
 }
 
 impl<S: System> Sources for Files<'_, '_, S, S::File> {
     ghost held = { held_in S.bytes_of S.File.remaining };
 
-    ghost Leads = { LeadsTo S.calls S.bytes_of S.File.remaining };
+    ghost Reads = { ReadsOne S.calls S.bytes_of S.File.remaining };
 
     fn read(&mut self, alloc: Global, input: Input) -> Result<Vec<u8>, PlayFault> {
-        match take(self.opened, input) {
-            Some(opened) => self.read_opened(alloc, input, opened),
-            None => self.read_unopened(alloc, input),
+        match take(self.waiting, input) {
+            Some(file) => read_file(alloc, self.system, self.request, self.unopened, file),
+            None => read_missing(alloc, self.request, input),
         }
     }
-
-    ghost stays = { λ one. stays_read S.calls S.bytes_of S.File.remaining one };
-
-    ghost goes_on = { λ one next last first second.
-        goes_on_reading S.calls S.bytes_of S.File.remaining one next last first second };
 }

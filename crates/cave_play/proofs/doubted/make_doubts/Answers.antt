@@ -1,10 +1,11 @@
+use Rattle.cave_play.proofs.SourceLemmas.{once, goes_on, AreHeld-by, said, same_said, some_bytes}
+use Rattle.cave_play.proofs.SourceLemmas.{texts_by}
 use Rattle.std.proofs.Common.{[], ◌∷◌, ◌∙◌, ap}
 use Rattle.std.proofs.lemmas.Result.{err_from_is_err_and}
 use Rattle.cave_play.specs.Sources.{Held, next_log}
 use Rattle.cave_play.specs.Stages.{cave_stages, doubts_stages, known_stage}
 use Rattle.cave_play.proofs.DoubtLemmas.{AreLeftIn-read}
 use Rattle.cave_play.proofs.JudgeLemmas.{IsFoundIn-known, first_decided-known}
-use Rattle.cave_play.proofs.SourceLemmas.{AreHeld-by, said, same_said, some_bytes, texts_by}
 use Rattle.cave_play.proofs.StageLemmas.{IsFoundIn-first, IsFoundIn-later, IsFoundIn-memory}
 use Rattle.cave_play.proofs.StageLemmas.{first_decided-later}
 use Rattle.cave_play.proofs.doubted.make_doubts.Goals as goal
@@ -52,7 +53,7 @@ returns-in_err-listed g c =
         IsFoundIn-later (cave_stages database bindings) (known_stage known ∷ []) _ read.0
             (IsFoundIn-known known _ refused),
       );
-      leads = g.met.I.Sources.goes_on _ _ _ c.in_ok-read.ensures.leads c.in_err-listed.ensures.leads;
+      leads = goes_on g.I.Sources.Reads _ _ _ c.in_ok-read.ensures.leads (once g.I.Sources.Reads _ _ _ c.in_err-listed.ensures.reads);
     })
 
 pub returns-in_err-found : goal.returns-in_err-found
@@ -69,7 +70,7 @@ returns-in_err-found g c =
         AreHeld-by Known held database bindings one two,
         IsFoundIn-memory (doubts_stages database bindings (some_bytes held.known)),
       );
-      leads = g.met.I.Sources.goes_on _ _ _ c.in_ok-read.ensures.leads c.in_ok-listed.ensures.leads;
+      leads = goes_on g.I.Sources.Reads _ _ _ c.in_ok-read.ensures.leads (once g.I.Sources.Reads _ _ _ c.in_ok-listed.ensures.reads);
     })
 
 pub returns : goal.returns
@@ -100,5 +101,5 @@ returns g c =
               c.in_ok-found.found read.1 (c.deref.ensures.value ∙ is.0) c.in_ok-found.ensures.left,
         ),
       );
-      leads = g.met.I.Sources.goes_on _ _ _ c.in_ok-read.ensures.leads c.in_ok-listed.ensures.leads;
+      leads = goes_on g.I.Sources.Reads _ _ _ c.in_ok-read.ensures.leads (once g.I.Sources.Reads _ _ _ c.in_ok-listed.ensures.reads);
     }

@@ -16,8 +16,8 @@ returns-in_err-listed g c =
     (record {
       runs = (
         texts,
-        AreTextsOf-held g.C.Read.remaining g.B.Read.remaining g.L.Read.remaining g.S.Read.remaining c.args.inputs.now c.of-readers.result c.of-readers.ensures.inputs c.of-readers.ensures.read
-            Known texts refl are,
+        AreTextsOf-held g.C.Read.remaining g.B.Read.remaining g.L.Read.remaining
+            g.S.Read.remaining _ _ c.of_one-readers.ensures Known texts refl are,
         inl (EndsBy-unwritten _
             (doubts_stages texts.database texts.bindings texts.script) _ _ _
             (unwritten_by_doubts texts.database texts.bindings texts.script) found
@@ -36,8 +36,8 @@ returns-in_err-write_output g c =
     (record {
       runs = (
         texts,
-        AreTextsOf-held g.C.Read.remaining g.B.Read.remaining g.L.Read.remaining g.S.Read.remaining c.args.inputs.now c.of-readers.result c.of-readers.ensures.inputs c.of-readers.ensures.read
-            Known texts refl are,
+        AreTextsOf-held g.C.Read.remaining g.B.Read.remaining g.L.Read.remaining
+            g.S.Read.remaining _ _ c.of_one-readers.ensures Known texts refl are,
         inl (EndsBy-written (doubts_stages texts.database texts.bindings texts.script)
             (IsDoubtsList c.args.strict c.args.files.now texts) _ _ _ _ listed.0
             (cave, reads, c.deref.ensures.value ∙ left.text)
@@ -55,8 +55,8 @@ returns-in-Some g c =
     record {
       runs = (
         texts,
-        AreTextsOf-held g.C.Read.remaining g.B.Read.remaining g.L.Read.remaining g.S.Read.remaining c.args.inputs.now c.of-readers.result c.of-readers.ensures.inputs c.of-readers.ensures.read
-            Known texts refl are,
+        AreTextsOf-held g.C.Read.remaining g.B.Read.remaining g.L.Read.remaining
+            g.S.Read.remaining _ _ c.of_one-readers.ensures Known texts refl are,
         inr (
           _,
           (cave, reads, (first, c.deref.ensures.value ∙ left.text)),
@@ -74,8 +74,8 @@ returns g c =
     record {
       runs = (
         texts,
-        AreTextsOf-held g.C.Read.remaining g.B.Read.remaining g.L.Read.remaining g.S.Read.remaining c.args.inputs.now c.of-readers.result c.of-readers.ensures.inputs c.of-readers.ensures.read
-            Known texts refl are,
+        AreTextsOf-held g.C.Read.remaining g.B.Read.remaining g.L.Read.remaining
+            g.S.Read.remaining _ _ c.of_one-readers.ensures Known texts refl are,
         (
           listed.0,
           (

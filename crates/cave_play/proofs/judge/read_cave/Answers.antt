@@ -1,3 +1,5 @@
+use Rattle.cave_play.proofs.SourceLemmas.{once, goes_on, after_bindings, after_database, said}
+use Rattle.cave_play.proofs.SourceLemmas.{same_bindings, some_bytes}
 use Rattle.std.proofs.Common.{◌≡◌, ◌⊎◌, Some, subst, ◌∙◌}
 use Rattle.std.proofs.lemmas.Result.{err_from_is_err_and}
 use Rattle.cave_data.specs.Reads.{Reads}
@@ -5,8 +7,6 @@ use Rattle.cave_play.specs.Judge.{inputs_fault}
 use Rattle.cave_play.specs.declared.fault.PlayFault.TheVariants as fault
 use Rattle.cave_play.proofs.JudgeLemmas.{IsFoundIn-bindings, IsFoundIn-database, IsFoundIn-inputs}
 use Rattle.cave_play.proofs.JudgeLemmas.{cave_stages-read}
-use Rattle.cave_play.proofs.SourceLemmas.{after_bindings, after_database, said, same_bindings}
-use Rattle.cave_play.proofs.SourceLemmas.{some_bytes}
 use Rattle.cave_play.proofs.judge.read_cave.Goals as goal
 
 pub returns-in_err-database : goal.returns-in_err-database
@@ -24,7 +24,7 @@ returns-in_err-database g c =
         IsFoundIn-database database (some_bytes held.bindings) _ refused,
       );
       others = after_database _ _ c.in_err-database.ensures.taken;
-      leads = c.in_err-database.ensures.leads;
+      leads = once g.I.Sources.Reads _ _ _ c.in_err-database.ensures.reads;
     })
 
 pub returns-in_err-bindings : goal.returns-in_err-bindings
@@ -45,7 +45,7 @@ returns-in_err-bindings g c =
         IsFoundIn-bindings database bindings _ read.1 refused,
       );
       others = after_bindings _ _ _ taken c.in_err-bindings.ensures.taken;
-      leads = g.met.I.Sources.goes_on _ _ _ c.in_ok-database.ensures.leads c.in_err-bindings.ensures.leads;
+      leads = goes_on g.I.Sources.Reads _ _ _ (once g.I.Sources.Reads _ _ _ c.in_ok-database.ensures.reads) (once g.I.Sources.Reads _ _ _ c.in_err-bindings.ensures.reads);
     })
 
 pub returns-in-Ok : goal.returns-in-Ok
@@ -69,7 +69,7 @@ returns-in-Ok g c =
           record { database_is = read.0; bindings_are = more.0; reads = reads },
         ),
       );
-      leads = g.met.I.Sources.goes_on _ _ _ c.in_ok-database.ensures.leads c.in_ok-bindings.ensures.leads;
+      leads = goes_on g.I.Sources.Reads _ _ _ (once g.I.Sources.Reads _ _ _ c.in_ok-database.ensures.reads) (once g.I.Sources.Reads _ _ _ c.in_ok-bindings.ensures.reads);
       others = after_bindings _ _ _ taken c.in_ok-bindings.ensures.taken;
     }
 
@@ -93,5 +93,5 @@ returns-in-Err g c =
         IsFoundIn-inputs database bindings found read.1 more.1 refused,
       );
       others = after_bindings _ _ _ taken c.in_ok-bindings.ensures.taken;
-      leads = g.met.I.Sources.goes_on _ _ _ c.in_ok-database.ensures.leads c.in_ok-bindings.ensures.leads;
+      leads = goes_on g.I.Sources.Reads _ _ _ (once g.I.Sources.Reads _ _ _ c.in_ok-database.ensures.reads) (once g.I.Sources.Reads _ _ _ c.in_ok-bindings.ensures.reads);
     }

@@ -1,3 +1,4 @@
+use Rattle.cave_play.proofs.SourceLemmas.{once}
 use Rattle.std.proofs.Common.{subst, sym, ap, ◌∙◌}
 use Rattle.std.proofs.lemmas.Result.{err_from_is_err_and}
 use Rattle.replay_scripts.specs.Guards.{IsScriptBy, script_by}
@@ -13,7 +14,7 @@ returns-in_err-text g c =
     let exit = err_from_is_err_and c.from_residual.result c.from_residual.ensures.1 in
     let (bytes, said, refused) = c.in_err-text.ensures.read in
     rw (exit.1, exit.2)
-    (record { judged = (bytes, said, IsFoundIn-script c.args.guarded bytes _ refused); leads = c.in_err-text.ensures.leads })
+    (record { judged = (bytes, said, IsFoundIn-script c.args.guarded bytes _ refused); leads = once g.I.Sources.Reads _ _ _ c.in_err-text.ensures.reads })
 
 pub returns-in-Ok : goal.returns-in-Ok
 returns-in-Ok g c =
@@ -38,7 +39,7 @@ returns-in-Ok g c =
           ),
         ),
       );
-      leads = c.in_ok-text.ensures.leads;
+      leads = once g.I.Sources.Reads _ _ _ c.in_ok-text.ensures.reads;
     }
 
 pub returns-in-Err : goal.returns-in-Err
@@ -52,5 +53,5 @@ returns-in-Err g c =
         IsFoundIn-refused c.args.guarded bytes _ c.in-Err.fault read.1
             (c.deref.ensures.value ∙ read.0) c.in-Err.ensures.script,
       );
-      leads = c.in_ok-text.ensures.leads;
+      leads = once g.I.Sources.Reads _ _ _ c.in_ok-text.ensures.reads;
     })

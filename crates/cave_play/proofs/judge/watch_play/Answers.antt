@@ -1,3 +1,4 @@
+use Rattle.cave_play.proofs.SourceLemmas.{once}
 use Rattle.std.proofs.Common.{List, ◌∙◌, ℕ}
 use Rattle.std.proofs.lemmas.Result.{err_from_is_err_and}
 use Rattle.std.specs.Prelude.{Ok, Err}
@@ -21,7 +22,7 @@ returns-in_err-log g c =
     (record {
       judged = (bytes, said, IsFoundIn-log bytes _ refused);
       taken = c.in_err-log.ensures.taken;
-      leads = c.in_err-log.ensures.leads;
+      leads = once g.I.Sources.Reads _ _ _ c.in_err-log.ensures.reads;
     })
 
 pub returns-in-Ok : goal.returns-in-Ok
@@ -45,7 +46,7 @@ returns-in-Ok g c =
             ),
       );
       taken = c.in_ok-log.ensures.taken;
-      leads = c.in_ok-log.ensures.leads;
+      leads = once g.I.Sources.Reads _ _ _ c.in_ok-log.ensures.reads;
     }
 
 pub returns : goal.returns
@@ -67,5 +68,5 @@ returns g c =
             c.in-Err.ensures.faults),
       );
       taken = c.in_ok-log.ensures.taken;
-      leads = c.in_ok-log.ensures.leads;
+      leads = once g.I.Sources.Reads _ _ _ c.in_ok-log.ensures.reads;
     })

@@ -1,3 +1,4 @@
+use Rattle.cave_play.proofs.SourceLemmas.{goes_on}
 use Rattle.std.proofs.Common.{[], inl, refl, ap, subst, ◌∙◌}
 use Rattle.std.proofs.lemmas.Result.{err_from_is_err_and}
 use Rattle.std.specs.List.{AllZip}
@@ -52,5 +53,5 @@ returns g c =
         JudgesLogs-behind (first_stages database bindings c.args.seed) [] moves _ _ read.0 reported,
       );
       all = c.report_in_cave-made.ensures.all;
-      leads = g.met.I.Sources.goes_on _ _ _ c.in_ok-read.ensures.leads c.report_in_cave-made.ensures.leads;
+      leads = goes_on g.I.Sources.Reads _ _ _ c.in_ok-read.ensures.leads c.report_in_cave-made.ensures.leads;
     }

@@ -1,3 +1,4 @@
+use Rattle.cave_play.proofs.SourceLemmas.{goes_on, stays}
 use Rattle.std.proofs.Common.{◌+◌, ◌<◌, ◌≤◌, length, arith, refl, subst, sym}
 use Rattle.std.specs.Str.Lines.{lines}
 use Rattle.replay_edits.specs.Edit.{game_of}
@@ -12,7 +13,7 @@ loop-place-init g c =
       IsAt-first (g.I.Sources.held c.args.inputs.now).logs
           (AreNotesOn watch.HasNoted watch.first_facts watch.facts
           c.args.machine.rules.cave.now) c.args.seed _ c.requires.none,
-      g.met.I.Sources.stays _,
+      stays g.I.Sources.Reads _,
     )
 
 pub returns-in-Err : goal.returns-in-Err
@@ -30,7 +31,7 @@ returns-in-Err g c =
           (g.I.Sources.held c.loop-place.inputs).logs c.in-Err.fault said
           c.loop-place.invariant.0 decided;
       all = tt;
-      leads = g.met.I.Sources.goes_on _ _ _ c.loop-place.invariant.1 c.in-Err.ensures.leads;
+      leads = goes_on g.I.Sources.Reads _ _ _ c.loop-place.invariant.1 c.in-Err.ensures.leads;
     }
 
 pub loop-place-preserved : goal.loop-place-preserved
@@ -50,7 +51,7 @@ loop-place-preserved g c =
     (game_of c.args.seed (lines moves)) c.loop-place.notes c.watch_play.new.watch noted.1.0) in (
       subst (IsAt known notes c.args.seed (place + 1) c.watch_play.new.watch)
           (sym c.in-Ok.ensures.taken.logs) more,
-      g.met.I.Sources.goes_on _ _ _ c.loop-place.invariant.1 c.in-Ok.ensures.leads,
+      goes_on g.I.Sources.Reads _ _ _ c.loop-place.invariant.1 c.in-Ok.ensures.leads,
     )
 
 pub returns : goal.returns

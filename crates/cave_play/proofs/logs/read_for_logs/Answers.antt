@@ -1,9 +1,9 @@
+use Rattle.cave_play.proofs.SourceLemmas.{stays, said, some_bytes}
 use Rattle.std.proofs.Common.{ap, inl, inr, refl}
 use Rattle.std.proofs.lemmas.Result.{err_from_is_err_and}
 use Rattle.cave_play.specs.Judge.{large_seed}
 use Rattle.cave_play.specs.Sources.{Held}
 use Rattle.cave_play.specs.Stages.{cave_stages}
-use Rattle.cave_play.proofs.SourceLemmas.{said, some_bytes}
 use Rattle.cave_play.proofs.StageLemmas.{Judges-after}
 use Rattle.cave_play.proofs.logs.read_for_logs.Goals as goal
 
@@ -21,7 +21,7 @@ returns-in_err-check_seed g c =
         inl (inr c.in_err-check_seed.ensures),
       );
       logs = refl;
-      leads = g.met.I.Sources.stays _;
+      leads = stays g.I.Sources.Reads _;
     })
 
 pub returns : goal.returns

@@ -1,3 +1,4 @@
+use Rattle.cave_play.proofs.SourceLemmas.{stays}
 use Rattle.std.proofs.Common.{◌≡◌, ◌++◌, length, sym, subst, ap, ◌∙◌, inl, refl}
 use Rattle.std.proofs.lemmas.List.{length-map}
 use Rattle.std.proofs.lemmas.Result.{err_from_is_err_and}
@@ -16,7 +17,7 @@ returns-in_err-lexicon g c =
     rw (exit.1, exit.2) (record {
       judged = (known.0, known.1, inl (refl, refl));
       all = tt;
-      leads = g.met.I.Sources.stays _;
+      leads = stays g.I.Sources.Reads _;
     })
 
 pub returns-in_err-notes : goal.returns-in_err-notes
@@ -28,7 +29,7 @@ returns-in_err-notes g c =
     rw (exit.1, exit.2) (record {
       judged = (known.0, known.1, inl (refl, refl));
       all = tt;
-      leads = g.met.I.Sources.stays _;
+      leads = stays g.I.Sources.Reads _;
     })
 
 pub note_logs-requires-clause-none : goal.note_logs-requires-clause-none

@@ -1,3 +1,4 @@
+use Rattle.cave_play.proofs.SourceLemmas.{goes_on, stays, same_script_after_log}
 use Rattle.std.proofs.Common.{◌≡◌, ◌≤◌, ℕ, List, [], ◌∷◌, length, None, Ok, Err, Option, subst, sym}
 use Rattle.std.proofs.Common.{◌∙◌}
 use Rattle.std.specs.Prelude.{⊤}
@@ -21,7 +22,6 @@ use Rattle.cave_play.specs.Stages.{Stage, first_decided, judging_stage, log_stag
 use Rattle.cave_play.specs.Stages.{strict_stage}
 use Rattle.cave_play.proofs.InputLemmas.{Says-some}
 use Rattle.cave_play.proofs.AcceptedLogs.{IsGame-accepted}
-use Rattle.cave_play.proofs.SourceLemmas.{same_script_after_log}
 use Rattle.cave_play.proofs.StageLemmas.{IsFoundIn-first, IsFoundIn-memory, Judges-later}
 use Rattle.cave_play.proofs.StageLemmas.{first_decided-alone}
 use Rattle.cave_play.proofs.run.edit_in_cave.Goals as goal
@@ -80,7 +80,7 @@ returns-in_err-lexicon g c =
         IsFoundIn-memory (log_stage moves ∷ script_stage guarded edits
             ∷ strict_of c.args.editing moves edits ∷ []),
       );
-      leads = g.met.I.Sources.stays _;
+      leads = stays g.I.Sources.Reads _;
     })
 
 pub returns-in_err-bytes : goal.returns-in_err-bytes
@@ -171,4 +171,4 @@ returns g c =
     λ (cave : CaveView). Judges (log_stage moves ∷ script_stage guarded edits ∷ strict ∷ [])
     (right cave)
     c.edit_session-made.result in
-    record { judged = (moves, edits, said, others, subst here c.new-machine.ensures judged); leads = g.met.I.Sources.goes_on _ _ _ c.in_ok-bytes.ensures.leads c.edit_session-made.ensures.leads }
+    record { judged = (moves, edits, said, others, subst here c.new-machine.ensures judged); leads = goes_on g.I.Sources.Reads _ _ _ c.in_ok-bytes.ensures.leads c.edit_session-made.ensures.leads }

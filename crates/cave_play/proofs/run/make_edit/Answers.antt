@@ -1,10 +1,11 @@
+use Rattle.cave_play.proofs.SourceLemmas.{goes_on, stays, AreHeld-by, AreHeld-some, same_said}
+use Rattle.cave_play.proofs.SourceLemmas.{some_texts, texts_by}
 use Rattle.std.proofs.Common.{◌∷◌, ◌++◌, inl, inr, ap}
 use Rattle.std.proofs.lemmas.Result.{err_from_is_err_and}
 use Rattle.cave_play.specs.Judge.{every_fault, large_seed}
 use Rattle.cave_play.specs.Stages.{cave_stages, judging_stage}
 use Rattle.cave_play.proofs.FinishLemmas.{Judges-finished, after_cave}
 use Rattle.cave_play.specs.Sources.{Held, next_log}
-use Rattle.cave_play.proofs.SourceLemmas.{AreHeld-by, AreHeld-some, same_said, some_texts, texts_by}
 use Rattle.cave_play.proofs.StageLemmas.{IsFoundIn-first, Judges-after, Judges-later}
 use Rattle.cave_play.proofs.run.make_edit.Goals as goal
 use Rattle.play_command.specs.declared.input.Input.TheVariants.{Script}
@@ -20,7 +21,7 @@ returns-in_err-check_seed g c =
         AreHeld-some Script held,
         inl (inr c.in_err-check_seed.ensures),
       );
-      leads = g.met.I.Sources.stays _;
+      leads = stays g.I.Sources.Reads _;
     })
 
 pub returns-in_err-check_every : goal.returns-in_err-check_every
@@ -36,7 +37,7 @@ returns-in_err-check_every g c =
         AreHeld-some Script held,
         inr (c.in_ok-check_seed.ensures, inl (inr c.in_err-check_every.ensures)),
       );
-      leads = g.met.I.Sources.stays _;
+      leads = stays g.I.Sources.Reads _;
     })
 
 pub returns-in_err-read : goal.returns-in_err-read
@@ -87,5 +88,5 @@ returns g c =
             c.in_ok-check_every.ensures
             (Judges-later cave later _ _ _ read.0 (λ text is. is) finished)),
       );
-      leads = g.met.I.Sources.goes_on _ _ _ c.in_ok-read.ensures.leads c.edit_in_cave-made.ensures.leads;
+      leads = goes_on g.I.Sources.Reads _ _ _ c.in_ok-read.ensures.leads c.edit_in_cave-made.ensures.leads;
     }

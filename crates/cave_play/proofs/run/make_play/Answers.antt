@@ -1,10 +1,10 @@
+use Rattle.cave_play.proofs.SourceLemmas.{goes_on, stays, AreHeld-by, AreHeld-some, said, same_said}
+use Rattle.cave_play.proofs.SourceLemmas.{some_bytes, some_texts, texts_by}
 use Rattle.std.proofs.Common.{[], ◌∷◌, ◌++◌, inl, inr, ap}
 use Rattle.std.proofs.lemmas.Result.{err_from_is_err_and}
 use Rattle.cave_play.specs.Judge.{large_seed}
 use Rattle.cave_play.specs.Sources.{Held, next_log}
 use Rattle.cave_play.specs.Stages.{cave_stages, log_stage}
-use Rattle.cave_play.proofs.SourceLemmas.{AreHeld-by, AreHeld-some, said, same_said, some_bytes}
-use Rattle.cave_play.proofs.SourceLemmas.{some_texts, texts_by}
 use Rattle.cave_play.proofs.StageLemmas.{IsFoundIn-first, Judges-after, Judges-later}
 use Rattle.cave_play.proofs.run.make_play.Goals as goal
 use Rattle.play_command.specs.declared.input.Input.TheVariants.{Script}
@@ -20,7 +20,7 @@ returns-in_err-check_seed g c =
         AreHeld-some Script held,
         inl (inr c.in_err-check_seed.ensures),
       );
-      leads = g.met.I.Sources.stays _;
+      leads = stays g.I.Sources.Reads _;
     })
 
 pub returns-in_err-read : goal.returns-in_err-read
@@ -69,5 +69,5 @@ returns g c =
             (Judges-later cave log _ _ _ read.0
             (λ text is. (c.in_ok-read.read.cave, read.1.reads, is)) played),
       );
-      leads = g.met.I.Sources.goes_on _ _ _ c.in_ok-read.ensures.leads c.play_in_cave-made.ensures.leads;
+      leads = goes_on g.I.Sources.Reads _ _ _ c.in_ok-read.ensures.leads c.play_in_cave-made.ensures.leads;
     }

@@ -12,8 +12,8 @@ returns g c =
     record {
       runs = (
         texts,
-        AreTextsOf-held g.C.Read.remaining g.B.Read.remaining g.L.Read.remaining g.S.Read.remaining c.args.inputs.now c.of-readers.result c.of-readers.ensures.inputs c.of-readers.ensures.read
-            Script texts refl are,
+        AreTextsOf-held g.C.Read.remaining g.B.Read.remaining g.L.Read.remaining
+            g.S.Read.remaining _ _ c.of_one-readers.ensures Script texts refl are,
         Runs-made (cave_stages texts.database texts.bindings) (IsChecked c.args.view texts.database texts.bindings) _ _ _ _ (unwritten_by_check texts.database texts.bindings) judged
             c.write_made.ensures,
       );

@@ -1,3 +1,4 @@
+use Rattle.cave_play.proofs.SourceLemmas.{goes_on, same_cave, same_cave_bindings, same_new_log}
 use Rattle.std.proofs.Common.{[], ◌∷◌, ap, ◌∙◌}
 use Rattle.std.proofs.lemmas.Result.{err_from_is_err_and}
 use Rattle.replay_edits.specs.Edit.{log_of}
@@ -7,7 +8,6 @@ use Rattle.cave_play.proofs.InputLemmas.{Says-some}
 use Rattle.cave_play.proofs.StageLemmas.{IsFoundIn-first, IsFoundIn-later, IsFoundIn-memory}
 use Rattle.cave_play.proofs.StageLemmas.{first_decided-later}
 use Rattle.cave_play.specs.Sources.{Held}
-use Rattle.cave_play.proofs.SourceLemmas.{same_cave, same_cave_bindings, same_new_log}
 use Rattle.cave_play.proofs.TwoLogLemmas.{IsDifferenceOf-grown, IsLog-accepted, IsLog-new}
 use Rattle.cave_play.proofs.two_logs.compare.Goals as goal
 
@@ -60,7 +60,7 @@ returns-in_err-made g c =
       );
       cave = same_cave _ _ _ taken c.in_err-made.ensures.taken;
       bindings = same_cave_bindings _ _ _ taken c.in_err-made.ensures.taken;
-      leads = g.met.I.Sources.goes_on _ _ _ c.in_ok-old.ensures.leads c.in_err-made.ensures.leads;
+      leads = goes_on g.I.Sources.Reads _ _ _ c.in_ok-old.ensures.leads c.in_err-made.ensures.leads;
     })
 
 pub returns-in_err-push_difference : goal.returns-in_err-push_difference
@@ -77,7 +77,7 @@ returns-in_err-push_difference g c =
       judged = (old, made, said, other, IsFoundIn-memory (two_logs_stages old made));
       cave = same_cave _ _ _ taken c.in_ok-made.ensures.taken;
       bindings = same_cave_bindings _ _ _ taken c.in_ok-made.ensures.taken;
-      leads = g.met.I.Sources.goes_on _ _ _ c.in_ok-old.ensures.leads c.in_ok-made.ensures.leads;
+      leads = goes_on g.I.Sources.Reads _ _ _ c.in_ok-old.ensures.leads c.in_ok-made.ensures.leads;
     })
 
 pub returns : goal.returns
@@ -97,5 +97,5 @@ returns g c =
       judged = (old, made, said, other, (decided, (first.1.0, difference)));
       cave = same_cave _ _ _ taken c.in_ok-made.ensures.taken;
       bindings = same_cave_bindings _ _ _ taken c.in_ok-made.ensures.taken;
-      leads = g.met.I.Sources.goes_on _ _ _ c.in_ok-old.ensures.leads c.in_ok-made.ensures.leads;
+      leads = goes_on g.I.Sources.Reads _ _ _ c.in_ok-old.ensures.leads c.in_ok-made.ensures.leads;
     }

@@ -1,3 +1,5 @@
+use Rattle.cave_play.proofs.TwoLogLemmas.{leads_within}
+use Rattle.cave_play.proofs.SourceLemmas.{goes_on, said, some_bytes}
 use Rattle.std.proofs.Common.{ℕ, List, inl, inr, refl, rules, subst, sym, ◌∙◌}
 use Rattle.std.proofs.lemmas.Result.{err_from_is_err_and}
 use Rattle.cave_play.specs.EditRun.{IsMadeEdit}
@@ -5,7 +7,6 @@ use Rattle.cave_play.specs.Input.{Says}
 use Rattle.cave_play.specs.Run.{Judges}
 use Rattle.cave_play.specs.Stages.{edit_stages}
 use Rattle.cave_play.specs.TwoLogs.{IsDifferenceOf, form_of}
-use Rattle.cave_play.proofs.SourceLemmas.{said, some_bytes}
 use Rattle.cave_play.proofs.two_logs.make_edit_to.Goals as goal
 
 pub returns-in_err-compared : goal.returns-in_err-compared
@@ -70,4 +71,6 @@ returns-clause-judged g c =
 
 pub returns-clause-leads : goal.returns-clause-leads
 returns-clause-leads g c =
-    g.met.I.Sources.goes_on _ _ _ c.in_ok-compared.ensures.leads (search rules)
+    let reads = g.I.Sources.Reads in
+    let (name, made) = leads_within reads _ _ c.make_edit.ensures.leads in
+    goes_on reads _ _ _ c.in_ok-compared.ensures.leads (search rules)

@@ -1,3 +1,4 @@
+use Rattle.cave_play.proofs.SourceLemmas.{once}
 use Rattle.std.proofs.Common.{◌≡◌, ℕ, List, Ok, Err, ◌∙◌}
 use Rattle.std.proofs.lemmas.Result.{err_from_is_err_and}
 use Rattle.std.specs.Global.{Vec}
@@ -18,7 +19,7 @@ returns-in_err-text g c =
     (record {
       judged = (bytes, said, IsFoundIn-log bytes _ refused);
       taken = c.in_err-text.ensures.taken;
-      leads = c.in_err-text.ensures.leads;
+      leads = once g.I.Sources.Reads _ _ _ c.in_err-text.ensures.reads;
     })
 
 pub returns-in-Ok : goal.returns-in-Ok
@@ -30,7 +31,7 @@ returns-in-Ok g c =
     record {
       judged = (bytes, said, (judged.0, (read.0, judged.1)));
       taken = c.in_ok-text.ensures.taken;
-      leads = c.in_ok-text.ensures.leads;
+      leads = once g.I.Sources.Reads _ _ _ c.in_ok-text.ensures.reads;
     }
 
 pub returns-in-Err : goal.returns-in-Err
@@ -44,5 +45,5 @@ returns-in-Err g c =
             (c.deref.ensures.value ∙ read.0) read.1 c.in-Err.ensures.judged,
       );
       taken = c.in_ok-text.ensures.taken;
-      leads = c.in_ok-text.ensures.leads;
+      leads = once g.I.Sources.Reads _ _ _ c.in_ok-text.ensures.reads;
     }

@@ -1,3 +1,4 @@
+use Rattle.cave_play.proofs.SourceLemmas.{once}
 use Rattle.std.proofs.Common.{◌≡◌, ℕ, List, Ok, ◌∙◌}
 use Rattle.std.proofs.lemmas.Result.{err_from_is_err_and}
 use Rattle.std.specs.Global.{Vec}
@@ -20,7 +21,7 @@ returns-in_err-text g c =
     (record {
       judged = (bytes, said, IsFoundIn-unread bytes _ refused);
       taken = c.in_err-text.ensures.taken;
-      leads = c.in_err-text.ensures.leads;
+      leads = once g.I.Sources.Reads _ _ _ c.in_err-text.ensures.reads;
     })
 
 pub returns-in-Ok : goal.returns-in-Ok
@@ -32,7 +33,7 @@ returns-in-Ok g c =
     record {
       judged = (bytes, said, (first_decided-new_log bytes judged.0, (read.0, judged.1)));
       taken = c.in_ok-text.ensures.taken;
-      leads = c.in_ok-text.ensures.leads;
+      leads = once g.I.Sources.Reads _ _ _ c.in_ok-text.ensures.reads;
     }
 
 pub returns-in-Err : goal.returns-in-Err
@@ -46,5 +47,5 @@ returns-in-Err g c =
         IsFoundIn-new_log bytes _ _ (c.deref.ensures.value ∙ read.0) read.1 c.in-Err.ensures.judged,
       );
       taken = c.in_ok-text.ensures.taken;
-      leads = c.in_ok-text.ensures.leads;
+      leads = once g.I.Sources.Reads _ _ _ c.in_ok-text.ensures.reads;
     })

@@ -10,8 +10,8 @@ returns g c =
     record {
       runs = (
         texts,
-        AreTextsOf-held g.C.Read.remaining g.B.Read.remaining g.L.Read.remaining g.S.Read.remaining c.args.inputs.now c.of-readers.result c.of-readers.ensures.inputs c.of-readers.ensures.read
-            NewLog texts refl are,
+        AreTextsOf-held g.C.Read.remaining g.B.Read.remaining g.L.Read.remaining
+            g.S.Read.remaining _ _ c.of_one-readers.ensures NewLog texts refl are,
         RunsScript-made c.args.form texts _ _ _ _ judged c.write_made.ensures,
       );
     }

@@ -1,3 +1,4 @@
+use Rattle.cave_play.proofs.SourceLemmas.{goes_on, said, some_bytes}
 use Rattle.std.proofs.Common.{[], ◌∷◌, inl, length, refl, sym, ap, subst, ◌∙◌}
 use Rattle.std.proofs.lemmas.Result.{err_from_is_err_and}
 use Rattle.std.specs.List.{AllZip}
@@ -6,7 +7,6 @@ use Rattle.cave_play.specs.Logs.{IsMadeReport, first_stages}
 use Rattle.cave_play.specs.Sources.{Held}
 use Rattle.cave_play.specs.Stages.{known_stage}
 use Rattle.cave_play.proofs.LogLemmas.{AllSay-some, JudgesLogs-also, JudgesLogs-behind}
-use Rattle.cave_play.proofs.SourceLemmas.{said, some_bytes}
 use Rattle.cave_play.proofs.StageLemmas.{IsFoundIn-first}
 use Rattle.play_command.specs.declared.views.CoverView.TheVariants.{Rules, Said}
 use Rattle.play_cover.specs.Known.{known_entries}
@@ -73,7 +73,7 @@ returns-in-Said g c =
         JudgesLogs-behind (known_stage list ∷ []) stages moves _ _ known.0 also,
       );
       all = c.make_report.ensures.all;
-      leads = g.met.I.Sources.goes_on _ _ _ c.in_ok-known.ensures.leads c.make_report.ensures.leads;
+      leads = goes_on g.I.Sources.Reads _ _ _ c.in_ok-known.ensures.leads c.make_report.ensures.leads;
     }
 
 pub returns-in-Rules : goal.returns-in-Rules
@@ -102,5 +102,5 @@ returns-in-Rules g c =
         JudgesLogs-behind (known_stage list ∷ []) stages moves _ _ known.0 also,
       );
       all = c.make_report-in-Rules.ensures.all;
-      leads = g.met.I.Sources.goes_on _ _ _ c.in_ok-known.ensures.leads c.make_report-in-Rules.ensures.leads;
+      leads = goes_on g.I.Sources.Reads _ _ _ c.in_ok-known.ensures.leads c.make_report-in-Rules.ensures.leads;
     }

@@ -1,3 +1,4 @@
+use Rattle.cave_play.proofs.SourceLemmas.{once}
 use Rattle.std.proofs.Common.{[], ◌∷◌, ap, ◌∙◌}
 use Rattle.std.proofs.lemmas.Result.{err_from_is_err_and}
 use Rattle.cave_play.specs.Stages.{known_stage}
@@ -10,7 +11,7 @@ pub returns-in_err-list : goal.returns-in_err-list
 returns-in_err-list g c =
     let exit = err_from_is_err_and c.from_residual.result c.from_residual.ensures.1 in
     let (list, said, refused) = c.in_err-list.ensures.read in
-    rw (exit.1, exit.2) (record { judged = (list, said, IsFoundIn-known list _ refused); taken = c.in_err-list.ensures.taken; leads = c.in_err-list.ensures.leads })
+    rw (exit.1, exit.2) (record { judged = (list, said, IsFoundIn-known list _ refused); taken = c.in_err-list.ensures.taken; leads = once g.I.Sources.Reads _ _ _ c.in_err-list.ensures.reads })
 
 pub returns-in_err-known : goal.returns-in_err-known
 returns-in_err-known g c =
@@ -19,7 +20,7 @@ returns-in_err-known g c =
     c.from_residual-in_err-known.ensures.1 in
     let (list, said, is) = c.in_ok-list.ensures.read in
     rw (exit.1, exit.2)
-    (record { judged = (list, said, IsFoundIn-memory (known_stage list ∷ [])); taken = c.in_ok-list.ensures.taken; leads = c.in_ok-list.ensures.leads })
+    (record { judged = (list, said, IsFoundIn-memory (known_stage list ∷ [])); taken = c.in_ok-list.ensures.taken; leads = once g.I.Sources.Reads _ _ _ c.in_ok-list.ensures.reads })
 
 pub returns : goal.returns
 returns g c =
@@ -35,5 +36,5 @@ returns g c =
         ),
       );
       taken = c.in_ok-list.ensures.taken;
-      leads = c.in_ok-list.ensures.leads;
+      leads = once g.I.Sources.Reads _ _ _ c.in_ok-list.ensures.reads;
     }

@@ -1,5 +1,5 @@
-use Rattle.std.proofs.Common.{◌≡◌, List, [], ◌∷◌, ◌++◌, Result, inl, refl, sym, subst}
-use Rattle.std.proofs.Common.{ℕ, ◌∙◌}
+use Rattle.cave_play.proofs.SourceLemmas.{goes_on}
+use Rattle.std.proofs.Common.{◌≡◌, List, [], ◌∷◌, ◌++◌, Result, inl, refl, sym, subst, ℕ, ◌∙◌}
 use Rattle.std.proofs.lemmas.Result.{err_from_is_err_and}
 use Rattle.std.specs.List.{AllZip}
 use Rattle.cave_play.specs.Input.{Says}
@@ -72,5 +72,5 @@ returns g c =
         λ judges is. at_stage first judges stage moves _ _ (is there.cave read.1.reads) all,
       );
       all = c.map_games_in_cave-made.ensures.all;
-      leads = g.met.I.Sources.goes_on _ _ _ c.in_ok-read.ensures.leads c.map_games_in_cave-made.ensures.leads;
+      leads = goes_on g.I.Sources.Reads _ _ _ c.in_ok-read.ensures.leads c.map_games_in_cave-made.ensures.leads;
     }

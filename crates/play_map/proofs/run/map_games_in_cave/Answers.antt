@@ -1,3 +1,4 @@
+use Rattle.cave_play.proofs.SourceLemmas.{stays}
 use Rattle.std.proofs.Common.{◌≡◌, [], ◌∷◌, inl, inr, refl}
 use Rattle.std.proofs.lemmas.Result.{err_from_is_err_and}
 use Rattle.cave_play.specs.Logs.{IsMadeReport, games_of}
@@ -15,7 +16,7 @@ returns-in_err-check_place g c =
     (record {
       judged = (moves, last, inl (refl, inl (inr c.in_err-check_place.ensures)));
       all = tt;
-      leads = g.met.I.Sources.stays _;
+      leads = stays g.I.Sources.Reads _;
     })
 
 pub returns : goal.returns

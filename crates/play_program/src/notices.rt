@@ -1,10 +1,9 @@
 //! What the program says beside the output of a run that ended well.
 
 ghost use Rattle.std.specs.Prelude.{◌≡◌};
-ghost use Rattle.play_program.specs.Beside.{refusals_beside, report_in, seed_beside, told_beside};
 ghost use Rattle.play_program.specs.Calls.{and_then};
+ghost use Rattle.play_program.specs.Ends.{notices, refusal_notices, report_in, seed_notice};
 
-use crate::failure::Failure;
 use crate::message::Message;
 use crate::system::System;
 use cave_play::{EditRun, PlayFault};
@@ -23,21 +22,20 @@ pub(crate) fn report_in(edits: &Option<EditRun>) -> &[u8]
 /// Reports each item that was refused, as it is reported if the run is strict.
 fn tell_refusals<S: System>(system: &mut S, request: &Request<'_>, asked: EditAsked, run: &EditRun)
     ensures { S.calls system.new
-        ≡ and_then (S.calls system.old) (refusals_beside request.now asked run.now) }
+        ≡ and_then (S.calls system.old) (refusal_notices request.now asked run.now) }
 {
     if !asked.refusals {
         return;
     }
     for refusal in &run.refused {
-        let failure = Failure::Run(PlayFault::Refused(*refusal), None);
-        system.tell(failure.message(request));
+        system.tell(Message::of_run(request, PlayFault::Refused(*refusal), None));
     }
 }
 
 /// Reports a seed that the edited log doesn't hold, unless nothing is to be said beside the output.
 fn tell_seed<S: System>(system: &mut S, request: &Request<'_>, asked: EditAsked, run: &EditRun)
     ensures { S.calls system.new
-        ≡ and_then (S.calls system.old) (seed_beside request.now asked run.now) }
+        ≡ and_then (S.calls system.old) (seed_notice request.now asked run.now) }
 {
     let is_log = matches!(asked.editing.view, EditView::Log);
     if !request.quiet && is_log && asked.editing.seed != run.seed {
@@ -46,9 +44,12 @@ fn tell_seed<S: System>(system: &mut S, request: &Request<'_>, asked: EditAsked,
 }
 
 /// Says what is to be said of edits beside their output.
-pub(crate) fn tell_beside<S: System>(system: &mut S, request: &Request<'_>, edits: &Option<EditRun>)
-    ensures { S.calls system.new
-        ≡ and_then (S.calls system.old) (told_beside request.now edits.now) }
+pub(crate) fn tell_notices<S: System>(
+    system: &mut S,
+    request: &Request<'_>,
+    edits: &Option<EditRun>,
+)
+    ensures { S.calls system.new ≡ and_then (S.calls system.old) (notices request.now edits.now) }
 {
     if let (What::Edit(asked), Some(run)) = (request.what, edits) {
         tell_refusals(system, request, asked, run);
