@@ -5,7 +5,6 @@ mod FinishLemmas
 mod GuardedLemmas
 pub mod InputLemmas
 pub mod JudgeLemmas
-pub mod Lists
 pub mod LogLemmas
 pub mod LogProgress
 mod RunLemmas
@@ -17,4 +16,3 @@ mod StrictLemmas
 mod TwoLogLemmas
 mod UndoLemmas
 mod ViewLemmas
-mod WatchedLemmas

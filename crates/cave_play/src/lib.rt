@@ -7,7 +7,6 @@ mod ended;
 pub mod fault;
 pub mod inputs;
 pub mod judge;
-pub mod kept_rows;
 pub mod logs;
 pub mod logs_fault;
 pub mod notes;

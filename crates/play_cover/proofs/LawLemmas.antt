@@ -7,7 +7,7 @@ use Rattle.std.proofs.lemmas.List.Sorted.{length_permutation, list_any-IsPermuta
 use Rattle.cave_data.proofs.ReadLemmas.{same_cave}
 use Rattle.cave_data.specs.CaveView.{CaveView}
 use Rattle.play_command.specs.declared.views.CoverView.{CoverView}
-use Rattle.cave_play.proofs.Lists.{any_flat}
+use Rattle.play_machine.proofs.Lists.{any_flat}
 use Rattle.play_cover.specs.Marks.{is_among, is_same}
 use Rattle.play_cover.specs.Plays.{AgainIsNothing, OneCoveredOutput, OrderIsNothing, cover_text}
 use Rattle.play_cover.specs.Plays.{covered_in_all, covered_in_log, report_by}

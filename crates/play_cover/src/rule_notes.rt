@@ -9,11 +9,10 @@ use crate::marks::MarkSet;
 use crate::row_report::{CaveWays, push_row_report};
 use crate::rule_tables::row_mark;
 use cave_data::Cave;
-use cave_play::kept_rows::KeptRows;
 use cave_play::notes::PlayNotes;
 use cave_world::{RuleRow, State, Table};
 use data_bindings::way_lines;
-use play_machine::{Begun, SeenLine, Watch};
+use play_machine::{Begun, NotedRows, SeenLine, Watch};
 use std::alloc::{AllocError, Global};
 
 /// Marks rows.
@@ -39,7 +38,7 @@ impl Watch for RuleNotes {
 
     type Before = ();
 
-    type Rows = KeptRows;
+    type Rows = NotedRows;
 
     ghost Fact = { Mark };
 
@@ -64,7 +63,7 @@ impl Watch for RuleNotes {
         &mut self,
         alloc: Global,
         _: &SeenLine<'_, ()>,
-        rows: &KeptRows,
+        rows: &NotedRows,
     ) -> Result<(), AllocError> {
         note_rows(alloc, rows.as_slice()?, &mut self.marks)
     }

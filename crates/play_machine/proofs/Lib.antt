@@ -1,5 +1,7 @@
 mod FinalStateLemmas
+pub mod Lists
 mod Shown
 mod TranscriptLemmas
 mod WatchLemmas
+pub mod WatchedLemmas
 mod Visits

@@ -5,6 +5,7 @@
 pub mod course;
 pub mod final_state;
 pub mod machine;
+mod noted_rows;
 pub mod packed_state;
 pub mod piece;
 pub mod score;
@@ -17,6 +18,7 @@ pub mod watch;
 pub use course::{PlayEnd, watch_log};
 pub use final_state::{push_final_state, push_state_after};
 pub use machine::CaveMachine;
+pub use noted_rows::NotedRows;
 pub use piece::Piece;
 pub use score::push_score;
 pub use steps::{StepTable, push_steps};

@@ -2,10 +2,9 @@
 
 ghost use Rattle.std.specs.Prelude.{◌≡◌, []};
 
-use cave_play::kept_rows::KeptRows;
 use cave_world::State;
 use map_graph::stops::{Stop, push_ways_by_rows};
-use play_machine::{Begun, SeenLine, Watch};
+use play_machine::{Begun, NotedRows, SeenLine, Watch};
 use std::alloc::{AllocError, Global};
 use std::marker::Model;
 use world_objects::Place;
@@ -50,7 +49,7 @@ impl Watch for Stops {
 
     type Before = Place;
 
-    type Rows = KeptRows;
+    type Rows = NotedRows;
 
     ghost Fact = { Stop };
 
@@ -76,7 +75,7 @@ impl Watch for Stops {
         &mut self,
         _: Global,
         seen: &SeenLine<'_, Place>,
-        rows: &KeptRows,
+        rows: &NotedRows,
     ) -> Result<(), AllocError> {
         let stop = Stop::InState(seen.before, seen.after.trail.here);
         self.stops.push(stop)?;

@@ -1,6 +1,5 @@
-mod CallLemmas
-mod MakeLemmas
-mod OpenLemmas
-mod ReadLemmas
-mod SourceLemmas
-mod TakenLemmas
+pub mod CallLemmas
+pub mod MakeLemmas
+pub mod ReadLemmas
+pub mod SourceLemmas
+pub mod TakenLemmas

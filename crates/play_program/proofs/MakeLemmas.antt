@@ -1,16 +1,14 @@
 -- What a run has of its inputs before it, and of several logs after it.
-use Rattle.std.proofs.Common.{◌≡◌, ℕ, Bool, true, false, List, [], ◌∷◌, ◌++◌, map, Option, ap}
-use Rattle.std.proofs.Common.{None, Result, Some, Ok, Err, inl, inr, append-nil, length, refl}
-use Rattle.std.proofs.Common.{sym, subst, ◌∙◌}
+use Rattle.std.proofs.Common.{◌≡◌, ℕ, Bool, true, false, List, [], ◌∷◌, map, Option, ap, Result, Ok}
+use Rattle.std.proofs.Common.{Err, length, refl, sym, subst, ◌∙◌}
 use Rattle.std.proofs.lemmas.List.{length-map}
-use Rattle.std.specs.List.{AllZip, filter, flat_map}
-use Rattle.std.specs.Prelude.{⊤, IfOk, IfSome, MatchResult, if◌then◌else◌, not, unwrap_or}
+use Rattle.std.specs.List.{AllZip, flat_map}
+use Rattle.std.specs.Prelude.{⊤, IfOk, MatchResult, if◌then◌else◌, unwrap_or}
 use Rattle.cave_play.specs.Input.{InputTexts, Says}
 use Rattle.cave_play.specs.Logs.{IsMadeReport, JudgesLogs}
-use Rattle.cave_play.specs.Sources.{AreHeld, Held}
+use Rattle.cave_play.specs.Sources.{AreHeld, Held, Leads}
 use Rattle.cave_play.specs.declared.logs.Reported.{Reported}
 use Rattle.cave_play.specs.declared.logs_fault.LogsFault.{LogsFault}
-use Rattle.play_command.specs.declared.input.Input.{Input}
 use Rattle.play_command.specs.declared.input.Input.TheVariants as input
 use Rattle.play_command.specs.declared.line.Request.{Request}
 use Rattle.play_command.specs.declared.line.What.{What}
@@ -20,21 +18,17 @@ use Rattle.play_command.specs.declared.views.CoverView.{CoverView}
 use Rattle.play_cover.specs.Known.{known_entries}
 use Rattle.play_cover.specs.Plays.{IsCovered, cover_stages}
 use Rattle.play_cover.specs.declared.run.CoverAsked.{CoverAsked}
-use Rattle.play_program.specs.Calls.{Call, and_then}
-use Rattle.play_program.specs.Ends.{AreFirst, IsMadeWith, IsWhyUnmade, MakesOpened, ReadsLogs}
-use Rattle.play_program.specs.Ends.{held_by}
+use Rattle.play_program.specs.Calls.{Call, and_then, Told}
+use Rattle.play_program.specs.Ends.{MakesOpened, held_by, ReadsFiles, made_with}
 use Rattle.play_program.specs.Files.{FileName, file_of, files_in, is_same_input, log_count}
-use Rattle.play_program.specs.Files.{log_names, name_of_file}
-use Rattle.play_program.specs.Making.{AreAsked, HasReadAll, IsCoverage, IsMade, IsMadeBy, of_cover}
-use Rattle.play_program.specs.Making.{of_map, third_of}
-use Rattle.play_program.specs.Sources.{entry_of, first_files, held_in, held_of, is_first, later_files}
-use Rattle.play_program.specs.Sources.{AreOf, AreTextsOf, AreTried, IsLast, LeadsTo, Shut}
-use Rattle.play_program.specs.Sources.{calls_for_log, later_of, names_for}
-use Rattle.play_program.specs.Sources.{log_entries, opened_in, opened_names, opening, typed_text}
-use Rattle.play_program.specs.declared.failure.Failure.{Failure}
+use Rattle.play_program.specs.Making.{AreAsked, HasReadAll, IsCoverage, IsMadeBy, of_cover, of_map}
+use Rattle.play_program.specs.Making.{third_of}
+use Rattle.play_program.specs.Sources.{entry_of, held_in, held_of, typed_text, Entry, ReadFile}
+use Rattle.play_program.specs.Sources.{ReadsOne, calls_for, entries_by, entries_in, of_input}
 use Rattle.play_program.specs.declared.make.Made.{Made}
 use Rattle.play_program.specs.declared.sources.Files.{Files}
-use Rattle.play_program.proofs.SourceLemmas.{AreOf-opened, names_for-entries}
+use Rattle.std.specs.declared.io.Error.{Error}
+use Rattle.play_program.proofs.ReadLemmas.{Reads, reads_all}
 
 -- ---- what is said of what was made
 
@@ -82,242 +76,101 @@ IsCoverage-asked request texts logs seed view strict asked are reported made is 
 
 -- ---- how many logs there are
 
-module _ (bytes_of : List ℕ → Option (List ℕ)) where
-  named_next : (here : Bool) (file : FileName) (files : List FileName)
-      → log_entries (map (entry_of bytes_of) files) ≡ map bytes_of (log_names files)
-      → (if here then bytes_of file.1 ∷ log_entries (map (entry_of bytes_of) files)
-      else log_entries (map (entry_of bytes_of) files))
-      ≡ map bytes_of (if here then file.1 ∷ log_names files else log_names files)
-  named_next true file files rest = ap (λ l. bytes_of file.1 ∷ l) rest
-  named_next false file files rest = rest
+module _ (what : What) (bytes_of : List ℕ → Option (List ℕ)) where
+  counted_next : (here : Bool) (file : FileName) (logs : List Entry) (names : List (List ℕ))
+      → length logs ≡ length names
+      → length (if here then entry_of what bytes_of file ∷ logs else logs)
+      ≡ length (if here then file.1 ∷ names else names)
+  counted_next true file logs names same = ap (λ n. suc n) same
+  counted_next false file logs names same = same
 
-  -- the logs among all files
-  logs_named : (files : List FileName)
-      → log_entries (map (entry_of bytes_of) files) ≡ map bytes_of (log_names files)
-  logs_named [] = refl
-  logs_named (file ∷ files) =
-      named_next (is_same_input file.0 input.Log) file files (logs_named files)
+  counted : (files : List FileName)
+      → length (of_input input.Log (map (entry_of what bytes_of) files)) ≡ log_count files
+  counted [] = refl
+  counted (file ∷ files) =
+      counted_next (is_same_input file.0 input.Log) file _ _ (counted files)
 
-  filter_all : (files : List FileName) → filter (λ (f : FileName). true) files ≡ files
-  filter_all [] = refl
-  filter_all (file ∷ files) = ap (λ l. file ∷ l) (filter_all files)
-
-  abbrev others : List FileName → List FileName
-  others files = filter (λ (f : FileName). not (is_same_input f.0 input.Log)) files
-
-  no_log_next : (here : Bool) (file : FileName) (files : List FileName)
-      → is_same_input file.0 input.Log ≡ here
-      → log_entries (map (entry_of bytes_of) (others files)) ≡ []
-      → log_entries (map (entry_of bytes_of)
-      (if not here then file ∷ others files else others files)) ≡ []
-  no_log_next true file files is rest = rest
-  no_log_next false file files is rest =
-      ap (λ there. if there then bytes_of file.1
-      ∷ log_entries (map (entry_of bytes_of) (others files))
-      else log_entries (map (entry_of bytes_of) (others files))) is ∙ rest
-
-  -- and among those that are no logs
-  no_logs : (files : List FileName) → log_entries (map (entry_of bytes_of) (others files)) ≡ []
-  no_logs [] = refl
-  no_logs (file ∷ files) =
-      no_log_next (is_same_input file.0 input.Log) file files refl (no_logs files)
-
-  abbrev logs_of : What → List FileName → List (Option (List ℕ))
-  logs_of what files =
-      log_entries (map (entry_of bytes_of) (filter (λ (f : FileName). is_first what f.0) files))
-      ++ map bytes_of (log_names (if is_first what input.Log then [] else files))
-
-  of_one : (files : List FileName)
-      → length (log_entries (map (entry_of bytes_of) (filter (λ (f : FileName). true) files)) ++ [])
-      ≡ log_count files
-  of_one files =
-      ap (λ l. length (log_entries (map (entry_of bytes_of) l) ++ [])) (filter_all files)
-      ∙ ap length (append-nil (log_entries (map (entry_of bytes_of) files)))
-      ∙ ap length (logs_named files) ∙ length-map (log_names files) bytes_of
-
-  of_several : (files : List FileName)
-      → length (log_entries (map (entry_of bytes_of) (others files))
-      ++ map bytes_of (log_names files)) ≡ log_count files
-  of_several files =
-      ap (λ l. length (l ++ map bytes_of (log_names files))) (no_logs files)
-      ∙ length-map (log_names files) bytes_of
-
-  logs_counted : (what : What) (files : List FileName)
-      → length (logs_of what files) ≡ log_count files
-  logs_counted (Check view) files = of_one files
-  logs_counted (Doubts strict) files = of_one files
-  logs_counted (Play seed view) files = of_one files
-  logs_counted (Edit asked) files = of_one files
-  logs_counted (Script form) files = of_one files
-  logs_counted (Cover seed view strict) files = of_several files
-  logs_counted (Map seed part) files = of_several files
-
-  -- a run has as many logs as are named
-  pub held_logs : (request : Request)
-      → length (held_by bytes_of request).logs ≡ log_count (files_in request)
-  held_logs request = logs_counted request.what (files_in request)
-
--- ---- files that were opened
-
--- they have what is known of the inputs
-pub held_is : {S F : Type 0} (bytes_of : S → List ℕ → Option (List ℕ))
-    (left : F → Option (List ℕ)) (known : List ℕ → Option (List ℕ)) (request : Request)
-    (files : Files S F)
-    → map (opened_in left) files.opened.now.items ≡ map (entry_of known) (first_files request)
-    → files.request.now ≡ request → later_of files ≡ later_files request
-    → bytes_of files.system.now ≡ known
-    → held_in bytes_of left files ≡ held_by known request
-held_is bytes_of left known request files opened asked later bytes =
-    let entries = map (entry_of known) (first_files request) in
-    ap (λ e. held_of e (typed_text files.request.now)
-    (map (bytes_of files.system.now) (log_names (later_of files)))) opened
-    ∙ ap (λ (r : Request). held_of entries (typed_text r)
-    (map (bytes_of files.system.now) (log_names (later_of files)))) asked
-    ∙ ap (λ l. held_of entries (typed_text request)
-    (map (bytes_of files.system.now) (log_names l))) later
-    ∙ ap (λ b. held_of entries (typed_text request)
-    (map b (log_names (later_files request)))) bytes
-
-no_more : {A : Type 0} (xs ys : List A) → xs ++ ys ≡ [] → ys ≡ []
-no_more [] ys none = none
-no_more (x ∷ xs) ys none = cc
-
-some_none : {A : Type 0} {a : A} → Some a ≡ None → ⊥
-some_none is = cc
+-- a run has as many logs as are named
+pub held_logs : (bytes_of : List ℕ → Option (List ℕ)) (request : Request)
+    → length (held_by bytes_of request).logs ≡ log_count (files_in request)
+held_logs bytes_of request =
+    length-map (of_input input.Log (entries_by bytes_of request)) (λ (e : Entry). e.known)
+    ∙ counted request.what bytes_of (files_in request)
 
 none_mapped : {A B : Type 0} (f : A → B) (xs : List A) → map f xs ≡ [] → xs ≡ []
 none_mapped f [] none = refl
 none_mapped f (x ∷ xs) none = cc
 
--- once a run is done, no log is left
-pub none_left : {S F : Type 0} (bytes_of : S → List ℕ → Option (List ℕ))
-    (left : F → Option (List ℕ)) (files : Files S F) (what : What) (all : List FileName)
-    (read : List (List ℕ)) → HasReadAll what (held_in bytes_of left files)
-    → log_names (if is_first what input.Log then [] else all)
-    ≡ read ++ log_names (later_of files)
-    → log_names (later_of files) ≡ []
-none_left bytes_of left files (Check view) all read has later = no_more read _ (sym later)
-none_left bytes_of left files (Doubts strict) all read has later = no_more read _ (sym later)
-none_left bytes_of left files (Play seed view) all read has later = no_more read _ (sym later)
-none_left bytes_of left files (Edit asked) all read has later = no_more read _ (sym later)
-none_left bytes_of left files (Script form) all read has later = no_more read _ (sym later)
-none_left bytes_of left files (Cover seed view strict) all read has later =
-    none_mapped (bytes_of files.system.now) _
-    (no_more (log_entries (map (opened_in left) files.opened.now.items)) _ has)
-none_left bytes_of left files (Map seed part) all read has later =
-    none_mapped (bytes_of files.system.now) _
-    (no_more (log_entries (map (opened_in left) files.opened.now.items)) _ has)
+-- once a run is done, none of several logs is left
+none_left : (what : What) (logs : List Entry) → HasReadAll what (map (λ (e : Entry). e.known) logs)
+    → HasReadAll what logs
+none_left (Check view) logs all = tt
+none_left (Doubts strict) logs all = tt
+none_left (Play seed view) logs all = tt
+none_left (Edit asked) logs all = tt
+none_left (Script form) logs all = tt
+none_left (Cover seed view strict) logs all = none_mapped (λ (e : Entry). e.known) logs all
+none_left (Map seed part) logs all = none_mapped (λ (e : Entry). e.known) logs all
 
 -- ---- what the run of a request made
 
 module _ {S F : Type 0} (calls_of : S → Option (List Call))
     (bytes_of : S → List ℕ → Option (List ℕ)) (left : F → Option (List ℕ)) (request : Request)
     (known : List ℕ → Option (List ℕ)) (before : Option (List Call)) (files new : Files S F)
-    (opened : map (opened_in left) files.opened.now.items
-    ≡ map (entry_of known) (first_files request))
-    (asked : files.request.now ≡ request) (later : later_of files ≡ later_files request)
-    (bytes : bytes_of files.system.now ≡ known)
-    (calls : calls_of files.system.now ≡ and_then before (opening (first_files request)))
-    (none : files.unopened.now ≡ None) (leads : LeadsTo calls_of bytes_of left files new) where
-  are_of : AreOf (bytes_of files.system.now) (map (opened_in left) files.opened.now.items)
-  are_of = subst (λ b. AreOf b (map (opened_in left) files.opened.now.items)) (sym bytes)
-      (subst (AreOf known) (sym opened) (AreOf-opened known (first_files request)))
+    (waiting : entries_in bytes_of left files ≡ entries_by known request)
+    (asked : files.request.now ≡ request) (calls : calls_of files.system.now ≡ before)
+    (leads : Leads (ReadsOne calls_of bytes_of left) files new) where
+  pub reads : (read : List ReadFile) × Reads calls_of bytes_of left files new read
+  reads = reads_all calls_of bytes_of left leads.0 files new leads.1
 
-  -- all logs were read, if something was made
-  all_read : HasReadAll request.what (held_in bytes_of left new)
-      → log_names (later_of new) ≡ []
-  all_read has =
-      let (read, are) = leads in
-      none_left bytes_of left new request.what (files_in request) (opened_names read) has
-      (ap log_names (sym later) ∙ are.later)
+  held_is : held_in bytes_of left files ≡ held_by known request
+  held_is = ap (held_of (typed_text files.request.now)) waiting
+      ∙ ap (λ (r : Request). held_of (typed_text r) (entries_by known request)) asked
 
-  -- the names that were read are the first of their input
-  are_first : (from : Input) (names others : List (List ℕ))
-      → names_for from (map (opened_in left) files.opened.now.items) ≡ names ++ others
-      → AreFirst names from (first_files request)
-  are_first from names others is = (
-    others,
-    sym (names_for-entries known from (first_files request))
-        ∙ ap (names_for from) (sym opened) ∙ is,
-  )
-
-  -- a log that can't be opened is the last that was
-  last_tried : (old now : Option Shut) (names : List (List ℕ)) → old ≡ None
-      → AreTried files.request.now old now names
-      → IfSome now (λ shut. IsLast (name_of_file request shut.0) names)
-  last_tried old None names nothing tried = tt
-  last_tried old (Some shut) names nothing (inl (empty, same)) = absurd (some_none (same ∙ nothing))
-  last_tried old (Some shut) names nothing (inr (last, is, same)) =
-      subst (λ (r : Request). IsLast (name_of_file r shut.0) names) asked
-      (subst (λ name. IsLast name names) (sym same) is)
-
-  reads_logs : (called : Option (List Call)) → called ≡ calls_of new.system.now
-      → (unopened : Option Shut) (made : Result Made Failure)
-      → MatchResult made (λ _. log_names (later_of new) ≡ []) (λ _. Unit {0})
-      → IfSome unopened (λ shut. IsLast (name_of_file request shut.0) (opened_names leads.0))
-      → ReadsLogs known request before called unopened made leads.0 (log_names (later_of new))
-  reads_logs called same unopened made all tried =
-      let are = leads.1 in
+  read_files : (called : Option (List Call)) → called ≡ calls_of new.system.now
+      → (made : Result Made Told)
+      → MatchResult made (λ _. HasReadAll request.what (held_in bytes_of left new).logs)
+      (λ _. Unit {0})
+      → ReadsFiles known request before called made reads.0
+      (λ from. of_input from (entries_in bytes_of left new))
+  read_files called same made all =
+      let are = reads.1 in
       record {
-        called_are = same ∙ are.calls
+        called_are = same ∙ are.called
             ∙ ap (λ (r : Request). and_then (calls_of files.system.now)
-            (flat_map (calls_for_log r) leads.0)) asked
-            ∙ ap (λ k. and_then k (flat_map (calls_for_log request) leads.0)) calls;
-        texts = subst (λ b. AreTextsOf b leads.0) bytes (are.texts are_of);
-        logs = are_first input.Log _ _ are.open_logs;
-        new_logs = are_first input.NewLog _ _ are.open_new_logs;
-        later = ap log_names (sym later) ∙ are.later;
-        all = all;
-        tried = tried;
+            (flat_map (calls_for r) reads.0)) asked
+            ∙ ap (λ k. and_then k (flat_map (calls_for request) reads.0)) calls;
+        texts = are.texts;
+        first = λ from. ap (of_input from) (sym waiting) ∙ are.first from;
+        all = all_left made all;
       }
+    where
+      all_left : (r : Result Made Told)
+          → MatchResult r (λ _. HasReadAll request.what (held_in bytes_of left new).logs)
+          (λ _. Unit {0})
+          → MatchResult r (λ _. HasReadAll request.what
+          (of_input input.Log (entries_in bytes_of left new))) (λ _. Unit {0})
+      all_left (Ok some) all = none_left request.what _ all
+      all_left (Err said) all = tt
 
-  -- what was found is what was made of the bytes that the files have
-  found_by : (found : Result Made LogsFault) (unopened : Option Shut) (made : Result Made Failure)
-      → IsMadeWith request found unopened made
-      → IsJudged request.what request (held_in bytes_of left files) found
-      → (found : Result Made LogsFault) × (texts : InputTexts) × (logs : List (List ℕ))
-      × AreHeld (third_of request.what) (held_by known request) texts
-      × AllZip Says (held_by known request).logs logs × IsMade request texts logs found
-      × IsMadeWith request found unopened made
-  found_by found unopened made with_it (texts, logs, held, said, is) =
-      let all = held_is bytes_of left known request files opened asked later bytes in (
-        found,
-        texts,
-        logs,
-        subst (λ h. AreHeld (third_of request.what) h texts) all held,
-        subst (λ (h : Held). AllZip Says h.logs logs) all said,
-        is,
-        with_it,
-      )
-
-  -- something was made
+  -- from the bytes of files that are open this was made
   pub MakesOpened-made : (called : Option (List Call)) → called ≡ calls_of new.system.now
-      → (made : Made) → HasReadAll request.what (held_in bytes_of left new)
-      → IsJudged request.what request (held_in bytes_of left files) (Ok made)
-      → MakesOpened known request before called (Ok made) None
-  MakesOpened-made called same made has judged = record {
-    logs = (
-      leads.0,
-      log_names (later_of new),
-      reads_logs called same None (Ok made) (all_read has) tt,
-    );
-    found = found_by (Ok made) None (Ok made) refl judged;
-  }
-
-  -- or a fault was found
-  pub MakesOpened-fault : (called : Option (List Call)) → called ≡ calls_of new.system.now
-      → (found : LogsFault) (unopened : Option Shut) → unopened ≡ new.unopened.now
-      → (failure : Failure) → IsWhyUnmade request found unopened failure
-      → IsJudged request.what request (held_in bytes_of left files) (Err found)
-      → MakesOpened known request before called (Err failure) unopened
-  MakesOpened-fault called same found unopened shut failure why judged = record {
-    logs = (
-      leads.0,
-      log_names (later_of new),
-      reads_logs called same unopened (Err failure) tt
-          (last_tried files.unopened.now unopened (opened_names leads.0) none
-          (subst (λ now. AreTried files.request.now files.unopened.now now (opened_names leads.0)) (sym shut)
-          leads.1.tried)),
-    );
-    found = found_by (Err found) unopened (Err failure) (failure, refl, why) judged;
-  }
+      → (found : Result Made LogsFault) (reason : Option Error) (made : Result Made Told)
+      → made ≡ made_with request found reason
+      → MatchResult made (λ _. HasReadAll request.what (held_in bytes_of left new).logs)
+      (λ _. Unit {0})
+      → IsJudged request.what request (held_in bytes_of left files) found
+      → MakesOpened known request before called made
+  MakesOpened-made called same found reason made is all (texts, logs, held, said, judged) = (
+    (reads.0, (λ from. of_input from (entries_in bytes_of left new)), read_files called same made all),
+    (
+      found,
+      reason,
+      texts,
+      logs,
+      subst (λ h. AreHeld (third_of request.what) h texts) held_is held,
+      subst (λ (h : Held). AllZip Says h.logs logs) held_is said,
+      judged,
+      is,
+    ),
+  )

@@ -1,337 +1,272 @@
 -- What the files of a run still have after one of them was read.
-use Rattle.std.proofs.Common.{◌≡◌, ℕ, Bool, true, false, List, [], ◌∷◌, ◌++◌, None, Some, refl, ap}
-use Rattle.std.proofs.Common.{sym, subst, drop, eqb-true, map, ◌∙◌}
-use Rattle.std.specs.Prelude.{◌==◌, if◌then◌else◌, unwrap_or}
-use Rattle.std.specs.declared.option.Option.{Option}
+use Rattle.std.proofs.Common.{◌≡◌, ℕ, Bool, true, false, List, [], ◌∷◌, ◌++◌, None, Some, ap, drop}
+use Rattle.std.proofs.Common.{eqb-true, get_or, map, refl, subst, sym, ◌∙◌}
+use Rattle.std.specs.Prelude.{if◌then◌else◌}
 use Rattle.cave_play.specs.Input.{Says}
 use Rattle.cave_play.specs.Sources.{IsTaken, held_for, next_log}
 use Rattle.play_command.specs.declared.input.Input.{Input}
 use Rattle.play_command.specs.declared.input.Input.TheVariants as input
-use Rattle.play_program.specs.Files.{FileName, is_same_input, names_in, number_of}
-use Rattle.play_program.specs.Sources.{AreOf, Entry, IsOf, entry_for, entry_of, held_of}
-use Rattle.play_program.specs.Sources.{held_unopened, known_in}
-use Rattle.play_program.specs.Sources.{log_entries, names_after, names_for, next_known}
-use Rattle.play_program.specs.Sources.{without_first}
+use Rattle.play_program.specs.Files.{is_same_input, number_of}
+use Rattle.play_program.specs.Sources.{Entry, first_among, first_known, held_of, missing_text}
+use Rattle.play_program.specs.Sources.{of_input, without_first}
 
--- ---- one list of files
+-- ---- inputs
 
--- an input that is one of two others isn't the other
-by_numbers : (here one other : ℕ) → (here == one) ≡ true → (one == other) ≡ false
-    → (here == other) ≡ false
-by_numbers here one other same apart = ap (λ n. n == other) (eqb-true here one same) ∙ apart
+numbered : ℕ → Input
+numbered n = get_or (input.Cave ∷ input.Bindings ∷ input.Log ∷ input.NewLog ∷ input.Script
+    ∷ input.Known ∷ []) n input.Cave
+
+numbered-back : (one : Input) → numbered (number_of one) ≡ one
+numbered-back input.Cave = refl
+numbered-back input.Bindings = refl
+numbered-back input.Log = refl
+numbered-back input.NewLog = refl
+numbered-back input.Script = refl
+numbered-back input.Known = refl
+
+pub same_inputs : (one other : Input) → is_same_input one other ≡ true → one ≡ other
+same_inputs one other same =
+    sym (numbered-back one) ∙ ap numbered (eqb-true (number_of one) (number_of other) same)
+    ∙ numbered-back other
+
+-- ---- the files of an input
+
+some_same : {A : Type 0} {one other : A} → Some one ≡ Some other → one ≡ other
+some_same is = cc
 
 module _ (one other : Input) (apart : is_same_input one other ≡ false) where
   other_first : (here : Bool) (entry : Entry) (entries : List Entry)
-      → is_same_input entry.from one ≡ here
-      → entry_for other (without_first one entries) ≡ entry_for other entries
-      → entry_for other (if here then entries else entry ∷ without_first one entries)
-      ≡ entry_for other (entry ∷ entries)
+      → is_same_input entry.file.0 one ≡ here
+      → of_input other (without_first one entries) ≡ of_input other entries
+      → of_input other (if here then entries else entry ∷ without_first one entries)
+      ≡ of_input other (entry ∷ entries)
   other_first true entry entries same rest =
-      sym (ap (λ there. if there then Some entry else entry_for other entries)
-      (by_numbers (number_of entry.from) (number_of one) (number_of other) same apart))
+      let is_other = ap (λ (from : Input). is_same_input from other)
+      (same_inputs entry.file.0 one same) ∙ apart in
+      sym (ap (λ there. if there then entry ∷ of_input other entries else of_input other entries)
+      is_other)
   other_first false entry entries same rest =
-      ap (λ left. if is_same_input entry.from other then Some entry else left) rest
+      ap (λ left. if is_same_input entry.file.0 other then entry ∷ left else left) rest
 
-  -- the first file of another input stays
-  entry_for-other : (entries : List Entry)
-      → entry_for other (without_first one entries) ≡ entry_for other entries
-  entry_for-other [] = refl
-  entry_for-other (entry ∷ entries) =
-      other_first (is_same_input entry.from one) entry entries refl (entry_for-other entries)
+  -- those of another input stay
+  pub of_input-other : (entries : List Entry)
+      → of_input other (without_first one entries) ≡ of_input other entries
+  of_input-other [] = refl
+  of_input-other (entry ∷ entries) =
+      other_first (is_same_input entry.file.0 one) entry entries refl (of_input-other entries)
 
-  kept_for : (text : List ℕ) (entries : List Entry)
-      → known_in text (entry_for other (without_first one entries))
-      ≡ known_in text (entry_for other entries)
-  kept_for text entries = ap (known_in text) (entry_for-other entries)
+module _ (from : Input) where
+  first_taken : (here : Bool) (entry found : Entry) (entries : List Entry)
+      → is_same_input entry.file.0 from ≡ here
+      → first_among (if here then entry ∷ of_input from entries else of_input from entries)
+      ≡ Some found
+      → (first_among (of_input from entries) ≡ Some found
+      → (is_same_input found.file.0 from ≡ true)
+      × (of_input from entries ≡ found ∷ of_input from (without_first from entries)))
+      → (is_same_input found.file.0 from ≡ true)
+      × ((if here then entry ∷ of_input from entries else of_input from entries)
+      ≡ found ∷ of_input from (if here then entries else entry ∷ without_first from entries))
+  first_taken true entry found entries same is rest = (
+    subst (λ (e : Entry). is_same_input e.file.0 from ≡ true) (some_same is) same,
+    ap (λ e. e ∷ of_input from entries) (some_same is),
+  )
+  first_taken false entry found entries same is rest =
+      let later = rest is in (
+        later.0,
+        later.1
+            ∙ sym (ap (λ there. found ∷ (if there
+            then entry ∷ of_input from (without_first from entries)
+            else of_input from (without_first from entries))) same),
+      )
 
-logs_first : (one : Input) (here : Bool) (entry : Entry) (entries : List Entry)
-    → is_same_input one input.Log ≡ false → is_same_input entry.from one ≡ here
-    → log_entries (without_first one entries) ≡ log_entries entries
-    → log_entries (if here then entries else entry ∷ without_first one entries)
-    ≡ log_entries (entry ∷ entries)
-logs_first one true entry entries apart same rest =
-    sym (ap (λ there. if there then entry.known ∷ log_entries entries else log_entries entries)
-    (by_numbers (number_of entry.from) (number_of one) 2 same apart))
-logs_first one false entry entries apart same rest =
-    ap (λ left. if is_same_input entry.from input.Log then entry.known ∷ left else left) rest
+  -- the first is the one that is taken
+  pub of_input-taken : (entries : List Entry) (found : Entry)
+      → first_among (of_input from entries) ≡ Some found
+      → (is_same_input found.file.0 from ≡ true)
+      × (of_input from entries ≡ found ∷ of_input from (without_first from entries))
+  of_input-taken [] found is = cc
+  of_input-taken (entry ∷ entries) found is =
+      first_taken (is_same_input entry.file.0 from) entry found entries refl is
+      (of_input-taken entries found)
 
--- so do the logs, if it wasn't one that was taken
-kept_logs : (one : Input) → is_same_input one input.Log ≡ false → (entries : List Entry)
-    → log_entries (without_first one entries) ≡ log_entries entries
-kept_logs one apart [] = refl
-kept_logs one apart (entry ∷ entries) =
-    logs_first one (is_same_input entry.from one) entry entries apart refl
-    (kept_logs one apart entries)
+  none_first : (here : Bool) (entry : Entry) (entries : List Entry)
+      → first_among (if here then entry ∷ of_input from entries else of_input from entries) ≡ None
+      → (first_among (of_input from entries) ≡ None → without_first from entries ≡ entries)
+      → (if here then entries else entry ∷ without_first from entries) ≡ entry ∷ entries
+  none_first true entry entries none rest = cc
+  none_first false entry entries none rest = ap (λ l. entry ∷ l) (rest none)
 
--- the first log is the one that is taken
-logs_taken : (here : Bool) (entry found : Entry) (entries : List Entry)
-    → is_same_input entry.from input.Log ≡ here
-    → (if here then Some entry else entry_for input.Log entries) ≡ Some found
-    → (entry_for input.Log entries ≡ Some found
-    → log_entries entries ≡ found.known ∷ log_entries (without_first input.Log entries))
-    → log_entries (entry ∷ entries)
-    ≡ found.known
-    ∷ log_entries (if here then entries else entry ∷ without_first input.Log entries)
-logs_taken true entry found entries same is rest =
-    ap (λ there. if there then entry.known ∷ log_entries entries else log_entries entries) same
-    ∙ ap (λ first. (unwrap_or first entry).known ∷ log_entries entries) is
-logs_taken false entry found entries same is rest =
-    ap (λ there. if there then entry.known ∷ log_entries entries else log_entries entries) same
-    ∙ rest is
-    ∙ sym (ap (λ there. found.known ∷ (if there
-    then entry.known ∷ log_entries (without_first input.Log entries)
-    else log_entries (without_first input.Log entries))) same)
+  -- or there is none
+  pub without_none : (entries : List Entry) → first_among (of_input from entries) ≡ None
+      → without_first from entries ≡ entries
+  without_none [] none = refl
+  without_none (entry ∷ entries) none =
+      none_first (is_same_input entry.file.0 from) entry entries none (without_none entries)
 
-log_entries-taken : (entries : List Entry) (found : Entry)
-    → entry_for input.Log entries ≡ Some found
-    → log_entries entries ≡ found.known ∷ log_entries (without_first input.Log entries)
-log_entries-taken [] found is = cc
-log_entries-taken (entry ∷ entries) found is =
-    logs_taken (is_same_input entry.from input.Log) entry found entries refl is
-    (log_entries-taken entries found)
+-- of each input the first files are those that were taken
+pub of_input-parts : (from other : Input) (entries : List Entry) (found : Entry)
+    → first_among (of_input from entries) ≡ Some found
+    → of_input other entries
+    ≡ of_input other (found ∷ []) ++ of_input other (without_first from entries)
+of_input-parts from other entries found is = by_input (is_same_input from other) refl
+  where
+    taken : (is_same_input found.file.0 from ≡ true)
+        × (of_input from entries ≡ found ∷ of_input from (without_first from entries))
+    taken = of_input-taken from entries found is
 
-logs_none : (here : Bool) (entry : Entry) (entries : List Entry)
-    → is_same_input entry.from input.Log ≡ here
-    → (if here then Some entry else entry_for input.Log entries) ≡ None
-    → (entry_for input.Log entries ≡ None → log_entries entries ≡ [])
-    → log_entries (entry ∷ entries) ≡ []
-logs_none true entry entries same none rest = cc
-logs_none false entry entries same none rest =
-    ap (λ there. if there then entry.known ∷ log_entries entries else log_entries entries) same
-    ∙ rest none
+    by_input : (same : Bool) → is_same_input from other ≡ same
+        → of_input other entries
+        ≡ of_input other (found ∷ []) ++ of_input other (without_first from entries)
+    by_input true same =
+        subst (λ (o : Input). of_input o entries
+        ≡ of_input o (found ∷ []) ++ of_input o (without_first from entries))
+        (same_inputs from other same)
+        (taken.1 ∙ ap (λ here. (if here then found ∷ [] else [])
+        ++ of_input from (without_first from entries)) (sym taken.0))
+    by_input false apart =
+        sym (of_input-other from other apart entries)
+        ∙ ap (λ here. (if here then found ∷ [] else []) ++ of_input other (without_first from entries))
+        (sym (ap (λ (o : Input). is_same_input o other) (same_inputs found.file.0 from taken.0)
+        ∙ apart))
 
--- no log was opened
-log_entries-none : (entries : List Entry) → entry_for input.Log entries ≡ None
-    → log_entries entries ≡ []
-log_entries-none [] none = refl
-log_entries-none (entry ∷ entries) none =
-    logs_none (is_same_input entry.from input.Log) entry entries refl none
-    (log_entries-none entries)
+-- ---- what a run has
 
--- ---- the names of the files of an input
+first_known-found : (missing : List ℕ) (entries : List Entry) (found : Entry)
+    → first_among entries ≡ Some found → first_known missing entries ≡ found.known
+first_known-found missing [] found is = cc
+first_known-found missing (entry ∷ entries) found is =
+    ap (λ (e : Entry). e.known) (some_same is)
 
-other_names : (one other : Input) (here : Bool) (entry : Entry) (entries : List Entry)
-    → is_same_input one other ≡ false → is_same_input entry.from one ≡ here
-    → names_for other (without_first one entries) ≡ names_for other entries
-    → names_for other (if here then entries else entry ∷ without_first one entries)
-    ≡ names_for other (entry ∷ entries)
-other_names one other true entry entries apart same rest =
-    sym (ap (λ there. if there then entry.name ∷ names_for other entries
-    else names_for other entries)
-    (by_numbers (number_of entry.from) (number_of one) (number_of other) same apart))
-other_names one other false entry entries apart same rest =
-    ap (λ left. if is_same_input entry.from other then entry.name ∷ left else left) rest
+next_log-found : (entries : List Entry) (found : Entry) → first_among entries ≡ Some found
+    → next_log (map (λ (e : Entry). e.known) entries) ≡ found.known
+next_log-found [] found is = cc
+next_log-found (entry ∷ entries) found is = ap (λ (e : Entry). e.known) (some_same is)
 
--- those of another input stay
-pub names_for-other : (one other : Input) → is_same_input one other ≡ false
-    → (entries : List Entry)
-    → names_for other (without_first one entries) ≡ names_for other entries
-names_for-other one other apart [] = refl
-names_for-other one other apart (entry ∷ entries) =
-    other_names one other (is_same_input entry.from one) entry entries apart refl
-    (names_for-other one other apart entries)
+emptied : (entries : List Entry) → first_among entries ≡ None → entries ≡ []
+emptied [] none = refl
+emptied (entry ∷ entries) none = cc
 
-taken_names : (from : Input) (here : Bool) (entry found : Entry) (entries : List Entry)
-    → is_same_input entry.from from ≡ here
-    → (if here then Some entry else entry_for from entries) ≡ Some found
-    → (entry_for from entries ≡ Some found
-    → names_for from entries ≡ found.name ∷ names_for from (without_first from entries))
-    → names_for from (entry ∷ entries)
-    ≡ found.name ∷ names_for from (if here then entries else entry ∷ without_first from entries)
-taken_names from true entry found entries same is rest =
-    ap (λ there. if there then entry.name ∷ names_for from entries else names_for from entries) same
-    ∙ ap (λ first. (unwrap_or first entry).name ∷ names_for from entries) is
-taken_names from false entry found entries same is rest =
-    ap (λ there. if there then entry.name ∷ names_for from entries else names_for from entries) same
-    ∙ rest is
-    ∙ sym (ap (λ there. found.name ∷ (if there
-    then entry.name ∷ names_for from (without_first from entries)
-    else names_for from (without_first from entries))) same)
+module _ (typed : List ℕ) (entries : List Entry) where
+  -- the first file of an input has what is known of it
+  pub held_for-first : (from : Input) (found : Entry)
+      → first_among (of_input from entries) ≡ Some found
+      → held_for from (held_of typed entries) ≡ found.known
+  held_for-first input.Cave found is = first_known-found [] _ found is
+  held_for-first input.Bindings found is = first_known-found [] _ found is
+  held_for-first input.Log found is = next_log-found _ found is
+  held_for-first input.NewLog found is = first_known-found [] _ found is
+  held_for-first input.Script found is = first_known-found typed _ found is
+  held_for-first input.Known found is = first_known-found [] _ found is
 
--- the first is that of the file that is taken
-pub names_for-taken : (from : Input) (entries : List Entry) (found : Entry)
-    → entry_for from entries ≡ Some found
-    → names_for from entries ≡ found.name ∷ names_for from (without_first from entries)
-names_for-taken from [] found is = cc
-names_for-taken from (entry ∷ entries) found is =
-    taken_names from (is_same_input entry.from from) entry found entries refl is
-    (names_for-taken from entries found)
+  module _ (from : Input) where
+    -- what is known of another input is as before
+    k : (missing : List ℕ) (other : Input) → is_same_input from other ≡ false
+        → first_known missing (of_input other (without_first from entries))
+        ≡ first_known missing (of_input other entries)
+    k missing other apart = ap (first_known missing) (of_input-other from other apart entries)
 
-named_entry : (from : Input) (here : Bool) (name : List ℕ) (names more : List (List ℕ))
-    → names ≡ more → (if here then name ∷ names else names) ≡ (if here then name ∷ more else more)
-named_entry from true name names more same = ap (λ l. name ∷ l) same
-named_entry from false name names more same = same
+    l : is_same_input from input.Log ≡ false
+        → map (λ (e : Entry). e.known) (of_input input.Log (without_first from entries))
+        ≡ map (λ (e : Entry). e.known) (of_input input.Log entries)
+    l apart = ap (map (λ (e : Entry). e.known)) (of_input-other from input.Log apart entries)
 
--- files that are opened have the names that they are opened by
-pub names_for-entries : (bytes_of : List ℕ → Option (List ℕ)) (from : Input)
-    (files : List FileName) → names_for from (map (entry_of bytes_of) files) ≡ names_in from files
-names_for-entries bytes_of from [] = refl
-names_for-entries bytes_of from (file ∷ files) =
-    named_entry from (is_same_input file.0 from) file.1 _ _ (names_for-entries bytes_of from files)
-
--- ---- what a run has, if the file of an input was opened
-
-module _ (entries : List Entry) (typed : List ℕ) (later : List (Option (List ℕ))) where
-  -- the file has what is known of its input
-  pub held_for-opened : (from : Input) (entry : Entry) → entry_for from entries ≡ Some entry
-      → held_for from (held_of entries typed later) ≡ entry.known
-  held_for-opened input.Cave entry is = ap (known_in []) is
-  held_for-opened input.Bindings entry is = ap (known_in []) is
-  held_for-opened input.Log entry is =
-      ap (λ logs. next_log (logs ++ later)) (log_entries-taken entries entry is)
-  held_for-opened input.NewLog entry is = ap (known_in []) is
-  held_for-opened input.Script entry is = ap (known_in typed) is
-  held_for-opened input.Known entry is = ap (known_in []) is
-
-  -- once it is taken out, what is known of the others is as before
-  pub IsTaken-opened : (from : Input) (entry : Entry) → entry_for from entries ≡ Some entry
-      → IsTaken from (held_of entries typed later)
-      (held_of (without_first from entries) typed later)
-  IsTaken-opened input.Cave entry is = record {
+  -- so are the others once one was read
+  pub IsTaken-first : (from : Input) (found : Entry)
+      → first_among (of_input from entries) ≡ Some found
+      → IsTaken from (held_of typed entries) (held_of typed (without_first from entries))
+  IsTaken-first input.Cave found is = record {
     others = λ i. record {
       cave = None;
-      bindings = kept_for input.Cave input.Bindings refl [] entries i;
-      logs = kept_logs input.Cave refl entries i ++ later;
-      new_log = kept_for input.Cave input.NewLog refl [] entries i;
-      script = kept_for input.Cave input.Script refl typed entries i;
-      known = kept_for input.Cave input.Known refl [] entries i;
+      bindings = k input.Cave [] input.Bindings refl i;
+      logs = l input.Cave refl i;
+      new_log = k input.Cave [] input.NewLog refl i;
+      script = k input.Cave typed input.Script refl i;
+      known = k input.Cave [] input.Known refl i;
     };
-    logs = ap (λ logs. logs ++ later) (kept_logs input.Cave refl entries);
+    logs = l input.Cave refl;
   }
-  IsTaken-opened input.Bindings entry is = record {
+  IsTaken-first input.Bindings found is = record {
     others = λ i. record {
-      cave = kept_for input.Bindings input.Cave refl [] entries i;
+      cave = k input.Bindings [] input.Cave refl i;
       bindings = None;
-      logs = kept_logs input.Bindings refl entries i ++ later;
-      new_log = kept_for input.Bindings input.NewLog refl [] entries i;
-      script = kept_for input.Bindings input.Script refl typed entries i;
-      known = kept_for input.Bindings input.Known refl [] entries i;
+      logs = l input.Bindings refl i;
+      new_log = k input.Bindings [] input.NewLog refl i;
+      script = k input.Bindings typed input.Script refl i;
+      known = k input.Bindings [] input.Known refl i;
     };
-    logs = ap (λ logs. logs ++ later) (kept_logs input.Bindings refl entries);
+    logs = l input.Bindings refl;
   }
-  IsTaken-opened input.Log entry is = record {
+  IsTaken-first input.Log found is = record {
     others = λ i. record {
-      cave = kept_for input.Log input.Cave refl [] entries i;
-      bindings = kept_for input.Log input.Bindings refl [] entries i;
+      cave = k input.Log [] input.Cave refl i;
+      bindings = k input.Log [] input.Bindings refl i;
       logs = [];
-      new_log = kept_for input.Log input.NewLog refl [] entries i;
-      script = kept_for input.Log input.Script refl typed entries i;
-      known = kept_for input.Log input.Known refl [] entries i;
+      new_log = k input.Log [] input.NewLog refl i;
+      script = k input.Log typed input.Script refl i;
+      known = k input.Log [] input.Known refl i;
     };
-    logs = sym (ap (λ logs. drop 1 (logs ++ later)) (log_entries-taken entries entry is));
+    logs = sym (ap (λ logs. drop 1 (map (λ (e : Entry). e.known) logs))
+        (of_input-taken input.Log entries found is).1);
   }
-  IsTaken-opened input.NewLog entry is = record {
+  IsTaken-first input.NewLog found is = record {
     others = λ i. record {
-      cave = kept_for input.NewLog input.Cave refl [] entries i;
-      bindings = kept_for input.NewLog input.Bindings refl [] entries i;
-      logs = kept_logs input.NewLog refl entries i ++ later;
+      cave = k input.NewLog [] input.Cave refl i;
+      bindings = k input.NewLog [] input.Bindings refl i;
+      logs = l input.NewLog refl i;
       new_log = None;
       script = None;
       known = None;
     };
-    logs = ap (λ logs. logs ++ later) (kept_logs input.NewLog refl entries);
+    logs = l input.NewLog refl;
   }
-  IsTaken-opened input.Script entry is = record {
+  IsTaken-first input.Script found is = record {
     others = λ i. record {
-      cave = kept_for input.Script input.Cave refl [] entries i;
-      bindings = kept_for input.Script input.Bindings refl [] entries i;
-      logs = kept_logs input.Script refl entries i ++ later;
+      cave = k input.Script [] input.Cave refl i;
+      bindings = k input.Script [] input.Bindings refl i;
+      logs = l input.Script refl i;
       new_log = None;
       script = None;
       known = None;
     };
-    logs = ap (λ logs. logs ++ later) (kept_logs input.Script refl entries);
+    logs = l input.Script refl;
   }
-  IsTaken-opened input.Known entry is = record {
+  IsTaken-first input.Known found is = record {
     others = λ i. record {
-      cave = kept_for input.Known input.Cave refl [] entries i;
-      bindings = kept_for input.Known input.Bindings refl [] entries i;
-      logs = kept_logs input.Known refl entries i ++ later;
+      cave = k input.Known [] input.Cave refl i;
+      bindings = k input.Known [] input.Bindings refl i;
+      logs = l input.Known refl i;
       new_log = None;
       script = None;
       known = None;
     };
-    logs = ap (λ logs. logs ++ later) (kept_logs input.Known refl entries);
+    logs = l input.Known refl;
   }
 
--- ---- what a run has, if none was
+  -- an input without a file
+  pub Says-missing : (from : Input) (bytes : List ℕ) → first_among (of_input from entries) ≡ None
+      → bytes ≡ missing_text typed from → Says (held_for from (held_of typed entries)) bytes
+  Says-missing input.Cave bytes none said =
+      subst (λ l. Says (first_known [] l) bytes) (sym (emptied _ none)) said
+  Says-missing input.Bindings bytes none said =
+      subst (λ l. Says (first_known [] l) bytes) (sym (emptied _ none)) said
+  Says-missing input.Log bytes none said =
+      subst (λ l. Says (next_log (map (λ (e : Entry). e.known) l)) bytes) (sym (emptied _ none)) tt
+  Says-missing input.NewLog bytes none said =
+      subst (λ l. Says (first_known [] l) bytes) (sym (emptied _ none)) said
+  Says-missing input.Script bytes none said =
+      subst (λ l. Says (first_known typed l) bytes) (sym (emptied _ none)) said
+  Says-missing input.Known bytes none said =
+      subst (λ l. Says (first_known [] l) bytes) (sym (emptied _ none)) said
 
-module _ (entries : List Entry) (typed : List ℕ) (bytes_of : List ℕ → Option (List ℕ))
-    (names : List (List ℕ)) where
-  -- the next of several logs, or no bytes
-  next_of : (names : List (List ℕ)) (bytes : List ℕ) → Says (next_known bytes_of names) bytes
-      → Says (next_log (map bytes_of names)) bytes
-  next_of [] bytes said = tt
-  next_of (name ∷ names) bytes said = said
-
-  pub Says-unopened : (from : Input) (bytes : List ℕ) → entry_for from entries ≡ None
-      → Says (held_unopened bytes_of typed names from) bytes
-      → Says (held_for from (held_of entries typed (map bytes_of names))) bytes
-  Says-unopened input.Cave bytes none said =
-      subst (λ e. Says (known_in [] e) bytes) (sym none) said
-  Says-unopened input.Bindings bytes none said =
-      subst (λ e. Says (known_in [] e) bytes) (sym none) said
-  Says-unopened input.Log bytes none said =
-      subst (λ logs. Says (next_log (logs ++ map bytes_of names)) bytes)
-      (sym (log_entries-none entries none)) (next_of names bytes said)
-  Says-unopened input.NewLog bytes none said =
-      subst (λ e. Says (known_in [] e) bytes) (sym none) said
-  Says-unopened input.Script bytes none said =
-      subst (λ e. Says (known_in typed e) bytes) (sym none) said
-  Says-unopened input.Known bytes none said =
-      subst (λ e. Says (known_in [] e) bytes) (sym none) said
-
-  dropped : (names : List (List ℕ)) → map bytes_of (drop 1 names) ≡ drop 1 (map bytes_of names)
-  dropped [] = refl
-  dropped (name ∷ names) = refl
-
-  pub IsTaken-unopened : (from : Input) → entry_for from entries ≡ None
-      → IsTaken from (held_of entries typed (map bytes_of names))
-      (held_of entries typed (map bytes_of (names_after from names)))
-  IsTaken-unopened input.Log none = record {
+  pub IsTaken-missing : (from : Input) → first_among (of_input from entries) ≡ None
+      → IsTaken from (held_of typed entries) (held_of typed entries)
+  IsTaken-missing input.Log none = record {
     others = refl;
-    logs = ap (λ logs. logs ++ map bytes_of (drop 1 names)) (log_entries-none entries none)
-        ∙ dropped names
-        ∙ sym (ap (λ logs. drop 1 (logs ++ map bytes_of names)) (log_entries-none entries none));
+    logs = ap (map (λ (e : Entry). e.known)) (emptied _ none)
+        ∙ sym (ap (λ l. drop 1 (map (λ (e : Entry). e.known) l)) (emptied _ none));
   }
-  IsTaken-unopened input.Cave none = record { others = refl; logs = refl }
-  IsTaken-unopened input.Bindings none = record { others = refl; logs = refl }
-  IsTaken-unopened input.NewLog none = record { others = refl; logs = refl }
-  IsTaken-unopened input.Script none = record { others = refl; logs = refl }
-  IsTaken-unopened input.Known none = record { others = refl; logs = refl }
-
--- ---- files have the bytes of their names
-
-module _ (bytes_of : List ℕ → Option (List ℕ)) (from : Input) where
-  of_first : (here : Bool) (entry : Entry) (entries : List Entry) → IsOf bytes_of entry
-      → AreOf bytes_of entries → AreOf bytes_of (without_first from entries)
-      → AreOf bytes_of (if here then entries else entry ∷ without_first from entries)
-  of_first true entry entries is are left = are
-  of_first false entry entries is are left = (is, left)
-
-  pub AreOf-left : (entries : List Entry) → AreOf bytes_of entries
-      → AreOf bytes_of (without_first from entries)
-  AreOf-left [] are = tt
-  AreOf-left (entry ∷ entries) are =
-      of_first (is_same_input entry.from from) entry entries are.0 are.1
-      (AreOf-left entries are.1)
-
-  of_found : (here : Bool) (entry found : Entry) (entries : List Entry) → IsOf bytes_of entry
-      → (if here then Some entry else entry_for from entries) ≡ Some found
-      → (entry_for from entries ≡ Some found → IsOf bytes_of found) → IsOf bytes_of found
-  of_found true entry found entries is same rest =
-      subst (IsOf bytes_of) (ap (λ e. unwrap_or e entry) same) is
-  of_found false entry found entries is same rest = rest same
-
-  pub IsOf-taken : (entries : List Entry) (found : Entry) → AreOf bytes_of entries
-      → entry_for from entries ≡ Some found → IsOf bytes_of found
-  IsOf-taken [] found are same = absurd (cc)
-  IsOf-taken (entry ∷ entries) found are same =
-      of_found (is_same_input entry.from from) entry found entries are.0 same
-      (IsOf-taken entries found are.1)
-
--- the files that were opened before a run have the bytes of their names
-pub AreOf-opened : (bytes_of : List ℕ → Option (List ℕ)) (files : List FileName)
-    → AreOf bytes_of (map (entry_of bytes_of) files)
-AreOf-opened bytes_of [] = tt
-AreOf-opened bytes_of (file ∷ files) = (refl, AreOf-opened bytes_of files)
+  IsTaken-missing input.Cave none = record { others = refl; logs = refl }
+  IsTaken-missing input.Bindings none = record { others = refl; logs = refl }
+  IsTaken-missing input.NewLog none = record { others = refl; logs = refl }
+  IsTaken-missing input.Script none = record { others = refl; logs = refl }
+  IsTaken-missing input.Known none = record { others = refl; logs = refl }

@@ -3,7 +3,7 @@
 use Rattle.std.specs.Prelude.{◌≡◌, ◌⊎◌, ◌&&◌, ℕ, Bool, true, false, not, List, [], ◌∷◌, ◌++◌, map}
 use Rattle.std.specs.Prelude.{Option, None, Some, Result, Ok, Err, if◌then◌else◌, is_some}
 use Rattle.std.specs.Prelude.{option_map, slice_get, string_bytes, unwrap_or}
-use Rattle.std.specs.List.{flat_map}
+use Rattle.std.specs.List.{filter, flat_map}
 use Rattle.std.specs.declared.io.Error.{Error}
 use Rattle.cave_play.specs.Input.{Says}
 use Rattle.cave_play.specs.Sources.{Held}
@@ -83,11 +83,13 @@ entry_of what bytes_of file =
 abbrev pub entries_by : (List ℕ → Option (List ℕ)) → Request → List Entry
 entries_by bytes_of request = map (entry_of request.what bytes_of) (files_in request)
 
--- the files of an input
+-- the files of an input, and the first of some files
 abbrev pub of_input : Input → List Entry → List Entry
-of_input from [] = []
-of_input from (entry ∷ entries) =
-    if is_same_input entry.file.0 from then entry ∷ of_input from entries else of_input from entries
+of_input from entries = filter (λ entry. is_same_input entry.file.0 from) entries
+
+abbrev pub first_among : List Entry → Option Entry
+first_among [] = None
+first_among (entry ∷ entries) = Some entry
 
 -- the files without the first one of an input
 abbrev pub without_first : Input → List Entry → List Entry
@@ -98,7 +100,7 @@ without_first from (entry ∷ entries) =
 -- the first file of an input was taken out, if there is one
 abbrev pub IsTakenFrom : Input → List Entry → List Entry → Option Entry → Type 0
 IsTakenFrom from old new taken =
-    (taken ≡ slice_get (of_input from old) 0) × (new ≡ without_first from old)
+    (taken ≡ first_among (of_input from old)) × (new ≡ without_first from old)
 
 -- what is known of an input by its first file; without one it has these bytes
 abbrev pub first_known : List ℕ → List Entry → Option (List ℕ)
@@ -177,5 +179,5 @@ pub record ReadsOne {S F : Type 0} (calls_of : S → Option (List Call))
   pub reason : new.unopened.ghost_name ≡ old.unopened.ghost_name
   pub bytes : bytes_of new.system.now ≡ bytes_of old.system.now
   pub entries : entries_in bytes_of left new ≡ without_first from (entries_in bytes_of left old)
-  pub asks : AsksFor old.request.now (slice_get (of_input from (entries_in bytes_of left old)) 0)
+  pub asks : AsksFor old.request.now (first_among (of_input from (entries_in bytes_of left old)))
       (calls_of old.system.now) (calls_of new.system.now)

@@ -2,7 +2,7 @@
 //! written.
 
 ghost use Rattle.std.specs.Prelude.{Some, bytes_eq, map, string_bytes};
-ghost use Rattle.play_program.specs.Program.{EndsWords};
+ghost use Rattle.play_program.specs.Ends.{EndsWords};
 ghost use Rattle.test_runs.specs.Memory.{bytes_at, calls_by, file_named};
 
 use crate::calls::{KeptCall, KeptMessage};

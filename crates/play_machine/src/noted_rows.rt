@@ -1,14 +1,14 @@
-//! The rows that are noted on a line, kept for what watches a play.
+//! The rows that are noted on a line, for what watches a play.
 
 ghost use Rattle.std.specs.Prelude.{◌≡◌, IfOk, None};
 
+use crate::watch::LineRows;
 use cave_world::{GhostRows, RowNotes, RuleRow};
-use play_machine::LineRows;
 use std::alloc::{AllocError, Global};
 
 /// The rows of a line, in order.
 #[derive(Drop)]
-pub struct KeptRows {
+pub struct NotedRows {
     rows: Vec<RuleRow>,
     /// The error, if memory ran out and some rows are missing.
     failed: Option<AllocError>,
@@ -16,7 +16,7 @@ pub struct KeptRows {
     ghost kept: { failed ≡ None → rows.items ≡ all.rows },
 }
 
-impl KeptRows {
+impl NotedRows {
     /// The rows, if none is missing.
     pub fn as_slice(&self) -> Result<&[RuleRow], AllocError>
         ensures { IfOk result (λ rows. rows.now ≡ self.now.all.rows) }
@@ -28,7 +28,7 @@ impl KeptRows {
     }
 }
 
-impl RowNotes for KeptRows {
+impl RowNotes for NotedRows {
     ghost rows = { λ n. n.all.rows };
 
     fn note(&mut self, row: RuleRow) {
@@ -39,9 +39,9 @@ impl RowNotes for KeptRows {
     }
 }
 
-impl LineRows for KeptRows {
-    fn none(alloc: Global) -> KeptRows {
-        KeptRows {
+impl LineRows for NotedRows {
+    fn none(alloc: Global) -> NotedRows {
+        NotedRows {
             rows: Vec::new(alloc),
             failed: None,
             all: GhostRows::new(),
