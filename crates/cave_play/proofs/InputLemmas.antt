@@ -4,8 +4,7 @@ use Rattle.std.proofs.Common.{inl, inr, append-nil, length-append, le_refl}
 use Rattle.std.specs.declared.option.Option.{Option}
 use Rattle.std.specs.Io.KnownBytes.{Consumes, IsAtEnd}
 use Rattle.std.proofs.KnownBytes.{Consumes-trans}
-use Rattle.cave_play.specs.Input.{Says}
-use Rattle.cave_play.specs.Reading.{Exceeds, IsUnread}
+use Rattle.cave_play.specs.Sources.{Says, Exceeds, IsUnread}
 use Rattle.cave_play.specs.declared.fault.PlayFault.{PlayFault}
 use Rattle.play_command.specs.declared.input.Input.{Input}
 

@@ -30,7 +30,7 @@ use Rattle.cave_play.proofs.StageLemmas.{Judges-read, first_decided-one}
 use Rattle.cave_play.specs.Judge.{large_seed, every_fault, too_large, input_size_fault}
 use Rattle.cave_play.specs.Judge.{cave_refusal, inputs_fault, lines_fault, log_fault, script_fault}
 use Rattle.cave_play.specs.Judge.{first_malformed, script_refusal, or_too_many, opening_fault}
-use Rattle.cave_play.specs.Reading.{IsUnread}
+use Rattle.cave_play.specs.Sources.{IsUnread}
 use Rattle.cave_play.specs.Run.{Judges, IsFoundAt, IsFoundIn}
 use Rattle.cave_play.specs.Stages.{reading_stage, judging_stage, first_decided, cave_stages}
 use Rattle.cave_play.specs.Stages.{known_stage, log_stage, script_stage}

@@ -3,7 +3,7 @@ use Rattle.std.proofs.Common.{◌≡◌, ℕ, suc, ◌+◌, List, [], ◌∷◌,
 use Rattle.std.proofs.Common.{Result, Ok, Err, inl, inr, refl, sym, ap, ◌∙◌, subst, arith}
 use Rattle.std.specs.List.{AllZip}
 use Rattle.std.specs.Option.{option_or}
-use Rattle.cave_play.specs.Input.{Says}
+use Rattle.cave_play.specs.Sources.{Says}
 use Rattle.cave_play.specs.Judge.{log_fault}
 use Rattle.cave_play.specs.Stages.{Stage, first_decided, log_stage}
 use Rattle.cave_play.specs.Run as stage
@@ -13,7 +13,7 @@ use Rattle.cave_play.proofs.StageLemmas.{IsFoundIn-later, first_decided-later}
 use Rattle.cave_play.specs.Logs.{AreValidLogs, IsFoundFrom, IsMadeReport, JudgesLogs, RunsLogs}
 use Rattle.cave_play.specs.Logs.{WritesReport, at_log}
 use Rattle.cave_play.specs.declared.logs.Reported.{Reported}
-use Rattle.cave_play.specs.declared.logs_fault.LogsFault.{LogsFault}
+use Rattle.cave_play.specs.declared.logs.LogsFault.{LogsFault}
 
 -- ---- bytes of several readers
 

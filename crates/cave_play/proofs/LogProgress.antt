@@ -6,10 +6,9 @@ use Rattle.std.proofs.lemmas.List.{map-append}
 use Rattle.std.specs.List.{AllZip}
 use Rattle.std.specs.Str.Lines.{lines}
 use Rattle.std.proofs.lemmas.List.Concat.{flat_map-append}
-use Rattle.cave_play.specs.Input.{Says}
+use Rattle.cave_play.specs.Sources.{Says, next_log}
 use Rattle.cave_play.specs.Judge.{log_fault}
 use Rattle.cave_play.specs.Run as stage
-use Rattle.cave_play.specs.Sources.{next_log}
 use Rattle.cave_play.specs.Stages.{log_stage}
 use Rattle.cave_play.specs.declared.fault.PlayFault.{PlayFault}
 use Rattle.replay_edits.specs.Edit.{Game, game_of}

@@ -9,29 +9,24 @@ use Rattle.replay_difference.specs.Difference.{IsLog}
 use Rattle.replay_difference.specs.ScriptTo.{GrowsByScript, IsScriptTo}
 use Rattle.replay_difference.specs.declared.script.ScriptForm.{ScriptForm}
 use Rattle.cave_play.specs.Judge.{lines_fault, log_fault}
-use Rattle.cave_play.specs.Reading.{IsUnread}
-use Rattle.cave_play.specs.Run.{IsFoundIn}
+use Rattle.cave_play.specs.Sources.{IsUnread, InputTexts, AreRead, Leads}
+use Rattle.cave_play.specs.Run.{IsFoundIn, Writes, WritesEdit}
 use Rattle.cave_play.specs.Stages.{first_decided, judging_stage, log_stage, edit_stages}
 use Rattle.cave_play.specs.EditRun.{IsEditRun}
-use Rattle.cave_play.specs.Input.{InputTexts}
 use Rattle.cave_play.specs.TwoLogs.{IsDifferenceOf, IsReadDifferenceOf, JudgesEditTo, JudgesScript}
 use Rattle.cave_play.specs.TwoLogs.{RunsEditTo, RunsScript, new_log_fault, new_log_stage}
 use Rattle.cave_play.specs.TwoLogs.{two_logs_stages, ReadsWith}
-use Rattle.cave_play.specs.Writing.{Writes, WritesEdit}
 use Rattle.cave_play.specs.declared.edits.EditRun.{EditRun}
 use Rattle.cave_play.specs.declared.edits.MadeEdit.{MadeEdit}
 use Rattle.play_command.specs.declared.aside.ReportView.{ReportView}
 use Rattle.play_command.specs.declared.editing.Editing.{Editing}
 use Rattle.play_command.specs.declared.input.Input.TheVariants as input
 use Rattle.cave_play.specs.declared.fault.PlayFault.{PlayFault}
-use Rattle.cave_play.specs.declared.fault.PlayFault.TheVariants as fault
 use Rattle.cave_play.proofs.SourceLemmas.{goes_on, stays}
-use Rattle.cave_play.specs.Sources.{AreRead, Leads}
 use Rattle.cave_play.specs.declared.two_logs.WithCompared.{WithCompared}
 use Rattle.play_command.specs.declared.input.Input.{Input}
 use Rattle.cave_play.proofs.AcceptedLogs.{IsGame-accepted}
-use Rattle.cave_play.proofs.RunLemmas.{Runs-made, RunsWith-made, unwritten_by_both}
-use Rattle.cave_play.proofs.RunLemmas.{unwritten_by_edit, unwritten_by_log, unwritten_by_none}
+use Rattle.cave_play.proofs.RunLemmas.{Runs-made, RunsWith-made}
 use Rattle.cave_play.proofs.JudgeLemmas.{log_fault-lines}
 use Rattle.cave_play.proofs.StageLemmas.{first_decided-alone, first_decided-one, memory_alone}
 
@@ -63,34 +58,6 @@ first_decided-new_log bytes none =
     first_decided-one (new_log_stage bytes)
     (ap (option_map new_log_fault) (first_decided-alone (log_stage bytes) none))
 
--- no stage of two logs decides that the output can't be written
-unwritten_by_new : (decided : Option PlayFault) → (decided ≡ Some fault.Write → ⊥)
-    → option_map new_log_fault decided ≡ Some fault.Write → ⊥
-unwritten_by_new None never found = cc
-unwritten_by_new (Some fault.Write) never found = never refl
-unwritten_by_new (Some fault.Memory) never found = cc
-unwritten_by_new (Some (fault.Read from)) never found = cc
-unwritten_by_new (Some (fault.Cave error clue)) never found = cc
-unwritten_by_new (Some (fault.Doubt doubt)) never found = cc
-unwritten_by_new (Some fault.LargeKnown) never found = cc
-unwritten_by_new (Some (fault.Unshown count)) never found = cc
-unwritten_by_new (Some (fault.Unmapped place)) never found = cc
-unwritten_by_new (Some fault.Seed) never found = cc
-unwritten_by_new (Some fault.Every) never found = cc
-unwritten_by_new (Some (fault.Log refused)) never found = cc
-unwritten_by_new (Some (fault.NewLog refused)) never found = cc
-unwritten_by_new (Some (fault.Script refused)) never found = cc
-unwritten_by_new (Some (fault.Refused refusal)) never found = cc
-unwritten_by_new (Some fault.LargeLog) never found = cc
-unwritten_by_new (Some fault.LargeScript) never found = cc
-
-pub unwritten_by_logs : (old new : List ℕ)
-    → first_decided (two_logs_stages old new) ≡ Some fault.Write → ⊥
-unwritten_by_logs old new =
-    unwritten_by_both _ _ (unwritten_by_log old)
-    (unwritten_by_both _ _ (unwritten_by_new (log_fault new) (unwritten_by_log new))
-    unwritten_by_none)
-
 -- ---- runs
 
 -- a script that was made and written
@@ -100,7 +67,7 @@ pub RunsScript-made : (form : ScriptForm) (texts : InputTexts) (old new : Option
 RunsScript-made form texts old new made r (inl judged) written =
     inl (Runs-made (two_logs_stages texts.log texts.script)
     (IsReadDifferenceOf form texts.log texts.script) old new made r
-    (unwritten_by_logs texts.log texts.script) judged written)
+    judged written)
 RunsScript-made form texts old new made r (inr (none, large, is)) written =
     let (ended, kept) = subst (λ m. Writes m old new r) is written in
     inr (none, large, ended, kept)
@@ -119,8 +86,7 @@ RunsEditTo-made editing report texts old new made r (inr (script, difference, ju
       difference,
       RunsWith-made (edit_stages texts.database texts.bindings texts.log script editing)
           (IsEditRun texts.database texts.bindings texts.log script editing report) old new made r
-          (unwritten_by_edit texts.database texts.bindings texts.log script editing) judged
-          written,
+          judged written,
     )
 
 -- ---- the script

@@ -9,7 +9,7 @@ use Rattle.check_doubts.specs.declared.flaw.Doubt.{Doubt}
 use Rattle.check_doubts.specs.declared.listing.DoubtFiles.{DoubtFiles}
 use Rattle.cave_data.specs.CaveView.{CaveView}
 use Rattle.cave_data.specs.Reads.{Reads}
-use Rattle.cave_play.specs.Input.{InputTexts}
+use Rattle.cave_play.specs.Sources.{InputTexts}
 use Rattle.cave_play.specs.Run.{EndsBy}
 use Rattle.cave_play.specs.Stages.{doubts_stages, first_decided}
 use Rattle.cave_play.specs.declared.doubted.LeftDoubts.{LeftDoubts}

@@ -4,7 +4,7 @@ use Rattle.std.specs.Prelude.{Err, MatchResult}
 use Rattle.std.specs.Str.Lines.{lines}
 use Rattle.cave_data.specs.CaveView.{CaveView}
 use Rattle.cave_play.specs.Ended.{IsEdited, IsEndedEditOf, ended_view}
-use Rattle.cave_play.specs.Input.{InputTexts}
+use Rattle.cave_play.specs.Sources.{InputTexts}
 use Rattle.cave_play.specs.Refused.{refusals_by, seed_by}
 use Rattle.cave_play.specs.Size.{size_fault}
 use Rattle.cave_play.specs.Views.{IsEditOf}

@@ -1,7 +1,4 @@
-pub mod Input
-pub mod Reading
 pub mod Sources
-pub mod Writing
 pub mod Logs
 pub mod Doubted
 pub mod Fault

@@ -10,7 +10,7 @@ use Rattle.cave_play.specs.Stages.{Stage, first_decided, judging_stage, cave_sta
 use Rattle.cave_play.specs.Run as stage
 use Rattle.cave_play.specs.declared.fault.PlayFault.{PlayFault}
 use Rattle.cave_play.specs.declared.fault.PlayFault.TheVariants as fault
-use Rattle.cave_play.specs.declared.logs_fault.LogsFault.{LogsFault}
+use Rattle.cave_play.specs.declared.logs.LogsFault.{LogsFault}
 use Rattle.std.specs.Str.Lines.{lines}
 use Rattle.cave_data.specs.CaveView.{CaveView}
 use Rattle.cave_data.specs.Reads.{Reads}

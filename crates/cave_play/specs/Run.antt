@@ -1,11 +1,14 @@
 -- What a run leaves, by its stages, and what its parts make of the inputs.
 use Rattle.std.specs.Prelude.{◌≡◌, ℕ, List, take, Option, None, Result, Ok, Err, ◌⊎◌, ⊤, [], ◌∷◌}
-use Rattle.std.specs.Prelude.{Some}
+use Rattle.std.specs.Prelude.{Some, MatchResult}
 use Rattle.std.specs.Io.KnownBytes.{Appends, Keeps}
 use Rattle.cave_play.specs.declared.fault.PlayFault.{PlayFault}
 use Rattle.cave_play.specs.declared.fault.PlayFault.TheVariants as fault
 use Rattle.play_command.specs.declared.input.Input.{Input}
 use Rattle.cave_play.specs.Stages.{Stage, first_decided}
+use Rattle.std.specs.Global.{Vec}
+use Rattle.cave_play.specs.declared.edits.EditRun.{EditRun}
+use Rattle.cave_play.specs.declared.edits.MadeEdit.{MadeEdit}
 
 -- no bytes decide the fault: the reading of the input failed, or memory was refused
 abbrev pub IsOutsideOf : Option Input → PlayFault → Type 0
@@ -33,13 +36,13 @@ abbrev pub WritesPrefix : (List ℕ → Type 0) → Option (List ℕ) → Option
 WritesPrefix IsOutput old new = (output : List ℕ) × IsOutput output
     × ((n : ℕ) × Appends old new (take n output))
 
--- what a run that failed has written: a prefix of the output if the writer failed, and nothing at
--- any other fault
+-- what a run that failed has written: a prefix of a right output if the writer failed, and nothing if
+-- a fault is found in its stages, none of which decides that the writer fails
 abbrev pub EndsBy : PlayFault → List Stage → (List ℕ → Type 0)
     → Option (List ℕ) → Option (List ℕ) → Type 0
-EndsBy fault.Write stages IsOutput old new =
-    (first_decided stages ≡ None) × WritesPrefix IsOutput old new
-EndsBy found stages IsOutput old new = IsFoundIn stages found × Keeps old new
+EndsBy found stages IsOutput old new =
+    ((found ≡ fault.Write) × (first_decided stages ≡ None) × WritesPrefix IsOutput old new)
+    ⊎ (IsFoundIn stages found × Keeps old new)
 
 -- at most one output is right
 abbrev pub AtMostOne : (List ℕ → Type 0) → Type 0
@@ -61,3 +64,21 @@ abbrev pub Runs : List Stage → (List ℕ → Type 0)
 Runs stages IsOutput old new (Ok done) =
     (first_decided stages ≡ None) × ((output : List ℕ) × IsOutput output × Appends old new output)
 Runs stages IsOutput old new (Err found) = EndsBy found stages IsOutput old new
+
+-- a text was written, and this is returned; or a prefix of it was, and the writer failed
+abbrev pub WritesText : {A : Type 0} → List ℕ → A → Option (List ℕ) → Option (List ℕ)
+    → Result A PlayFault → Type 0
+WritesText text returned old new ended = MatchResult ended
+    (λ made. (made ≡ returned) × Appends old new text)
+    (λ found. (found ≡ fault.Write) × ((n : ℕ) × Appends old new (take n text)))
+
+-- the text that was made was written; or none was made, and nothing is written
+abbrev pub Writes : Result (Vec ℕ) PlayFault → Option (List ℕ) → Option (List ℕ)
+    → Result (Unit {0}) PlayFault → Type 0
+Writes (Ok text) old new ended = WritesText text.items tt old new ended
+Writes (Err found) old new ended = (ended ≡ Err found) × Keeps old new
+
+abbrev pub WritesEdit : Result MadeEdit PlayFault → Option (List ℕ) → Option (List ℕ)
+    → Result EditRun PlayFault → Type 0
+WritesEdit (Ok made) old new ended = WritesText made.text.items made.run old new ended
+WritesEdit (Err found) old new ended = (ended ≡ Err found) × Keeps old new

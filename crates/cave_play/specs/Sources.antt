@@ -1,10 +1,63 @@
--- What is known of the inputs of a run before they are read.
-use Rattle.std.specs.Prelude.{◌≡◌, ℕ, List, [], ◌∷◌, drop, map, Option, None}
-use Rattle.cave_play.specs.Input.{InputTexts, Says}
+-- The bytes of the inputs of a run, and what is known of them before they are read.
+use Rattle.std.specs.Prelude.{◌≡◌, ℕ, ⊤, List, Option, None, Some, ◌⊎◌, ◌+◌, ◌<◌, ◌≤◌, Bool, true}
+use Rattle.std.specs.Prelude.{false, ◌++◌, length, MatchResult, Result, [], ◌∷◌, drop, map}
+use Rattle.cave_play.specs.declared.inputs.Inputs.{Inputs}
+use Rattle.std.specs.Global.{Vec}
+use Rattle.std.specs.Io.KnownBytes.{Consumes, IsAtEnd}
+use Rattle.base_lines.specs.Limits.{MAX_INPUT_BYTES}
+use Rattle.cave_play.specs.Judge.{too_large}
+use Rattle.cave_play.specs.Run.{IsOutsideOf}
+use Rattle.cave_play.specs.declared.fault.PlayFault.{PlayFault}
+use Rattle.play_command.specs.declared.input.Input.{Input}
 use Rattle.cave_play.specs.declared.inputs.CaveReaders.{CaveReaders}
 use Rattle.cave_play.specs.declared.inputs.Readers.{Readers}
-use Rattle.play_command.specs.declared.input.Input.{Input}
 use Rattle.play_command.specs.declared.input.Input.TheVariants as input
+
+-- the bytes are those that a reader is known to have left, if that is known
+abbrev pub Says : Option (List ℕ) → List ℕ → Type 0
+Says None bytes = ⊤
+Says (Some known) bytes = bytes ≡ known
+
+-- the bytes of each input
+pub record InputTexts : Type 0 where
+  pub database : List ℕ
+  pub bindings : List ℕ
+  pub log : List ℕ
+  pub script : List ℕ
+
+-- the texts are those that the readers of the inputs are known to have left, if that is known: the
+-- first four say what a reader has left
+pub record AreTextsOf {C B L S : Type 0} (left_database : C → Option (List ℕ))
+    (left_bindings : B → Option (List ℕ)) (left_log : L → Option (List ℕ))
+    (left_script : S → Option (List ℕ)) (inputs : Inputs C B L S) (texts : InputTexts)
+    : Type 0 where
+  pub database : Says (left_database inputs.cave.database) texts.database
+  pub bindings : Says (left_bindings inputs.cave.bindings) texts.bindings
+  pub log : Says (left_log inputs.log) texts.log
+  pub script : Says (left_script inputs.script) texts.script
+
+-- a reading failed, or the input is too large
+abbrev pub IsUnread : Input → List ℕ → PlayFault → Type 0
+IsUnread from bytes found =
+    IsOutsideOf (Some from) found ⊎ ((MAX_INPUT_BYTES < length bytes) × (found ≡ too_large from))
+
+-- what a reading of an input returns that is known to have these bytes
+abbrev pub IsReading : Option (List ℕ) → Input → Result (Vec ℕ) PlayFault → Type 0
+IsReading known from result = (bytes : List ℕ) × Says known bytes
+    × MatchResult result (λ text. (text.items ≡ bytes) × (length bytes ≤ MAX_INPUT_BYTES))
+    (IsUnread from bytes)
+
+-- one ask of a reader added some bytes to the input, or reached the reader's end
+pub record Gives (old new : Option (List ℕ)) (before after : List ℕ) (some : Bool) : Type 0 where
+  pub bytes : (given : List ℕ) × (after ≡ before ++ given) × Consumes old new given
+  pub more : some ≡ true → length before < length after
+  pub end : some ≡ false → (after ≡ before) × IsAtEnd new
+
+-- one ask failed, or took the bytes that were too many
+abbrev pub Exceeds : Input → Option (List ℕ) → Option (List ℕ) → List ℕ → PlayFault → Type 0
+Exceeds from old new before found = IsOutsideOf (Some from) found
+    ⊎ ((given : List ℕ) × Consumes old new given
+    × (MAX_INPUT_BYTES < length before + length given) × (found ≡ too_large from))
 
 -- the bytes of each input that wasn't read, if they are known; the logs come one after another, and
 -- a run has at most one of the last three

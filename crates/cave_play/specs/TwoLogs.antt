@@ -10,10 +10,9 @@ use Rattle.play_command.specs.declared.editing.Editing.{Editing}
 use Rattle.replay_difference.specs.ScriptTo.{IsScriptTo}
 use Rattle.replay_difference.specs.declared.script.ScriptForm.{ScriptForm}
 use Rattle.replay_edits.specs.Edit.{log_of}
-use Rattle.cave_play.specs.Input.{InputTexts}
+use Rattle.cave_play.specs.Sources.{InputTexts, Held, Leads}
 use Rattle.cave_play.specs.Judge.{log_fault}
 use Rattle.cave_play.specs.Run.{IsFoundIn, Judges, Runs, RunsWith}
-use Rattle.cave_play.specs.Sources.{Held, Leads}
 use Rattle.play_command.specs.declared.input.Input.{Input}
 use Rattle.cave_play.specs.Stages.{Stage, edit_stages, first_decided, log_stage, reading_stage}
 use Rattle.cave_play.specs.EditRun.{IsEditRun, IsMadeEdit}

@@ -4,9 +4,8 @@ ghost use Rattle.std.specs.Prelude.{◌≡◌, IfOk, MatchOption};
 ghost use Rattle.check_doubts.specs.Doubts.{doubts};
 ghost use Rattle.cave_play.specs.Doubted.{AreLeft, AreLeftIn, IsFirstDoubt, IsTaken, RunsDoubts};
 ghost use Rattle.cave_play.specs.Doubted.{first_doubt};
-ghost use Rattle.cave_play.specs.Input.{AreTextsOf, InputTexts};
+ghost use Rattle.cave_play.specs.Sources.{AreTextsOf, InputTexts, AreHeld, Leads};
 ghost use Rattle.cave_play.specs.Run.{Judges};
-ghost use Rattle.cave_play.specs.Sources.{AreHeld, Leads};
 ghost use Rattle.cave_play.specs.Stages.{doubts_stages};
 
 use crate::fault::PlayFault;

@@ -4,11 +4,10 @@ ghost use Rattle.std.specs.Prelude.{ℕ, List, [], ◌∷◌, length};
 ghost use Rattle.replay_checkpoints.specs.Spacing.{IsSpaced};
 ghost use Rattle.replay_edits.specs.Edit.{IsGame};
 ghost use Rattle.cave_play.specs.EditRun.{IsMadeOf};
-ghost use Rattle.cave_play.specs.Input.{Says};
+ghost use Rattle.cave_play.specs.Sources.{Says, Leads};
 ghost use Rattle.cave_play.specs.Run.{Judges};
 ghost use Rattle.cave_play.specs.Stages.{script_stage, strict_stage};
 ghost use Rattle.play_edits.specs.LogEnds.{log_ends};
-ghost use Rattle.cave_play.specs.Sources.{Leads};
 
 use crate::fault::PlayFault;
 use crate::judge::read_script;

@@ -8,7 +8,7 @@ ghost use Rattle.cave_data.specs.Reads.{Reads};
 ghost use Rattle.replay_edits.specs.Edit.{game_of};
 ghost use Rattle.replay_scripts.specs.Guards.{IsScriptBy, script_by};
 ghost use Rattle.replay_scripts.specs.Views.{IsFaultOf, items_of};
-ghost use Rattle.cave_play.specs.Input.{Says};
+ghost use Rattle.cave_play.specs.Sources.{Says, IsTaken, next_log, without_cave, Leads};
 ghost use Rattle.cave_play.specs.Judge.{large_seed, every_fault, lines_fault, script_refusal};
 ghost use Rattle.cave_play.specs.Judge.{cave_refusal, inputs_fault, opening_fault};
 ghost use Rattle.cave_play.specs.Doubted.{IsReadOf};
@@ -16,7 +16,6 @@ ghost use Rattle.play_machine.specs.HeldGame.{HoldsGame};
 ghost use Rattle.play_machine.specs.Moments.{noted_of};
 ghost use Rattle.play_machine.specs.Watch.{IsEndOf, NotesMore};
 ghost use Rattle.cave_play.specs.Run.{Judges};
-ghost use Rattle.cave_play.specs.Sources.{IsTaken, next_log, without_cave, Leads};
 ghost use Rattle.cave_play.specs.Stages.{judging_stage, cave_stages, log_stage, script_stage};
 
 use crate::fault::{LogFault, PlayFault, ScriptFault};

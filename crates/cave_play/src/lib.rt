@@ -8,8 +8,6 @@ pub mod fault;
 pub mod inputs;
 pub mod judge;
 pub mod logs;
-pub mod logs_fault;
-pub mod notes;
 pub mod output;
 pub mod read;
 pub mod run;
@@ -29,7 +27,7 @@ pub use doubted::run_doubts;
 pub use edits::EditRun;
 pub use fault::{Complaint, LogFault, PlayFault, ScriptFault, Unopened};
 pub use inputs::{CaveReaders, Inputs};
-pub use logs_fault::LogsFault;
+pub use logs::LogsFault;
 pub use play_command::{
     CheckView, CommandFault, CoverView, EditAsked, EditView, Editing, EditsFrom, Input, Line,
     NamedFile, PlayView, ReportView, Request, TextView, What, command_line,

@@ -1,25 +1,88 @@
 //! Runs over several logs, each of which is played by itself from its first line.
 
-ghost use Rattle.std.specs.Prelude.{◌≡◌, ℕ, List, [], IfOk, None, length};
+ghost use Rattle.std.specs.Prelude.{◌≡◌, ℕ, List, [], IfOk, None, length, ◌++◌};
 ghost use Rattle.std.specs.List.{AllZip};
 ghost use Rattle.cave_play.specs.Doubted.{IsReadOf};
-ghost use Rattle.cave_play.specs.Input.{Says};
+ghost use Rattle.cave_play.specs.Sources.{Says, Leads};
 ghost use Rattle.cave_play.specs.Judge.{large_seed};
 ghost use Rattle.cave_play.specs.Logs.{IsMadeReport, IsReportOn, IsReported, JudgesLogs};
-ghost use Rattle.cave_play.specs.Logs.{WritesReport, first_stages, games_of, noted_of_all};
+ghost use Rattle.cave_play.specs.Logs.{WritesReport, first_stages, games_of, noted_of_all, at_none};
 ghost use Rattle.cave_play.specs.Run.{Judges};
-ghost use Rattle.cave_play.specs.Sources.{Leads};
+ghost use Rattle.cave_data.specs.CaveView.{CaveView};
+ghost use Rattle.replay_edits.specs.Edit.{Game};
+ghost use Rattle.cave_play.specs.declared.fault.PlayFault.TheVariants.{Memory};
 
 use crate::fault::PlayFault;
 use crate::judge::{ReadCave, check_seed, read_cave, watch_play};
-use crate::logs_fault::LogsFault;
-use crate::notes::PlayNotes;
 use crate::output::write_output;
 use crate::sources::Sources;
+use cave_data::Cave;
 use cave_words::Lexicon;
-use play_machine::CaveMachine;
-use std::alloc::Global;
+use play_machine::{CaveMachine, Watch};
+use std::alloc::{AllocError, Global};
 use std::io::Write;
+
+/// A fault of a run over several logs, and the log at which it is met, from 0, if it is met at one.
+#[derive(Clone, Copy, Debug, PartialEq, Eq)]
+pub struct LogsFault {
+    pub fault: PlayFault,
+    pub log: Option<usize>,
+}
+
+impl From<PlayFault> for LogsFault {
+    ghost from_gives = { λ fault found. found ≡ at_none fault };
+
+    fn from(fault: PlayFault) -> LogsFault {
+        LogsFault { fault, log: None }
+    }
+}
+
+impl From<AllocError> for LogsFault {
+    ghost from_gives = { λ _ found. found ≡ at_none Memory };
+
+    fn from(_: AllocError) -> LogsFault {
+        LogsFault {
+            fault: PlayFault::Memory,
+            log: None,
+        }
+    }
+}
+
+/// Notes on the plays of games in a cave, from which a report is written.
+pub trait PlayNotes: Watch {
+    /// What may be asked of the report.
+    type View;
+
+    /// What is returned with the report.
+    type Found: Copy;
+
+    /// The report on the plays of games in the cave of a database.
+    ghost report_on: { List ℕ → CaveView → Self.View → List Game → List ℕ };
+
+    /// What is returned with it.
+    ghost found_on: { List ℕ → CaveView → Self.View → List Game → Self.Found };
+
+    /// Notes on no play.
+    fn none(alloc: Global) -> Result<Self, AllocError>
+        ensures { IfOk result (λ notes. Self.HasNoted [] notes) };
+
+    /// Appends the report on the plays of this many logs.
+    fn push_report(
+        &self,
+        alloc: Global,
+        database: &[u8],
+        cave: &Cave,
+        view: &Self::View,
+        logs: usize,
+        text: &mut Vec<u8>,
+    ) -> Result<Self::Found, AllocError>
+        ensures { IfOk result (λ found. (games : List Game)
+            → Self.HasNoted (noted_of_all Self.first_facts Self.facts cave.now games) self.now
+            → logs ≡ length games
+            → (text.new.items
+            ≡ text.old.items ++ report_on database.now cave.now view.now games)
+            × (found ≡ found_on database.now cave.now view.now games)) };
+}
 
 /// A report on the plays of logs, and what is found with it.
 #[derive(Drop)]

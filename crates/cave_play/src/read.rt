@@ -3,7 +3,7 @@
 ghost use Rattle.std.specs.Prelude.{◌≡◌, ◌<◌, ◌≤◌, None, length, IfOk, IfErr, vec_len};
 ghost use Rattle.base_lines.specs.Limits as defined;
 ghost use Rattle.cave_play.specs.Judge.{too_large};
-ghost use Rattle.cave_play.specs.Reading.{Exceeds, Gives, IsReading};
+ghost use Rattle.cave_play.specs.Sources.{Exceeds, Gives, IsReading};
 
 use crate::fault::{LogFault, PlayFault, ScriptFault};
 use base_lines::limits::MAX_INPUT_BYTES;

@@ -1,8 +1,7 @@
 //! Where a run has its inputs from.
 
 ghost use Rattle.play_command.specs.declared.input.Input.{Input};
-ghost use Rattle.cave_play.specs.Reading.{IsReading};
-ghost use Rattle.cave_play.specs.Sources.{Held, IsTaken, held_for};
+ghost use Rattle.cave_play.specs.Sources.{IsReading, Held, IsTaken, held_for};
 
 use crate::fault::PlayFault;
 use play_command::Input;

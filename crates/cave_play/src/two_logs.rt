@@ -3,11 +3,10 @@
 ghost use Rattle.std.specs.Prelude.{◌≡◌, ℕ, List, [], ◌∷◌, Some};
 ghost use Rattle.std.specs.Str.Lines.{lines};
 ghost use Rattle.replay_edits.specs.Edit.{log_of};
-ghost use Rattle.cave_play.specs.Input.{AreTextsOf, InputTexts, Says};
+ghost use Rattle.cave_play.specs.Sources.{AreTextsOf, InputTexts, Says, IsReading, AreHeld};
+ghost use Rattle.cave_play.specs.Sources.{IsTaken, next_log, Leads};
 ghost use Rattle.cave_play.specs.Judge.{lines_fault};
-ghost use Rattle.cave_play.specs.Reading.{IsReading};
 ghost use Rattle.cave_play.specs.Run.{Judges};
-ghost use Rattle.cave_play.specs.Sources.{AreHeld, IsTaken, next_log, Leads};
 ghost use Rattle.cave_play.specs.Stages.{judging_stage, log_stage};
 ghost use Rattle.cave_play.specs.TwoLogs.{IsCompared, IsReadLog, JudgesEditTo, JudgesScript};
 ghost use Rattle.cave_play.specs.TwoLogs.{RunsEditTo, RunsScript, new_log_fault, new_log_stage};

@@ -3,10 +3,9 @@
 ghost use Rattle.std.specs.Prelude.{◌≡◌, ℕ, List, [], ◌∷◌, None, ◌++◌, MatchResult, OnOk};
 ghost use Rattle.std.specs.Str.Lines.{lines};
 ghost use Rattle.replay_edits.specs.Edit.{game_of};
-ghost use Rattle.cave_play.specs.Input.{Says};
+ghost use Rattle.cave_play.specs.Sources.{Says, next_log, Leads};
 ghost use Rattle.cave_play.specs.Judge.{large_seed};
 ghost use Rattle.cave_play.specs.Run.{Judges};
-ghost use Rattle.cave_play.specs.Sources.{next_log, Leads};
 ghost use Rattle.cave_play.specs.Stages.{log_stage};
 ghost use Rattle.cave_play.specs.Output.{cave_line, check_text, play_view_text};
 ghost use Rattle.turn_ends.specs.Score.{max_score_of};

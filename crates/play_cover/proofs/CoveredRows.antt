@@ -1,6 +1,6 @@
 -- Each row that plays are noted to apply or try is one that its table or its place has.
-use Rattle.std.proofs.Common.{List, [], arith, map, refl, subst, suc, zero, ℕ, ◌+◌, ◌∷◌, ◌⊎◌}
-use Rattle.std.proofs.Common.{inl, inr}
+use Rattle.std.proofs.Common.{List, [], arith, map, refl, subst, suc, zero, ℕ, ◌+◌, ◌∷◌, ◌⊎◌, inl}
+use Rattle.std.proofs.Common.{inr}
 use Rattle.std.proofs.lemmas.List.Concat.{flat_map-cons}
 use Rattle.std.proofs.lemmas.List.Elements.{Contains-append_cases}
 use Rattle.std.specs.List.{Contains, flat_map}

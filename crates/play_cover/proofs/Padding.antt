@@ -1,7 +1,6 @@
 -- Marks after what is put at the end of a list of them.
 use Rattle.std.proofs.Common.{◌≡◌, ℕ, zero, suc, Bool, List, [], ◌∷◌, ◌++◌, map, get_or, refl, sym}
-use Rattle.std.proofs.Common.{ap}
-use Rattle.std.proofs.Common.{◌∙◌, false, true, ◌<◌, length, set, subst, inl, inr}
+use Rattle.std.proofs.Common.{ap, ◌∙◌, false, true, ◌<◌, length, set, subst, inl, inr}
 use Rattle.std.specs.Prelude.{slice_index_or, ◌||◌, ◌&&◌, ◌==◌, ◌⊎◌, ◌≢◌}
 use Rattle.std.specs.Global.{Vec}
 use Rattle.std.proofs.lemmas.Bool.Decides.{eqb_tells}

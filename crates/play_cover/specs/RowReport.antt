@@ -5,15 +5,13 @@ use Rattle.std.specs.List.{range_with_len}
 use Rattle.data_bindings.specs.declared.by_line.WayLine.{WayLine}
 use Rattle.cave_data.specs.CaveView.{CaveView}
 use Rattle.cave_world.specs.declared.tables.Table.{Table}
-use Rattle.play_cover.specs.Coverage.{Catalogue, all_entries, covered_count, groups_text}
-use Rattle.play_cover.specs.Coverage.{in_logs, left_count, present_count}
+use Rattle.play_cover.specs.Coverage.{Catalogue, all_entries, covered_count, groups_text, in_logs}
+use Rattle.play_cover.specs.Coverage.{left_count, present_count}
 use Rattle.play_cover.specs.EachTable.{tables}
 use Rattle.play_cover.specs.Known.{KnownEntries, unmet_text}
-use Rattle.play_cover.specs.RuleTables.{row_count, table_name, table_number}
-use Rattle.play_cover.specs.RuleTables.{words_of_row}
+use Rattle.play_cover.specs.RuleTables.{row_count, table_name, table_number, words_of_row}
 use Rattle.check_tables.specs.TravelWords.{way_entries}
-use Rattle.play_cover.specs.TravelRows.{left_ways, missing_ways, travel_text}
-use Rattle.play_cover.specs.TravelRows.{ways_noted}
+use Rattle.play_cover.specs.TravelRows.{left_ways, missing_ways, travel_text, ways_noted}
 use Rattle.play_cover.specs.declared.coverage.Detail.TheVariants.{Both}
 use Rattle.play_cover.specs.declared.marks.Mark.{Mark}
 

@@ -5,8 +5,8 @@ use Rattle.std.specs.List.{filter, range_with_len}
 use Rattle.cave_data.specs.CaveView.{CaveView}
 use Rattle.play_command.specs.declared.views.TextView.{TextView}
 use Rattle.play_command.specs.declared.views.TextView.TheVariants as asked
-use Rattle.play_cover.specs.Coverage.{Catalogue, all_entries, covered_count, groups_text}
-use Rattle.play_cover.specs.Coverage.{in_logs, left_count, present_count}
+use Rattle.play_cover.specs.Coverage.{Catalogue, all_entries, covered_count, groups_text, in_logs}
+use Rattle.play_cover.specs.Coverage.{left_count, present_count}
 use Rattle.play_cover.specs.Known.{KnownEntries, unmet_text}
 use Rattle.check_tables.specs.TextKinds.{first_line_shown, heading_of_kind, kind_number, kinds}
 use Rattle.check_tables.specs.TextKinds.{name_of_text, text_at, word_of_kind}

@@ -1,13 +1,11 @@
 //! The report on things of several groups, some of which are covered.
 
-ghost use Rattle.std.specs.Prelude.{◌≡◌, ◌≤◌, codes, [], ◌++◌, ◌^◌, length, IfOk, OnOk};
+ghost use Rattle.std.specs.Prelude.{◌≡◌, ◌≤◌, codes, [], ◌++◌, ◌^◌, length, IfOk, OnOk, not};
 ghost use Rattle.play_cover.specs.Coverage.{Catalogue, all_entries, covered, covered_count};
-ghost use Rattle.play_cover.specs.Coverage.{detail_text, entry_lines, groups_text, left};
-ghost use Rattle.play_cover.specs.Coverage.{in_logs, left_count, logs_word};
-ghost use Rattle.play_cover.specs.Coverage.{line_with, missing, names, never, present_count};
-ghost use Rattle.play_cover.specs.Coverage.{left_of};
+ghost use Rattle.play_cover.specs.Coverage.{detail_text, entry_lines, groups_text, left, in_logs};
+ghost use Rattle.play_cover.specs.Coverage.{left_count, logs_word, line_with, missing, names};
+ghost use Rattle.play_cover.specs.Coverage.{never, present_count, left_of};
 ghost use Rattle.std.specs.List.{filter};
-ghost use Rattle.std.specs.Prelude.{not};
 ghost use Rattle.play_cover.specs.Known.{is_known};
 ghost use Rattle.play_cover.specs.Marks.{is_marked, mark};
 

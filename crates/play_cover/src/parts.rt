@@ -5,8 +5,8 @@ ghost use Rattle.std.specs.FinMap.{get};
 ghost use Rattle.cave_data.specs.CaveView.{class_of};
 ghost use Rattle.data_rows.specs.Role.{role_number};
 ghost use Rattle.play_cover.specs.Marks.{Notes};
-ghost use Rattle.play_cover.specs.Texts.{class_said, look_said, message_said, text};
-ghost use Rattle.play_cover.specs.Texts.{said_by_part, said_by_all};
+ghost use Rattle.play_cover.specs.Texts.{class_said, look_said, message_said, text, said_by_part};
+ghost use Rattle.play_cover.specs.Texts.{said_by_all};
 
 use crate::marks::{Mark, MarkSet};
 use cave_data::Cave;

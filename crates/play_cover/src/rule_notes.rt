@@ -9,7 +9,7 @@ use crate::marks::MarkSet;
 use crate::row_report::{CaveWays, push_row_report};
 use crate::rule_tables::row_mark;
 use cave_data::Cave;
-use cave_play::notes::PlayNotes;
+use cave_play::logs::PlayNotes;
 use cave_world::{RuleRow, State, Table};
 use data_bindings::way_lines;
 use play_machine::{Begun, NotedRows, SeenLine, Watch};

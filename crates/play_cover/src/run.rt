@@ -4,10 +4,9 @@ ghost use Rattle.std.specs.Prelude.{◌≡◌, ℕ, List, [], ◌∷◌, IfOk, l
 ghost use Rattle.std.specs.List.{AllZip};
 ghost use Rattle.play_cover.specs.Known.{known_entries};
 ghost use Rattle.play_cover.specs.Plays.{IsCovered, cover_stages};
-ghost use Rattle.cave_play.specs.Input.{Says};
+ghost use Rattle.cave_play.specs.Sources.{Says, IsTaken, Leads};
 ghost use Rattle.cave_play.specs.Logs.{IsMadeReport, JudgesLogs, RunsLogs};
 ghost use Rattle.cave_play.specs.Run.{Judges};
-ghost use Rattle.cave_play.specs.Sources.{IsTaken, Leads};
 ghost use Rattle.cave_play.specs.Stages.{known_stage};
 
 use crate::known::KnownList;

@@ -5,7 +5,7 @@ use crate::marks::MarkSet;
 use crate::parts::note_parts;
 use crate::text_report::{TextsAsked, push_text_report};
 use cave_data::Cave;
-use cave_play::notes::PlayNotes;
+use cave_play::logs::PlayNotes;
 use cave_world::{State, Unnoted};
 use play_machine::{Begun, SeenLine, Watch};
 use std::alloc::{AllocError, Global};

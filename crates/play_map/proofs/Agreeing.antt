@@ -7,8 +7,7 @@ use Rattle.cave_data.specs.CaveView.{CaveView}
 use Rattle.map_graph.specs.Captions.{caption}
 use Rattle.map_graph.specs.Edges.{MAX_EDGES_WITH_TEXT, drawn_edge, edge, edges, is_crowded}
 use Rattle.map_graph.specs.Edges.{is_drawn_between, is_shown, labelled_edge, plain_edge}
-use Rattle.map_graph.specs.Map.{count_taken, drawing, ends_taken, graph_opening}
-use Rattle.map_graph.specs.Map.{labels_opening}
+use Rattle.map_graph.specs.Map.{count_taken, drawing, ends_taken, graph_opening, labels_opening}
 use Rattle.map_graph.specs.Map.{map_of_places, nodes_and_edges, places_visited, seen_counts, sums}
 use Rattle.map_ways.specs.Regions.{ends_among, is_one_of, places_around}
 use Rattle.map_graph.specs.Parts.{drawn_places}

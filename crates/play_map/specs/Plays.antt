@@ -6,7 +6,7 @@ use Rattle.cave_data.specs.CaveView.{CaveView}
 use Rattle.cave_data.specs.Reads.{Reads}
 use Rattle.cave_play.specs.Logs.{IsMadeReport, JudgesLogs, RunsLogs, first_stages}
 use Rattle.cave_play.specs.declared.logs.Reported.{Reported}
-use Rattle.cave_play.specs.declared.logs_fault.LogsFault.{LogsFault}
+use Rattle.cave_play.specs.declared.logs.LogsFault.{LogsFault}
 use Rattle.play_machine.specs.Moments.{Moment, noted_of}
 use Rattle.cave_world.specs.declared.part.Part.{Part}
 use Rattle.cave_world.specs.declared.state.State.{State}

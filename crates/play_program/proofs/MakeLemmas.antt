@@ -4,11 +4,10 @@ use Rattle.std.proofs.Common.{Err, length, refl, sym, subst, ◌∙◌}
 use Rattle.std.proofs.lemmas.List.{length-map}
 use Rattle.std.specs.List.{AllZip, flat_map}
 use Rattle.std.specs.Prelude.{⊤, IfOk, MatchResult, if◌then◌else◌, unwrap_or}
-use Rattle.cave_play.specs.Input.{InputTexts, Says}
+use Rattle.cave_play.specs.Sources.{InputTexts, Says, AreHeld, Held, Leads}
 use Rattle.cave_play.specs.Logs.{IsMadeReport, JudgesLogs}
-use Rattle.cave_play.specs.Sources.{AreHeld, Held, Leads}
 use Rattle.cave_play.specs.declared.logs.Reported.{Reported}
-use Rattle.cave_play.specs.declared.logs_fault.LogsFault.{LogsFault}
+use Rattle.cave_play.specs.declared.logs.LogsFault.{LogsFault}
 use Rattle.play_command.specs.declared.input.Input.TheVariants as input
 use Rattle.play_command.specs.declared.line.Request.{Request}
 use Rattle.play_command.specs.declared.line.What.{What}

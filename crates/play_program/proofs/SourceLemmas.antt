@@ -2,8 +2,7 @@
 use Rattle.std.proofs.Common.{◌≡◌, ℕ, Bool, true, false, List, [], ◌∷◌, ◌++◌, None, Some, ap, drop}
 use Rattle.std.proofs.Common.{eqb-true, get_or, map, refl, subst, sym, ◌∙◌}
 use Rattle.std.specs.Prelude.{if◌then◌else◌}
-use Rattle.cave_play.specs.Input.{Says}
-use Rattle.cave_play.specs.Sources.{IsTaken, held_for, next_log}
+use Rattle.cave_play.specs.Sources.{Says, IsTaken, held_for, next_log}
 use Rattle.play_command.specs.declared.input.Input.{Input}
 use Rattle.play_command.specs.declared.input.Input.TheVariants as input
 use Rattle.play_program.specs.Files.{is_same_input, number_of}

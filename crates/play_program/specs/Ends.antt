@@ -7,12 +7,11 @@ use Rattle.std.specs.Io.KnownBytes.{Appends}
 use Rattle.std.specs.List.{AllZip, flat_map}
 use Rattle.std.specs.declared.io.Error.{Error}
 use Rattle.cave_play.specs.Fault.{input_of}
-use Rattle.cave_play.specs.Input.{InputTexts, Says}
-use Rattle.cave_play.specs.Sources.{AreHeld, Held}
+use Rattle.cave_play.specs.Sources.{InputTexts, Says, AreHeld, Held}
 use Rattle.cave_play.specs.declared.edits.EditRun.{EditRun}
 use Rattle.cave_play.specs.declared.fault.PlayFault.{PlayFault}
 use Rattle.cave_play.specs.declared.fault.PlayFault.TheVariants as fault
-use Rattle.cave_play.specs.declared.logs_fault.LogsFault.{LogsFault}
+use Rattle.cave_play.specs.declared.logs.LogsFault.{LogsFault}
 use Rattle.play_command.specs.Line.{IsAnswer}
 use Rattle.play_command.specs.Refusal.{refusal_text, status_of_command}
 use Rattle.play_command.specs.declared.editing.EditView.{EditView}

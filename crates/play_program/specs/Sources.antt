@@ -2,11 +2,10 @@
 -- the system to read them.
 use Rattle.std.specs.Prelude.{◌≡◌, ◌⊎◌, ◌&&◌, ℕ, Bool, true, false, not, List, [], ◌∷◌, ◌++◌, map}
 use Rattle.std.specs.Prelude.{Option, None, Some, Result, Ok, Err, if◌then◌else◌, is_some}
-use Rattle.std.specs.Prelude.{option_map, slice_get, string_bytes, unwrap_or}
+use Rattle.std.specs.Prelude.{option_map, string_bytes, unwrap_or}
 use Rattle.std.specs.List.{filter, flat_map}
 use Rattle.std.specs.declared.io.Error.{Error}
-use Rattle.cave_play.specs.Input.{Says}
-use Rattle.cave_play.specs.Sources.{Held}
+use Rattle.cave_play.specs.Sources.{Says, Held}
 use Rattle.play_command.specs.declared.input.Input.{Input}
 use Rattle.play_command.specs.declared.input.Input.TheVariants as input
 use Rattle.play_command.specs.declared.line.Request.{Request}

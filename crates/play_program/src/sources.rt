@@ -4,7 +4,7 @@
 ghost use Rattle.std.specs.Prelude.{◌≡◌, ◌⊎◌, ℕ, List, [], ◌∷◌, Option, IfErr, IfOk, Some, map};
 ghost use Rattle.std.specs.Prelude.{option_map};
 ghost use Rattle.std.specs.List.{position};
-ghost use Rattle.cave_play.specs.Reading.{IsReading};
+ghost use Rattle.cave_play.specs.Sources.{IsReading};
 ghost use Rattle.play_command.specs.Files.{named_file};
 ghost use Rattle.play_program.specs.Calls.{and_then, told_by};
 ghost use Rattle.play_program.specs.Calls.Call.{Opens};

@@ -3,7 +3,7 @@ use Rattle.std.proofs.lemmas.Result.{err_from_is_err_and}
 use Rattle.std.proofs.KnownBytes.{Keeps-refl}
 use Rattle.cave_play.specs.Doubted.{IsDoubtsList, IsFirstDoubt, IsTaken}
 use Rattle.cave_play.specs.Stages.{doubts_stages}
-use Rattle.cave_play.proofs.RunLemmas.{EndsBy-unwritten, EndsBy-written, unwritten_by_doubts}
+use Rattle.cave_play.proofs.RunLemmas.{EndsBy-written}
 use Rattle.play_command.specs.declared.input.Input.TheVariants.{Known}
 use Rattle.cave_play.proofs.SourceLemmas.{AreTextsOf-held}
 use Rattle.cave_play.proofs.doubted.run_doubts.Goals as goal
@@ -18,10 +18,7 @@ returns-in_err-listed g c =
         texts,
         AreTextsOf-held g.C.Read.remaining g.B.Read.remaining g.L.Read.remaining
             g.S.Read.remaining _ _ c.of_one-readers.ensures Known texts refl are,
-        inl (EndsBy-unwritten _
-            (doubts_stages texts.database texts.bindings texts.script) _ _ _
-            (unwritten_by_doubts texts.database texts.bindings texts.script) found
-            (Keeps-refl _)),
+        inl (inr (found, Keeps-refl _)),
       );
     })
 

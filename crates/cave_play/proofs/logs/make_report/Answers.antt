@@ -2,7 +2,7 @@ use Rattle.cave_play.proofs.SourceLemmas.{goes_on}
 use Rattle.std.proofs.Common.{[], inl, refl, ap, subst, ◌∙◌}
 use Rattle.std.proofs.lemmas.Result.{err_from_is_err_and}
 use Rattle.std.specs.List.{AllZip}
-use Rattle.cave_play.specs.Input.{Says}
+use Rattle.cave_play.specs.Sources.{Says}
 use Rattle.cave_play.specs.Judge.{large_seed}
 use Rattle.cave_play.specs.Logs.{IsMadeReport, IsReported, first_stages, games_of}
 use Rattle.cave_play.specs.Stages.{cave_stages, first_decided}

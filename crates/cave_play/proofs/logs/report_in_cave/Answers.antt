@@ -3,7 +3,7 @@ use Rattle.std.proofs.Common.{◌≡◌, ◌++◌, length, sym, subst, ap, ◌�
 use Rattle.std.proofs.lemmas.List.{length-map}
 use Rattle.std.proofs.lemmas.Result.{err_from_is_err_and}
 use Rattle.std.specs.Str.Lines.{lines}
-use Rattle.cave_play.specs.Input.{Says}
+use Rattle.cave_play.specs.Sources.{Says}
 use Rattle.replay_edits.specs.Edit.{game_of}
 use Rattle.cave_play.specs.Logs.{games_of}
 use Rattle.cave_play.proofs.LogLemmas.{AllSay-some, AllZip-length}

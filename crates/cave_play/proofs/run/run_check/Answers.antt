@@ -1,7 +1,7 @@
 use Rattle.std.proofs.Common.{refl}
 use Rattle.cave_play.specs.Output.{IsChecked}
 use Rattle.cave_play.specs.Stages.{cave_stages}
-use Rattle.cave_play.proofs.RunLemmas.{Runs-made, unwritten_by_check}
+use Rattle.cave_play.proofs.RunLemmas.{Runs-made}
 use Rattle.play_command.specs.declared.input.Input.TheVariants.{Script}
 use Rattle.cave_play.proofs.SourceLemmas.{AreTextsOf-held}
 use Rattle.cave_play.proofs.run.run_check.Goals as goal
@@ -14,7 +14,8 @@ returns g c =
         texts,
         AreTextsOf-held g.C.Read.remaining g.B.Read.remaining g.L.Read.remaining
             g.S.Read.remaining _ _ c.of_one-readers.ensures Script texts refl are,
-        Runs-made (cave_stages texts.database texts.bindings) (IsChecked c.args.view texts.database texts.bindings) _ _ _ _ (unwritten_by_check texts.database texts.bindings) judged
+        Runs-made (cave_stages texts.database texts.bindings)
+            (IsChecked c.args.view texts.database texts.bindings) _ _ _ _ judged
             c.write_made.ensures,
       );
     }

@@ -1,7 +1,7 @@
 use Rattle.std.proofs.Common.{refl}
 use Rattle.cave_play.specs.EditRun.{IsEditRun}
 use Rattle.cave_play.specs.Stages.{edit_stages}
-use Rattle.cave_play.proofs.RunLemmas.{RunsWith-made, unwritten_by_edit}
+use Rattle.cave_play.proofs.RunLemmas.{RunsWith-made}
 use Rattle.play_command.specs.declared.input.Input.TheVariants.{Script}
 use Rattle.cave_play.proofs.SourceLemmas.{AreTextsOf-held}
 use Rattle.cave_play.proofs.run.run_edit.Goals as goal
@@ -14,7 +14,8 @@ returns g c =
         texts,
         AreTextsOf-held g.C.Read.remaining g.B.Read.remaining g.L.Read.remaining
             g.S.Read.remaining _ _ c.of_one-readers.ensures Script texts refl are,
-        RunsWith-made (edit_stages texts.database texts.bindings texts.log texts.script c.args.editing) (IsEditRun texts.database texts.bindings texts.log texts.script c.args.editing c.args.report) _ _ _ _ (unwritten_by_edit texts.database texts.bindings texts.log texts.script c.args.editing) judged
-            c.write_edit.ensures,
+        RunsWith-made (edit_stages texts.database texts.bindings texts.log texts.script
+            c.args.editing) (IsEditRun texts.database texts.bindings texts.log texts.script
+            c.args.editing c.args.report) _ _ _ _ judged c.write_edit.ensures,
       );
     }

@@ -1,7 +1,7 @@
 use Rattle.std.proofs.Common.{refl}
 use Rattle.cave_play.specs.Output.{IsPlayed}
 use Rattle.cave_play.specs.Stages.{play_stages}
-use Rattle.cave_play.proofs.RunLemmas.{Runs-made, unwritten_by_play}
+use Rattle.cave_play.proofs.RunLemmas.{Runs-made}
 use Rattle.play_command.specs.declared.input.Input.TheVariants.{Script}
 use Rattle.cave_play.proofs.SourceLemmas.{AreTextsOf-held}
 use Rattle.cave_play.proofs.run.run_play.Goals as goal
@@ -14,7 +14,8 @@ returns g c =
         texts,
         AreTextsOf-held g.C.Read.remaining g.B.Read.remaining g.L.Read.remaining
             g.S.Read.remaining _ _ c.of_one-readers.ensures Script texts refl are,
-        Runs-made (play_stages texts.database texts.bindings texts.log c.args.seed) (IsPlayed texts.database texts.bindings texts.log c.args.seed c.args.view) _ _ _ _ (unwritten_by_play texts.database texts.bindings texts.log c.args.seed) judged
-            c.write_made.ensures,
+        Runs-made (play_stages texts.database texts.bindings texts.log c.args.seed)
+            (IsPlayed texts.database texts.bindings texts.log c.args.seed c.args.view) _ _ _ _
+            judged c.write_made.ensures,
       );
     }

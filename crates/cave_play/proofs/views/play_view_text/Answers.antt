@@ -1,8 +1,9 @@
 use Rattle.std.proofs.Common.{[], ◌++◌, ap, sym, ◌∙◌}
 use Rattle.std.specs.Str.Lines.{lines}
 use Rattle.cave_play.specs.Output.{play_view_text}
-use Rattle.play_machine.proofs.WatchedLemmas.{final_state-ended, play_text-watched, score_text-ended}
-use Rattle.play_machine.proofs.WatchedLemmas.{steps_text-watched, walk_text-watched}
+use Rattle.play_machine.proofs.WatchedLemmas.{final_state-ended, play_text-watched}
+use Rattle.play_machine.proofs.WatchedLemmas.{score_text-ended, steps_text-watched}
+use Rattle.play_machine.proofs.WatchedLemmas.{walk_text-watched}
 use Rattle.replay_edits.specs.Edit.{game_of}
 use Rattle.turn_ends.specs.Score.{max_score_of, score_of}
 use Rattle.play_machine.specs.FinalState.{state_text_after}

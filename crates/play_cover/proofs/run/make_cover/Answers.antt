@@ -2,9 +2,8 @@ use Rattle.cave_play.proofs.SourceLemmas.{goes_on, said, some_bytes}
 use Rattle.std.proofs.Common.{[], ◌∷◌, inl, length, refl, sym, ap, subst, ◌∙◌}
 use Rattle.std.proofs.lemmas.Result.{err_from_is_err_and}
 use Rattle.std.specs.List.{AllZip}
-use Rattle.cave_play.specs.Input.{Says}
+use Rattle.cave_play.specs.Sources.{Says, Held}
 use Rattle.cave_play.specs.Logs.{IsMadeReport, first_stages}
-use Rattle.cave_play.specs.Sources.{Held}
 use Rattle.cave_play.specs.Stages.{known_stage}
 use Rattle.cave_play.proofs.LogLemmas.{AllSay-some, JudgesLogs-also, JudgesLogs-behind}
 use Rattle.cave_play.proofs.StageLemmas.{IsFoundIn-first}

@@ -1,7 +1,6 @@
 use Rattle.std.proofs.Common.{subst}
 use Rattle.std.specs.List.{AllZip}
-use Rattle.cave_play.specs.Input.{Says}
-use Rattle.cave_play.specs.Sources.{Held}
+use Rattle.cave_play.specs.Sources.{Says, Held}
 use Rattle.cave_play.proofs.LogLemmas.{RunsLogs-made}
 use Rattle.cave_play.proofs.SourceLemmas.{held_first}
 use Rattle.play_cover.specs.Known.{known_entries}

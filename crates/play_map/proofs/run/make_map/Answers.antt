@@ -2,11 +2,11 @@ use Rattle.cave_play.proofs.SourceLemmas.{goes_on}
 use Rattle.std.proofs.Common.{◌≡◌, List, [], ◌∷◌, ◌++◌, Result, inl, refl, sym, subst, ℕ, ◌∙◌}
 use Rattle.std.proofs.lemmas.Result.{err_from_is_err_and}
 use Rattle.std.specs.List.{AllZip}
-use Rattle.cave_play.specs.Input.{Says}
+use Rattle.cave_play.specs.Sources.{Says}
 use Rattle.cave_play.specs.Judge.{large_seed}
 use Rattle.cave_play.specs.Logs.{IsMadeReport, JudgesLogs, first_stages}
 use Rattle.cave_play.specs.Stages.{Stage, cave_stages, first_decided}
-use Rattle.cave_play.specs.declared.logs_fault.LogsFault.{LogsFault}
+use Rattle.cave_play.specs.declared.logs.LogsFault.{LogsFault}
 use Rattle.cave_play.proofs.LogLemmas.{AllSay-some, JudgesLogs-also, JudgesLogs-behind}
 use Rattle.cave_play.proofs.StageLemmas.{IsFoundIn-first, neither}
 use Rattle.play_map.specs.Parts.{place_stage}

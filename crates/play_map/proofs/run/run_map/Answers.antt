@@ -1,8 +1,7 @@
 use Rattle.std.proofs.Common.{[], ◌∷◌, ◌++◌, None, subst}
 use Rattle.std.specs.List.{AllZip}
-use Rattle.cave_play.specs.Input.{Says}
+use Rattle.cave_play.specs.Sources.{Says, Held}
 use Rattle.cave_play.specs.Logs.{first_stages}
-use Rattle.cave_play.specs.Sources.{Held}
 use Rattle.cave_play.proofs.LogLemmas.{RunsLogs-made}
 use Rattle.cave_play.proofs.SourceLemmas.{held_first}
 use Rattle.play_map.specs.Plays.{IsMapped}

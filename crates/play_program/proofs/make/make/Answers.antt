@@ -1,8 +1,7 @@
 use Rattle.std.proofs.Common.{◌≡◌, [], Result, subst, sym}
 use Rattle.std.specs.Prelude.{IfOk}
-use Rattle.cave_play.specs.Input.{InputTexts}
-use Rattle.cave_play.specs.Sources.{next_log}
-use Rattle.cave_play.specs.declared.logs_fault.LogsFault.{LogsFault}
+use Rattle.cave_play.specs.Sources.{InputTexts, next_log}
+use Rattle.cave_play.specs.declared.logs.LogsFault.{LogsFault}
 use Rattle.cave_play.proofs.LogLemmas.{AllSay-some}
 use Rattle.cave_play.proofs.SourceLemmas.{said, some_bytes}
 use Rattle.play_program.specs.Making.{HasReadAll}
