@@ -169,7 +169,7 @@ fn make(rt: &HostRuntime, path: &str, replaces: bool) -> io::Result<File> {
 
 impl DraftFile {
     /// The draft of the file of a path, which it replaces, or which doesn't exist yet.
-    pub(crate) fn beside(rt: &HostRuntime, file: &str, replaces: bool) -> io::Result<DraftFile> {
+    pub(crate) fn for_file(rt: &HostRuntime, file: &str, replaces: bool) -> io::Result<DraftFile> {
         let path = draft_name(rt.alloc(), file)?;
         let file = make(rt, path.as_str(), replaces)?;
         let usual = hide(&file)?;

@@ -3,7 +3,7 @@
 
 ghost use Rattle.std.specs.Prelude.{None};
 
-use crate::beside::FileBeside;
+use crate::replaced::ReplacedFile;
 use crate::seen::{SeenFile, Stamp};
 use play_program::{Message, System, replace};
 use std::fs::{File, Metadata};
@@ -62,7 +62,7 @@ impl System for Host<'_> {
     }
 
     fn put(&mut self, file: &str, bytes: &[u8]) -> io::Result<()> {
-        let mut place = FileBeside::at(self.rt, file, self.seen.as_slice())?;
+        let mut place = ReplacedFile::at(self.rt, file, self.seen.as_slice())?;
         replace(&mut place, bytes)
     }
 

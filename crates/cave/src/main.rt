@@ -2,9 +2,9 @@
 //! never show, and draws maps.
 #![tactic(auto)]
 
-mod beside;
 mod draft;
 mod host;
+mod replaced;
 mod seen;
 
 use crate::host::{Host, words};

@@ -12,7 +12,7 @@ use std::{fs, io};
 
 /// A file of the system.
 #[derive(Drop)]
-pub(crate) struct FileBeside<'a> {
+pub(crate) struct ReplacedFile<'a> {
     rt: &'a HostRuntime,
     path: String,
     /// Who may read and write the file, if it exists.
@@ -66,7 +66,7 @@ fn is_standard_output(rt: &HostRuntime, found: &Metadata) -> io::Result<bool> {
     }
 }
 
-impl<'a> FileBeside<'a> {
+impl<'a> ReplacedFile<'a> {
     /// The file of a name, which is a file or doesn't exist yet, with what was seen of it if it is
     /// one of those that were opened. A link is followed, so the file to which it leads is replaced
     /// and the link stays.
@@ -74,7 +74,7 @@ impl<'a> FileBeside<'a> {
         rt: &'a HostRuntime,
         name: &str,
         seen: &[SeenFile],
-    ) -> io::Result<FileBeside<'a>> {
+    ) -> io::Result<ReplacedFile<'a>> {
         let (path, permissions) = match fs::metadata(rt, name) {
             Ok(found) if found.is_dir() => {
                 return Err(io::Error::from(ErrorKind::IsADirectory));
@@ -97,7 +97,7 @@ impl<'a> FileBeside<'a> {
             Err(reason) => return Err(reason),
         };
         let read = stamp_of(rt, seen, path.as_str(), name)?;
-        Ok(FileBeside {
+        Ok(ReplacedFile {
             rt,
             path,
             permissions,
@@ -142,13 +142,13 @@ impl<'a> FileBeside<'a> {
     }
 }
 
-impl Target for FileBeside<'_> {
+impl Target for ReplacedFile<'_> {
     type Draft = DraftFile;
 
     ghost shown = { λ _. None };
 
     fn begin(&mut self) -> io::Result<DraftFile> {
-        DraftFile::beside(self.rt, self.path.as_str(), self.permissions.is_some())
+        DraftFile::for_file(self.rt, self.path.as_str(), self.permissions.is_some())
     }
 
     fn publish(&mut self, draft: DraftFile) -> io::Result<()> {
