@@ -24,13 +24,12 @@ use Rattle.cave_play.proofs.StageLemmas.{first_is_found}
 use Rattle.play_laws.specs.RunLaws.{IsDecided}
 use Rattle.cave_play.specs.Run.{EndsBy, IsFoundIn, Judges, Runs, RunsWith}
 use Rattle.cave_play.specs.Writing.{Writes, WritesEdit}
-use Rattle.cave_play.specs.declared.edits.EditRun.{EditRun}
-use Rattle.cave_play.specs.declared.edits.MadeEdit.{MadeEdit}
+use Rattle.play_edits.specs.declared.items.EditRun.{EditRun}
+use Rattle.play_edits.specs.declared.items.MadeEdit.{MadeEdit}
 use Rattle.cave_play.specs.Stages.{Stage, first_decided, cave_stages, log_stage, script_stage}
 use Rattle.cave_play.specs.Stages.{strict_stage, play_stages, doubts_stages, edit_stages}
 use Rattle.cave_play.specs.Stages.{known_stage, size_stage}
-use Rattle.cave_play.proofs.SizeLemmas.{unwritten_by_output}
-use Rattle.cave_play.proofs.StrictLemmas.{unwritten_by_strict}
+use Rattle.cave_play.proofs.FinishLemmas.{unwritten_by_output, unwritten_by_strict}
 use Rattle.play_command.specs.declared.editing.Editing.{Editing}
 use Rattle.play_command.specs.declared.input.Input.{Input}
 use Rattle.play_command.specs.declared.input.Input.TheVariants as input

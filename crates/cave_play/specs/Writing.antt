@@ -2,8 +2,8 @@
 use Rattle.std.specs.Prelude.{◌≡◌, ℕ, List, take, Option, Result, Ok, Err, MatchResult}
 use Rattle.std.specs.Global.{Vec}
 use Rattle.std.specs.Io.KnownBytes.{Appends, Keeps}
-use Rattle.cave_play.specs.declared.edits.EditRun.{EditRun}
-use Rattle.cave_play.specs.declared.edits.MadeEdit.{MadeEdit}
+use Rattle.play_edits.specs.declared.items.EditRun.{EditRun}
+use Rattle.play_edits.specs.declared.items.MadeEdit.{MadeEdit}
 use Rattle.cave_play.specs.declared.fault.PlayFault.{PlayFault}
 use Rattle.cave_play.specs.declared.fault.PlayFault.TheVariants as fault
 

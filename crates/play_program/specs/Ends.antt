@@ -1,13 +1,13 @@
 -- What the run of a request leaves, and what the program reports of it.
 use Rattle.std.specs.Prelude.{◌≡◌, ◌<◌, ◌⊎◌, ℕ, List, [], ◌∷◌, length, map, take, Option, None}
-use Rattle.std.specs.Prelude.{Some, Bool, true, IfSome, ◌++◌}
-use Rattle.std.specs.Prelude.{false, Result, Ok, Err, MatchResult, option_map}
+use Rattle.std.specs.Prelude.{Some, Bool, true, IfSome, ◌++◌, false, Result, Ok, Err, MatchResult}
+use Rattle.std.specs.Prelude.{option_map}
 use Rattle.std.specs.Io.KnownBytes.{Appends}
 use Rattle.std.specs.List.{AllZip, flat_map}
 use Rattle.std.specs.declared.io.Error.{Error}
 use Rattle.cave_play.specs.Input.{InputTexts, Says}
 use Rattle.cave_play.specs.Sources.{AreHeld, Held}
-use Rattle.cave_play.specs.declared.edits.EditRun.{EditRun}
+use Rattle.play_edits.specs.declared.items.EditRun.{EditRun}
 use Rattle.cave_play.specs.declared.fault.PlayFault.{PlayFault}
 use Rattle.cave_play.specs.declared.fault.PlayFault.TheVariants as fault
 use Rattle.cave_play.specs.declared.logs_fault.LogsFault.{LogsFault}

@@ -1,6 +1,6 @@
 -- What the run of a request makes of its inputs.
-use Rattle.std.specs.Prelude.{◌≡◌, ℕ, ⊤, ◌&&◌, nat_lt, Bool, List, [], Option, None, Some}
-use Rattle.std.specs.Prelude.{Result, Ok, Err, if◌then◌else◌, unwrap_or}
+use Rattle.std.specs.Prelude.{◌≡◌, ℕ, ⊤, ◌&&◌, nat_lt, Bool, List, [], Option, None, Some, Result}
+use Rattle.std.specs.Prelude.{Ok, Err, if◌then◌else◌, unwrap_or}
 use Rattle.std.specs.Global.{Vec}
 use Rattle.cave_play.specs.Doubted.{AreLeftIn, first_doubt}
 use Rattle.cave_play.specs.EditRun.{IsMadeEdit}
@@ -12,7 +12,7 @@ use Rattle.cave_play.specs.Sources.{Held}
 use Rattle.cave_play.specs.Stages.{Stage, cave_stages, doubts_stages, edit_stages, play_stages}
 use Rattle.cave_play.specs.TwoLogs.{JudgesEditTo, JudgesScript}
 use Rattle.cave_play.specs.declared.doubted.LeftDoubts.{LeftDoubts}
-use Rattle.cave_play.specs.declared.edits.MadeEdit.{MadeEdit}
+use Rattle.play_edits.specs.declared.items.MadeEdit.{MadeEdit}
 use Rattle.cave_play.specs.declared.fault.PlayFault.{PlayFault}
 use Rattle.cave_play.specs.declared.fault.PlayFault.TheVariants as fault
 use Rattle.cave_play.specs.declared.logs.Reported.{Reported}
