@@ -1,28 +1,87 @@
--- What a run makes of what edits made.
-use Rattle.std.proofs.Common.{◌≡◌, ℕ, List, [], ◌∷◌, ◌++◌, length, Ok, Err, Result, inl, inr, ap}
-use Rattle.std.proofs.Common.{refl, sym, subst, ◌∙◌}
+-- What a run makes of what edits made, and what is judged of that.
+use Rattle.std.proofs.Common.{◌≡◌, ℕ, Bool, List, length, Some, None, Ok, Err, ap, sym, ◌∙◌, refl}
+use Rattle.std.proofs.Common.{[], ◌∷◌, subst, inl, inr, ◌++◌, Result, Option, option_map}
 use Rattle.std.specs.Str.Lines.{lines}
 use Rattle.cave_data.specs.CaveView.{CaveView}
+use Rattle.play_command.specs.declared.editing.EditView.{EditView}
+use Rattle.play_command.specs.declared.editing.EditView.TheVariants as asked
+use Rattle.play_edits.specs.Outcome.{ItemOutcome}
+use Rattle.replay_edits.specs.Edit.{Game, game_of}
+use Rattle.play_edits.specs.Ends.{EndsOfLog, log_ends, ends_after_items, ended_view}
+use Rattle.replay_scripts.specs.Script.{Applied}
+use Rattle.cave_play.specs.Size.{bytes_to_read, output_fault, size_fault, fault_of_items}
+use Rattle.play_edits.specs.Views.{IsViewOf, IsMadeOf, IsSideReportOf}
+use Rattle.cave_play.specs.declared.fault.PlayFault.{PlayFault}
+use Rattle.cave_play.specs.declared.fault.PlayFault.TheVariants as fault
+use Rattle.replay_scripts.specs.Guards.{script_by}
+use Rattle.play_edits.specs.Edits.{ending_refusal}
+use Rattle.cave_play.specs.Run.{Judges}
+use Rattle.cave_play.specs.Stages.{first_decided, strict_stage, Stage, log_stage, script_stage}
+use Rattle.cave_play.specs.Stages.{size_stage}
+use Rattle.cave_play.proofs.StageLemmas.{first_decided-one, IsFoundIn-first, IsFoundIn-later}
+use Rattle.cave_play.proofs.StageLemmas.{first_decided-later}
 use Rattle.cave_data.specs.Reads.{Reads}
 use Rattle.play_command.specs.declared.aside.ReportView.{ReportView}
 use Rattle.play_command.specs.declared.editing.Editing.{Editing}
-use Rattle.play_edits.specs.LogEnds.{EndsOfLog, log_ends, shown_ends}
-use Rattle.replay_edits.specs.Edit.{game_of}
-use Rattle.replay_scripts.specs.Guards.{script_by}
-use Rattle.std.specs.declared.option.Option.{Option}
-use Rattle.cave_play.specs.EditRun.{FinishesEdit, IsEditRun, IsFinished, IsMadeOf, IsSideReport}
-use Rattle.cave_play.specs.Ended.{IsEdited, IsEndedEditOf, ended_view}
-use Rattle.cave_play.specs.Run.{IsFoundIn, Judges}
-use Rattle.cave_play.specs.Size.{size_fault}
-use Rattle.cave_play.specs.Stages.{Stage, log_stage, script_stage, size_stage, strict_stage}
-use Rattle.play_edits.specs.declared.items.Edited.{Edited}
-use Rattle.cave_play.specs.declared.edits.MadeEdit.{MadeEdit}
-use Rattle.cave_play.specs.declared.fault.PlayFault.{PlayFault}
+use Rattle.cave_play.specs.EditRun.{FinishesEdit, IsEditRun, IsSideReport}
+use Rattle.play_edits.specs.declared.items.MadeEdit.{MadeEdit}
 use Rattle.cave_play.proofs.ScriptLemmas.{script_by-spelled}
-use Rattle.cave_play.proofs.EditedLemmas.{report_printed}
-use Rattle.cave_play.proofs.SizeLemmas.{output_fault-printed}
-use Rattle.cave_play.proofs.StageLemmas.{IsFoundIn-first, IsFoundIn-later, IsFoundIn-memory}
-use Rattle.cave_play.proofs.StageLemmas.{first_decided-later, first_decided-one}
+use Rattle.play_command.specs.declared.aside.ReportView.TheVariants.{Reports, Table}
+
+-- ---- items of a strict run
+
+pub first_decided-strict : (strict : Bool) (game : Game) (guarded : Bool) (script : List ℕ)
+    (items : List Applied) → script_by guarded script ≡ Ok items
+    → ending_refusal strict items game ≡ None
+    → first_decided (strict_stage strict game guarded script ∷ []) ≡ None
+first_decided-strict strict game guarded script items spelled none =
+    first_decided-one (strict_stage strict game guarded script)
+    (ap (fault_of_items strict game) spelled ∙ ap (option_map fault.Refused) none)
+
+-- ---- the size of what is printed
+
+size_read : (view : EditView) (ends : EndsOfLog) (text same output : List ℕ) → text ≡ same
+    → output ≡ ended_view view ends text
+    → size_fault view (length output) ≡ size_fault view (length (ended_view view ends same))
+size_read view ends text same output text_is is =
+    ap (λ t. size_fault view (length t)) (is ∙ ap (ended_view view ends) text_is)
+
+-- what is printed has the size that is judged
+size_printed : (view : EditView) (cave : CaveView) (game : Game) (guarded : Bool)
+    (items : List Applied) (outcomes : List ItemOutcome) (ends : EndsOfLog) (text output : List ℕ)
+    → IsViewOf view cave game guarded items outcomes text
+    → output ≡ ended_view view (ends_after_items items game ends) text
+    → size_fault view (length output)
+    ≡ size_fault view (bytes_to_read view guarded items game ends)
+size_printed asked.Log cave game guarded items outcomes ends text output written is =
+    size_read asked.Log (ends_after_items items game ends) text _ output written.written is
+size_printed asked.Undo cave game guarded items outcomes ends text output written is =
+    size_read asked.Undo (ends_after_items items game ends) text _ output written.written is
+size_printed asked.Guarded cave game guarded items outcomes ends text output written is =
+    size_read asked.Guarded (ends_after_items items game ends) text _ output written.written is
+size_printed asked.Transcript cave game guarded items outcomes ends text output written is = refl
+size_printed asked.Play cave game guarded items outcomes ends text output written is = refl
+size_printed asked.Reports cave game guarded items outcomes ends text output written is = refl
+size_printed asked.Table cave game guarded items outcomes ends text output written is = refl
+size_printed asked.Steps cave game guarded items outcomes ends text output written is = refl
+size_printed asked.Walk cave game guarded items outcomes ends text output written is = refl
+size_printed asked.Score cave game guarded items outcomes ends text output written is = refl
+size_printed asked.FinalState cave game guarded items outcomes ends text output written is = refl
+
+-- ---- what a run makes
+
+-- a report beside a view is what the run that prints it alone prints
+pub report_printed : (report : Option ReportView) (database bindings log script : List ℕ)
+    (editing : Editing) (cave : CaveView) (played : ℕ) (text : List ℕ)
+    → Reads database bindings cave
+    → IsSideReportOf report cave editing.every (game_of editing.seed (lines log)) editing.guarded
+    script played text
+    → IsSideReport report database bindings log script editing played text
+report_printed None database bindings log script editing cave played text reads is = is
+report_printed (Some Reports) database bindings log script editing cave played text reads edit =
+    (cave, reads, record { text = text; edit = edit; printed = refl })
+report_printed (Some Table) database bindings log script editing cave played text reads edit =
+    (cave, reads, record { text = text; edit = edit; printed = refl })
 
 -- the stages of the log and of the script, and that of what is printed
 abbrev pub of_edit : List ℕ → List ℕ → Editing → List Stage
@@ -36,60 +95,34 @@ after_cave log script editing = of_edit log script editing ++ size_stage log scr
 module _ (database bindings log script : List ℕ) (editing : Editing)
     (report : Option ReportView) (cave : CaveView) (reads : Reads database bindings cave) where
   -- what edits made in the cave
-  abbrev IsMade : Edited → Type 0
-  IsMade edited =
+  abbrev IsRight : MadeEdit → Type 0
+  IsRight made =
       IsMadeOf editing.view report cave editing.every (game_of editing.seed (lines log))
-      editing.guarded script (log_ends log script) edited
+      editing.guarded script (log_ends log script) made
 
-  -- what is printed, if these edits were made
-  printed_of : (played : ℕ) (text output : List ℕ) (ends : EndsOfLog)
-      → IsEndedEditOf editing.view cave editing.every (game_of editing.seed (lines log))
-      editing.guarded script (log_ends log script) played text ends
-      → output ≡ ended_view editing.view ends text
-      → IsEdited database bindings log script editing played output
-  printed_of played text output ends (edit, after) is = (
-    cave,
-    reads,
-    record {
-      text = text;
-      edit = edit;
-      printed = is ∙ ap (λ now. ended_view editing.view now text) after;
-    },
-  )
-
-  -- and what its size decides
-  size_of : (played : ℕ) (output : List ℕ)
-      → IsEdited database bindings log script editing played output
-      → size_fault editing.view (length output) ≡ (size_stage log script editing).decides
-  size_of played output (there, read, is) =
-      output_fault-printed editing.view there log script editing.seed editing.guarded is.edit.items
-      (script_by editing.guarded script) is.edit.outcomes is.text output
-      (script_by-spelled editing.guarded script is.edit.items is.edit.spelled) is.edit.written
+  -- and what the size of what is printed decides
+  size_of : (made : MadeEdit) → IsRight made
+      → size_fault editing.view (length made.text.items) ≡ (size_stage log script editing).decides
+  size_of made (is, others) =
+      size_printed editing.view cave (game_of editing.seed (lines log)) editing.guarded
+      is.edit.items is.edit.outcomes (log_ends log script) is.text made.text.items is.edit.written
       is.printed
+      ∙ ap (output_fault editing.view editing.guarded log editing.seed script)
+      (sym (script_by-spelled editing.guarded script is.edit.items is.edit.spelled))
 
   -- what was made is what the run returns and prints
-  IsMadeEdit-finished : (edited : Edited) (made : MadeEdit) → IsMade edited
-      → IsFinished editing.view edited made
+  IsEditRun-made : (made : MadeEdit) → IsRight made
       → IsEditRun database bindings log script editing report made.run made.text.items
-  IsMadeEdit-finished edited made (ended, refused, side, seed) is =
-      let printed =
-      printed_of edited.played edited.text.items made.text.items (shown_ends edited.ends) ended
-      is.text in
-      let beside =
-      report_printed report database bindings log script editing cave edited.played
-      edited.report.items reads side in (
-        subst (λ n. IsEdited database bindings log script editing n made.text.items)
-            (sym is.played) printed,
-        ap (λ list. list.items) is.refused ∙ refused,
-        subst (λ n. IsSideReport report database bindings log script editing n
-            made.run.report.items) (sym is.played)
-            (subst (IsSideReport report database bindings log script editing edited.played)
-            (sym (ap (λ text. text.items) is.report)) beside),
-        is.seed ∙ seed,
-      )
+  IsEditRun-made made (ended, refused, side, seed) = (
+    (cave, reads, ended),
+    refused,
+    report_printed report database bindings log script editing cave made.run.played
+        made.run.report.items reads side,
+    seed,
+  )
 
-  pub Judges-finished : (made : Result Edited PlayFault) (finished : Result MadeEdit PlayFault)
-      → Judges (of_edit log script editing) IsMade made
+  pub Judges-finished : (made finished : Result MadeEdit PlayFault)
+      → Judges (of_edit log script editing) IsRight made
       → FinishesEdit editing.view made finished
       → Judges (after_cave log script editing)
       (λ whole. IsEditRun database bindings log script editing report whole.run whole.text.items)
@@ -100,19 +133,12 @@ module _ (database bindings log script : List ℕ) (editing : Editing)
       whole.text.items)) (sym is)
       (IsFoundIn-first (of_edit log script editing) (size_stage log script editing ∷ []) found
       judged)
-  Judges-finished (Ok edited) (Ok whole) (none, made) is =
-      let right = IsMadeEdit-finished edited whole made is in
-      let small = sym (size_of whole.run.played whole.text.items right.0) ∙ is.small in (
-        first_decided-later (of_edit log script editing) (size_stage log script editing ∷ []) none
-            ∙ first_decided-one (size_stage log script editing) small,
-        right,
-      )
-  Judges-finished (Ok edited) (Err found) (none, made) (inl memory) =
-      subst (IsFoundIn (after_cave log script editing)) (sym memory)
-      (IsFoundIn-memory (after_cave log script editing))
-  Judges-finished (Ok edited) (Err found) (none, made) (inr large) =
-      let output = ended_view editing.view (shown_ends edited.ends) edited.text.items in
-      let printed =
-      printed_of edited.played edited.text.items output (shown_ends edited.ends) made.0 refl in
+  Judges-finished (Ok made) (Ok whole) (none, right) (same, small) = (
+    first_decided-later (of_edit log script editing) (size_stage log script editing ∷ []) none
+        ∙ first_decided-one (size_stage log script editing) (sym (size_of made right) ∙ small),
+    subst (λ one. IsEditRun database bindings log script editing report one.run one.text.items)
+        (sym same) (IsEditRun-made made right),
+  )
+  Judges-finished (Ok made) (Err found) (none, right) large =
       IsFoundIn-later (of_edit log script editing) (size_stage log script editing ∷ []) found none
-      (inl (inr (sym (size_of edited.played output printed) ∙ large)))
+      (inl (inr (sym (size_of made right) ∙ large)))

@@ -16,8 +16,8 @@ use Rattle.cave_play.specs.EditRun.{IsEditRun}
 use Rattle.cave_play.specs.TwoLogs.{IsDifferenceOf, IsReadDifferenceOf, JudgesEditTo, JudgesScript}
 use Rattle.cave_play.specs.TwoLogs.{RunsEditTo, RunsScript, new_log_fault, new_log_stage}
 use Rattle.cave_play.specs.TwoLogs.{two_logs_stages, ReadsWith}
-use Rattle.cave_play.specs.declared.edits.EditRun.{EditRun}
-use Rattle.cave_play.specs.declared.edits.MadeEdit.{MadeEdit}
+use Rattle.play_edits.specs.declared.items.EditRun.{EditRun}
+use Rattle.play_edits.specs.declared.items.MadeEdit.{MadeEdit}
 use Rattle.play_command.specs.declared.aside.ReportView.{ReportView}
 use Rattle.play_command.specs.declared.editing.Editing.{Editing}
 use Rattle.play_command.specs.declared.input.Input.TheVariants as input

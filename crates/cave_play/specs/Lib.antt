@@ -3,13 +3,9 @@ pub mod Logs
 pub mod Doubted
 pub mod Fault
 pub mod Judge
-pub mod Strict
 pub mod Stages
 pub mod Run
 pub mod Output
-pub mod Views
-pub mod Ended
-pub mod Refused
 pub mod EditRun
 pub mod Size
 pub mod TwoLogs

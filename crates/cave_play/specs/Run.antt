@@ -7,8 +7,8 @@ use Rattle.cave_play.specs.declared.fault.PlayFault.TheVariants as fault
 use Rattle.play_command.specs.declared.input.Input.{Input}
 use Rattle.cave_play.specs.Stages.{Stage, first_decided}
 use Rattle.std.specs.Global.{Vec}
-use Rattle.cave_play.specs.declared.edits.EditRun.{EditRun}
-use Rattle.cave_play.specs.declared.edits.MadeEdit.{MadeEdit}
+use Rattle.play_edits.specs.declared.items.EditRun.{EditRun}
+use Rattle.play_edits.specs.declared.items.MadeEdit.{MadeEdit}
 
 -- no bytes decide the fault: the reading of the input failed, or memory was refused
 abbrev pub IsOutsideOf : Option Input → PlayFault → Type 0

@@ -7,8 +7,7 @@ use Rattle.replay_edits.specs.Edit.{Game, game_of}
 use Rattle.replay_scripts.specs.Guards.{script_by}
 use Rattle.cave_play.specs.Judge.{large_seed, every_fault, input_size_fault, inputs_fault}
 use Rattle.cave_play.specs.Judge.{log_fault, script_fault}
-use Rattle.cave_play.specs.Size.{output_fault}
-use Rattle.cave_play.specs.Strict.{fault_of_items}
+use Rattle.cave_play.specs.Size.{output_fault, fault_of_items}
 use Rattle.play_command.specs.declared.input.Input.{Input}
 use Rattle.play_command.specs.declared.input.Input.TheVariants as input
 use Rattle.cave_play.specs.declared.fault.PlayFault.{PlayFault}

@@ -19,8 +19,8 @@ use Rattle.cave_play.specs.EditRun.{IsEditRun, IsMadeEdit}
 use Rattle.play_command.specs.declared.input.Input.TheVariants as input
 use Rattle.cave_play.specs.declared.fault.PlayFault.{PlayFault}
 use Rattle.cave_play.specs.declared.fault.PlayFault.TheVariants as fault
-use Rattle.cave_play.specs.declared.edits.EditRun.{EditRun}
-use Rattle.cave_play.specs.declared.edits.MadeEdit.{MadeEdit}
+use Rattle.play_edits.specs.declared.items.EditRun.{EditRun}
+use Rattle.play_edits.specs.declared.items.MadeEdit.{MadeEdit}
 use Rattle.cave_play.specs.declared.two_logs.Compared.{Compared}
 use Rattle.cave_play.specs.declared.two_logs.ReadLog.{ReadLog}
 use Rattle.cave_play.specs.declared.two_logs.WithCompared.{WithCompared}

@@ -1,40 +1,25 @@
-//! Applying a script to a session.
+//! Applying a script to a session, and the size of what edits made.
 
-ghost use Rattle.std.specs.Prelude.{ℕ, List, [], ◌∷◌, length};
+ghost use Rattle.std.specs.Prelude.{◌≡◌, ℕ, List, [], ◌∷◌, length, MatchResult, None, Some};
 ghost use Rattle.replay_checkpoints.specs.Spacing.{IsSpaced};
 ghost use Rattle.replay_edits.specs.Edit.{IsGame};
-ghost use Rattle.cave_play.specs.EditRun.{IsMadeOf};
+ghost use Rattle.cave_play.specs.EditRun.{FinishesEdit};
 ghost use Rattle.cave_play.specs.Sources.{Says, Leads};
 ghost use Rattle.cave_play.specs.Run.{Judges};
+ghost use Rattle.cave_play.specs.Size.{size_fault};
 ghost use Rattle.cave_play.specs.Stages.{script_stage, strict_stage};
-ghost use Rattle.play_edits.specs.LogEnds.{log_ends};
+ghost use Rattle.play_edits.specs.Ends.{log_ends};
+ghost use Rattle.play_edits.specs.Views.{IsMadeOf};
 
 use crate::fault::PlayFault;
 use crate::judge::read_script;
 use crate::sources::Sources;
+use base_lines::limits::is_large_input;
 use cave_replay::Session;
-use play_command::{Editing, ReportView};
-use play_edits::{Edited, LogEnds, Refusal, apply_items};
+use play_command::{EditView, Editing, ReportView};
+use play_edits::{LogEnds, MadeEdit, apply_items};
 use play_machine::CaveMachine;
 use std::alloc::Global;
-
-/// What a run of edits returns beside its output: how many lines were played for the items, why
-/// those of them were refused that were, in their order, the report that was asked for, and the
-/// seed of the game that is left.
-#[derive(Debug, Drop)]
-pub struct EditRun {
-    pub played: u64,
-    pub refused: Vec<Refusal>,
-    pub report: Vec<u8>,
-    pub seed: u32,
-}
-
-/// What a run of edits makes: its output, and what is returned beside that.
-#[derive(Drop)]
-pub struct MadeEdit {
-    pub run: EditRun,
-    pub text: Vec<u8>,
-}
 
 /// What a script makes when it is applied to a session of the machine, over a log of these bytes.
 pub(crate) fn edit_session<I: Sources>(
@@ -44,7 +29,7 @@ pub(crate) fn edit_session<I: Sources>(
     inputs: &mut I,
     editing: Editing,
     report: Option<ReportView>,
-) -> Result<Edited, PlayFault>
+) -> Result<MadeEdit, PlayFault>
     requires spaced { IsSpaced session.old.every session.old.checkpoints
         (length session.old.game.log) }
     requires game { IsGame session.old.game }
@@ -58,7 +43,33 @@ pub(crate) fn edit_session<I: Sources>(
     let read = read_script(alloc, inputs, editing.guarded)?;
     let ends = LogEnds::of(alloc, log, &read.text)?;
     match apply_items(alloc, session, &read.script.items, editing, report, ends)? {
-        Ok(edited) => Ok(edited),
+        Ok(made) => Ok(made),
         Err(refusal) => Err(PlayFault::Refused(refusal)),
     }
+}
+
+/// Checks that a run could read an output again, if that is a log or a script.
+fn check_size(view: EditView, output: &[u8]) -> Result<(), PlayFault>
+    ensures { MatchResult result (λ _. size_fault view (length output.now) ≡ None)
+        (λ found. size_fault view (length output.now) ≡ Some found) }
+{
+    match view {
+        EditView::Log if is_large_input(output.len()) => Err(PlayFault::LargeLog),
+        EditView::Undo | EditView::Guarded if is_large_input(output.len()) => {
+            Err(PlayFault::LargeScript)
+        }
+        _ => Ok(()),
+    }
+}
+
+/// What edits made, unless that is a log or a script that no run could read again.
+pub(crate) fn finish_edit(
+    view: EditView,
+    made: Result<MadeEdit, PlayFault>,
+) -> Result<MadeEdit, PlayFault>
+    ensures { FinishesEdit view made result }
+{
+    let made = made?;
+    check_size(view, &made.text)?;
+    Ok(made)
 }

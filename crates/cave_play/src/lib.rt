@@ -3,7 +3,6 @@
 
 pub mod doubted;
 pub mod edits;
-mod ended;
 pub mod fault;
 pub mod inputs;
 pub mod judge;
@@ -24,7 +23,6 @@ pub use check_doubts::DoubtFiles;
 pub use check_tables::Clue;
 pub use data_rows::{Cause, CaveError, FaultSite, Role};
 pub use doubted::run_doubts;
-pub use edits::EditRun;
 pub use fault::{Complaint, LogFault, PlayFault, ScriptFault, Unopened};
 pub use inputs::{CaveReaders, Inputs};
 pub use logs::LogsFault;
@@ -32,7 +30,7 @@ pub use play_command::{
     CheckView, CommandFault, CoverView, EditAsked, EditView, Editing, EditsFrom, Input, Line,
     NamedFile, PlayView, ReportView, Request, TextView, What, command_line,
 };
-pub use play_edits::{ExpectedLine, KeptLine, Refusal};
+pub use play_edits::{EditRun, ExpectedLine, KeptLine, Refusal};
 pub use play_machine::{
     CaveMachine, Piece, push_final_state, push_play, push_score, push_steps, push_walk,
 };

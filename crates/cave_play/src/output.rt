@@ -4,7 +4,7 @@ ghost use Rattle.std.specs.Prelude.{◌≡◌, ℕ, take, MatchResult};
 ghost use Rattle.std.specs.Io.KnownBytes.{Appends};
 ghost use Rattle.cave_play.specs.Run.{Writes, WritesEdit};
 
-use crate::edits::{EditRun, MadeEdit};
+use play_edits::{EditRun, MadeEdit};
 use crate::fault::PlayFault;
 use std::io::Write;
 

@@ -10,11 +10,11 @@ ghost use Rattle.cave_play.specs.Output.{IsChecked, IsPlayed, play_view_text};
 ghost use Rattle.cave_play.specs.Run.{Judges, Runs, RunsWith};
 ghost use Rattle.cave_play.specs.Stages.{cave_stages, log_stage, script_stage, strict_stage};
 ghost use Rattle.cave_play.specs.Stages.{play_stages, edit_stages};
-ghost use Rattle.cave_play.specs.EditRun.{IsEditRun, IsMadeEdit, IsMadeOf};
-ghost use Rattle.play_edits.specs.LogEnds.{log_ends};
+ghost use Rattle.cave_play.specs.EditRun.{IsEditRun, IsMadeEdit};
+ghost use Rattle.play_edits.specs.Views.{IsMadeOf};
+ghost use Rattle.play_edits.specs.Ends.{log_ends};
 
-use crate::edits::{EditRun, MadeEdit, edit_session};
-use crate::ended::finish_edit;
+use crate::edits::{edit_session, finish_edit};
 use crate::fault::PlayFault;
 use crate::inputs::{Inputs, Readers};
 use crate::judge::{check_every, check_seed, open_session, read_cave};
@@ -24,7 +24,7 @@ use crate::views::{check_text, play_view_text};
 use cave_data::Cave;
 use cave_words::Lexicon;
 use play_command::{CheckView, Editing, Input, PlayView, ReportView};
-use play_edits::Edited;
+use play_edits::{EditRun, MadeEdit};
 use play_machine::CaveMachine;
 use std::alloc::Global;
 use std::io::{Read, Write};
@@ -90,7 +90,7 @@ pub fn make_edit<I: Sources>(
     let read = read_cave(alloc, inputs)?;
     let made = edit_in_cave(alloc, &read.cave, inputs, editing, report);
     drop(read);
-    finish_edit(alloc, editing.view, made)
+    finish_edit(editing.view, made)
 }
 
 /// What a view asks for of a play in a cave.
@@ -119,7 +119,7 @@ fn edit_in_cave<I: Sources>(
     inputs: &mut I,
     editing: Editing,
     report: Option<ReportView>,
-) -> Result<Edited, PlayFault>
+) -> Result<MadeEdit, PlayFault>
     requires seed_fits { large_seed editing.seed ≡ None }
     requires every_fits { every_fault editing.every ≡ None }
     ensures judged { (moves : List ℕ) × (edits : List ℕ)

@@ -12,7 +12,7 @@ ghost use Rattle.cave_play.specs.TwoLogs.{IsCompared, IsReadLog, JudgesEditTo, J
 ghost use Rattle.cave_play.specs.TwoLogs.{RunsEditTo, RunsScript, new_log_fault, new_log_stage};
 ghost use Rattle.cave_play.specs.TwoLogs.{ReadsWith, two_logs_stages, with_compared};
 
-use crate::edits::{EditRun, MadeEdit};
+use play_edits::{EditRun, MadeEdit};
 use crate::fault::PlayFault;
 use crate::inputs::{Inputs, Readers};
 use crate::judge::opening_fault;

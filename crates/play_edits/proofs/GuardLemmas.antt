@@ -311,20 +311,14 @@ pub first_unmet-more : (changes : List Change) (log : List (List ℕ)) (guards :
     → first_unmet changes (map expectation_in (drop (i + 1) guards)) log
     ≡ first_unmet changes (map expectation_in (drop i guards)) log
 first_unmet-more changes log guards i guard inside is met =
-    sym (ap (λ some. first_unmet changes (map expectation_in some) log)
-    (drop_more guards i guard inside ∙ ap (λ g. g ∷ drop (i + 1) guards) (sym is))
-    ∙ ap (λ first. option_or first
-    (first_unmet changes (map expectation_in (drop (i + 1) guards)) log)) met)
+    rw (drop_more guards i guard inside, ← is, met) refl
 
 pub first_unmet-here : (changes : List Change) (log : List (List ℕ)) (guards : List Guard)
     (i : ℕ) (guard : Guard) (refused : Refusal) → i < length guards
     → guard ≡ get_or guards i guard → unmet changes (expectation_in guard) log ≡ Some refused
     → first_unmet changes (map expectation_in (drop i guards)) log ≡ Some refused
 first_unmet-here changes log guards i guard refused inside is found =
-    ap (λ some. first_unmet changes (map expectation_in some) log)
-    (drop_more guards i guard inside ∙ ap (λ g. g ∷ drop (i + 1) guards) (sym is))
-    ∙ ap (λ first. option_or first
-    (first_unmet changes (map expectation_in (drop (i + 1) guards)) log)) found
+    rw (drop_more guards i guard inside, ← is, found) refl
 
 pub first_unmet-end : (changes : List Change) (log : List (List ℕ)) (guards : List Guard) (i : ℕ)
     → length guards ≤ i → first_unmet changes (map expectation_in (drop i guards)) log ≡ None

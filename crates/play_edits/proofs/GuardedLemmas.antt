@@ -1,28 +1,29 @@
--- What is written of items with guards is their script, and a script can say it.
-use Rattle.std.proofs.Common.{◌≡◌, ℕ, ◌-◌, ◌^◌, true, List, [], ◌∷◌, ◌++◌, Option, None, Some, Ok}
-use Rattle.std.proofs.Common.{Err, All}
-use Rattle.std.proofs.Common.{sym, ap, subst, ◌∙◌, refl, append-nil}
+-- What is written of items with guards is their script, a script can say it, and it does what the
+-- items do.
+use Rattle.std.proofs.Common.{◌≡◌, ℕ, true, List, [], ◌∷◌, Option, None, Some, sym, refl, ◌-◌, ◌^◌}
+use Rattle.std.proofs.Common.{◌++◌, Ok, Err, All, ap, ◌∙◌, append-nil}
+use Rattle.replay_edits.specs.Edit.{Game, IsGame, apply_all, Change}
+use Rattle.replay_scripts.specs.Script.{Applied}
+use Rattle.replay_scripts.specs.ScriptText.{spelled_items, IsSpellable, group_text, script_text}
+use Rattle.replay_scripts.proofs.Spelled.{reads_back}
+use Rattle.play_edits.specs.Undo.{guarded_groups, guarded_of, guarded_text, guarded_group}
+use Rattle.play_edits.specs.Undo.{text_if_done, with_guards}
+use Rattle.play_edits.specs.Items.{game_after_item, game_after_items}
+use Rattle.play_edits.specs.Refusal.{item_refusal, group_refusal}
+use Rattle.play_edits.specs.declared.refusal.Refusal.{Refusal}
+use Rattle.play_edits.proofs.GuardLemmas.{unrefused_item}
+use Rattle.play_edits.specs.Views.{IsGuarded}
+use Rattle.play_edits.proofs.UndoLemmas.{Undoes, undoes-append, undoes-one}
 use Rattle.std.proofs.lemmas.Grind.{flat_map-append}
 use Rattle.std.proofs.lemmas.List.Elements.{All-append, All-cons, All-nil}
-use Rattle.std.specs.Prelude.{if◌then◌else◌, is_none}
 use Rattle.cave_data.specs.CaveView.{CaveView}
 use Rattle.play_command.specs.declared.editing.EditView.TheVariants as asked
-use Rattle.replay_edits.specs.Edit.{Change, Game, IsGame}
 use Rattle.replay_edits.specs.Faults.{fault_of_all}
 use Rattle.replay_edits.proofs.Inverses.{group_free}
-use Rattle.replay_scripts.specs.Script.{Applied}
-use Rattle.replay_scripts.specs.ScriptText.{IsSpellable, group_text, script_text}
 use Rattle.play_edits.specs.Accounts.{text_of_items}
 use Rattle.play_edits.specs.ViewText.{text_of_item}
-use Rattle.play_edits.specs.Guarded.{guarded_group, guarded_groups, guarded_of, guarded_text}
-use Rattle.play_edits.specs.Guarded.{text_if_done}
-use Rattle.play_edits.specs.Items.{game_after_item}
 use Rattle.play_edits.specs.Outcome.{AreOutcomes, IsItemOutcome, ItemOutcome}
-use Rattle.play_edits.specs.Refusal.{group_refusal, item_refusal}
-use Rattle.play_edits.specs.declared.refusal.Refusal.{Refusal}
-use Rattle.play_edits.specs.Undo.{back_if, with_guards}
-use Rattle.play_edits.proofs.GameLemmas.{IsGame-after}
-use Rattle.play_edits.proofs.GuardLemmas.{unrefused_item}
+use Rattle.play_edits.proofs.EditLemmas.{IsGame-after}
 use Rattle.play_edits.proofs.SayableLemmas.{all_spellable, changes_free}
 
 -- ---- what is written
@@ -40,13 +41,9 @@ guarded_item-outcome : (cave : CaveView) (every : ℕ) (item : Applied) (game : 
     ≡ script_text (guarded_of item game)
 unfolding guarded_of
 guarded_item-outcome cave every item game checkpoints (Ok done) is =
-    let backs = with_guards item.changes game.log in
     let free = free_of item.changes game.log (unrefused_item item game.log is.accepted).1 in
-    ap (λ fault. if is_none fault then group_text backs else []) free
-    ∙ sym (append-nil (group_text backs))
-    ∙ ap (λ refusal. script_text (back_if refusal backs)) (sym is.accepted)
-guarded_item-outcome cave every item game checkpoints (Err refusal) is =
-    ap (λ refused. script_text (back_if refused (with_guards item.changes game.log))) (sym is)
+    rw (is.accepted, free) (sym (append-nil (group_text (with_guards item.changes game.log))))
+guarded_item-outcome cave every item game checkpoints (Err refusal) is = rw is refl
 
 pub told-guarded : (cave : CaveView) (every : ℕ) (items : List Applied) (game : Game)
     (checkpoints : List ℕ) (outcomes : List ItemOutcome)
@@ -71,16 +68,11 @@ spellable-guarded : (item : Applied) (game : Game) → IsGame game
     → All (All (IsSpellable true)) (guarded_of item game)
 unfolding guarded_of
 spellable-guarded item game good None accepted =
-    let backs = with_guards item.changes game.log in
     let met = (unrefused_item item game.log accepted).1 in
-    subst (λ refusal. All (All (IsSpellable true)) (back_if refusal backs)) (sym accepted)
-    (All-cons (All (IsSpellable true)) backs []
+    rw accepted (All-cons (All (IsSpellable true)) (with_guards item.changes game.log) []
     (all_spellable true item.changes game good (changes_free item game good met))
     (All-nil (All (IsSpellable true))))
-spellable-guarded item game good (Some fault) refused =
-    subst (λ refusal. All (All (IsSpellable true))
-    (back_if refusal (with_guards item.changes game.log))) (sym refused)
-    (All-nil (All (IsSpellable true)))
+spellable-guarded item game good (Some fault) refused = rw refused (All-nil (All (IsSpellable true)))
 
 pub spellable-guarded_all : (items : List Applied) (game : Game) → IsGame game
     → All (All (IsSpellable true)) (guarded_groups items game)
@@ -90,3 +82,37 @@ spellable-guarded_all (item ∷ items) game good =
     All-append (All (IsSpellable true)) (guarded_of item game) (guarded_groups items next)
     (spellable-guarded item game good _ refl)
     (spellable-guarded_all items next (IsGame-after item game good))
+
+-- ---- what it does
+
+-- an item with guards gives what the item gives
+gives-item : (item : Applied) (game : Game) (refusal : Option Refusal)
+    → item_refusal item game.log ≡ refusal → (number : ℕ)
+    → Undoes number (guarded_of item game) game (game_after_item item game)
+unfolding guarded_of game_after_item
+gives-item item game None accepted number =
+    rw accepted (undoes-one true number item.changes game (apply_all item.changes game)
+    (unrefused_item item game.log accepted).1 refl)
+gives-item item game (Some fault) refused number = rw refused (refl, refl)
+
+gives-all : (items : List Applied) (game : Game) (number : ℕ)
+    → Undoes number (guarded_groups items game) game (game_after_items items game)
+gives-all [] game number = (refl, refl)
+gives-all (item ∷ items) game number =
+    let next = game_after_item item game in
+    undoes-append (guarded_of item game) (guarded_groups items next) number game next
+    (game_after_items items next) (gives-item item game _ refl number)
+    (λ later. gives-all items next later)
+
+pub guarded-whole : (items : List Applied) (game : Game) (text : List ℕ) → IsGame game
+    → text ≡ guarded_text items game → IsGuarded items game text
+guarded-whole items game text good written =
+    let groups = guarded_groups items game in
+    let given = gives-all items game 1 in
+    record {
+      written = written;
+      again = spelled_items 1 groups;
+      spelled = rw written (reads_back true groups (spellable-guarded_all items game good));
+      accepted = given.0;
+      same = given.1;
+    }

@@ -1,13 +1,10 @@
 -- The guards of what is kept are met.
-use Rattle.std.proofs.Common.{◌≡◌, ℕ, ◌+◌, ◌<◌, Bool, true, false, List, [], ◌∷◌}
-use Rattle.std.proofs.Common.{take}
-use Rattle.std.proofs.Common.{◌++◌, length, map, drop, get_or, Option, None, Some}
-use Rattle.std.proofs.Common.{sym, ap, ◌∙◌, refl, arith, append_assoc, append-nil}
+use Rattle.std.proofs.Common.{◌≡◌, ℕ, ◌+◌, ◌<◌, Bool, true, false, List, [], ◌∷◌, take, ◌++◌}
+use Rattle.std.proofs.Common.{length, map, drop, get_or, Option, None, Some, sym, ap, ◌∙◌, refl}
+use Rattle.std.proofs.Common.{arith, append_assoc, append-nil}
 use Rattle.std.specs.Prelude.{slice_get, option_map, Result, Ok, Err, IfOk}
 use Rattle.std.specs.List.{zip}
-use Rattle.std.specs.Option.{option_or}
-use Rattle.std.proofs.lemmas.List.{get_or-map, length-append, length-map}
-use Rattle.std.proofs.lemmas.List.{take_more}
+use Rattle.std.proofs.lemmas.List.{get_or-map, length-append, length-map, take_more}
 use Rattle.std.proofs.Math.Seq.{take-append_seam}
 use Rattle.replay_edits.specs.Edit.{Change, change_of, changes_of, deletes, inserts, log_after}
 use Rattle.replay_edits.specs.Edit.{replaces, reseeds}
@@ -15,15 +12,14 @@ use Rattle.replay_edits.specs.declared.edit.Edit.{Edit}
 use Rattle.replay_edits.specs.Faults.{log_after_all}
 use Rattle.replay_edits.proofs.Groups.{changes_of-drop}
 use Rattle.replay_scripts.specs.Script.{Expectation}
-use Rattle.replay_scripts.specs.ScriptText.{Back, backs_in}
+use Rattle.replay_scripts.specs.ScriptText.{Back, backs_in, guards_at, guards_from, line_after}
+use Rattle.replay_scripts.specs.ScriptText.{number_in, spelled_item}
 use Rattle.replay_scripts.specs.declared.script_text.BackEdit.{BackEdit}
 use Rattle.std.specs.Global.{Vec}
 use Rattle.replay_edits.specs.LineText.{LineText}
-use Rattle.replay_scripts.specs.ScriptText.{guards_at, guards_from, line_after}
-use Rattle.replay_scripts.specs.ScriptText.{number_in, spelled_item}
 use Rattle.play_edits.specs.Refusal.{first_unmet}
-use Rattle.play_edits.specs.Undo.{backs_by, expected_at, expected_lines, expecting}
-use Rattle.play_edits.specs.Undo.{lines_in, with_guards, without_guard}
+use Rattle.play_edits.specs.Undo.{backs_by, expected_at, expected_lines, expecting, lines_in}
+use Rattle.play_edits.specs.Undo.{with_guards, without_guard}
 use Rattle.play_edits.proofs.GuardLemmas.{unmet-IsMet}
 
 expected_there : (change : Change) (log : List (List ℕ)) (line : List ℕ)
@@ -44,8 +40,7 @@ met_then changes log number after place None more there rest = rest
 met_then changes log number after place (Some line) more there rest =
     let guard : Expectation =
     record { line = number; place = place; text = line; after = after } in
-    ap (λ first. option_or first (first_unmet changes more log))
-    (unmet-IsMet changes log guard (λ free. there line refl)) ∙ rest
+    rw (unmet-IsMet changes log guard (λ free. there line refl)) rest
 
 log_after_all-more : (changes : List Change) (change : Change) (log : List (List ℕ))
     → log_after_all (changes ++ change ∷ []) log ≡ log_after change (log_after_all changes log)
@@ -141,12 +136,10 @@ pub guards_met : (guarded : Bool) (number : ℕ) (changes : List Change) (log : 
 guards_met false number [] log = refl
 guards_met false number (change ∷ []) log = refl
 guards_met false number (first ∷ second ∷ more) log =
-    ap (λ guards. first_unmet (first ∷ second ∷ more) guards log)
-    (unguarded_from (number + 1) 0 (first ∷ second ∷ more))
+    rw (unguarded_from (number + 1) 0 (first ∷ second ∷ more)) refl
 guards_met true number [] log = refl
 guards_met true number (change ∷ []) log =
     let guard = guards_at number 0 (number_in change) (expected_at change log) in
-    ap (λ guards. first_unmet (change ∷ []) guards log) (sym (append-nil guard))
-    ∙ met_from number [] (change ∷ []) log
+    rw (← append-nil guard) (met_from number [] (change ∷ []) log)
 guards_met true number (first ∷ second ∷ more) log =
     met_from (number + 1) [] (first ∷ second ∷ more) log

@@ -1,8 +1,7 @@
 -- The place nearest to another at which a log has a text.
 use Rattle.std.proofs.Common.{◌≡◌, ℕ, ◌+◌, ◌<◌, ◌≤◌, Bool, true, false, List, [], ◌∷◌, ◌++◌, length}
 use Rattle.std.proofs.Common.{Option, None, Some, refl, sym, ap, subst, ◌∙◌, arith, inl, inr, zero}
-use Rattle.std.proofs.Common.{suc, drop}
-use Rattle.std.proofs.Common.{append_assoc, append-nil}
+use Rattle.std.proofs.Common.{suc, drop, append_assoc, append-nil}
 use Rattle.std.specs.Prelude.{◌⊎◌, bytes_eq, if◌then◌else◌, nat_lt, slice_get}
 use Rattle.std.proofs.lemmas.List.{drop_all, drop_more, length-append}
 use Rattle.std.proofs.lemmas.Option.{slice_get-get_or, slice_get_within}

@@ -11,12 +11,12 @@ use Rattle.cave_replay.specs.Session.{SessionView}
 use Rattle.cave_world.specs.declared.state.State.{State}
 use Rattle.play_command.specs.declared.editing.EditView.{EditView}
 use Rattle.play_command.specs.declared.editing.Editing.{Editing}
-use Rattle.play_edits.proofs.BackLemmas.{asked-append, asked-none, back_of-outcome}
+use Rattle.play_edits.proofs.UndoLemmas.{asked-append, asked-none, back_of-outcome}
 use Rattle.play_edits.proofs.EditLemmas.{item_refusal-outcome}
 use Rattle.play_edits.specs.Accounts.{text_of_items}
 use Rattle.play_edits.specs.Edits.{Applies, if_strict}
 use Rattle.play_edits.specs.Items.{game_after_item, refusal_list, refusals}
-use Rattle.play_edits.specs.LogEnds.{EndsOfLog, ends_after_items, ends_left}
+use Rattle.play_edits.specs.Ends.{EndsOfLog, ends_after_items, ends_left}
 use Rattle.play_edits.specs.Outcome.{AreLeft, AreOutcomes, IsItemOutcome, ItemOutcome, lines_in}
 use Rattle.play_edits.specs.Outcome.{played_in, refusal_in}
 use Rattle.play_edits.specs.Undo.{asks_backs, back_by, backs_of, if_asked}

@@ -1,12 +1,10 @@
 -- What is kept of items is what a script can say.
-use Rattle.std.proofs.Common.{◌≡◌, ℕ, ◌-◌, ◌^◌, ◌<◌, ◌≤◌, Bool, true, false, List, [], ◌∷◌}
-use Rattle.std.proofs.Common.{IsTrue}
-use Rattle.std.proofs.Common.{length, map, reverse, Option, None, Some, All}
-use Rattle.std.proofs.Common.{sym, ap, subst, ◌∙◌, refl, arith, nat_lt}
+use Rattle.std.proofs.Common.{◌≡◌, ℕ, ◌-◌, ◌^◌, ◌<◌, ◌≤◌, Bool, true, false, List, [], ◌∷◌, IsTrue}
+use Rattle.std.proofs.Common.{length, map, reverse, Option, None, Some, All, sym, ap, subst, ◌∙◌}
+use Rattle.std.proofs.Common.{refl, arith, nat_lt}
 use Rattle.std.specs.Prelude.{if◌then◌else◌, slice_get}
 use Rattle.std.proofs.lemmas.Bool.Decides.{nat_tests}
-use Rattle.std.proofs.lemmas.List.{length-reverse}
-use Rattle.std.proofs.lemmas.List.{reverse-append}
+use Rattle.std.proofs.lemmas.List.{length-reverse, reverse-append}
 use Rattle.std.proofs.lemmas.List.Elements.{All-append, All-cons, All-get_or, All-nil}
 use Rattle.std.proofs.lemmas.Option.{get_or_from_slice_get, slice_get_within}
 use Rattle.base_lines.specs.Limits.{MAX_LOG_LINES}
@@ -22,13 +20,13 @@ use Rattle.replay_edits.proofs.Inverses.{group_some, log-apply_all, none_from_Is
 use Rattle.replay_scripts.specs.Script.{Applied}
 use Rattle.replay_scripts.specs.ScriptText.{Back, CanExpect, IsSpellable}
 use Rattle.replay_scripts.proofs.Sayable.{spellable}
-use Rattle.play_edits.specs.Items.{game_after_item, game_left}
+use Rattle.play_edits.specs.Items.{game_after_item}
 use Rattle.play_edits.specs.Refusal.{group_refusal, item_refusal}
 use Rattle.play_edits.specs.declared.refusal.Refusal.{Refusal}
-use Rattle.play_edits.specs.Undo.{back_if, back_of, backs_by, backs_of, expected_at}
-use Rattle.play_edits.specs.Undo.{with_guards, without_guard}
+use Rattle.play_edits.specs.Undo.{back_of, backs_by, backs_of, expected_at, with_guards}
+use Rattle.play_edits.specs.Undo.{without_guard}
 use Rattle.play_edits.proofs.GuardLemmas.{unrefused_item}
-use Rattle.play_edits.proofs.GameLemmas.{IsGame-after}
+use Rattle.play_edits.proofs.EditLemmas.{IsGame-after}
 
 line_can : (log : List (List ℕ)) (place : ℕ) (found : Option (List ℕ))
     → All (λ line. IsTrue (is_line line)) log → slice_get log place ≡ found → CanExpect true found
@@ -101,7 +99,7 @@ module _ (item : Applied) (game : Game) (good : IsGame game)
   changes_free = IsFree-from_none item.changes game.log 0 can.0
 
   free_back : IsFree inverses after.log
-  free_back = subst (λ log. IsFree inverses log) (sym (log-apply_all item.changes game))
+  free_back = rw (log-apply_all item.changes game)
       (IsFree-inverses_of item.changes game good changes_free)
 
   good_after : IsGame after
@@ -133,17 +131,12 @@ spellable-item : (guarded : Bool) (item : Applied) (game : Game) → IsGame game
     → All (All (IsSpellable guarded)) (reverse (back_of guarded item game))
 unfolding back_of game_after_item
 spellable-item guarded item game good None accepted =
-    subst (λ refusal. All (All (IsSpellable guarded)) (reverse (back_if refusal
-    (backs_by guarded (inverses_of item.changes game) (game_left item refusal game).log))))
-    (sym accepted)
-    (All-cons (All (IsSpellable guarded))
+    rw accepted (All-cons (All (IsSpellable guarded))
     (backs_by guarded (inverses_of item.changes game) (apply_all item.changes game).log) []
     (inverses_spellable item game good (unrefused_item item game.log accepted).1 guarded)
     (All-nil (All (IsSpellable guarded))))
 spellable-item guarded item game good (Some fault) refused =
-    subst (λ refusal. All (All (IsSpellable guarded)) (reverse (back_if refusal
-    (backs_by guarded (inverses_of item.changes game) (game_left item refusal game).log))))
-    (sym refused) (All-nil (All (IsSpellable guarded)))
+    rw refused (All-nil (All (IsSpellable guarded)))
 
 pub spellable-all : (guarded : Bool) (items : List Applied) (game : Game) → IsGame game
     → All (All (IsSpellable guarded)) (reverse (backs_of guarded items game))
@@ -152,7 +145,7 @@ spellable-all guarded (item ∷ items) game good =
     let next = game_after_item item game in
     let here = back_of guarded item game in
     let rest = backs_of guarded items next in
-    subst (λ groups. All (All (IsSpellable guarded)) groups) (sym (reverse-append here rest))
+    rw (reverse-append here rest)
     (All-append (All (IsSpellable guarded)) (reverse rest) (reverse here)
     (spellable-all guarded items next (IsGame-after item game good))
     (spellable-item guarded item game good _ refl))

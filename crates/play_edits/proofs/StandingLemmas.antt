@@ -1,4 +1,4 @@
--- Where a held game is after its last line.
+-- Where a held game is after its last line, and its state there.
 use Rattle.std.proofs.Common.{◌≡◌, ℕ, Bool, List, length, subst, refl}
 use Rattle.std.specs.declared.option.Option.{Option}
 use Rattle.cave_data.specs.CaveView.{CaveView}
@@ -12,6 +12,7 @@ use Rattle.play_machine.specs.Machine.{cave_rules}
 use Rattle.play_edits.specs.Outcome.{standing_of}
 use Rattle.play_machine.specs.Transcript.{ticks as ticks_of}
 use Rattle.play_edits.specs.declared.outcome.Standing.{Standing}
+use Rattle.play_edits.specs.Accounts.{last_state}
 
 -- by its parts
 abbrev pub standing : ℕ → ℕ → ℕ → ℕ → Option Ending → Standing
@@ -35,3 +36,12 @@ unfolding standing_of
 standing-played cave kept game opening pieces ticks state same played =
     let here = subst (λ k. IsPlay (cave_rules k) game opening pieces ticks state) same played in
     rw (here.ticks_are, here.state_is) refl
+
+-- the state that a session holds of the play of a game is the last one
+pub last_state-played : (cave kept : CaveView) (game : Game) (opening : List Part)
+    (pieces : List (List Part)) (ticked : List Bool) (state : State) → kept ≡ cave
+    → IsPlay (cave_rules kept) game opening pieces ticked state → state ≡ last_state cave game
+unfolding last_state
+last_state-played cave kept game opening pieces ticked state same played =
+    let here = subst (λ k. IsPlay (cave_rules k) game opening pieces ticked state) same played in
+    here.state_is

@@ -1,16 +1,16 @@
--- What is written of the items of a script.
+-- What is written of the items of a script, in words and as a table.
 use Rattle.std.specs.Prelude.{ℕ, List, [], ◌∷◌, ◌++◌, codes, Option, None, Some, Ok, Err}
 use Rattle.std.specs.Fmt.{decimal}
 use Rattle.std.specs.List.{sum_by}
 use Rattle.cave_data.specs.CaveView.{CaveView}
 use Rattle.cave_replay.specs.declared.report.GroupReport.{GroupReport}
 use Rattle.cave_world.specs.declared.ending.Ending.{Ending}
-use Rattle.replay_edits.specs.Edit.{Game}
+use Rattle.replay_edits.specs.Edit.{Game, changes_of}
 use Rattle.replay_edits.specs.Faults.{edit_fault_text}
 use Rattle.replay_edits.specs.declared.fault.EditFault.{EditFault}
 use Rattle.replay_edits.specs.declared.fault.EditFault.TheVariants as cause
 use Rattle.replay_scripts.specs.Script.{Applied}
-use Rattle.play_tables.specs.ItemRow.{met_column}
+use Rattle.play_tables.specs.ItemRow.{met_column, accepted_row, item_head_row, refused_row}
 use Rattle.play_tables.specs.Step.{ending_column}
 use Rattle.play_edits.specs.Items.{game_after_item}
 use Rattle.play_edits.specs.Outcome.{ItemOutcome, lines_in, played_in, standing_of}
@@ -21,6 +21,9 @@ use Rattle.play_edits.specs.declared.refusal.ExpectedLine.{ExpectedLine}
 use Rattle.play_edits.specs.declared.refusal.ExpectedLine.TheVariants.{At, Impossible, Nowhere}
 use Rattle.play_edits.specs.declared.refusal.Refusal.{Refusal}
 use Rattle.play_edits.specs.declared.refusal.Refusal.TheVariants.{Edit, NoLine, OtherLine}
+use Rattle.cave_replay.specs.Play.{state_after}
+use Rattle.cave_world.specs.declared.state.State.{State}
+use Rattle.play_machine.specs.Machine.{cave_rules}
 
 -- what is said of the fault of an edit of a script
 abbrev pub edit_words : EditFault → List ℕ
@@ -107,3 +110,30 @@ abbrev pub accounts : CaveView → List Applied → Game → List ItemOutcome �
 accounts cave items game outcomes =
     text_of_items (account cave) items game outcomes
     ++ totals_line (sum_by played_in outcomes) (sum_by lines_in outcomes)
+
+-- ---- the table
+
+-- the state to which playing a game leads
+unfoldable pub last_state : CaveView → Game → State
+last_state cave game =
+    let rules = cave_rules cave in state_after rules (rules.begun game.seed) game.log
+
+-- the row of an item by its outcome, with the last states of the log before it and after it, and
+-- where the game is after it
+abbrev pub row_by : Applied → ItemOutcome → State → Standing → State → List ℕ
+row_by item (Ok done) s standing t =
+    accepted_row item.line item.changes (changes_of done.inverse.items) done.from done.met
+    done.played standing.score standing.turns s t
+row_by item (Err refusal) s standing t =
+    refused_row (refusal_line refusal) item.changes (refusal_number refusal)
+
+-- the row of an item that was applied to a game
+abbrev pub table_row : CaveView → Applied → Game → ItemOutcome → List ℕ
+table_row cave item game outcome =
+    let next = game_after_item item game in
+    row_by item outcome (last_state cave game) (standing_of cave next) (last_state cave next)
+
+-- the names of the columns, and a row for each item
+abbrev pub table_text : CaveView → List Applied → Game → List ItemOutcome → List ℕ
+table_text cave items game outcomes =
+    item_head_row ++ text_of_items (table_row cave) items game outcomes

@@ -8,11 +8,11 @@ use Rattle.play_command.specs.Aside.{edit_view_of}
 use Rattle.play_command.specs.declared.aside.ReportView.{ReportView}
 use Rattle.play_command.specs.declared.editing.Editing.{Editing}
 use Rattle.play_edits.specs.Items.{game_after_item, game_after_items, refusals}
-use Rattle.play_edits.specs.LogEnds.{EndsOfLog, ends_after_items, shown_ends}
+use Rattle.play_edits.specs.Ends.{EndsOfLog, ended_view, ends_after_items}
 use Rattle.play_edits.specs.Outcome.{AreLeft, AreOutcomes, IsItemOutcome, ItemOutcome, played_in}
 use Rattle.play_edits.specs.Undo.{backs_of, if_asked}
 use Rattle.play_edits.specs.ViewText.{view_text}
-use Rattle.play_edits.specs.declared.items.Edited.{Edited}
+use Rattle.play_edits.specs.declared.items.MadeEdit.{MadeEdit}
 use Rattle.play_edits.specs.declared.refusal.Refusal.{Refusal}
 use Rattle.play_machine.specs.HeldGame.{HoldsGame}
 use Rattle.play_machine.specs.Piece.{Piece}
@@ -41,18 +41,18 @@ kept_backs editing items game =
 -- items were applied to what a session held, over a log whose lines end like this, and this is what
 -- they made
 pub record IsMade (editing : Editing) (report : Option ReportView) (items : List Applied)
-    (old : SessionView CaveMachine Piece State) (ends : EndsOfLog) (made : Edited) : Type 0 where
+    (old : SessionView CaveMachine Piece State) (ends : EndsOfLog) (made : MadeEdit) : Type 0 where
   pub outcomes : List ItemOutcome
   pub came : AreOutcomes old.machine.rules.cave.now old.every items old.game old.checkpoints
       outcomes
-  pub text : made.text.items ≡ view_text (Some editing.view) old.machine.rules.cave.now items
-      old.game outcomes (kept_backs editing items old.game)
-  pub beside : made.report.items ≡ view_text (option_map edit_view_of report)
+  pub text : made.text.items ≡ ended_view editing.view (ends_after_items items old.game ends)
+      (view_text (Some editing.view) old.machine.rules.cave.now items old.game outcomes
+      (kept_backs editing items old.game))
+  pub beside : made.run.report.items ≡ view_text (option_map edit_view_of report)
       old.machine.rules.cave.now items old.game outcomes (kept_backs editing items old.game)
-  pub played : made.played ≡ sum_by played_in outcomes
-  pub ended : shown_ends made.ends ≡ ends_after_items items old.game ends
-  pub refused : made.refused.items ≡ refusals items old.game
-  pub seed : made.seed ≡ (game_after_items items old.game).seed
+  pub played : made.run.played ≡ sum_by played_in outcomes
+  pub refused : made.run.refused.items ≡ refusals items old.game
+  pub seed : made.run.seed ≡ (game_after_items items old.game).seed
 
 -- a refusal ends a strict run
 abbrev pub if_strict : Bool → Option Refusal → Option Refusal

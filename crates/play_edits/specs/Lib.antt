@@ -4,9 +4,7 @@ pub mod Laws
 pub mod Items
 pub mod Outcome
 pub mod Refusal
-pub mod Table
 pub mod ViewText
+pub mod Views
 pub mod Undo
-pub mod Guarded
-pub mod LineEnds
-pub mod LogEnds
+pub mod Ends

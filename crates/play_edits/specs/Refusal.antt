@@ -1,8 +1,7 @@
 -- Why an item of a script is refused.
 use Rattle.std.specs.Prelude.{◌≡◌, ◌<◌, ◌≤◌, ℕ, ◌+◌, ◌-◌, ◌^◌, ◌++◌, nat_le, nat_lt, List, [], ◌∷◌}
-use Rattle.std.specs.Prelude.{length, take, replicate}
-use Rattle.std.specs.Prelude.{bytes_eq, Option, None, Some, option_map, is_none, slice_get}
-use Rattle.std.specs.Prelude.{if◌then◌else◌}
+use Rattle.std.specs.Prelude.{length, take, replicate, bytes_eq, Option, None, Some, option_map}
+use Rattle.std.specs.Prelude.{is_none, slice_get, if◌then◌else◌}
 use Rattle.std.specs.Option.{option_or}
 use Rattle.base_lines.specs.Line.{is_line}
 use Rattle.replay_edits.specs.Draft.{edits_in, log_before, made_in}

@@ -1,17 +1,19 @@
--- The script that takes back the accepted items of a script.
-use Rattle.std.specs.Prelude.{ℕ, Bool, true, false, List, [], ◌∷◌, ◌++◌, map, reverse, Option}
-use Rattle.std.specs.Prelude.{None, Some, slice_get, option_map, Ok, Err, if◌then◌else◌}
+-- The scripts of the accepted items of a script: the one that takes them back, and the one that has
+-- them, each edit with a guard of the line at its place.
+use Rattle.std.specs.Prelude.{ℕ, Bool, true, false, List, [], ◌∷◌, ◌++◌, map, reverse, Option, None}
+use Rattle.std.specs.Prelude.{Some, slice_get, option_map, Ok, Err, if◌then◌else◌, is_none}
 use Rattle.play_command.specs.declared.editing.EditView.{EditView}
 use Rattle.play_command.specs.declared.editing.EditView.TheVariants as asked
-use Rattle.replay_edits.specs.Edit.{Change, Game, changes_of, inverses_of, log_after}
-use Rattle.replay_edits.specs.Edit.{inserts, deletes, replaces, reseeds}
+use Rattle.replay_edits.specs.Edit.{Change, Game, changes_of, inverses_of, log_after, inserts}
+use Rattle.replay_edits.specs.Edit.{deletes, replaces, reseeds}
 use Rattle.replay_edits.specs.LineText.{LineText}
 use Rattle.replay_scripts.specs.Script.{Applied}
-use Rattle.replay_scripts.specs.ScriptText.{Back, script_text}
+use Rattle.replay_scripts.specs.ScriptText.{Back, script_text, group_text}
 use Rattle.play_edits.specs.Items.{game_after_item}
 use Rattle.play_edits.specs.Outcome.{ItemOutcome}
 use Rattle.play_edits.specs.Refusal.{item_refusal}
 use Rattle.play_edits.specs.declared.refusal.Refusal.{Refusal}
+use Rattle.replay_edits.specs.Faults.{fault_of_all}
 
 -- the line of a log at the place of a change, if there is one; a new seed has no place
 abbrev pub expected_at : Change → List (List ℕ) → Option (List ℕ)
@@ -79,3 +81,29 @@ backs_of guarded (item ∷ items) game =
 -- the script that takes back items that were applied to a game, the last one first
 abbrev pub undo_text : Bool → List Applied → Game → List ℕ
 undo_text guarded items game = script_text (reverse (backs_of guarded items game))
+
+-- ---- the items with guards
+
+-- the text of an item, unless the item was refused
+abbrev pub text_if_done : ItemOutcome → List ℕ → List ℕ
+text_if_done (Ok done) text = text
+text_if_done (Err refusal) text = []
+
+-- the text of changes of a log, each with a guard, if none of them is refused
+abbrev pub guarded_group : List Change → List (List ℕ) → List ℕ
+guarded_group changes log =
+    if is_none (fault_of_all changes log 0) then group_text (with_guards changes log) else []
+
+-- the changes of an item with their guards, unless it was refused
+unfoldable pub guarded_of : Applied → Game → List (List Back)
+guarded_of item game = back_if (item_refusal item game.log) (with_guards item.changes game.log)
+
+-- those of items, one after another
+abbrev pub guarded_groups : List Applied → Game → List (List Back)
+guarded_groups [] game = []
+guarded_groups (item ∷ items) game =
+    guarded_of item game ++ guarded_groups items (game_after_item item game)
+
+-- the script of the items that are accepted in the game, with guards
+abbrev pub guarded_text : List Applied → Game → List ℕ
+guarded_text items game = script_text (guarded_groups items game)

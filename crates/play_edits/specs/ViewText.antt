@@ -5,11 +5,10 @@ use Rattle.cave_replay.specs.LogText.{log_text}
 use Rattle.cave_world.specs.declared.state.State.{State}
 use Rattle.play_command.specs.declared.editing.EditView.{EditView}
 use Rattle.play_command.specs.declared.editing.EditView.TheVariants as asked
-use Rattle.play_edits.specs.Accounts.{account_by, text_of_items, totals_line}
-use Rattle.play_edits.specs.Guarded.{guarded_group, text_if_done}
+use Rattle.play_edits.specs.Accounts.{account_by, text_of_items, totals_line, last_state, row_by}
+use Rattle.play_edits.specs.Undo.{guarded_group, text_if_done}
 use Rattle.play_edits.specs.Items.{game_after_item, game_after_items, item_report_by}
 use Rattle.play_edits.specs.Outcome.{ItemOutcome, lines_in, played_in, refusal_in, standing_of}
-use Rattle.play_edits.specs.Table.{last_state, row_by}
 use Rattle.play_machine.specs.FinalState.{final_state_text}
 use Rattle.play_machine.specs.Score.{score_text}
 use Rattle.play_machine.specs.Steps.{steps_text}

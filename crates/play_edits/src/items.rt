@@ -6,11 +6,11 @@ ghost use Rattle.play_command.specs.Aside.{edit_view_of};
 ghost use Rattle.replay_scripts.specs.Views.{applied_item};
 ghost use Rattle.play_edits.specs.Edits.{Applies, IsMade, ending_refusal, if_strict};
 ghost use Rattle.play_edits.specs.Items.{refusal_list};
-ghost use Rattle.play_edits.specs.LogEnds.{shown_ends};
+ghost use Rattle.play_edits.specs.Ends.{shown_ends};
 ghost use Rattle.play_edits.specs.Outcome.{refusal_in};
 
+use crate::ends::{LogEnds, ended_view};
 use crate::guards::unmet_guard;
-use crate::log_ends::{LogEnds, leave_ends};
 use crate::outcome::Totals;
 use crate::refusal::{Refusal, edit_refusal};
 use crate::undo::keep_back;
@@ -23,17 +23,22 @@ use replay_edits::EditFault;
 use replay_scripts::Item;
 use std::alloc::{AllocError, Global};
 
-/// What edits of a log made: the text of the view, how many lines were played for them, how the
-/// lines of the log end, why items were refused, the report beside the view, and the seed that is
-/// left.
-#[derive(Drop)]
-pub struct Edited {
-    pub text: Vec<u8>,
+/// What a run of edits returns beside its output: how many lines were played for the items, why
+/// those of them were refused that were, in their order, the report that was asked for, and the
+/// seed of the game that is left.
+#[derive(Debug, Drop)]
+pub struct EditRun {
     pub played: u64,
-    pub ends: LogEnds,
     pub refused: Vec<Refusal>,
     pub report: Vec<u8>,
     pub seed: u32,
+}
+
+/// What a run of edits makes: its output, and what is returned beside that.
+#[derive(Drop)]
+pub struct MadeEdit {
+    pub run: EditRun,
+    pub text: Vec<u8>,
 }
 
 /// Applies the items of a script to the held game, each to what those before it left, and returns
@@ -46,7 +51,7 @@ pub fn apply_items(
     editing: Editing,
     report: Option<ReportView>,
     mut ends: LogEnds,
-) -> Result<Result<Edited, Refusal>, AllocError>
+) -> Result<Result<MadeEdit, Refusal>, AllocError>
     requires { length items.now < 2 ^ 32 }
     ensures made { IfOk result (λ outcome. IfOk outcome (IsMade editing report
         (map applied_item items.now) session.old (shown_ends ends))) }
@@ -73,21 +78,21 @@ pub fn apply_items(
         told.after(alloc, session, item, &outcome)?;
         beside.after(alloc, session, item, &outcome)?;
         totals = totals.with(&outcome);
-        leave_ends(&mut ends, item, &outcome)?;
+        ends.follow(item, &outcome)?;
         note_refusal(&mut refused, &outcome)?;
         keep_back(alloc, session, editing, outcome, &mut backs)?;
     }
     backs.reverse();
     told.end(alloc, session, totals, &backs)?;
     beside.end(alloc, session, totals, &backs)?;
-    Ok(Ok(Edited {
-        text: told.text,
+    let text = ended_view(alloc, editing.view, &ends, told.text)?;
+    let run = EditRun {
         played: totals.played,
-        ends,
         refused,
         report: beside.text,
         seed: session.seed(),
-    }))
+    };
+    Ok(Ok(MadeEdit { run, text }))
 }
 
 /// The view that prints a report alone, if one is asked for.

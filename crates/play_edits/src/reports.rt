@@ -1,11 +1,11 @@
-//! What is written of the items of a script.
+//! What is written of the items of a script, in words and as the rows of a table.
 
 ghost use Rattle.std.specs.Prelude.{◌≡◌, ◌++◌, IfOk, OnOk, string_bytes};
 ghost use Rattle.replay_scripts.specs.Views.{applied_item};
-ghost use Rattle.play_edits.specs.Accounts.{account_by, ending_text, expected_text};
-ghost use Rattle.play_edits.specs.Accounts.{expected_words, no_line_text, place_text};
-ghost use Rattle.play_edits.specs.Accounts.{refusal_said, refusal_text, replay_text};
-ghost use Rattle.play_edits.specs.Accounts.{standing_text, totals_line};
+ghost use Rattle.play_edits.specs.Accounts.{account_by, ending_text, expected_text, expected_words};
+ghost use Rattle.play_edits.specs.Accounts.{no_line_text, place_text, refusal_said, refusal_text};
+ghost use Rattle.play_edits.specs.Accounts.{replay_text, standing_text, totals_line, last_state};
+ghost use Rattle.play_edits.specs.Accounts.{row_by};
 ghost use Rattle.play_edits.specs.Items.{item_report_by};
 ghost use Rattle.play_tables.specs.ItemRow.{met_column};
 ghost use Rattle.play_edits.specs.Outcome.{refusal_in, standing_of};
@@ -13,9 +13,10 @@ ghost use Rattle.play_edits.specs.Outcome.{refusal_in, standing_of};
 use crate::outcome::{Standing, Totals, standing_of};
 use crate::refusal::{EditWords, ExpectedLine, KeptLine, Refusal};
 use cave_replay::{GroupReport, Session};
-use cave_world::Ending;
+use cave_world::{Ending, State};
 use play_machine::CaveMachine;
 use play_tables::columns::ending_column;
+use play_tables::{push_item_columns, push_refused_row, push_replay_columns, push_state_columns};
 use replay_scripts::Item;
 use std::alloc::{AllocError, Global};
 
@@ -214,4 +215,40 @@ fn push_refusal(alloc: Global, text: &mut Vec<u8>, refusal: &Refusal) -> Result<
     push_said(alloc, text, refusal)?;
     text.push(b'\n')?;
     Ok(())
+}
+
+/// The state after the last line of the held game.
+pub(crate) fn last_state<'a>(session: &'a Session<CaveMachine<'_>>) -> &'a State
+    ensures { result.now ≡ last_state session.now.machine.rules.cave.now session.now.game }
+{
+    session.state()
+}
+
+/// Appends the row of an item that was applied, with the state before it.
+#[tactic(auto, unfolding(play_tables::specs::ItemRow::accepted_row))]
+pub(crate) fn push_row(
+    alloc: Global,
+    text: &mut Vec<u8>,
+    session: &Session<CaveMachine<'_>>,
+    item: &Item,
+    outcome: &Result<GroupReport, Refusal>,
+    before: &State,
+) -> Result<(), AllocError>
+    ensures { let cave = session.now.machine.rules.cave.now in
+        let last = last_state cave session.now.game in
+        OnOk result (text.new.items ≡ text.old.items
+        ++ row_by (applied_item item.now) outcome.now before.now
+        (standing_of cave session.now.game) last) }
+{
+    match outcome {
+        Ok(done) => {
+            let Standing { score, turns, .. } = standing_of(session);
+            push_item_columns(alloc, text, item.line, &item.edits, &done.inverse)?;
+            push_replay_columns(alloc, text, done.from, done.met, done.played)?;
+            push_state_columns(alloc, text, score, turns, before, last_state(session))
+        }
+        Err(refusal) => {
+            push_refused_row(alloc, text, refusal.line(), &item.edits, refusal.number())
+        }
+    }
 }

@@ -6,11 +6,10 @@ ghost use Rattle.replay_scripts.specs.Views.{applied_item};
 ghost use Rattle.play_edits.specs.ViewText.{guarded_before, state_before, text_at_end};
 ghost use Rattle.play_edits.specs.ViewText.{text_at_start, text_after};
 
-use crate::guarded::{guarded_group, push_if_done};
 use crate::outcome::Totals;
 use crate::refusal::Refusal;
-use crate::reports::{push_account, push_report, push_totals};
-use crate::table::{last_state, push_row};
+use crate::reports::{last_state, push_account, push_report, push_row, push_totals};
+use crate::undo::{guarded_group, push_if_done};
 use cave_replay::{GroupReport, Session};
 use cave_world::State;
 use play_command::EditView;

@@ -2,7 +2,6 @@
 use Rattle.std.proofs.Common.{◌≡◌, ℕ, ◌+◌, Bool, true, false, List, [], ◌∷◌, length, reverse, All}
 use Rattle.std.proofs.Common.{IsTrue, None, Ok, sym, ap, ap₂, ◌∙◌, refl, subst, le-ltb, Some}
 use Rattle.std.specs.Prelude.{if◌then◌else◌}
-use Rattle.std.specs.List.{list_all}
 use Rattle.std.specs.Str.Lines.{lines}
 use Rattle.std.proofs.lemmas.List.Elements.{All-cons, All-head, All-nil, All-tail}
 use Rattle.base_lines.specs.Limits.{MAX_LOG_LINES}
@@ -11,29 +10,27 @@ use Rattle.base_lines.proofs.GoodLines.{good_bytes}
 use Rattle.cave_data.specs.CaveView.{CaveView}
 use Rattle.cave_replay.specs.Opening.{first_bad_line}
 use Rattle.play_command.specs.declared.editing.EditView.TheVariants as asked
-use Rattle.play_edits.specs.Guarded.{guarded_groups}
+use Rattle.play_edits.specs.Undo.{guarded_groups, backs_of}
 use Rattle.play_edits.specs.Items.{game_after_items}
-use Rattle.play_edits.specs.Undo.{backs_of}
-use Rattle.play_edits.proofs.GameLemmas.{IsGame-after_all}
+use Rattle.play_edits.proofs.EditLemmas.{IsGame-after_all}
 use Rattle.play_edits.proofs.GuardedLemmas.{spellable-guarded_all}
 use Rattle.play_edits.proofs.SayableLemmas.{spellable-all}
 use Rattle.replay_edits.specs.Edit.{Game, IsGame, game_of}
-use Rattle.play_edits.specs.LineEnds.{ended_text, ends_in, first_end, is_same_end, is_unended}
-use Rattle.play_edits.specs.LogEnds.{ends_with, log_ends, ends_after_items}
-use Rattle.play_edits.specs.declared.line_end.LineEnd.{LineEnd}
+use Rattle.play_edits.specs.Ends.{ended_text, ends_in, first_end, are_alike, is_unended, ends_with}
+use Rattle.play_edits.specs.Ends.{log_ends, ends_after_items, ended_view}
+use Rattle.play_edits.specs.declared.ends.LineEnd.{LineEnd}
 use Rattle.play_edits.specs.declared.line_end.LineEnd.TheVariants.{Feed}
-use Rattle.play_edits.proofs.AlikeEnds.{alike-again, ends-alike, first-alike, first-closed}
-use Rattle.play_edits.proofs.AlikeEnds.{ends_after_items-alike, log_ends-alike, unended-closed}
-use Rattle.play_edits.proofs.EndedLines.{lines-ended}
+use Rattle.play_edits.proofs.EndLemmas.{alike-again, ends-alike, first-alike, first-closed}
+use Rattle.play_edits.proofs.EndLemmas.{ends_after_items-alike, log_ends-alike, unended-closed}
+use Rattle.play_edits.proofs.EndLemmas.{lines-ended}
 use Rattle.replay_scripts.proofs.Texts.{IsTextLine}
 use Rattle.replay_scripts.specs.Guards.{IsScriptBy, read_guarded_from, unguarded, unguarded_items}
 use Rattle.replay_scripts.specs.Script.{Applied, IsScript, read_from}
 use Rattle.replay_scripts.proofs.Grammar.{script_of-only}
 use Rattle.play_laws.specs.Bytes.{EditedLogsAreAccepted, EndsAlike, GuardedScriptsDoTheSame}
 use Rattle.play_laws.specs.Bytes.{UndoGivesTheBytes, UndoScriptsTakeBack}
-use Rattle.cave_play.specs.Ended.{IsEndedEdit, ended_view}
+use Rattle.play_edits.specs.Views.{IsEndedEdit, IsGuarded, IsUndo}
 use Rattle.cave_play.specs.Judge.{lines_fault, or_too_many}
-use Rattle.cave_play.specs.Views.{IsGuarded, IsUndo}
 use Rattle.cave_play.specs.declared.fault.LogFault.TheVariants as fault_of_log
 use Rattle.cave_play.specs.declared.fault.PlayFault.TheVariants as fault
 use Rattle.cave_play.proofs.ScriptLemmas.{same_items, script_by-spelled}
@@ -201,8 +198,8 @@ comes_back end unended log edited_log (first ∷ more) edited undo good after th
     shut =
     let usual : first_end Feed (ends_in undo) ≡ end =
     ap (λ text. first_end Feed (ends_in text)) undo_is ∙ first-closed end Feed first more there in
-    let all : list_all (is_same_end end) (ends_in edited) ≡ true =
-    ap (λ text. list_all (is_same_end end) (ends_in text)) is
+    let all : are_alike end (ends_in edited) ≡ true =
+    ap (λ text. are_alike end (ends_in text)) is
     ∙ ends-alike end unended edited_log after in
     ap (λ one. ended_text (first_end one (ends_in edited)) (is_unended edited) [] log) usual
     ∙ ap (λ one. ended_text one (is_unended edited) [] log) (first-alike end (ends_in edited) all)

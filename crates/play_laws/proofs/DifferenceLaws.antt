@@ -18,8 +18,7 @@ use Rattle.play_laws.specs.RunLaws.{DifferencesMakeTheLog}
 use Rattle.play_edits.specs.Items.{game_after_item, game_after_items}
 use Rattle.play_edits.specs.Laws.{IsMet}
 use Rattle.play_edits.specs.Refusal.{item_refusal}
-use Rattle.play_edits.proofs.EditLemmas.{game_after_item-accepted}
-use Rattle.play_edits.proofs.GameLemmas.{IsGame-after}
+use Rattle.play_edits.proofs.EditLemmas.{game_after_item-accepted, IsGame-after}
 use Rattle.play_edits.proofs.GuardLemmas.{all_met, item_refusal-met}
 use Rattle.play_edits.proofs.SayableLemmas.{unrefused_group}
 use Rattle.cave_play.specs.TwoLogs.{DifferencesMakeTheLog}

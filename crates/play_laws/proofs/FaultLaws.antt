@@ -7,7 +7,7 @@ use Rattle.cave_play.specs.declared.fault.LogFault.TheVariants as log
 use Rattle.cave_play.specs.declared.fault.PlayFault.TheVariants as fault
 use Rattle.cave_play.specs.declared.fault.PlayFault.{PlayFault}
 use Rattle.play_command.specs.declared.input.Input.{Input}
-use Rattle.play_edits.proofs.GameLemmas.{IsGame-after_all}
+use Rattle.play_edits.proofs.EditLemmas.{IsGame-after_all}
 use Rattle.play_edits.specs.Items.{game_after_items}
 use Rattle.play_edits.specs.Refusal.{group_refusal}
 use Rattle.play_laws.specs.RunLaws.{IsFromOutside, IsDecided, IsOfChange, RefusalsAreOfChanges}

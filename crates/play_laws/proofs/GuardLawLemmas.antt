@@ -19,10 +19,9 @@ use Rattle.replay_scripts.specs.Script.{Applied, Expectation, IsScript, ScriptRe
 use Rattle.replay_scripts.specs.Script.{read_from, reading_after_line}
 use Rattle.replay_scripts.specs.declared.fault.ScriptRefusal.{ScriptRefusal}
 use Rattle.replay_scripts.proofs.GuardedGrammar.{IsScriptBy-script_by}
-use Rattle.cave_play.specs.Ended.{IsEndedEdit}
+use Rattle.play_edits.specs.Views.{IsEndedEdit, IsEditOf, IsViewOf}
 use Rattle.play_laws.specs.GuardLaws.{AreMet, MetGuardsNoOtherLog, NoGuardsNoOtherOutput}
 use Rattle.play_laws.specs.GuardLaws.{NoGuardsNoOtherScript, PrintsNoGuards}
-use Rattle.cave_play.specs.Views.{IsEditOf, IsViewOf}
 use Rattle.play_laws.proofs.BytesLemmas.{lines_printed}
 use Rattle.cave_play.proofs.ScriptLemmas.{same_items, script_by-spelled}
 use Rattle.cave_play.proofs.AcceptedLogs.{IsGame-accepted}

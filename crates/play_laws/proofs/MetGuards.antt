@@ -6,14 +6,14 @@ use Rattle.std.proofs.lemmas.List.Elements.{All-cons, All-nil}
 use Rattle.std.specs.Str.Lines.{lines}
 use Rattle.cave_data.specs.CaveView.{CaveView}
 use Rattle.cave_play.proofs.ScriptLemmas.{script_by-spelled}
-use Rattle.cave_play.specs.EditRun.{IsSideReport}
-use Rattle.cave_play.specs.Ended.{ended_view, IsEdited, IsEndedEdit}
-use Rattle.play_edits.specs.LogEnds.{ends_after_items, ends_by, log_ends}
+use Rattle.cave_play.specs.EditRun.{IsSideReport, IsEdited}
+use Rattle.play_edits.specs.Ends.{ended_view, ends_after_items, ends_by, log_ends, ends_in}
+use Rattle.play_edits.specs.Ends.{is_unended}
+use Rattle.play_edits.specs.Views.{IsEndedEdit, refusals_of, seed_after, IsEditOf, IsLogOf}
+use Rattle.play_edits.specs.Views.{IsViewOf}
 use Rattle.play_laws.specs.GuardLaws.{AreMet, HasNoGuard, NoGuardsNoOtherOutput}
 use Rattle.play_laws.specs.GuardLaws.{NoGuardsNoOtherScript}
-use Rattle.cave_play.specs.Refused.{refusals_of, seed_after}
-use Rattle.cave_play.specs.Strict.{first_strict_fault}
-use Rattle.cave_play.specs.Views.{IsEditOf, IsLogOf, IsViewOf}
+use Rattle.play_edits.specs.Edits.{ending_refusal}
 use Rattle.play_command.specs.Aside.{edit_view_of}
 use Rattle.play_command.specs.declared.aside.ReportView.{ReportView}
 use Rattle.play_command.specs.declared.aside.ReportView.TheVariants.{Reports, Table}
@@ -21,7 +21,6 @@ use Rattle.play_command.specs.declared.editing.Editing.{Editing}
 use Rattle.play_command.specs.declared.editing.EditView.{EditView}
 use Rattle.play_command.specs.declared.editing.EditView.TheVariants as asked
 use Rattle.play_edits.specs.Items.{game_after_items}
-use Rattle.play_edits.specs.LineEnds.{ends_in, is_unended}
 use Rattle.play_edits.specs.Outcome.{AreOutcomes, ItemOutcome}
 use Rattle.play_machine.specs.FinalState.{final_state_text}
 use Rattle.play_machine.specs.Score.{score_text}
@@ -55,7 +54,7 @@ view_by asked.Undo cave game guarded one other outcomes text same is = record {
   written = is.written ∙ same.undone guarded;
   backs = is.backs;
   spelled = is.spelled;
-  accepted = ap (first_strict_fault true is.backs) (sym same.games) ∙ is.accepted;
+  accepted = ap (ending_refusal true is.backs) (sym same.games) ∙ is.accepted;
   back = ap (game_after_items is.backs) (sym same.games) ∙ is.back;
 }
 view_by asked.Guarded cave game guarded one other outcomes text same is = record {

@@ -4,22 +4,21 @@ use Rattle.std.proofs.Common.{Some, None, Ok, Err, option_map, refl, sym, ap, ap
 use Rattle.std.specs.List.{AllByRecursion, sum_by}
 use Rattle.std.specs.Option.{option_or}
 use Rattle.cave_data.specs.CaveView.{CaveView}
-use Rattle.play_edits.specs.LogEnds.{ends_after_items, ends_left, EndsOfLog, each_after, ends_after}
-use Rattle.play_edits.specs.LogEnds.{ends_after_changes, ends_with}
+use Rattle.play_edits.specs.Ends.{ends_after_items, ends_left, EndsOfLog, each_after, ends_after}
+use Rattle.play_edits.specs.Ends.{ends_after_changes, ends_with, end_of_line}
 use Rattle.play_laws.specs.GuardLaws.{AreMet}
 use Rattle.play_edits.specs.Items.{refusal_list, refusals, game_after_item, game_after_items}
 use Rattle.play_edits.specs.Items.{item_report, item_report_by, reports}
 use Rattle.play_edits.proofs.GuardLemmas.{all_met, guards_refuse_alone}
 use Rattle.play_edits.specs.Accounts.{account, account_by, accounts, text_of_items, totals_line}
-use Rattle.play_edits.specs.Guarded.{guarded_groups, guarded_of, guarded_text}
+use Rattle.play_edits.specs.Accounts.{last_state, row_by, table_row, table_text}
+use Rattle.play_edits.specs.Undo.{guarded_groups, guarded_of, guarded_text, back_if, back_of}
+use Rattle.play_edits.specs.Undo.{backs_by, backs_of, undo_text, with_guards}
 use Rattle.play_edits.specs.Laws.{IsMet}
-use Rattle.play_edits.specs.LineEnds.{end_of_line}
 use Rattle.play_edits.specs.Outcome.{AreLeft, AreOutcomes, IsItemOutcome, ItemOutcome, lines_in}
 use Rattle.play_edits.specs.Outcome.{played_in, standing_of}
 use Rattle.play_edits.specs.Refusal.{edit_refusal, first_unmet, group_refusal, item_refusal}
-use Rattle.play_edits.specs.Table.{last_state, row_by, table_row, table_text}
-use Rattle.play_edits.specs.Undo.{back_if, back_of, backs_by, backs_of, undo_text, with_guards}
-use Rattle.play_edits.specs.declared.line_end.LineEnd.{LineEnd}
+use Rattle.play_edits.specs.declared.ends.LineEnd.{LineEnd}
 use Rattle.play_edits.specs.declared.outcome.Standing.{Standing}
 use Rattle.play_edits.specs.declared.refusal.Refusal.{Refusal}
 use Rattle.play_tables.specs.ItemRow.{item_head_row}

@@ -12,9 +12,8 @@ use Rattle.replay_scripts.specs.Script.{Applied}
 use Rattle.play_laws.specs.RunLaws.{OneCheckedOutput, OnePlayedOutput, OneEditedOutput}
 use Rattle.play_laws.specs.RunLaws.{KnowsNoCheckpoints}
 use Rattle.cave_play.specs.Output.{check_text, play_view_text}
-use Rattle.cave_play.specs.Ended.{ended_view}
-use Rattle.play_edits.specs.LogEnds.{ends_after_items, log_ends}
-use Rattle.cave_play.specs.Views.{IsViewOf}
+use Rattle.play_edits.specs.Ends.{ended_view, ends_after_items, log_ends}
+use Rattle.play_edits.specs.Views.{IsViewOf}
 use Rattle.play_edits.specs.Outcome.{ItemOutcome}
 
 pub one_checked_output : OneCheckedOutput

@@ -7,15 +7,14 @@ use Rattle.play_laws.proofs.BytesLemmas.{lines_undone, text_lines}
 use Rattle.cave_play.proofs.ScriptLemmas.{same_items}
 use Rattle.cave_play.proofs.AcceptedLogs.{IsGame-accepted}
 use Rattle.play_laws.specs.Bytes.{EndsAlike}
-use Rattle.cave_play.specs.Ended.{IsEndedEdit, ended_view}
-use Rattle.cave_play.specs.Strict.{first_strict_fault}
-use Rattle.cave_play.specs.Views.{IsUndo}
+use Rattle.play_edits.specs.Views.{IsEndedEdit, IsUndo}
+use Rattle.play_edits.specs.Ends.{ended_view, ended_text, ends_in, first_end, is_unended}
+use Rattle.play_edits.specs.Edits.{ending_refusal}
 use Rattle.play_command.specs.declared.editing.EditView.TheVariants as asked
-use Rattle.play_edits.proofs.AlikeEnds.{unended-closed}
-use Rattle.play_edits.proofs.GameLemmas.{IsGame-after_all}
+use Rattle.play_edits.proofs.EndLemmas.{unended-closed}
+use Rattle.play_edits.proofs.EditLemmas.{IsGame-after_all}
 use Rattle.play_edits.specs.Items.{game_after_items}
-use Rattle.play_edits.specs.LineEnds.{ended_text, ends_in, first_end, is_unended}
-use Rattle.play_edits.specs.declared.line_end.LineEnd.{LineEnd}
+use Rattle.play_edits.specs.declared.ends.LineEnd.{LineEnd}
 use Rattle.play_edits.specs.declared.line_end.LineEnd.TheVariants.{Feed}
 use Rattle.replay_edits.specs.Edit.{Game, IsGame, game_of}
 use Rattle.replay_scripts.specs.Guards.{IsScriptBy}
@@ -93,7 +92,7 @@ redo_gives_the_edits cave every log script edited undo back redo again seed next
     ∙ ap (λ g. (game_after_items redone.edit.items g).log) begun in (
       back_is,
       record {
-        accepted = ap₂ (first_strict_fault true) redone_is (sym from)
+        accepted = ap₂ (ending_refusal true) redone_is (sym from)
             ∙ retaking.edit.written.accepted;
         same = same;
         lines_are = printed ∙ ap (λ (g : Game). g.log) same

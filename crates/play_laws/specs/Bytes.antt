@@ -7,13 +7,13 @@ use Rattle.cave_data.specs.CaveView.{CaveView}
 use Rattle.play_command.specs.declared.editing.EditView.TheVariants as asked
 use Rattle.play_edits.specs.Items.{game_after_items}
 use Rattle.replay_edits.specs.Edit.{game_of}
-use Rattle.play_edits.specs.LineEnds.{ended_text, is_unended}
-use Rattle.play_edits.specs.declared.line_end.LineEnd.{LineEnd}
+use Rattle.play_edits.specs.Ends.{ended_text, is_unended}
+use Rattle.play_edits.specs.declared.ends.LineEnd.{LineEnd}
 use Rattle.replay_scripts.specs.Guards.{IsScriptBy}
 use Rattle.replay_scripts.specs.Script.{Applied}
-use Rattle.cave_play.specs.Ended.{IsEndedEdit}
+use Rattle.play_edits.specs.Views.{IsEndedEdit}
 use Rattle.cave_play.specs.Judge.{large_seed, log_fault, script_fault}
-use Rattle.cave_play.specs.Strict.{first_strict_fault}
+use Rattle.play_edits.specs.Edits.{ending_refusal}
 
 -- an edited log that is printed has the lines of the edited game, and is accepted unless it is too
 -- large
@@ -35,7 +35,7 @@ pub record GivesBack (guarded : Bool) (items : List Applied) (log : List (List �
   pub backs : List Applied
   pub spelled : IsScriptBy guarded text backs
   pub fault : length text ≤ MAX_INPUT_BYTES → script_fault guarded text ≡ None
-  pub accepted : first_strict_fault true backs (game_after_items items (game_of seed log)) ≡ None
+  pub accepted : ending_refusal true backs (game_after_items items (game_of seed log)) ≡ None
   pub back : game_after_items backs (game_after_items items (game_of seed log))
       ≡ game_of seed log
 
@@ -53,7 +53,7 @@ pub record GivesSame (items : List Applied) (log : List (List ℕ)) (seed : ℕ)
   pub again : List Applied
   pub spelled : IsScriptBy true text again
   pub fault : length text ≤ MAX_INPUT_BYTES → script_fault true text ≡ None
-  pub accepted : first_strict_fault true again (game_of seed log) ≡ None
+  pub accepted : ending_refusal true again (game_of seed log) ≡ None
   pub same : game_after_items again (game_of seed log)
       ≡ game_after_items items (game_of seed log)
 

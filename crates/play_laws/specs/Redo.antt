@@ -3,9 +3,9 @@ use Rattle.std.specs.Prelude.{◌≡◌, ℕ, Bool, true, List, None}
 use Rattle.std.specs.Str.Lines.{lines}
 use Rattle.cave_data.specs.CaveView.{CaveView}
 use Rattle.play_laws.specs.Bytes.{EndsAlike}
-use Rattle.cave_play.specs.Ended.{IsEndedEdit}
+use Rattle.play_edits.specs.Views.{IsEndedEdit}
 use Rattle.cave_play.specs.Judge.{large_seed, log_fault}
-use Rattle.cave_play.specs.Strict.{first_strict_fault}
+use Rattle.play_edits.specs.Edits.{ending_refusal}
 use Rattle.play_command.specs.declared.editing.EditView.TheVariants as asked
 use Rattle.play_edits.specs.Items.{game_after_items}
 use Rattle.replay_edits.specs.Edit.{Game, game_of}
@@ -15,7 +15,7 @@ use Rattle.replay_scripts.specs.Script.{Applied}
 -- has the lines of the one that was printed then.
 pub record IsRedone (game : Game) (items again : List Applied) (edited printed : List ℕ) : Type 0
   where
-    pub accepted : first_strict_fault true again game ≡ None
+    pub accepted : ending_refusal true again game ≡ None
     pub same : game_after_items again game ≡ game_after_items items game
     pub lines_are : lines printed ≡ lines edited
 

@@ -22,7 +22,7 @@ use Rattle.play_command.specs.declared.editing.EditView.{EditView}
 use Rattle.play_command.specs.declared.views.CheckView.{CheckView}
 use Rattle.play_command.specs.declared.editing.EditView.TheVariants as asked
 use Rattle.play_command.specs.declared.views.PlayView.{PlayView}
-use Rattle.cave_play.specs.Ended.{IsEdited}
+use Rattle.cave_play.specs.EditRun.{IsEdited}
 
 -- a check of a database and its bindings has at most one output
 abbrev pub OneCheckedOutput : Type 0

@@ -8,7 +8,7 @@ use Rattle.std.specs.List.{AllZip, flat_map}
 use Rattle.std.specs.declared.io.Error.{Error}
 use Rattle.cave_play.specs.Fault.{input_of}
 use Rattle.cave_play.specs.Sources.{InputTexts, Says, AreHeld, Held}
-use Rattle.cave_play.specs.declared.edits.EditRun.{EditRun}
+use Rattle.play_edits.specs.declared.items.EditRun.{EditRun}
 use Rattle.cave_play.specs.declared.fault.PlayFault.{PlayFault}
 use Rattle.cave_play.specs.declared.fault.PlayFault.TheVariants as fault
 use Rattle.cave_play.specs.declared.logs.LogsFault.{LogsFault}

@@ -11,7 +11,7 @@ use Rattle.cave_play.specs.Run.{Judges}
 use Rattle.cave_play.specs.Stages.{Stage, cave_stages, doubts_stages, edit_stages, play_stages}
 use Rattle.cave_play.specs.TwoLogs.{JudgesEditTo, JudgesScript}
 use Rattle.cave_play.specs.declared.doubted.LeftDoubts.{LeftDoubts}
-use Rattle.cave_play.specs.declared.edits.MadeEdit.{MadeEdit}
+use Rattle.play_edits.specs.declared.items.MadeEdit.{MadeEdit}
 use Rattle.cave_play.specs.declared.fault.PlayFault.{PlayFault}
 use Rattle.cave_play.specs.declared.fault.PlayFault.TheVariants as fault
 use Rattle.cave_play.specs.declared.logs.Reported.{Reported}

@@ -11,7 +11,7 @@ ghost use Rattle.play_program.specs.Making.{third_of};
 
 use crate::files::{file_of, log_count};
 use cave_play::doubted::{LeftDoubts, first_doubt, make_doubts};
-use cave_play::edits::MadeEdit;
+use play_edits::MadeEdit;
 use cave_play::logs::Reported;
 use cave_play::run::{make_check, make_edit, make_play};
 use cave_play::sources::Sources;

@@ -12,10 +12,10 @@ use Rattle.std.proofs.lemmas.Result.{err_from_is_err_and}
 use Rattle.cave_data.specs.CaveView.{CaveView}
 use Rattle.play_command.specs.declared.editing.Editing.{Editing}
 use Rattle.replay_edits.specs.Edit.{Game, IsGame, game_of}
-use Rattle.cave_play.specs.EditRun.{IsMadeOf}
+use Rattle.play_edits.specs.Views.{IsMadeOf}
 use Rattle.play_command.specs.declared.aside.ReportView.{ReportView}
-use Rattle.play_edits.specs.LogEnds.{log_ends}
-use Rattle.play_edits.specs.declared.items.Edited.{Edited}
+use Rattle.play_edits.specs.Ends.{log_ends}
+use Rattle.play_edits.specs.declared.items.MadeEdit.{MadeEdit}
 use Rattle.cave_play.specs.Run.{IsFoundIn, Judges}
 use Rattle.cave_play.specs.Sources.{next_log}
 use Rattle.cave_play.specs.Stages.{Stage, first_decided, judging_stage, log_stage, script_stage}
@@ -32,7 +32,7 @@ strict_of editing moves edits =
     strict_stage editing.strict (game_of editing.seed (lines moves)) editing.guarded edits
 
 -- what edits made is right for a cave, a distance of checkpoints, a game and the bytes of its log
-abbrev right_in : Option ReportView → Editing → List ℕ → CaveView → ℕ → Game → List ℕ → Edited
+abbrev right_in : Option ReportView → Editing → List ℕ → CaveView → ℕ → Game → List ℕ → MadeEdit
     → Type 0
 right_in report editing edits cave every game log edited =
     IsMadeOf editing.view report cave every game editing.guarded edits (log_ends log edits) edited
@@ -148,7 +148,7 @@ returns g c =
     let held_cave = held.machine.rules.cave.now in
     let held_right = right_in c.args.report editing edits held_cave held.every held.game log in
     let gives =
-    λ (edited : Edited) (is : held_right edited).
+    λ (edited : MadeEdit) (is : held_right edited).
     subst (λ bytes. right_in c.args.report editing edits cave editing.every game bytes edited)
     log_is
     (subst (λ now. right_in c.args.report editing edits cave editing.every now log edited)

@@ -3,8 +3,8 @@ use Rattle.std.proofs.lemmas.List.{length-take-le}
 use Rattle.replay_edits.specs.Edit.{changes_of, log_of}
 use Rattle.replay_scripts.specs.Views.{expectation_in}
 use Rattle.play_edits.proofs.GuardLemmas.{draft_own, first_unmet-here, first_unmet-more}
-use Rattle.play_edits.proofs.GuardLemmas.{free_changes, log_reached, unmet-past}
-use Rattle.play_edits.proofs.GuardLemmas.{unmet-reached, within_edits}
+use Rattle.play_edits.proofs.GuardLemmas.{free_changes, log_reached, unmet-past, unmet-reached}
+use Rattle.play_edits.proofs.GuardLemmas.{within_edits}
 use Rattle.replay_edits.proofs.Lines.{length-log_of}
 use Rattle.play_edits.proofs.guards.first_unmet.Goals as goal
 use Rattle.play_edits.proofs.guards.first_unmet.Goals.{else-after-free}

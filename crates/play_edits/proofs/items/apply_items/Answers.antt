@@ -1,21 +1,19 @@
-use Rattle.std.proofs.Common.{◌≡◌, ◌++◌, None, Some, ap, arith, drop, map, option_map}
-use Rattle.std.proofs.Common.{refl, reverse, sym, ◌+◌, ◌∙◌, ◌≤◌, length, []}
+use Rattle.std.proofs.Common.{◌≡◌, ◌++◌, None, Some, ap, ap₂, arith, drop, map, option_map, refl}
+use Rattle.std.proofs.Common.{reverse, sym, ◌+◌, ◌∙◌, ◌≤◌, length, []}
 use Rattle.std.specs.List.{sum_by}
-use Rattle.play_edits.proofs.NoteLemmas.{end-text}
-use Rattle.play_edits.specs.Edits.{kept_backs}
+use Rattle.play_edits.proofs.NoteLemmas.{end-text, Leads-end, Leads-more, Noted, applied_item-drop}
+use Rattle.play_edits.proofs.NoteLemmas.{kept-text, noted-same, strict-more}
+use Rattle.play_edits.specs.Edits.{kept_backs, ending_refusal, if_strict}
+use Rattle.play_edits.specs.Ends.{ended_view}
 use Rattle.play_edits.specs.Outcome.{lines_in, played_in}
-use Rattle.play_edits.specs.Undo.{backs_of}
+use Rattle.play_edits.specs.Undo.{backs_of, back_by, if_asked}
 use Rattle.play_edits.specs.ViewText.{text_at_start}
 use Rattle.std.proofs.lemmas.List.{drop_all}
 use Rattle.play_command.specs.Aside.{edit_view_of}
-use Rattle.play_edits.proofs.BackLemmas.{groups_turned}
+use Rattle.play_edits.proofs.UndoLemmas.{groups_turned}
 use Rattle.play_edits.proofs.EditLemmas.{item_refusal-outcome}
-use Rattle.play_edits.proofs.NoteLemmas.{Leads-end, Leads-more, Noted, applied_item-drop, kept-text}
-use Rattle.play_edits.proofs.NoteLemmas.{noted-same, strict-more}
-use Rattle.play_edits.specs.Edits.{ending_refusal, if_strict}
 use Rattle.play_edits.specs.Items.{game_after_item, game_after_items, refusals}
 use Rattle.play_edits.specs.Refusal.{item_refusal}
-use Rattle.play_edits.specs.Undo.{back_by, if_asked}
 use Rattle.replay_edits.specs.Edit.{Game}
 use Rattle.replay_scripts.specs.ScriptText.{groups_in}
 use Rattle.replay_scripts.specs.Views.{applied_item}
@@ -76,7 +74,7 @@ loop-item-preserved c =
           first.checkpoints old new _ _ _ c.loop-item-test.true c.item-item.is inv.cave inv.every
           applies
           (noted-same _ _ told beside back c.with-totals.ensures.played c.with-totals.ensures.lines
-          c.in_ok-leave_ends.ensures c.in_ok-note_refusal.ensures)
+          c.in_ok-follow.ensures c.in_ok-note_refusal.ensures)
           inv.leads;
       strict = ap (λ (g : Game). ending_refusal c.args.editing.strict left g) game_is
           ∙ sym (strict-more c.args.editing.strict (item_refusal item old.game.log)
@@ -123,18 +121,19 @@ returns-clause-made c =
     c.new-backs.ensures.items in
     let turned : groups_in c.reverse.new.self.items ≡ kept_backs editing all first.game =
     ap groups_in c.reverse.ensures.items ∙ groups_turned last.backs.items ∙ ap reverse kept in
+    let told =
+    end-text (Some editing.view) _ cave _ _ _ _ _ _ _ _ _ _ _ _ _ _ inv.told inv.cave game_is plays
+    counts (ap groups_in c.deref.ensures.value ∙ turned) c.in_ok-told.ensures.text
+    (ap (λ (n : Noted). n.text) is) c.in_ok-end.ensures in
     record {
       outcomes = whole;
       came = came;
-      text = end-text (Some editing.view) _ cave _ _ _ _ _ _ _ _ _ _ _ _ _ _ inv.told inv.cave
-          game_is plays counts (ap groups_in c.deref.ensures.value ∙ turned)
-          c.in_ok-told.ensures.text (ap (λ (n : Noted). n.text) is) c.in_ok-end.ensures;
+      text = c.in_ok-text.ensures ∙ ap₂ (ended_view editing.view) (ap (λ (n : Noted). n.ends) is) told;
       beside = end-text (option_map edit_view_of c.args.report) _ cave _ _ _ _ _ _ _ _ _ _ _ _ _ _
           inv.beside inv.cave game_is plays counts (ap groups_in c.deref-2.ensures.value ∙ turned)
           (c.in_ok-beside.ensures.text ∙ ap text_at_start c.edit_view_of.ensures)
           (ap (λ (n : Noted). n.report) is) c.in_ok-end-2.ensures;
       played = plays;
-      ended = ap (λ (n : Noted). n.ends) is;
       refused = ap (λ (n : Noted). n.refused) is
           ∙ ap (λ some. some ++ refusals all first.game) c.new-refused.ensures.items;
       seed = c.seed.ensures ∙ ap (λ (g : Game). g.seed) game_is;

@@ -5,7 +5,7 @@ use Rattle.replay_scripts.specs.ScriptText.{groups_in}
 use Rattle.replay_scripts.specs.Views.{applied_item}
 use Rattle.play_edits.specs.Edits.{ending_refusal}
 use Rattle.play_edits.specs.Items.{game_after_items}
-use Rattle.play_edits.specs.LogEnds.{shown_ends}
+use Rattle.play_edits.specs.Ends.{shown_ends}
 use Rattle.play_edits.proofs.NoteLemmas.{Leads}
 use Rattle.play_edits.proofs.items.apply_items.Given as goal
 

@@ -1,9 +1,31 @@
-use Rattle.std.proofs.Common.{◌<◌, ℕ, List, length, take, ap, ap₂, ◌∙◌, arith}
-use Rattle.std.proofs.lemmas.List.{length-take, take_all, take_min}
-use Rattle.play_edits.specs.Refusal.{filled}
+use Rattle.std.proofs.Common.{◌≡◌, ℕ, ◌+◌, ◌-◌, ◌<◌, suc, List, [], ◌∷◌, ◌++◌, length, take, set}
+use Rattle.std.proofs.Common.{get_or, replicate, sym, ◌∙◌, arith, append_assoc, length-append, ap}
+use Rattle.std.proofs.Common.{ap₂}
+use Rattle.std.proofs.lemmas.List.{take_more, length-take, take_all, take_min}
+use Rattle.std.proofs.Math.Seq.{set-append_seam}
+use Rattle.play_edits.specs.Refusal.{filled, MAX_KEPT}
 use Rattle.play_edits.specs.declared.refusal.KeptLine.{KeptLine}
-use Rattle.play_edits.proofs.KeptLemmas.{filled_more}
 use Rattle.play_edits.proofs.refusal.KeptLine.of.Goals as goal
+
+set-after : (text : List ℕ) (byte k : ℕ)
+    → set (text ++ replicate (suc k) 0) (length text) byte ≡ (text ++ byte ∷ []) ++ replicate k 0
+set-after text byte k = set-append_seam text 0 (replicate k 0) byte
+    ∙ sym (append_assoc text (byte ∷ []) (replicate k 0))
+
+-- a byte written over the first zero after the text is one more byte of it
+set-filled : (text : List ℕ) (byte i : ℕ) → length text ≡ i → i < MAX_KEPT
+    → set (filled text) i byte ≡ filled (text ++ byte ∷ [])
+set-filled text byte i same short =
+    let room : MAX_KEPT - length text ≡ suc (MAX_KEPT - (i + 1)) = omega arith in
+    let less : MAX_KEPT - length (text ++ byte ∷ []) ≡ MAX_KEPT - (i + 1) =
+    omega (arith, length-append text (byte ∷ [])) in
+    rw (room, less, ← same) (set-after text byte _)
+
+filled_more : (bytes : List ℕ) (i : ℕ) → i < length bytes → i < MAX_KEPT
+    → set (filled (take i bytes)) i (get_or bytes i 0) ≡ filled (take (i + 1) bytes)
+filled_more bytes i within short =
+    let all : length (take i bytes) ≡ i = simp length-take (omega arith) in
+    rw (take_more bytes i 0 within) (set-filled (take i bytes) (get_or bytes i 0) i all short)
 
 pub loop-i-preserved : goal.loop-i-preserved
 loop-i-preserved c =

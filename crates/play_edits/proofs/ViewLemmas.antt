@@ -1,0 +1,175 @@
+-- What is written of items, by the view, and what is made of a log by the items of a script.
+use Rattle.std.proofs.Common.{◌≡◌, ℕ, List, length, reverse, None, Ok, Option, Some, ap, sym, ◌∙◌}
+use Rattle.std.proofs.Common.{refl, append-nil, option_map, Bool, [], ◌∷◌, ◌++◌}
+use Rattle.std.specs.Str.Lines.{lines}
+use Rattle.cave_data.specs.CaveView.{CaveView}
+use Rattle.play_edits.specs.Views.{IsMadeOf, IsSideReportOf, refusals_of, seed_after, IsEditOf}
+use Rattle.play_edits.specs.Views.{IsViewOf}
+use Rattle.cave_replay.specs.Session.{SessionView}
+use Rattle.cave_world.specs.declared.state.State.{State}
+use Rattle.play_command.specs.Aside.{edit_view_of}
+use Rattle.play_command.specs.declared.aside.ReportView.{ReportView}
+use Rattle.play_command.specs.declared.aside.ReportView.TheVariants as side
+use Rattle.play_command.specs.declared.editing.Editing.{Editing}
+use Rattle.play_command.specs.declared.editing.EditView.{EditView}
+use Rattle.play_command.specs.declared.editing.EditView.TheVariants.{Transcript, Play, Log, Reports}
+use Rattle.play_command.specs.declared.editing.EditView.TheVariants.{Steps, Score, FinalState}
+use Rattle.play_command.specs.declared.editing.EditView.TheVariants.{Table, Undo, Guarded, Walk}
+use Rattle.play_edits.specs.Edits.{IsMade, kept_backs}
+use Rattle.play_edits.specs.Ends.{EndsOfLog}
+use Rattle.play_edits.specs.Undo.{backs_of, if_asked}
+use Rattle.play_edits.specs.ViewText.{text_of_item, view_text}
+use Rattle.play_edits.specs.declared.items.MadeEdit.{MadeEdit}
+use Rattle.play_machine.specs.Piece.{Piece}
+use Rattle.play_machine.specs.declared.machine.CaveMachine.{CaveMachine}
+use Rattle.replay_checkpoints.specs.Spacing.{IsSpaced}
+use Rattle.replay_edits.specs.Edit.{IsGame, Game}
+use Rattle.replay_scripts.specs.Guards.{IsScriptBy, script_by}
+use Rattle.replay_scripts.specs.Script.{Applied}
+use Rattle.play_edits.proofs.GuardedLemmas.{guarded-whole, told-guarded}
+use Rattle.play_edits.proofs.UndoLemmas.{undo-whole}
+use Rattle.cave_replay.proofs.LogTextLemmas.{reads_back}
+use Rattle.cave_replay.specs.LogText.{log_text}
+use Rattle.play_edits.proofs.EditLemmas.{item_refusal-outcome, IsGame-after_all}
+use Rattle.play_edits.specs.Accounts.{text_of_items}
+use Rattle.play_edits.specs.Items.{game_after_item, game_after_items, item_report, item_report_by}
+use Rattle.play_edits.specs.Items.{reports}
+use Rattle.play_edits.specs.Outcome.{AreOutcomes, ItemOutcome, refusal_in}
+use Rattle.play_tables.specs.ItemRow.{item_head_row}
+use Rattle.play_machine.specs.FinalState.{final_state_text}
+use Rattle.play_machine.specs.Score.{score_text}
+use Rattle.play_machine.specs.Steps.{steps_text}
+use Rattle.play_machine.specs.Transcript.{play_text}
+use Rattle.play_machine.specs.Walk.{walk_text}
+use Rattle.replay_scripts.specs.ScriptText.{Back, script_text}
+
+-- what is written of items for a transcript are their reports
+told-reports : (cave : CaveView) (every : ℕ) (items : List Applied) (game : Game)
+    (checkpoints : List ℕ) (outcomes : List ItemOutcome)
+    → AreOutcomes cave every items game checkpoints outcomes
+    → text_of_items (text_of_item (Some Transcript) cave) items game outcomes ≡ reports items game
+unfolding item_report
+told-reports cave every [] game checkpoints outcomes came = refl
+told-reports cave every (item ∷ items) game checkpoints [] came = absurd came
+told-reports cave every (item ∷ items) game checkpoints (outcome ∷ outcomes)
+    (is, (after, left, others)) =
+    let rest = told-reports cave every items (game_after_item item game) after outcomes others in
+    let same = item_refusal-outcome cave every item game checkpoints outcome is in
+    ap (λ t. item_report_by item (refusal_in outcome) ++ t) rest
+    ∙ ap (λ refusal. item_report_by item refusal ++ reports items (game_after_item item game))
+    (sym same)
+
+-- and for a log, just a play or a state, nothing is written of them
+pub told-nothing : (tell : Applied → Game → ItemOutcome → List ℕ)
+    → ((item : Applied) (game : Game) (outcome : ItemOutcome) → tell item game outcome ≡ [])
+    → (items : List Applied) (game : Game) (outcomes : List ItemOutcome)
+    → text_of_items tell items game outcomes ≡ []
+told-nothing tell none [] game outcomes = refl
+told-nothing tell none (item ∷ items) game [] = refl
+told-nothing tell none (item ∷ items) game (outcome ∷ outcomes) =
+    let next = game_after_item item game in
+    ap (λ t. t ++ text_of_items tell items next outcomes) (none item game outcome)
+    ∙ told-nothing tell none items next outcomes
+
+-- what is written of items, and then what is written after them, is what the view asks for
+module _ (cave : CaveView) (every : ℕ) (items : List Applied) (game : Game) (guarded : Bool)
+    (opened : List ℕ) (outcomes : List ItemOutcome) (backs : List (List Back))
+    (came : AreOutcomes cave every items game opened outcomes) (good : IsGame game) where
+  abbrev after : Game
+  after = game_after_items items game
+
+  nothing : (view : EditView)
+      → ((item : Applied) (game : Game) (outcome : ItemOutcome)
+      → text_of_item (Some view) cave item game outcome ≡ []) → (end : List ℕ)
+      → text_of_items (text_of_item (Some view) cave) items game outcomes ++ end ≡ end
+  nothing view none end =
+      ap (λ t. t ++ end) (told-nothing (text_of_item (Some view) cave) none items game outcomes)
+
+  pub told-whole : (view : EditView) (text : List ℕ)
+      → (view ≡ Undo → backs ≡ reverse (backs_of guarded items game))
+      → text ≡ view_text (Some view) cave items game outcomes backs
+      → IsViewOf view cave game guarded items outcomes text
+  told-whole Transcript text taken is =
+      is
+      ∙ ap (λ t. t ++ play_text cave after) (told-reports cave every items game opened outcomes came)
+  told-whole Play text taken is = is ∙ nothing Play (λ _ _ _. refl) (play_text cave after)
+  told-whole Steps text taken is = is ∙ nothing Steps (λ _ _ _. refl) (steps_text cave after)
+  told-whole Walk text taken is = is ∙ nothing Walk (λ _ _ _. refl) (walk_text cave after)
+  told-whole Score text taken is = is ∙ nothing Score (λ _ _ _. refl) (score_text cave after)
+  told-whole FinalState text taken is =
+      is ∙ nothing FinalState (λ _ _ _. refl) (final_state_text cave after)
+  told-whole Log text taken is =
+      let written = is ∙ nothing Log (λ _ _ _. refl) (log_text after.log) in
+      record {
+        written = written;
+        reads_back = ap lines written
+            ∙ reads_back after.log (IsGame-after_all items game good).lines;
+      }
+  told-whole Reports text taken is = is
+  told-whole Table text taken is = is ∙ ap (λ t. item_head_row ++ t) (append-nil _)
+  told-whole Guarded text taken is =
+      guarded-whole items game text good
+      (is ∙ append-nil _ ∙ told-guarded cave every items game opened outcomes came)
+  told-whole Undo text taken is =
+      undo-whole guarded items game text good
+      (is ∙ nothing Undo (λ _ _ _. refl) (script_text backs) ∙ ap script_text (taken refl))
+
+-- no report beside a view has what takes items back
+not_undo : (view : ReportView) → edit_view_of view ≡ Undo → ⊥
+not_undo side.Reports is = cc
+not_undo side.Table is = cc
+
+-- of the items of a script that were applied to what a session held
+module _ (old : SessionView CaveMachine Piece State) (editing : Editing) (script : List ℕ)
+    (items : List Applied) (spelled : IsScriptBy editing.guarded script items)
+    (read : script_by editing.guarded script ≡ Ok items)
+    (spaced : IsSpaced old.every old.checkpoints (length old.game.log)) (good : IsGame old.game)
+    (report : Option ReportView) (ends : EndsOfLog) (made : MadeEdit)
+    (is : IsMade editing report items old ends made)
+  where
+    abbrev cave : CaveView
+    cave = old.machine.rules.cave.now
+
+    text_made : (view : EditView) (text : List ℕ)
+        → (view ≡ Undo → editing.view ≡ Undo)
+        → text ≡ view_text (Some view) cave items old.game is.outcomes
+        (kept_backs editing items old.game)
+        → IsEditOf view cave old.every old.game editing.guarded script made.run.played text
+    text_made view text asked told = record {
+      items = items;
+      spelled = spelled;
+      checkpoints = old.checkpoints;
+      spaced = spaced;
+      outcomes = is.outcomes;
+      came = is.came;
+      played_is = is.played;
+      written = told-whole cave old.every items old.game editing.guarded old.checkpoints
+          is.outcomes _ is.came good view text
+          (λ undo. ap (λ v. reverse (if_asked v (backs_of editing.guarded items old.game)))
+          (asked undo)) told;
+    }
+
+    report_made : (beside : Option ReportView) (text : List ℕ)
+        → text ≡ view_text (option_map edit_view_of beside) cave items old.game is.outcomes
+        (kept_backs editing items old.game)
+        → IsSideReportOf beside cave old.every old.game editing.guarded script made.run.played text
+    report_made None text told =
+        told ∙ append-nil _
+        ∙ told-nothing (text_of_item None cave) (λ _ _ _. refl) items old.game is.outcomes
+    report_made (Some view) text told =
+        text_made (edit_view_of view) text (λ undo. absurd (not_undo view undo)) told
+
+    pub log_made : IsMadeOf editing.view report cave old.every old.game editing.guarded script ends
+        made
+    unfolding text_made
+    log_made = (
+      record {
+        text = view_text (Some editing.view) cave items old.game is.outcomes
+            (kept_backs editing items old.game);
+        edit = text_made editing.view _ (λ undo. undo) refl;
+        printed = is.text;
+      },
+      is.refused ∙ ap (refusals_of old.game) (sym read),
+      report_made report made.run.report.items is.beside,
+      is.seed ∙ ap (seed_after old.game) (sym read),
+    )
