@@ -10,10 +10,10 @@ use Rattle.clap.specs.declared.error.Error.{Error}
 use Rattle.clap.specs.declared.error.kind.ErrorKind.TheVariants.{OutOfMemory}
 use Rattle.clap.specs.declared.parser.matches.ArgMatches.{ArgMatches}
 use Rattle.clap.proofs.OnLiterals.{clap_on_literals}
-use Rattle.play_command.specs.App.{IsCave, Names, ViewNames, cave_app}
+use Rattle.play_command.specs.Asked.{check_views, cover_views, edit_views, play_views}
+use Rattle.play_command.specs.Asked.{report_views}
+use Rattle.play_command.specs.Commands.{IsCave, Names, ViewNames, cave_app}
 use Rattle.play_command.specs.Line.{IsParse, IsParseBy}
-use Rattle.play_command.specs.Views.{check_views, cover_views, edit_views, play_views}
-use Rattle.play_command.specs.Views.{report_views}
 
 cave_is_simple : (names : ViewNames) → is_simple (cave_app names) ≡ true
 unfolding clap_on_literals
@@ -43,8 +43,8 @@ pub parse_is : (command : Command) (words : List Text) (answer : Result ArgMatch
     → IsCave command → IfOk answer (HasMatchesOf (app_of command) words)
     → (is_simple_and_free (app_of command) ≡ true
     → FailsBy (fault_of (app_of command) words) answer) → IsParse words answer
-parse_is command words answer (names, are, same) has fails =
-    (names, are, parse_of names (app_of command) words answer same has fails)
+parse_is command words answer (names, same) has fails =
+    (names, parse_of names (app_of command) words answer same has fails)
 
 -- ---- names that lie somewhere
 
@@ -56,18 +56,14 @@ somewhere names = record {
 
 abbrev some_names : ViewNames
 some_names = record {
-  check = somewhere (map (λ view. view.0) check_views);
-  play = somewhere (map (λ view. view.0) play_views);
-  edit = somewhere (map (λ view. view.0) edit_views);
-  report = somewhere (map (λ view. view.0) report_views);
-  cover = somewhere (map (λ view. view.0) cover_views);
+  check = (somewhere (map (λ view. view.0) check_views), refl);
+  play = (somewhere (map (λ view. view.0) play_views), refl);
+  edit = (somewhere (map (λ view. view.0) edit_views), refl);
+  report = (somewhere (map (λ view. view.0) report_views), refl);
+  cover = (somewhere (map (λ view. view.0) cover_views), refl);
 }
 
 pub out_of_memory : (words : List Text) (answer : Result ArgMatches Error)
     → IsErrAnd answer (λ error. kind_of error ≡ OutOfMemory) → IsParse words answer
 out_of_memory words (Ok matches) memory = absurd memory
-out_of_memory words (Err error) memory = (
-  some_names,
-  record { check = refl; play = refl; edit = refl; report = refl; cover = refl },
-  inl memory,
-)
+out_of_memory words (Err error) memory = (some_names, inl memory)

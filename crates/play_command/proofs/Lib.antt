@@ -1,4 +1,3 @@
-pub mod Values
-pub mod Edits
 pub mod Cave
 pub mod OneRun
+pub mod Values

@@ -1,233 +1,209 @@
--- What each command alone asks, by what the parser found, and why it asks for no run.
-use Rattle.std.specs.Prelude.{◌≡◌, ◌⊎◌, ◌&&◌, ◌||◌, ℕ, Bool, true, false, is_none, is_some, List}
-use Rattle.std.specs.Prelude.{Option, Some, None, Result, MatchResult, codes, if◌then◌else◌}
-use Rattle.std.specs.Prelude.{option_and_then, option_map}
-use Rattle.base_lines.specs.Limits.{MAX_EVERY, MAX_SEED}
+-- What each command alone asks, by what the parser found, or the first of its arguments' misuses.
+use Rattle.std.specs.Prelude.{◌&&◌, ◌||◌, ℕ, Bool, true, false, is_none, is_some, not, List, []}
+use Rattle.std.specs.Prelude.{◌∷◌, codes, Option, Some, None, ok_or, Result, Ok, Err, if◌then◌else◌}
 use Rattle.clap.specs.Words.{Row, all_of, first_of}
-use Rattle.clap.specs.declared.parser.matches.ArgMatches.{ArgMatches}
-use Rattle.play_command.specs.Aside.{report_of, says_refusals}
-use Rattle.play_command.specs.Files.{is_in_place, output_of}
-use Rattle.play_command.specs.Found.{IsUnread, is_set, named, rows_in, said_or, value_of}
-use Rattle.play_command.specs.Number.{number_in_range}
-use Rattle.play_command.specs.Views.{check_views, cover_views, edit_views, play_views}
-use Rattle.play_command.specs.declared.aside.ReportView.{ReportView}
+use Rattle.play_command.specs.Found.{is_given, is_in_place, is_set, named, number_of, number_said}
+use Rattle.play_command.specs.Found.{output_of, said_or}
 use Rattle.play_command.specs.declared.commands.CommandName.{CommandName}
 use Rattle.play_command.specs.declared.commands.CommandName.TheVariants as command
-use Rattle.play_command.specs.declared.editing.Editing.{Editing}
-use Rattle.play_command.specs.declared.editing.EditView.{EditView}
-use Rattle.play_command.specs.declared.editing.EditView.TheVariants as edited
-use Rattle.play_command.specs.declared.fault.CommandFault.{CommandFault}
-use Rattle.play_command.specs.declared.fault.CommandFault.TheVariants as fault_is
+use Rattle.play_command.specs.declared.fault.Misuse.{Misuse}
+use Rattle.play_command.specs.declared.fault.Misuse.TheVariants as misuse
+use Rattle.play_command.specs.declared.found.NumberOption.TheVariants.{Every, From, Seed, Within}
 use Rattle.play_command.specs.declared.line.EditAsked.{EditAsked}
+use Rattle.play_command.specs.declared.line.Editing.{Editing}
 use Rattle.play_command.specs.declared.line.EditsFrom.{EditsFrom}
 use Rattle.play_command.specs.declared.line.EditsFrom.TheVariants as from
+use Rattle.play_command.specs.declared.line.MapPart.{MapPart}
+use Rattle.play_command.specs.declared.line.Surroundings.{Surroundings}
 use Rattle.play_command.specs.declared.line.What.{What}
 use Rattle.play_command.specs.declared.line.What.TheVariants as what
-use Rattle.play_command.specs.declared.map_part.MapPart.{MapPart}
-use Rattle.play_command.specs.declared.map_part.Surroundings.{Surroundings}
 use Rattle.play_command.specs.declared.views.CheckView.{CheckView}
-use Rattle.play_command.specs.declared.views.CheckView.TheVariants.{Maximum}
+use Rattle.play_command.specs.declared.views.CheckView.TheVariants as checked
 use Rattle.play_command.specs.declared.views.CoverView.{CoverView}
-use Rattle.play_command.specs.declared.views.CoverView.TheVariants.{Said}
-use Rattle.play_command.specs.declared.views.TextView.TheVariants.{Counts, Texts}
+use Rattle.play_command.specs.declared.views.CoverView.TheVariants.{Rules, Said}
+use Rattle.play_command.specs.declared.views.EditView.{EditView}
+use Rattle.play_command.specs.declared.views.EditView.TheVariants as edited
 use Rattle.play_command.specs.declared.views.PlayView.{PlayView}
 use Rattle.play_command.specs.declared.views.PlayView.TheVariants as played
+use Rattle.play_command.specs.declared.views.ReportView.{ReportView}
+use Rattle.play_command.specs.declared.views.ReportView.TheVariants as report
+use Rattle.play_command.specs.declared.views.TextView.TheVariants.{Counts, Texts}
+
+-- ---- what runs may print, by the names of views
+
+-- the list of doubts is no view
+abbrev pub check_views : List (List ℕ × Option CheckView)
+check_views = (codes "maximum", Some checked.Maximum) ∷ (codes "bindings", Some checked.Bindings)
+    ∷ (codes "names", Some checked.Names) ∷ (codes "unused", Some checked.Unused)
+    ∷ (codes "words", Some checked.Words) ∷ (codes "doubts", None) ∷ []
+
+abbrev pub play_views : List (List ℕ × PlayView)
+play_views = (codes "transcript", played.Transcript) ∷ (codes "steps", played.Steps)
+    ∷ (codes "walk", played.Walk) ∷ (codes "score", played.Score)
+    ∷ (codes "state", played.FinalState) ∷ []
+
+abbrev pub edit_views : List (List ℕ × EditView)
+edit_views = (codes "transcript", edited.Transcript) ∷ (codes "play", edited.Play)
+    ∷ (codes "log", edited.Log) ∷ (codes "undo", edited.Undo) ∷ (codes "guarded", edited.Guarded)
+    ∷ (codes "reports", edited.Reports) ∷ (codes "table", edited.Table)
+    ∷ (codes "steps", edited.Steps) ∷ (codes "walk", edited.Walk) ∷ (codes "score", edited.Score)
+    ∷ (codes "state", edited.FinalState) ∷ []
+
+abbrev pub cover_views : List (List ℕ × CoverView)
+cover_views = (codes "counts", Said Counts) ∷ (codes "texts", Said Texts)
+    ∷ (codes "rules", Rules) ∷ []
+
+abbrev pub report_views : List (List ℕ × ReportView)
+report_views = (codes "reports", report.Reports) ∷ (codes "table", report.Table) ∷ []
+
+-- the view that prints a report alone
+abbrev pub edit_view_of : ReportView → EditView
+edit_view_of report.Reports = edited.Reports
+edit_view_of report.Table = edited.Table
 
 -- ---- what several commands ask
 
--- a seed is what was found for it, or 0
-abbrev pub seed_of : List Row → Option ℕ
-seed_of rows = value_of (codes "seed") (number_in_range 0 MAX_SEED) 0 rows
+-- what follows from a value, unless there is a misuse
+infixl 10 ◌>>=◌
+abbrev pub ◌>>=◌ : {A B : Type 0} → Result A Misuse → (A → Result B Misuse) → Result B Misuse
+Ok value >>= next = next value
+Err found >>= next = Err found
+
+-- the view that was found, or the usual one; the parser should have refused the name of none
+abbrev pub view_of : {V : Type 0} → List (List ℕ × V) → V → List Row → Result V Misuse
+view_of views usual rows =
+    said_or (λ name. ok_or (named views name) misuse.Incomplete) usual
+    (first_of (codes "print") rows)
 
 -- what is doubtful, or never shown, is to be judged or left out
 abbrev pub judges_left : List Row → Bool
-judges_left rows = is_set (codes "strict") rows || is_some (first_of (codes "known") rows)
+judges_left rows = is_set (codes "strict") rows || is_given (codes "known") rows
+
+-- doubts alone are judged or left out
+abbrev pub check_by : List Row → Option CheckView → Result What Misuse
+check_by rows None = Ok (what.Doubts (is_set (codes "strict") rows))
+check_by rows (Some view) =
+    if judges_left rows then Err misuse.DoubtsAlone else Ok (what.Check view)
 
 -- a check prints what was found for it; otherwise the doubts if they are to be judged or left out,
 -- and else the greatest score
-abbrev pub check_asked : List Row → Option (Option CheckView)
-check_asked rows = value_of (codes "print") (named check_views)
-    (if judges_left rows then None else Some Maximum) rows
+abbrev pub check_of : List Row → Result What Misuse
+check_of rows =
+    let usual = if judges_left rows then None else Some checked.Maximum in
+    view_of check_views usual rows >>= check_by rows
 
--- a play prints what was found for it, or the transcript
-abbrev pub play_view_asked : List Row → Option PlayView
-play_view_asked rows = value_of (codes "print") (named play_views) played.Transcript rows
-
--- of texts is printed what was found for it; otherwise each that is left if they are to be judged
--- or left out, and else how many there are
-abbrev pub cover_view_asked : List Row → Option CoverView
-cover_view_asked rows = value_of (codes "print") (named cover_views)
-    (Said (if judges_left rows then Texts else Counts)) rows
-
--- ---- what an edit asks; nothing if it asks for no run
-
--- a distance of checkpoints is what was found for it, or 50
-abbrev pub every_of : List Row → Option ℕ
-every_of rows = value_of (codes "every") (number_in_range 1 MAX_EVERY) 50 rows
-
--- what an edit prints is what was found for it, or the transcript; in place it prints the log
-abbrev pub usual_edit_view : List Row → EditView
-usual_edit_view rows = if is_in_place rows then edited.Log else edited.Transcript
-
-abbrev pub edit_view_asked : List Row → Option EditView
-edit_view_asked rows =
-    value_of (codes "print") (named edit_views) (usual_edit_view rows) rows
+-- ---- what an edit asks
 
 -- an edit in place has its own file and its own view, so none of them was found
 abbrev pub is_two_outputs : List Row → Bool
 is_two_outputs rows = is_in_place rows
-    && (is_some (first_of (codes "output") rows) || is_some (first_of (codes "print") rows))
+    && (is_given (codes "output") rows || is_given (codes "print") rows)
 
 -- there is the file of a script, or there are lines of one, or there is the file of a log, and no
 -- other of the three
-abbrev pub edits_from : Bool → Bool → Bool → Option EditsFrom
-edits_from true false false = Some from.Script
-edits_from false true false = Some from.Script
-edits_from false false true = Some from.NewLog
-edits_from _ _ _ = None
+abbrev pub edits_from : Bool → Bool → Bool → Result EditsFrom Misuse
+edits_from true false false = Ok from.Script
+edits_from false true false = Ok from.Script
+edits_from false false true = Ok from.NewLog
+edits_from false false false = Err misuse.NoScript
+edits_from _ _ _ = Err misuse.TwoScripts
 
-abbrev pub edits_from_of : List Row → Option EditsFrom
-edits_from_of rows = edits_from (is_some (first_of (codes "script") rows))
-    (is_some (all_of (codes "edit") rows)) (is_some (first_of (codes "to") rows))
+abbrev pub edits_from_of : List Row → Result EditsFrom Misuse
+edits_from_of rows = edits_from (is_given (codes "script") rows)
+    (is_some (all_of (codes "edit") rows)) (is_given (codes "to") rows)
 
-abbrev pub editing_by : List Row → ℕ → ℕ → EditView → Editing
-editing_by rows seed every view = record {
-  seed = seed;
-  every = every;
-  view = view;
-  strict = is_set (codes "strict") rows;
-  guarded = is_set (codes "guarded") rows;
-}
+-- an edit prints the log in place, and else what was found for it, or the transcript
+unfoldable pub edit_view_asked : List Row → Result EditView Misuse
+edit_view_asked rows =
+    if is_in_place rows then Ok edited.Log else view_of edit_views edited.Transcript rows
 
--- how a log is edited is what was found for the options
-abbrev pub editing_of : List Row → Option Editing
-editing_of rows = option_and_then (λ seed.
-    option_and_then (λ every. option_map (editing_by rows seed every) (edit_view_asked rows))
-    (every_of rows)) (seed_of rows)
+-- how a log is edited
+unfoldable pub editing_of : List Row → Result Editing Misuse
+editing_of rows = do
+  seed ← number_of Seed 0 rows
+  every ← number_of Every 50 rows
+  view ← edit_view_asked rows
+  Ok (record {
+    seed = seed;
+    every = every;
+    view = view;
+    strict = is_set (codes "strict") rows;
+    guarded = is_set (codes "guarded") rows;
+  })
 
-abbrev pub asked_by : List Row → EditsFrom → Editing → Option ReportView → EditAsked
-asked_by rows source editing report = record {
-  edits_from = source;
-  editing = editing;
-  report = report;
-  refusals = says_refusals (is_set (codes "quiet") rows) editing.view report;
-}
+-- the report of a name goes to standard output, so the output has to go into a file
+abbrev pub report_by : Option (List ℕ) → Option (List ℕ) → Result (Option ReportView) Misuse
+report_by None output = Ok None
+report_by (Some name) None = Err misuse.ReportAlone
+report_by (Some name) (Some file) =
+    ok_or (named report_views name) misuse.Incomplete >>= (λ view. Ok (Some view))
 
-abbrev pub edit_of : List Row → Option EditAsked
-edit_of rows = if is_two_outputs rows then None
-    else option_and_then (λ source.
-    option_and_then (λ editing. option_map (asked_by rows source editing) (report_of rows))
-    (editing_of rows)) (edits_from_of rows)
+abbrev pub report_of : List Row → Result (Option ReportView) Misuse
+report_of rows = report_by (first_of (codes "report") rows) (output_of rows)
+
+-- what is printed has reports on the items of the script: the view has, or they are beside it
+abbrev pub has_reports : EditView → Option ReportView → Bool
+has_reports view (Some report.Reports) = true
+has_reports edited.Transcript beside = true
+has_reports edited.Reports beside = true
+has_reports _ beside = false
+
+-- why items are refused is said of what is printed without reports, unless that wasn't to be said
+unfoldable pub edit_of : List Row → Result EditAsked Misuse
+edit_of rows = if is_two_outputs rows then Err misuse.TwoOutputs else do
+  editing ← editing_of rows
+  source ← edits_from_of rows
+  beside ← report_of rows
+  Ok (record {
+    edits_from = source;
+    editing = editing;
+    report = beside;
+    refusals = not (is_set (codes "quiet") rows) && not (has_reports editing.view beside);
+  })
 
 -- ---- which part of a cave a map draws
 
-abbrev pub surroundings : ℕ → ℕ → Option Surroundings
-surroundings place ways = Some (record { place = place; ways = ways })
+-- what is drawn around a place; ways from it are 2 if none are given, and there are none from no
+-- place
+abbrev pub around_by : Option (List ℕ) → List Row → Result (Option Surroundings) Misuse
+around_by None rows = if is_given (codes "within") rows then Err misuse.WithinAlone else Ok None
+around_by (Some text) rows = do
+  place ← number_said From text
+  ways ← number_of Within 2 rows
+  Ok (Some (record { place = place; ways = ways }))
 
--- what is drawn around a place, which is from 1 to 300; ways from it are from 0 to 300, and 2 if
--- none are given, and there are none from no place
-abbrev pub around_by : Option (List ℕ) → Option (List ℕ) → Option (Option Surroundings)
-around_by None None = Some None
-around_by None (Some ways) = None
-around_by (Some place) within = option_and_then (λ number.
-    option_map (surroundings number) (said_or (number_in_range 0 300) 2 within))
-    (number_in_range 1 300 place)
-
-abbrev pub around_of : List Row → Option (Option Surroundings)
-around_of rows = around_by (first_of (codes "from") rows) (first_of (codes "within") rows)
+unfoldable pub around_of : List Row → Result (Option Surroundings) Misuse
+around_of rows = around_by (first_of (codes "from") rows) rows
 
 -- only what logs saw is drawn, and a seed is theirs, so there are some if one of both was given
-abbrev pub lacks_logs : List Row → Bool
-lacks_logs rows =
-    (is_set (codes "seen") rows || is_some (first_of (codes "seed") rows))
-    && is_none (all_of (codes "log") rows)
+unfoldable pub part_of : List Row → Result MapPart Misuse
+part_of rows =
+    let seen = is_set (codes "seen") rows in
+    let is_logless = is_none (all_of (codes "log") rows) in
+    if is_logless && seen then Err misuse.SeenAlone
+    else if is_logless && is_given (codes "seed") rows then Err misuse.SeedAlone
+    else around_of rows >>= (λ around. Ok (record { seen = seen; around = around }))
 
-abbrev pub part_by : List Row → Option Surroundings → MapPart
-part_by rows around = record { seen = is_set (codes "seen") rows; around = around }
+-- ---- what a command asks
 
-abbrev pub part_of : List Row → Option MapPart
-part_of rows = if lacks_logs rows then None else option_map (part_by rows) (around_of rows)
-
--- ---- what a command asks; nothing if it asks for no run
-
--- doubts alone are judged or left out
-abbrev pub check_by : List Row → Option CheckView → Option What
-check_by rows None = Some (what.Doubts (is_set (codes "strict") rows))
-check_by rows (Some view) = if judges_left rows then None else Some (what.Check view)
-
-abbrev pub cover_by : List Row → ℕ → CoverView → What
-cover_by rows seed view = what.Cover seed view (is_set (codes "strict") rows)
-
-abbrev pub what_of : CommandName → List Row → Option What
-what_of command.Check rows = option_and_then (check_by rows) (check_asked rows)
-what_of command.Play rows =
-    option_and_then (λ seed. option_map (what.Play seed) (play_view_asked rows)) (seed_of rows)
-what_of command.Edit rows = option_map what.Edit (edit_of rows)
-what_of command.Script rows = Some (what.Script (record {
+-- of texts is printed what was found for it; otherwise each that is left if they are to be judged
+-- or left out, and else how many there are
+abbrev pub what_of : CommandName → List Row → Result What Misuse
+what_of command.Check rows = check_of rows
+what_of command.Play rows = do
+  seed ← number_of Seed 0 rows
+  view ← view_of play_views played.Transcript rows
+  Ok (what.Play seed view)
+what_of command.Edit rows = edit_of rows >>= (λ asked. Ok (what.Edit asked))
+what_of command.Script rows = Ok (what.Script (record {
   guarded = is_set (codes "guarded") rows;
   grouped = is_set (codes "group") rows;
 }))
-what_of command.Cover rows =
-    option_and_then (λ seed. option_map (cover_by rows seed) (cover_view_asked rows)) (seed_of rows)
-what_of command.Map rows =
-    option_and_then (λ seed. option_map (what.Map seed) (part_of rows)) (seed_of rows)
-
--- ---- why it asks for no run
-
--- a view that isn't the list of doubts is to be printed
-abbrev pub asks_view : Option (Option CheckView) → Bool
-asks_view (Some (Some view)) = true
-asks_view _ = false
-
--- what was found for a view, or for a report into a file, is the name of none, which the parser
--- should have refused
-abbrev pub IsUnknownView : CommandName → List Row → Type 0
-IsUnknownView command.Check rows = check_asked rows ≡ None
-IsUnknownView command.Play rows = play_view_asked rows ≡ None
-IsUnknownView command.Edit rows = (edit_view_asked rows ≡ None)
-    ⊎ ((report_of rows ≡ None) × (is_some (output_of rows) ≡ true))
-IsUnknownView command.Cover rows = cover_view_asked rows ≡ None
-IsUnknownView _ rows = ⊥
-
--- what was found for the seed isn't a seed
-abbrev pub IsBadSeed : List Row → CommandFault → Type 0
-IsBadSeed rows (fault_is.BadSeed text) =
-    IsUnread (codes "seed") (number_in_range 0 MAX_SEED) rows text.now
-IsBadSeed rows _ = ⊥
-
--- the fault is what is wrong with what was found for the arguments of a command
-abbrev pub IsWrong : CommandName → List Row → CommandFault → Type 0
-IsWrong name rows fault_is.Incomplete = IsUnknownView name rows
-IsWrong name rows (fault_is.BadSeed text) = IsBadSeed rows (fault_is.BadSeed text)
-IsWrong name rows (fault_is.BadEvery text) =
-    IsUnread (codes "every") (number_in_range 1 MAX_EVERY) rows text.now
-IsWrong command.Check rows fault_is.DoubtsAlone =
-    (asks_view (check_asked rows) ≡ true) × (judges_left rows ≡ true)
-IsWrong command.Edit rows fault_is.NoScript =
-    (first_of (codes "script") rows ≡ None) × (all_of (codes "edit") rows ≡ None)
-    × (first_of (codes "to") rows ≡ None)
-IsWrong command.Edit rows fault_is.TwoScripts =
-    let script = is_some (first_of (codes "script") rows) in
-    let lines = is_some (all_of (codes "edit") rows) in
-    let log = is_some (first_of (codes "to") rows) in
-    ((script && lines) || (script && log) || (lines && log)) ≡ true
-IsWrong command.Edit rows fault_is.ReportAlone =
-    (is_some (first_of (codes "report") rows) ≡ true) × (output_of rows ≡ None)
-IsWrong command.Edit rows fault_is.TwoOutputs = is_two_outputs rows ≡ true
-IsWrong command.Map rows (fault_is.BadPlace text) =
-    IsUnread (codes "from") (number_in_range 1 300) rows text.now
-IsWrong command.Map rows (fault_is.BadWays text) =
-    IsUnread (codes "within") (number_in_range 0 300) rows text.now
-IsWrong command.Map rows fault_is.WithinAlone =
-    (is_some (first_of (codes "within") rows) ≡ true) × (first_of (codes "from") rows ≡ None)
-IsWrong command.Map rows fault_is.SeenAlone =
-    (is_set (codes "seen") rows ≡ true) × (all_of (codes "log") rows ≡ None)
-IsWrong command.Map rows fault_is.SeedAlone =
-    (is_some (first_of (codes "seed") rows) ≡ true) × (all_of (codes "log") rows ≡ None)
-IsWrong _ rows _ = ⊥
-
--- what was found says this, or is wrong for this command
-abbrev pub Finds : {T : Type 0} → (List Row → Option T) → CommandName → ArgMatches
-    → Result T CommandFault → Type 0
-Finds read name found result = MatchResult result
-    (λ value. read (rows_in found) ≡ Some value) (IsWrong name (rows_in found))
+what_of command.Cover rows = do
+  seed ← number_of Seed 0 rows
+  view ← view_of cover_views (Said (if judges_left rows then Texts else Counts)) rows
+  Ok (what.Cover seed view (is_set (codes "strict") rows))
+what_of command.Map rows = do
+  seed ← number_of Seed 0 rows
+  part ← part_of rows
+  Ok (what.Map seed part)

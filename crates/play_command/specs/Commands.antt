@@ -1,38 +1,51 @@
--- The commands by their names.
-use Rattle.std.specs.Prelude.{ℕ, Bool, true, false, List, [], ◌∷◌, Option, None, Some}
-use Rattle.std.specs.Prelude.{codes, if◌then◌else◌, is_some, map}
+-- The commands, and the program's command as the parser knows it.
+use Prim.Native.String.{String}
+use Rattle.std.specs.Prelude.{◌≡◌, ℕ, Bool, true, false, List, [], ◌∷◌, Option, None, Some}
+use Rattle.std.specs.Prelude.{codes, fold, if◌then◌else◌, map}
 use Rattle.std.specs.Borrow.{Bor}
-use Rattle.std.specs.List.{list_all, list_any}
+use Rattle.std.specs.List.{list_all, list_any, slice_get}
 use Rattle.base_lines.specs.Nearest.{is_near_name}
-use Rattle.clap.specs.Words.{Row, first_of}
+use Rattle.clap.specs.Words.{App, Row, Rule, Shape, app_of, new_app, new_rule, with_rule}
+use Rattle.clap.specs.Words.{with_subcommand}
+use Rattle.clap.specs.declared.builder.action.ArgAction.TheVariants.{Append, SetTrue}
+use Rattle.clap.specs.declared.builder.command.Command.{Command}
+use Rattle.clap.specs.declared.builder.command.Command.TheViews.{out-Command}
+use Rattle.clap.specs.declared.builder.value_parser.ValueParser.TheVariants as parser
+use Rattle.play_command.specs.Asked.{check_views, cover_views, edit_views, play_views}
+use Rattle.play_command.specs.Asked.{report_views}
+use Rattle.play_command.specs.Found.{is_given}
 use Rattle.play_command.specs.declared.arguments.Argument.{Argument}
 use Rattle.play_command.specs.declared.arguments.Form.{Form}
-use Rattle.play_command.specs.declared.arguments.Form.TheVariants.{NeededFile, NeededFiles}
+use Rattle.play_command.specs.declared.arguments.Form.TheVariants as form
 use Rattle.play_command.specs.declared.commands.CommandName.{CommandName}
 use Rattle.play_command.specs.declared.commands.CommandName.TheVariants as command
 use Rattle.play_command.specs.declared.commands.CommandRow.{CommandRow}
 
--- ---- which it is, and the files that it needs
+-- ---- the commands by their names
 
+-- which command it is, the files that it needs, and what people type in place of its name
 abbrev pub Needs : Type 0
-Needs = CommandName × List (List ℕ)
+Needs = CommandName × List (List ℕ) × List (List ℕ)
 
 abbrev pub commands : List (List ℕ × Needs)
-commands = (codes "check", (command.Check, codes "cave" ∷ []))
-    ∷ (codes "play", (command.Play, codes "cave" ∷ codes "log" ∷ []))
-    ∷ (codes "edit", (command.Edit, codes "cave" ∷ codes "log" ∷ []))
-    ∷ (codes "script", (command.Script, codes "old" ∷ codes "new" ∷ []))
-    ∷ (codes "cover", (command.Cover, codes "cave" ∷ codes "log" ∷ []))
-    ∷ (codes "map", (command.Map, codes "cave" ∷ [])) ∷ []
+commands = (codes "check", (command.Check, codes "cave" ∷ [], codes "test" ∷ codes "verify" ∷ []))
+    ∷ (codes "play", (command.Play, codes "cave" ∷ codes "log" ∷ [], codes "run" ∷ []))
+    ∷ (
+      codes "edit",
+      (command.Edit, codes "cave" ∷ codes "log" ∷ [], codes "replay" ∷ codes "patch" ∷ []),
+    )
+    ∷ (codes "script", (command.Script, codes "old" ∷ codes "new" ∷ [], codes "diff" ∷ []))
+    ∷ (codes "cover", (command.Cover, codes "cave" ∷ codes "log" ∷ [], codes "coverage" ∷ []))
+    ∷ (codes "map", (command.Map, codes "cave" ∷ [], codes "graph" ∷ [])) ∷ []
 
 -- all the files that a command needs were found
 abbrev pub has_files : List (List ℕ) → List Row → Bool
-has_files ids rows = list_all (λ id. is_some (first_of id rows)) ids
+has_files ids rows = list_all (λ id. is_given id rows) ids
 
 -- a command isn't complete without an argument that is given so
 abbrev pub is_needed : Form → Bool
-is_needed NeededFile = true
-is_needed NeededFiles = true
+is_needed form.NeededFile = true
+is_needed form.NeededFiles = true
 is_needed _ = false
 
 -- the arguments of which that is so
@@ -42,27 +55,160 @@ needed_in (argument ∷ arguments) =
     if is_needed argument.form then argument.id.now ∷ needed_in arguments
     else needed_in arguments
 
+-- a row of the code's table
 abbrev pub needs_of : CommandRow → Needs
-needs_of row = (row.command, needed_in row.arguments.now)
+needs_of row =
+    (row.command, needed_in row.arguments.now, map (λ name. name.now) row.others.now)
 
--- ---- what people type in place of its name
+abbrev pub with_needs : Bor (List ℕ) × CommandRow → List ℕ × Needs
+with_needs row = (row.0.now, needs_of row.1)
 
-abbrev pub other_names : List (List ℕ × List (List ℕ))
-other_names = (codes "check", codes "test" ∷ codes "verify" ∷ [])
-    ∷ (codes "play", codes "run" ∷ [])
-    ∷ (codes "edit", codes "replay" ∷ codes "patch" ∷ [])
-    ∷ (codes "script", codes "diff" ∷ [])
-    ∷ (codes "cover", codes "coverage" ∷ [])
-    ∷ (codes "map", codes "graph" ∷ []) ∷ []
-
--- the first command for which people type this word, or one that it is near to
-abbrev pub meant_in : List (List ℕ × List (List ℕ)) → List ℕ → Option (List ℕ)
+-- the first of some commands for which people type this word, or one that it is near to
+abbrev pub meant_in : List (List ℕ × Needs) → List ℕ → Option (List ℕ)
 meant_in [] word = None
-meant_in (name ∷ names) word =
-    if list_any (is_near_name word) name.1 then Some name.0 else meant_in names word
+meant_in (entry ∷ entries) word =
+    if list_any (is_near_name word) entry.1.2 then Some entry.0 else meant_in entries word
 
-abbrev pub meant_command : List ℕ → Option (List ℕ)
-meant_command word = meant_in other_names word
+-- a command that is this one, with no argument that other commands share
+abbrev pub IsLocal : App → Command → Type 0
+IsLocal app command = (app_of command ≡ app) × ((out-Command command).has_globals ≡ false)
 
-abbrev pub others_of : Bor (List ℕ) × CommandRow → List ℕ × List (List ℕ)
-others_of row = (row.0.now, map (λ name. name.now) row.1.others.now)
+-- ---- arguments
+
+-- names, wherever they lie in memory
+abbrev pub Names : Type 0
+Names = Bor (List (Bor (List ℕ)))
+
+-- an argument whose value is one of these names
+abbrev pub with_names : Names → Rule → Rule
+with_names names rule = record rule { parser = Some (parser.Names names) }
+
+-- a file by its place, and an option with a value
+abbrev pub file : List ℕ → Rule
+file id = record (new_rule id) { value_names = 1 }
+
+abbrev pub option : List ℕ → Rule
+option id = record (new_rule id) { long = Some id; value_names = 1 }
+
+-- an argument by how it is given; a report is `reports` if its value is left out
+abbrev pub plain_argument : Form → List ℕ → Rule
+plain_argument form.File id = file id
+plain_argument form.Files id = record (file id) { action = Some Append }
+plain_argument form.NeededFile id = record (file id) { required = true }
+plain_argument form.NeededFiles id = record (file id) { action = Some Append; required = true }
+plain_argument form.Value id = option id
+plain_argument form.Values id = record (option id) { action = Some Append }
+plain_argument (form.View names) id = with_names names (option id)
+plain_argument (form.Report names) id = record (with_names names (option id)) {
+  range = Some (record { start_inclusive = 0; end_inclusive = 1 });
+  missing = codes "reports" ∷ [];
+}
+plain_argument form.Flag id = record (new_rule id) { long = Some id; action = Some SetTrue }
+
+abbrev pub with_letter : Option ℕ → Rule → Rule
+with_letter None rule = rule
+with_letter (Some letter) rule = record rule { short = Some letter }
+
+abbrev pub argument_rule : Argument → Rule
+argument_rule argument =
+    with_letter argument.letter (plain_argument argument.form argument.id.now)
+
+-- a command of the code's table
+abbrev pub shape_of_row : Bor (List ℕ) × CommandRow → App
+shape_of_row row =
+    fold with_rule (new_app row.0.now) (map argument_rule row.1.arguments.now)
+
+abbrev pub with_command : App → App → App
+with_command program command = with_subcommand program command.top
+
+-- ---- the program
+
+-- the names of these views, wherever they lie in memory
+abbrev pub NamesOf : {T : Type 0} → List (List ℕ × T) → Type 0
+NamesOf views = (names : Names) × (map (λ name. name.now) names.now ≡ map (λ view. view.0) views)
+
+-- where the names of views lie, for each option that takes some
+pub record ViewNames : Type 0 where
+  pub check : NamesOf check_views
+  pub play : NamesOf play_views
+  pub edit : NamesOf edit_views
+  pub report : NamesOf report_views
+  pub cover : NamesOf cover_views
+
+-- an argument of this name, by how it is given
+abbrev pub argument : Form → String → Rule
+argument given id = plain_argument given (codes id)
+
+-- an option that may also be given by the first letter of its name
+abbrev pub lettered : Form → String → Rule
+lettered given id = with_letter (slice_get (codes id) 0) (argument given id)
+
+abbrev pub needed : String → Rule
+needed id = argument form.NeededFile id
+
+abbrev pub value : String → Rule
+value id = argument form.Value id
+
+abbrev pub flag : String → Rule
+flag id = argument form.Flag id
+
+-- the arguments of several commands
+abbrev pub cave : Rule
+cave = needed "cave"
+
+abbrev pub bind : Rule
+bind = lettered form.Value "bind"
+
+abbrev pub seed : Rule
+seed = lettered form.Value "seed"
+
+abbrev pub print : Names → Rule
+print names = lettered (form.View names) "print"
+
+abbrev pub output : Rule
+output = lettered form.Value "output"
+
+-- the arguments of each command
+abbrev pub rules_of : ViewNames → CommandName → List Rule
+rules_of names command.Check =
+    cave ∷ bind ∷ print names.check.0 ∷ flag "strict" ∷ value "known" ∷ output ∷ []
+rules_of names command.Play =
+    cave ∷ needed "log" ∷ bind ∷ seed ∷ print names.play.0 ∷ output ∷ []
+rules_of names command.Edit =
+    cave ∷ needed "log" ∷ argument form.File "script" ∷ lettered form.Values "edit" ∷ value "to"
+    ∷ bind ∷ seed ∷ value "every" ∷ print names.edit.0 ∷ flag "strict" ∷ flag "guarded"
+    ∷ lettered form.Flag "quiet" ∷ argument (form.Report names.report.0) "report" ∷ output
+    ∷ flag "in-place" ∷ []
+rules_of names command.Script =
+    needed "old" ∷ needed "new" ∷ flag "guarded" ∷ flag "group" ∷ output ∷ []
+rules_of names command.Cover = cave ∷ argument form.NeededFiles "log" ∷ bind ∷ seed
+    ∷ print names.cover.0 ∷ flag "strict" ∷ value "known" ∷ output ∷ []
+rules_of names command.Map = cave ∷ argument form.Files "log" ∷ bind ∷ seed ∷ flag "seen"
+    ∷ value "from" ∷ value "within" ∷ output ∷ []
+
+abbrev pub shape_of : ViewNames → List ℕ × Needs → Shape
+shape_of names entry = record (new_app entry.0).top { rules = rules_of names entry.1.0 }
+
+-- the program, which requires one of its commands
+abbrev pub plain_app : App
+plain_app = record {
+  top = record (new_app (codes "cave")).top {
+    has_version = true;
+    subcommand_required = true;
+    arg_required_else_help = true;
+  };
+  subs = [];
+}
+
+abbrev pub cave_app : ViewNames → App
+cave_app names = record {
+  top = record plain_app.top { is_leaf = false };
+  subs = map (shape_of names) commands;
+}
+
+-- the fact holds of the program's command, wherever the names of views lie
+abbrev pub ForCave : (App → Type 0) → Type 0
+ForCave Holds = (names : ViewNames) × Holds (cave_app names)
+
+abbrev pub IsCave : Command → Type 0
+IsCave command = ForCave (λ app. app_of command ≡ app)

@@ -1,11 +1,5 @@
-pub mod App
-pub mod Aside
 pub mod Asked
 pub mod Commands
-pub mod Files
 pub mod Found
 pub mod Line
-pub mod Number
 pub mod Refusal
-pub mod SameRequests
-pub mod Views

@@ -1,65 +1,80 @@
 -- Which run the words ask for, and why they are refused.
-use Rattle.std.specs.Prelude.{◌≡◌, ◌⊎◌, ℕ, List, [], Option, Some, None, true, false, codes, map}
+use Rattle.std.specs.Prelude.{◌≡◌, ◌⊎◌, ℕ, Bool, List, [], Option, Some, None, codes, map}
 use Rattle.std.specs.Prelude.{option_and_then, option_map, string_bytes, Result, Ok, Err}
-use Rattle.std.specs.Prelude.{MatchResult, slice_get}
-use Rattle.clap.specs.Words.{App, IsAmong, HasKind, Kinds, Row, all_of, fault_of, kind_of}
-use Rattle.clap.specs.Words.{subcommand_of, subcommand_rows_of}
+use Rattle.std.specs.Prelude.{MatchResult, if◌then◌else◌, slice_get, unwrap_or}
+use Rattle.std.specs.Option.{option_map_or}
+use Rattle.clap.specs.Words.{App, IsAmong, HasKind, Kinds, Row, all_of, fault_of, first_of}
+use Rattle.clap.specs.Words.{kind_of, subcommand_of, subcommand_rows_of}
 use Rattle.clap.specs.declared.error.Error.{Error}
 use Rattle.clap.specs.declared.error.kind.ErrorKind.{ErrorKind}
 use Rattle.clap.specs.declared.error.kind.ErrorKind.TheVariants.{DisplayHelp, DisplayVersion}
 use Rattle.clap.specs.declared.error.kind.ErrorKind.TheVariants.{InvalidSubcommand}
 use Rattle.clap.specs.declared.parser.matches.ArgMatches.{ArgMatches}
-use Rattle.play_command.specs.App.{ForCave}
-use Rattle.play_command.specs.Asked.{IsWrong, what_of}
-use Rattle.play_command.specs.Commands.{Needs, commands, has_files, meant_command}
-use Rattle.play_command.specs.declared.commands.CommandName.{CommandName}
-use Rattle.play_command.specs.Files.{files_of, named_file, output_of}
-use Rattle.play_command.specs.Found.{is_set, named}
+use Rattle.play_command.specs.Asked.{◌>>=◌, what_of}
+use Rattle.play_command.specs.Commands.{ForCave, Needs, commands, has_files, meant_in}
+use Rattle.play_command.specs.Found.{files_of, is_set, named, named_file, number_row, output_of}
 use Rattle.play_command.specs.declared.fault.CommandFault.{CommandFault}
-use Rattle.play_command.specs.declared.fault.CommandFault.TheVariants.{Incomplete, Memory}
-use Rattle.play_command.specs.declared.fault.CommandFault.TheVariants.{OtherName, Usage}
+use Rattle.play_command.specs.declared.fault.CommandFault.TheVariants as fault_is
+use Rattle.play_command.specs.declared.fault.Misuse.{Misuse}
+use Rattle.play_command.specs.declared.fault.Misuse.TheVariants.{BadNumber, Incomplete}
+use Rattle.play_command.specs.declared.input.Input.{Input}
 use Rattle.play_command.specs.declared.line.Line.{Line}
 use Rattle.play_command.specs.declared.line.Line.TheVariants.{Run, Text}
 use Rattle.play_command.specs.declared.line.Request.{Request}
+use Rattle.play_command.specs.declared.line.What.{What}
 use Rattle.replay_scripts.specs.ScriptText.{text_of_lines}
 
--- ---- what the parser found
+-- ---- the run of a command
+
+-- a run that is asked for, wherever its names are borrowed from
+pub record Asked : Type 0 where
+  pub files : List (Input × List ℕ)
+  pub typed : Option (List ℕ)
+  pub output : Option (List ℕ)
+  pub quiet : Bool
+  pub what : What
+
+abbrev pub run_in : Request → Asked
+run_in request = record {
+  files = map named_file request.files.items;
+  typed = option_map string_bytes request.typed;
+  output = option_map (λ file. file.now) request.output;
+  quiet = request.quiet;
+  what = request.what;
+}
 
 -- the text of a script whose lines were found
 abbrev pub typed_of : List Row → Option (List ℕ)
 typed_of rows = option_map text_of_lines (all_of (codes "edit") rows)
 
--- the run is what was found for a command of this name
-pub record IsRunBy (name : CommandName) (rows : List Row) (request : Request) : Type 0 where
-  pub files : map named_file request.files.items ≡ files_of rows
-  pub typed : option_map string_bytes request.typed ≡ typed_of rows
-  pub output : option_map (λ file. file.now) request.output ≡ output_of rows
-  pub quiet : request.quiet ≡ is_set (codes "quiet") rows
-  pub what : what_of name rows ≡ Some request.what
+abbrev pub run_by : List Row → What → Asked
+run_by rows what = record {
+  files = files_of rows;
+  typed = typed_of rows;
+  output = output_of rows;
+  quiet = is_set (codes "quiet") rows;
+  what = what;
+}
 
-abbrev pub IsRunOf : Option Needs → List Row → Request → Type 0
-IsRunOf None rows request = ⊥
--- with all the files that it needs
-IsRunOf (Some needs) rows request = (has_files needs.1 rows ≡ true) × IsRunBy needs.0 rows request
+-- what a command asks with all the files that it needs
+abbrev pub asked_with : List Row → Needs → Result What Misuse
+asked_with rows needs = if has_files needs.1 rows then what_of needs.0 rows else Err Incomplete
 
--- why no run is made of what was found, unless memory ran out: there is no such command, one of its
--- files is missing, or something is wrong with its options
-abbrev pub IsNoRunOf : Option Needs → List Row → CommandFault → Type 0
-IsNoRunOf None rows fault = fault ≡ Incomplete
-IsNoRunOf (Some needs) rows fault =
-    ((fault ≡ Incomplete) × (has_files needs.1 rows ≡ false)) ⊎ IsWrong needs.0 rows fault
+abbrev pub asked_by : List ℕ → List Row → Result What Misuse
+asked_by name rows = option_map_or (asked_with rows) (named commands name) (Err Incomplete)
 
 -- a command that was met, with what was found for its arguments
 abbrev pub MetCommand : Type 0
 MetCommand = Option (List ℕ × List Row)
 
-abbrev pub IsRunMet : MetCommand → Request → Type 0
-IsRunMet None request = ⊥
-IsRunMet (Some met) request = IsRunOf (named commands met.0) met.1 request
+abbrev pub run_of : MetCommand → Result Asked Misuse
+run_of None = Err Incomplete
+run_of (Some met) = asked_by met.0 met.1 >>= (λ what. Ok (run_by met.1 what))
 
-abbrev pub IsNoRunMet : MetCommand → CommandFault → Type 0
-IsNoRunMet None fault = fault ≡ Incomplete
-IsNoRunMet (Some met) fault = IsNoRunOf (named commands met.0) met.1 fault
+-- what was given for the option of a number, if the misuse is of one
+abbrev pub given_for : Misuse → List Row → List ℕ
+given_for (BadNumber option) rows = unwrap_or (first_of (number_row option).0 rows) []
+given_for _ rows = []
 
 -- ---- the answer to words
 
@@ -68,7 +83,7 @@ IsHelp kind = (kind ≡ DisplayHelp) ⊎ (kind ≡ DisplayVersion)
 
 -- the command for which people type the word in its place, which is the first after the program
 abbrev pub meant_by : List (List ℕ) → Option (List ℕ)
-meant_by words = option_and_then meant_command (slice_get words 1)
+meant_by words = option_and_then (meant_in commands) (slice_get words 1)
 
 -- the answer to words with an error of one of these kinds, unless memory ran out: a text, if they
 -- ask for help or the version, or what is wrong with them; where no command is, that may be the
@@ -76,21 +91,28 @@ meant_by words = option_and_then meant_command (slice_get words 1)
 abbrev pub IsErrorAnswer : List (List ℕ) → Kinds → Result Line CommandFault → Type 0
 IsErrorAnswer words kinds (Ok (Text error)) =
     IsHelp (kind_of error) × IsAmong (kind_of error) kinds
-IsErrorAnswer words kinds (Err Memory) = Unit {0}
-IsErrorAnswer words kinds (Err (Usage error)) =
+IsErrorAnswer words kinds (Err fault_is.Memory) = Unit {0}
+IsErrorAnswer words kinds (Err (fault_is.Usage error)) =
     (¬ IsHelp (kind_of error)) × IsAmong (kind_of error) kinds
     × (kind_of error ≡ InvalidSubcommand → meant_by words ≡ None)
-IsErrorAnswer words kinds (Err (OtherName word command)) =
+IsErrorAnswer words kinds (Err (fault_is.OtherName word command)) =
     IsAmong InvalidSubcommand kinds × (slice_get words 1 ≡ Some word.now)
     × (meant_by words ≡ Some command.now)
 IsErrorAnswer words kinds _ = ⊥
 
--- the answer to words with which nothing is wrong: the run of the command that was met, or why there
--- is none
+-- the answer to words with which nothing is wrong, unless memory ran out: the run of the command
+-- that was met, or how its arguments are misused
 abbrev pub IsRunAnswer : MetCommand → Result Line CommandFault → Type 0
-IsRunAnswer met (Ok (Run request)) = IsRunMet met request
-IsRunAnswer met (Ok (Text error)) = ⊥
-IsRunAnswer met (Err fault) = (fault ≡ Memory) ⊎ IsNoRunMet met fault
+IsRunAnswer met (Ok (Run request)) = run_of met ≡ Ok (run_in request)
+IsRunAnswer met (Err fault_is.Memory) = Unit {0}
+IsRunAnswer met (Err (fault_is.Misuse misuse given)) = (run_of met ≡ Err misuse)
+    × (given.now ≡ option_map_or (λ found. given_for misuse found.1) met [])
+IsRunAnswer met _ = ⊥
+
+-- the words of a command line ask for one run at most
+abbrev pub WordsAskForOneRun : Type 0
+WordsAskForOneRun = (met : MetCommand) (one other : Request)
+    → IsRunAnswer met (Ok (Run one)) → IsRunAnswer met (Ok (Run other)) → run_in one ≡ run_in other
 
 -- the answer to words, in which the parser finds a command or what is wrong with them
 abbrev pub IsAnswerBy : List (List ℕ) → Result Line CommandFault → App → Type 0

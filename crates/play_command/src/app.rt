@@ -2,7 +2,7 @@
 
 ghost use Rattle.std.specs.Prelude.{◌≡◌, IfOk, fold, map};
 ghost use Rattle.clap.specs.Words.{app_of};
-ghost use Rattle.play_command.specs.App.{IsCave, IsLocal, plain_app, shape_of_row, with_command};
+ghost use Rattle.play_command.specs.Commands.{IsCave, plain_app, shape_of_row, with_command};
 
 use crate::arguments::with_arguments;
 use crate::commands::{COMMANDS, CommandRow};
@@ -23,20 +23,6 @@ const STATUSES: &str = "Exit status:
   6  the output can't be written
   7  memory ran out";
 
-/// A command, as the parser knows it.
-fn command_for<'a>(
-    alloc: Global,
-    name: &'static str,
-    row: &CommandRow,
-) -> Result<Command<'a>, AllocError>
-    ensures { IfOk result (IsLocal (shape_of_row (name.entry, row.now))) }
-{
-    let command = Command::new(alloc, name)
-        .about(row.about)
-        .after_help(row.after_help);
-    with_arguments(alloc, command, row.arguments)
-}
-
 /// Adds a command to the program's.
 fn with_command<'a>(
     alloc: Global,
@@ -47,8 +33,10 @@ fn with_command<'a>(
     ensures { IfOk result (λ whole. app_of whole
         ≡ with_command (app_of program.entry) (shape_of_row (name.entry, row.now))) }
 {
-    let command = command_for(alloc, name, row)?;
-    program.subcommand(command)
+    let command = Command::new(alloc, name)
+        .about(row.about)
+        .after_help(row.after_help);
+    program.subcommand(with_arguments(alloc, command, row.arguments)?)
 }
 
 /// Adds commands to the program's.
@@ -74,7 +62,8 @@ fn plain_app<'a>(alloc: Global) -> Command<'a>
 {
     Command::new(alloc, "cave")
         .about(
-            "Plays logs of a text adventure, edits and replays them, and reports what they never show",
+            "Plays logs of a text adventure, edits and replays them, and reports what they never \
+            show",
         )
         .version(VERSION)
         .after_help(STATUSES)

@@ -3,9 +3,8 @@
 ghost use Rattle.std.specs.Prelude.{◌≡◌, IfOk, false, fold, map};
 ghost use Rattle.clap.specs.Words.{app_of, rule_of, with_rule};
 ghost use Rattle.clap.specs.declared.builder.command.Command.TheViews.{out-Command};
-ghost use Rattle.play_command.specs.App.{IsLocal, argument_rule, plain_argument, with_letter};
-ghost use Rattle.play_command.specs.App.{with_names};
-ghost use Rattle.play_command.specs.Commands.{is_needed};
+ghost use Rattle.play_command.specs.Commands.{IsLocal, argument_rule, is_needed, plain_argument};
+ghost use Rattle.play_command.specs.Commands.{with_letter, with_names};
 
 use clap::builder::ValueParser;
 use clap::{Arg, ArgAction, Command};
@@ -95,20 +94,6 @@ fn with_names<'a>(arg: Arg<'a>, names: &'static [&'static str]) -> Arg<'a>
         .hide_possible_values(true)
 }
 
-/// Adds an argument to a command.
-fn with_argument<'a>(
-    alloc: Global,
-    command: Command<'a>,
-    argument: &Argument,
-) -> Result<Command<'a>, AllocError>
-    requires { (out-Command command).has_globals ≡ false }
-    ensures { IfOk result
-        (IsLocal (with_rule (app_of command.entry) (argument_rule argument.now))) }
-{
-    let arg = with_letter(plain_argument(alloc, argument), argument.letter);
-    command.arg(arg)
-}
-
 /// Adds arguments to a command.
 pub(crate) fn with_arguments<'a>(
     alloc: Global,
@@ -121,7 +106,7 @@ pub(crate) fn with_arguments<'a>(
 {
     let mut made = command;
     for argument in arguments {
-        made = with_argument(alloc, made, argument)?;
+        made = made.arg(with_letter(plain_argument(alloc, argument), argument.letter))?;
     }
     Ok(made)
 }

@@ -1,9 +1,10 @@
 //! Why a command line asks for no run.
 
 ghost use Rattle.std.specs.Prelude.{◌≡◌};
-ghost use Rattle.play_command.specs.Refusal.{status_of_command};
+ghost use Rattle.play_command.specs.Refusal.{misuse_text, status_of_command};
 ghost use Rattle.play_command.specs.declared.fault.CommandFault.TheVariants.{Memory};
 
+use crate::found::NumberOption;
 use clap::Error as ParseError;
 use std::alloc::AllocError;
 use std::error::Error;
@@ -12,19 +13,13 @@ use std::fmt;
 /// Where the texts of faults end.
 const HELP: &str = "\n\nFor more information, try '--help'.\n";
 
-/// Why a command line asks for no run. Its text is whole lines, for standard error.
-#[derive(Debug, Drop)]
-pub enum CommandFault<'a> {
-    /// The parser refused the words.
-    Usage(ParseError),
-    /// The word isn't a command, and is what people type for this one, or near to that.
-    OtherName(&'a str, &'static str),
+/// What is wrong with the arguments of a command.
+#[derive(Clone, Copy, Debug, PartialEq, Eq)]
+pub enum Misuse {
     /// No command, not all of its files, or no view is named, and the parser let that pass.
     Incomplete,
-    BadSeed(&'a str),
-    BadEvery(&'a str),
-    BadPlace(&'a str),
-    BadWays(&'a str),
+    /// What is given for this option isn't a number in its range.
+    BadNumber(NumberOption),
     /// An edit has neither a script nor a log to make.
     NoScript,
     /// An edit has two of the three.
@@ -41,6 +36,52 @@ pub enum CommandFault<'a> {
     SeenAlone,
     /// A seed is given, and there are no logs that are played by it.
     SeedAlone,
+}
+
+impl Misuse {
+    /// What is said of it; of a number after what was given for it.
+    #[tactic(auto, unfolding(crate::specs::Refusal::misuse_text))]
+    fn text(self) -> &'static str
+        ensures { result.now ≡ misuse_text self }
+    {
+        match self {
+            Misuse::Incomplete => "a command and its files are required",
+            Misuse::BadNumber(option) => match option {
+                NumberOption::Seed =>
+                    "' for '--seed <N>': expected 1 to 10 digits, from 0 to 2147483647",
+                NumberOption::Every =>
+                    "' for '--every <K>': expected 1 to 10 digits, from 1 to 10000",
+                NumberOption::From =>
+                    "' for '--from <PLACE>': expected 1 to 10 digits, from 1 to 300",
+                NumberOption::Within =>
+                    "' for '--within <N>': expected 1 to 10 digits, from 0 to 300",
+            },
+            Misuse::NoScript => "SCRIPT, '--edit <EDIT>' or '--to <FILE>' is required",
+            Misuse::TwoScripts =>
+                "only one of SCRIPT, '--edit <EDIT>' and '--to <FILE>' can be used",
+            Misuse::ReportAlone => "'--report <WHAT>' is for '--output <FILE>' or '--in-place': \
+                without these, '--print <WHAT>' prints reports",
+            Misuse::TwoOutputs =>
+                "'--in-place' can be used neither with '--output <FILE>' nor with \
+                '--print <WHAT>': it is short for '--print log --output LOG'",
+            Misuse::DoubtsAlone => "'--strict' and '--known <FILE>' are for '--print doubts'",
+            Misuse::WithinAlone => "'--within <N>' is for '--from <PLACE>'",
+            Misuse::SeenAlone => "'--seen' needs a LOG",
+            Misuse::SeedAlone => "'--seed <N>' needs a LOG",
+        }
+    }
+}
+
+/// Why a command line asks for no run. Its text is whole lines, for standard error.
+#[derive(Debug, Drop)]
+pub enum CommandFault<'a> {
+    /// The parser refused the words.
+    Usage(ParseError),
+    /// The word isn't a command, and is what people type for this one, or near to that.
+    OtherName(&'a str, &'static str),
+    /// The arguments are misused. The text is what was given for the option, if it is one of a
+    /// number.
+    Misuse(Misuse, &'a str),
     Memory,
 }
 
@@ -77,58 +118,12 @@ impl fmt::Display for CommandFault<'_> {
                 "error: unrecognized subcommand '{word}'\n\n  tip: did you mean '{command}'?\n\n\
                 Usage: cave <COMMAND>{HELP}"
             ),
-            CommandFault::Incomplete => write!(
-                f,
-                "error: a command and its files are required{HELP}"
-            ),
-            CommandFault::BadSeed(given) => write!(
-                f,
-                "error: invalid value '{given}' for '--seed <N>': expected 1 to 10 digits, \
-                from 0 to 2147483647{HELP}"
-            ),
-            CommandFault::BadEvery(given) => write!(
-                f,
-                "error: invalid value '{given}' for '--every <K>': expected 1 to 10 digits, \
-                from 1 to 10000{HELP}"
-            ),
-            CommandFault::BadPlace(given) => write!(
-                f,
-                "error: invalid value '{given}' for '--from <PLACE>': expected 1 to 10 digits, \
-                from 1 to 300{HELP}"
-            ),
-            CommandFault::BadWays(given) => write!(
-                f,
-                "error: invalid value '{given}' for '--within <N>': expected 1 to 10 digits, \
-                from 0 to 300{HELP}"
-            ),
-            CommandFault::NoScript => write!(
-                f,
-                "error: SCRIPT, '--edit <EDIT>' or '--to <FILE>' is required{HELP}"
-            ),
-            CommandFault::TwoScripts => write!(
-                f,
-                "error: only one of SCRIPT, '--edit <EDIT>' and '--to <FILE>' can be used{HELP}"
-            ),
-            CommandFault::ReportAlone => write!(
-                f,
-                "error: '--report <WHAT>' is for '--output <FILE>' or '--in-place': \
-                without these, '--print <WHAT>' prints reports{HELP}"
-            ),
-            CommandFault::TwoOutputs => write!(
-                f,
-                "error: '--in-place' can be used neither with '--output <FILE>' nor with \
-                '--print <WHAT>': it is short for '--print log --output LOG'{HELP}"
-            ),
-            CommandFault::DoubtsAlone => write!(
-                f,
-                "error: '--strict' and '--known <FILE>' are for '--print doubts'{HELP}"
-            ),
-            CommandFault::WithinAlone => write!(
-                f,
-                "error: '--within <N>' is for '--from <PLACE>'{HELP}"
-            ),
-            CommandFault::SeenAlone => write!(f, "error: '--seen' needs a LOG{HELP}"),
-            CommandFault::SeedAlone => write!(f, "error: '--seed <N>' needs a LOG{HELP}"),
+            CommandFault::Misuse(misuse, given) => match *misuse {
+                Misuse::BadNumber(_) => {
+                    write!(f, "error: invalid value '{given}{}{HELP}", misuse.text())
+                }
+                _ => write!(f, "error: {}{HELP}", misuse.text()),
+            },
             CommandFault::Memory => writeln!(f, "cave: there isn't enough memory"),
         }
     }

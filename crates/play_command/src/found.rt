@@ -1,11 +1,15 @@
-//! What the parser found for an argument of a command.
+//! What the parser found for an argument of a command, and the numbers that options have.
 
-ghost use Rattle.std.specs.Prelude.{◌≡◌, ◌≤◌, IfOk, MatchOption, MatchResult, None, Some, map, option_map};
+ghost use Rattle.std.specs.Prelude.{◌≡◌, ◌≤◌, IfOk, MatchOption, None, Some, map, option_map};
+ghost use Rattle.std.specs.List.{list_all};
+ghost use Rattle.base_lines.specs.Bytes.{is_digit};
 ghost use Rattle.clap.specs.Words.{all_of, first_of};
-ghost use Rattle.play_command.specs.Found.{IsUnread, is_set, rows_in, value_of};
-ghost use Rattle.play_command.specs.Number.{number_in_range};
+ghost use Rattle.play_command.specs.Found.{is_given, is_set, number_of, number_row, number_said};
+ghost use Rattle.play_command.specs.Found.{rows_in};
 
-use crate::number::number_in;
+use crate::fault::Misuse;
+use base_lines::bytes::number_of;
+use base_lines::limits::{MAX_EVERY, MAX_SEED, is_long_number};
 use clap::ArgMatches;
 
 /// All that was found for an argument.
@@ -26,33 +30,83 @@ pub(crate) fn value_in<'a>(found: &ArgMatches<'a>, id: &str) -> Option<&'a str>
     found.get_str(id)
 }
 
+/// Whether something was found for an argument.
+pub(crate) fn is_given(found: &ArgMatches<'_>, id: &str) -> bool
+    ensures { result ≡ is_given id.now (rows_in found.now) }
+{
+    value_in(found, id).is_some()
+}
+
 /// Whether an option without a value was given.
 pub(crate) fn is_set(found: &ArgMatches<'_>, id: &str) -> bool
     ensures { result ≡ is_set id.now (rows_in found.now) }
 {
-    match value_in(found, id) {
-        Some(text) => text == "true",
-        None => false,
+    value_in(found, id) == Some("true")
+}
+
+/// The greatest number of a place, which is also the most ways from one.
+const MAX_PLACE: u32 = 300;
+
+/// An option whose value is a number.
+#[derive(Clone, Copy, Debug, PartialEq, Eq)]
+pub enum NumberOption {
+    Seed,
+    Every,
+    From,
+    Within,
+}
+
+impl NumberOption {
+    /// Its name, and the least and the most that the number may be.
+    pub(crate) fn row(self) -> (&'static str, u32, u32)
+        ensures { (result.0.now, result.1, result.2) ≡ number_row self }
+    {
+        match self {
+            NumberOption::Seed => ("seed", 0, MAX_SEED),
+            NumberOption::Every => ("every", 1, MAX_EVERY),
+            NumberOption::From => ("from", 1, MAX_PLACE),
+            NumberOption::Within => ("within", 0, MAX_PLACE),
+        }
     }
 }
 
-/// The number that was found for an option, or the usual one; or what was found, if that isn't a
-/// number from `least` to `most`.
-pub(crate) fn number_found<'a>(
-    found: &ArgMatches<'a>,
-    id: &str,
-    least: u32,
-    most: u32,
-    usual: u32,
-) -> Result<u32, &'a str>
-    requires { usual ≤ most }
-    ensures most { IfOk result (λ n. n ≤ most) }
-    ensures number { MatchResult result
-        (λ n. value_of id.now (number_in_range least most) usual (rows_in found.now) ≡ Some n)
-        (λ text. IsUnread id.now (number_in_range least most) (rows_in found.now) text.now) }
+fn is_all_digits(text: &[u8]) -> bool
+    ensures { result ≡ list_all is_digit text.now }
 {
-    match value_in(found, id) {
+    text.iter().all(|byte| byte.is_ascii_digit())
+}
+
+/// The number that a text writes in 1 to 10 digits and nothing else, if an option may have it.
+#[tactic(auto, unfolding(crate::specs::Found::number_in_range))]
+pub(crate) fn number_said(option: NumberOption, text: &str) -> Result<u32, Misuse>
+    ensures number { result ≡ number_said option text.now }
+    ensures most { IfOk result (λ number. number ≤ (number_row option).2) }
+{
+    let (_, least, most) = option.row();
+    let digits = text.as_bytes();
+    if digits.is_empty() || is_long_number(digits.len()) || !is_all_digits(digits) {
+        return Err(Misuse::BadNumber(option));
+    }
+    let number = number_of(digits);
+    if number < u64::from(least) || number > u64::from(most) {
+        return Err(Misuse::BadNumber(option));
+    }
+    Ok(number as u32)
+}
+
+/// The number that was found for an option, or the usual one.
+#[tactic(auto, unfolding(crate::specs::Found::number_of))]
+pub(crate) fn number_in(
+    found: &ArgMatches<'_>,
+    option: NumberOption,
+    usual: u32,
+) -> Result<u32, Misuse>
+    requires { usual ≤ (number_row option).2 }
+    ensures number { result ≡ number_of option usual (rows_in found.now) }
+    ensures most { IfOk result (λ number. number ≤ (number_row option).2) }
+{
+    match value_in(found, option.row().0) {
         None => Ok(usual),
-        Some(text) => number_in(least, most, text).ok_or(text),
+        Some(text) => number_said(option, text),
     }
 }

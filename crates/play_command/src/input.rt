@@ -2,8 +2,7 @@
 
 ghost use Rattle.std.specs.Prelude.{◌≡◌, ◌++◌, IfOk, OnOk, map, option_map};
 ghost use Rattle.std.specs.List.{flat_map};
-ghost use Rattle.play_command.specs.Files.{files_at, files_of, is_in_place, named_file};
-ghost use Rattle.play_command.specs.Files.{output_of};
+ghost use Rattle.play_command.specs.Found.{files_at, is_in_place, named_file, output_of};
 ghost use Rattle.play_command.specs.Found.{rows_in, with_text};
 
 use crate::found::{is_set, value_in, values_in};
@@ -31,7 +30,7 @@ pub struct NamedFile<'a> {
 }
 
 /// The arguments that are files to read, in the order in which these are opened.
-const FILES: [(&str, Input); 8] = [
+pub(crate) const FILES: [(&str, Input); 8] = [
     ("cave", Input::Cave),
     ("bind", Input::Bindings),
     ("old", Input::Log),
@@ -42,23 +41,8 @@ const FILES: [(&str, Input); 8] = [
     ("known", Input::Known),
 ];
 
-/// Adds files of an input.
-fn push_files<'a>(
-    files: &mut Vec<NamedFile<'a>>,
-    input: Input,
-    names: &[&'a str],
-) -> Result<(), AllocError>
-    ensures { OnOk result (map named_file files.new.items ≡ map named_file files.old.items
-        ++ map (λ name. (input, name)) (map (λ name. name.now) names.now)) }
-{
-    for name in names {
-        files.push(NamedFile { input, name: *name })?;
-    }
-    Ok(())
-}
-
 /// Adds what the parser found for an argument, as files of its input.
-fn push_files_at<'a>(
+fn push_files<'a>(
     files: &mut Vec<NamedFile<'a>>,
     found: &ArgMatches<'a>,
     id: &str,
@@ -67,14 +51,16 @@ fn push_files_at<'a>(
     ensures { OnOk result (map named_file files.new.items
         ≡ map named_file files.old.items ++ files_at (rows_in found.now) (id.now, input)) }
 {
-    match values_in(found, id) {
-        Some(names) => push_files(files, input, names),
-        None => Ok(()),
+    if let Some(names) = values_in(found, id) {
+        for name in names {
+            files.push(NamedFile { input, name: *name })?;
+        }
     }
+    Ok(())
 }
 
-/// What the parser found for some arguments, as files of their inputs.
-fn files_among<'a>(
+/// The files to read that the parser found for some arguments.
+pub(crate) fn files_in<'a>(
     alloc: Global,
     found: &ArgMatches<'a>,
     arguments: &[(&str, Input)],
@@ -84,19 +70,9 @@ fn files_among<'a>(
 {
     let mut files = Vec::new(alloc);
     for (id, input) in arguments {
-        push_files_at(&mut files, found, id, *input)?;
+        push_files(&mut files, found, id, *input)?;
     }
     Ok(files)
-}
-
-/// The files to read that the parser found.
-pub(crate) fn files_in<'a>(
-    alloc: Global,
-    found: &ArgMatches<'a>,
-) -> Result<Vec<NamedFile<'a>>, AllocError>
-    ensures { IfOk result (λ files. map named_file files.items ≡ files_of (rows_in found.now)) }
-{
-    files_among(alloc, found, &FILES)
 }
 
 /// Whether an edited log is written over the log.
@@ -110,9 +86,6 @@ pub(crate) fn is_in_place(found: &ArgMatches<'_>) -> bool
 pub(crate) fn output_in<'a>(found: &ArgMatches<'a>) -> Option<&'a str>
     ensures { option_map (λ file. file.now) result ≡ output_of (rows_in found.now) }
 {
-    if is_in_place(found) {
-        value_in(found, "log")
-    } else {
-        value_in(found, "output")
-    }
+    let id = if is_in_place(found) { "log" } else { "output" };
+    value_in(found, id)
 }

@@ -1,10 +1,7 @@
 //! What the words of a command line ask for.
 
-use crate::aside::ReportView;
-use crate::editing::Editing;
 use crate::input::NamedFile;
-use crate::map_part::MapPart;
-use crate::views::{CheckView, CoverView, PlayView};
+use crate::views::{CheckView, CoverView, EditView, PlayView, ReportView};
 use clap::Error;
 use replay_difference::script::ScriptForm;
 
@@ -74,4 +71,37 @@ pub enum EditsFrom {
     Script,
     /// The log that they make.
     NewLog,
+}
+
+/// How a log is edited.
+#[derive(Clone, Copy, Debug, PartialEq, Eq)]
+pub struct Editing {
+    /// The seed of the random numbers.
+    pub seed: u32,
+    /// The most lines between two checkpoints.
+    pub every: u32,
+    /// What is printed.
+    pub view: EditView,
+    /// Whether nothing is printed if an edit is refused.
+    pub strict: bool,
+    /// Whether lines of the script may be guards.
+    pub guarded: bool,
+}
+
+/// Which part of a cave a map draws.
+#[derive(Clone, Copy, Debug, PartialEq, Eq)]
+pub struct MapPart {
+    /// Whether it draws only what the logs saw.
+    pub seen: bool,
+    /// The places that it draws, if it doesn't draw all.
+    pub around: Option<Surroundings>,
+}
+
+/// The places around one.
+#[derive(Clone, Copy, Debug, PartialEq, Eq)]
+pub struct Surroundings {
+    /// The one in the middle, by its number.
+    pub place: u16,
+    /// The most ways from it.
+    pub ways: u16,
 }

@@ -1,21 +1,21 @@
 //! Which run the words ask for.
 
-ghost use Rattle.std.specs.Prelude.{◌≡◌, ◌⊎◌, Err, IfOk, MatchResult, map, option_map, string_bytes};
+ghost use Rattle.std.specs.Prelude.{◌≡◌, Err, IfOk, Some, map, option_map, string_bytes};
 ghost use Rattle.clap.specs.Words.{HasKind, IsAmong, Kinds, kind_of, subcommand_rows_of};
 ghost use Rattle.clap.specs.declared.error.kind.ErrorKind.TheVariants.{InvalidSubcommand};
-ghost use Rattle.play_command.specs.Commands.{commands, has_files, needed_in};
-ghost use Rattle.play_command.specs.Found.{named, rows_in};
-ghost use Rattle.play_command.specs.Line.{IsAnswer, IsErrorAnswer, IsNoRunOf, IsParse, IsRunMet};
-ghost use Rattle.play_command.specs.Line.{IsNoRunMet, IsRunOf, typed_of};
+ghost use Rattle.play_command.specs.Commands.{has_files, needed_in};
+ghost use Rattle.play_command.specs.Found.{rows_in};
+ghost use Rattle.play_command.specs.Line.{IsAnswer, IsErrorAnswer, IsParse, IsRunAnswer, asked_by};
+ghost use Rattle.play_command.specs.Line.{given_for, typed_of};
 
 use crate::app::cave_app;
 use crate::arguments::Argument;
+use crate::asked::what_in;
 use crate::commands::{meant_command, row_named};
-use crate::fault::CommandFault;
-use crate::found::{is_set, value_in, values_in};
-use crate::input::{files_in, output_in};
-use crate::line::{Line, Request};
-use crate::what::what_in;
+use crate::fault::{CommandFault, Misuse};
+use crate::found::{is_given, is_set, value_in, values_in};
+use crate::input::{FILES, files_in, output_in};
+use crate::line::{Line, Request, What};
 use clap::error::ErrorKind;
 use clap::{ArgMatches, Error};
 use replay_scripts::text_of_lines;
@@ -30,7 +30,7 @@ pub fn command_line<'a, S: AsStr>(
     ensures { IsAnswer (map S.text words.entry.now) result }
 {
     match parse(alloc, words) {
-        Ok(matches) => Ok(Line::Run(request_met(alloc, &matches)?)),
+        Ok(matches) => answer_met(alloc, &matches),
         Err(error) => answer_to(error, words),
     }
 }
@@ -72,41 +72,54 @@ fn no_command<'a, S: AsStr>(error: Error, words: &'a [S]) -> CommandFault<'a>
     }
 }
 
-/// The run of the command that the parser met.
-fn request_met<'a>(alloc: Global, matches: &ArgMatches<'a>) -> Result<Request<'a>, CommandFault<'a>>
-    ensures { MatchResult result (IsRunMet (subcommand_rows_of matches.now))
-        (λ fault. (fault ≡ CommandFault.Memory) ⊎ IsNoRunMet (subcommand_rows_of matches.now) fault) }
+/// What the command leads to that the parser met.
+fn answer_met<'a>(alloc: Global, matches: &ArgMatches<'a>) -> Result<Line<'a>, CommandFault<'a>>
+    ensures { IsRunAnswer (subcommand_rows_of matches.now) result }
 {
-    let Some((name, found)) = matches.subcommand() else {
-        return Err(CommandFault::Incomplete);
-    };
-    request_of(alloc, name, found)
+    match matches.subcommand() {
+        Some((name, found)) => answer_by(alloc, name, found),
+        None => Err(CommandFault::Misuse(Misuse::Incomplete, "")),
+    }
 }
 
-/// The run of the command of this name, by what was found for its arguments.
-fn request_of<'a>(
+/// The run of the command of a name, or how its arguments are misused.
+fn answer_by<'a>(
     alloc: Global,
     name: &str,
     found: &ArgMatches<'a>,
-) -> Result<Request<'a>, CommandFault<'a>>
-    ensures { MatchResult result (IsRunOf (named commands name.now) (rows_in found.now))
-        (λ fault. (fault ≡ CommandFault.Memory)
-        ⊎ IsNoRunOf (named commands name.now) (rows_in found.now) fault) }
+) -> Result<Line<'a>, CommandFault<'a>>
+    ensures { IsRunAnswer (Some (name.now, rows_in found.now)) result }
 {
-    let Some(row) = row_named(name) else {
-        return Err(CommandFault::Incomplete);
-    };
-    if !has_files(row.arguments, found) {
-        return Err(CommandFault::Incomplete);
+    match asked_by(name, found) {
+        Err(misuse) => Err(CommandFault::Misuse(misuse, given_for(misuse, found))),
+        Ok(what) => Ok(Line::Run(Request {
+            files: files_in(alloc, found, &FILES)?,
+            typed: typed_in(alloc, found)?,
+            output: output_in(found),
+            quiet: is_set(found, "quiet"),
+            what,
+        })),
     }
-    let what = what_in(row.command, found)?;
-    Ok(Request {
-        files: files_in(alloc, found)?,
-        typed: typed_in(alloc, found)?,
-        output: output_in(found),
-        quiet: is_set(found, "quiet"),
-        what,
-    })
+}
+
+/// What the command of a name asks, if all the files that it needs were found.
+fn asked_by(name: &str, found: &ArgMatches<'_>) -> Result<What, Misuse>
+    ensures { result ≡ asked_by name.now (rows_in found.now) }
+{
+    match row_named(name) {
+        Some(row) if has_files(row.arguments, found) => what_in(row.command, found),
+        _ => Err(Misuse::Incomplete),
+    }
+}
+
+/// What was given for the option of a number, if a misuse is of one.
+fn given_for<'a>(misuse: Misuse, found: &ArgMatches<'a>) -> &'a str
+    ensures { result.now ≡ given_for misuse (rows_in found.now) }
+{
+    match misuse {
+        Misuse::BadNumber(option) => value_in(found, option.row().0).unwrap_or(""),
+        _ => "",
+    }
 }
 
 /// Whether all the files that a command needs were found.
@@ -114,7 +127,7 @@ fn has_files(arguments: &[Argument], found: &ArgMatches<'_>) -> bool
     ensures { result ≡ has_files (needed_in arguments.now) (rows_in found.now) }
 {
     for argument in arguments {
-        if argument.is_needed() && value_in(found, argument.id).is_none() {
+        if argument.is_needed() && !is_given(found, argument.id) {
             return false;
         }
     }

@@ -48,7 +48,7 @@ const ANSWERS: [(&[&str], &str); 34] = [
     ),
     (
         &["cave", "check", "a", "--print", "unused", "--strict"],
-        "2 DoubtsAlone",
+        "2 Misuse(DoubtsAlone, \"\")",
     ),
     (
         &["cave", "check", "a", "--print", "doubts", "--strict"],
@@ -60,7 +60,7 @@ const ANSWERS: [(&[&str], &str); 34] = [
     ),
     (
         &["cave", "check", "a", "--print", "maximum", "--known=b"],
-        "2 DoubtsAlone",
+        "2 Misuse(DoubtsAlone, \"\")",
     ),
     (
         &["cave", "check", "--print=names", "a"],

@@ -7,25 +7,34 @@ use std::test::Fail;
 /// wrong.
 const REFUSALS: [(&[&str], &str); 23] = [
     (&[], "2 DisplayHelpOnMissingArgumentOrSubcommand"),
-    (&["cave", "map", "a", "--from", "0"], "2 BadPlace(\"0\")"),
+    (
+        &["cave", "map", "a", "--from", "0"],
+        "2 Misuse(BadNumber(From), \"0\")",
+    ),
     (
         &["cave", "map", "a", "--from", "301"],
-        "2 BadPlace(\"301\")",
+        "2 Misuse(BadNumber(From), \"301\")",
     ),
     (
         &["cave", "map", "a", "--from=1", "--within", "301"],
-        "2 BadWays(\"301\")",
+        "2 Misuse(BadNumber(Within), \"301\")",
     ),
-    (&["cave", "map", "a", "--within", "1"], "2 WithinAlone"),
-    (&["cave", "map", "a", "--seen"], "2 SeenAlone"),
+    (
+        &["cave", "map", "a", "--within", "1"],
+        "2 Misuse(WithinAlone, \"\")",
+    ),
+    (&["cave", "map", "a", "--seen"], "2 Misuse(SeenAlone, \"\")"),
     (&["cave", "play", "a"], "2 MissingRequiredArgument"),
     (&["cave", "cover", "a"], "2 MissingRequiredArgument"),
     (&["cave", "play", "a", "b", "--seed"], "2 InvalidValue"),
     (&["cave", "sing"], "2 InvalidSubcommand"),
     (&["cave", "dif"], "2 OtherName(\"dif\", \"script\")"),
     (&["cave", "help", "sing"], "2 InvalidSubcommand"),
-    (&["cave", "edit", "a", "b"], "2 NoScript"),
-    (&["cave", "edit", "a", "b", "c", "-e", "d"], "2 TwoScripts"),
+    (&["cave", "edit", "a", "b"], "2 Misuse(NoScript, \"\")"),
+    (
+        &["cave", "edit", "a", "b", "c", "-e", "d"],
+        "2 Misuse(TwoScripts, \"\")",
+    ),
     (&["cave", "check", "a", "--seed", "7"], "2 UnknownArgument"),
     (
         &["cave", "check", "a", "--bind=b", "--bind=b"],
@@ -33,23 +42,23 @@ const REFUSALS: [(&[&str], &str); 23] = [
     ),
     (
         &["cave", "play", "a", "b", "--seed", "2147483648"],
-        "2 BadSeed(\"2147483648\")",
+        "2 Misuse(BadNumber(Seed), \"2147483648\")",
     ),
     (
         &["cave", "play", "a", "b", "--seed", "00000000007"],
-        "2 BadSeed(\"00000000007\")",
+        "2 Misuse(BadNumber(Seed), \"00000000007\")",
     ),
     (
         &["cave", "edit", "a", "b", "c", "--every", "0"],
-        "2 BadEvery(\"0\")",
+        "2 Misuse(BadNumber(Every), \"0\")",
     ),
     (
         &["cave", "edit", "a", "b", "c", "--every", "10001"],
-        "2 BadEvery(\"10001\")",
+        "2 Misuse(BadNumber(Every), \"10001\")",
     ),
     (
         &["cave", "edit", "a", "b", "c", "--every", "00000000001"],
-        "2 BadEvery(\"00000000001\")",
+        "2 Misuse(BadNumber(Every), \"00000000001\")",
     ),
     (
         &["cave", "edit", "a", "b", "c", "--print", "Log"],

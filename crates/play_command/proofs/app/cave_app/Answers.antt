@@ -5,8 +5,13 @@ use Rattle.play_command.proofs.app.cave_app.Goals as goal
 pub returns : goal.returns
 returns c = IfOk-weaker c.with_commands.result _ _
     (λ command is. (
-      record { check = _; play = _; edit = _; report = _; cover = _ },
-      record { check = refl; play = refl; edit = refl; report = refl; cover = refl },
+      record {
+        check = (_, refl);
+        play = (_, refl);
+        edit = (_, refl);
+        report = (_, refl);
+        cover = (_, refl);
+      },
       is,
     ))
     c.with_commands.ensures

@@ -1,6 +1,6 @@
 use Rattle.std.proofs.Common.{◌≡◌, drop, fold, map}
 use Rattle.clap.specs.Words.{app_of}
-use Rattle.play_command.specs.App.{plain_app, shape_of_row, with_command}
+use Rattle.play_command.specs.Commands.{plain_app, shape_of_row, with_command}
 use Rattle.play_command.proofs.app.with_commands.Given as goal
 
 -- the program with the commands that are left is the one with all

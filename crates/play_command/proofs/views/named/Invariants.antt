@@ -1,6 +1,6 @@
 use Rattle.std.proofs.Common.{◌≡◌, drop, map}
 use Rattle.play_command.specs.Found.{named, with_text}
-use Rattle.play_command.proofs.view_names.named.Given as goal
+use Rattle.play_command.proofs.views.named.Given as goal
 
 abbrev pub invariant-loop-known : goal.invariant-loop-known
 invariant-loop-known g l =
