@@ -3,8 +3,8 @@ use Rattle.std.proofs.Common.{◌≡◌, ℕ, Bool, List, length, Some, None, Ok
 use Rattle.std.proofs.Common.{[], ◌∷◌, subst, inl, inr, ◌++◌, Result, Option, option_map}
 use Rattle.std.specs.Str.Lines.{lines}
 use Rattle.cave_data.specs.CaveView.{CaveView}
-use Rattle.play_command.specs.declared.editing.EditView.{EditView}
-use Rattle.play_command.specs.declared.editing.EditView.TheVariants as asked
+use Rattle.play_command.specs.declared.views.EditView.{EditView}
+use Rattle.play_command.specs.declared.views.EditView.TheVariants as asked
 use Rattle.play_edits.specs.Outcome.{ItemOutcome}
 use Rattle.replay_edits.specs.Edit.{Game, game_of}
 use Rattle.play_edits.specs.Ends.{EndsOfLog, log_ends, ends_after_items, ended_view}
@@ -21,12 +21,12 @@ use Rattle.cave_play.specs.Stages.{size_stage}
 use Rattle.cave_play.proofs.StageLemmas.{first_decided-one, IsFoundIn-first, IsFoundIn-later}
 use Rattle.cave_play.proofs.StageLemmas.{first_decided-later}
 use Rattle.cave_data.specs.Reads.{Reads}
-use Rattle.play_command.specs.declared.aside.ReportView.{ReportView}
-use Rattle.play_command.specs.declared.editing.Editing.{Editing}
+use Rattle.play_command.specs.declared.views.ReportView.{ReportView}
+use Rattle.play_command.specs.declared.line.Editing.{Editing}
 use Rattle.cave_play.specs.EditRun.{FinishesEdit, IsEditRun, IsSideReport}
 use Rattle.play_edits.specs.declared.items.MadeEdit.{MadeEdit}
 use Rattle.cave_play.proofs.ScriptLemmas.{script_by-spelled}
-use Rattle.play_command.specs.declared.aside.ReportView.TheVariants.{Reports, Table}
+use Rattle.play_command.specs.declared.views.ReportView.TheVariants.{Reports, Table}
 
 -- ---- items of a strict run
 

@@ -7,10 +7,10 @@ use Rattle.cave_data.specs.Reads.{Reads}
 use Rattle.cave_play.specs.Sources.{InputTexts}
 use Rattle.cave_play.specs.Size.{size_fault}
 use Rattle.cave_play.specs.declared.fault.PlayFault.{PlayFault}
-use Rattle.play_command.specs.Aside.{edit_view_of}
-use Rattle.play_command.specs.declared.aside.ReportView.{ReportView}
-use Rattle.play_command.specs.declared.editing.Editing.{Editing}
-use Rattle.play_command.specs.declared.editing.EditView.{EditView}
+use Rattle.play_command.specs.Asked.{edit_view_of}
+use Rattle.play_command.specs.declared.views.ReportView.{ReportView}
+use Rattle.play_command.specs.declared.line.Editing.{Editing}
+use Rattle.play_command.specs.declared.views.EditView.{EditView}
 use Rattle.play_edits.specs.Views.{IsEndedEdit, refusals_by, seed_by}
 use Rattle.play_edits.specs.declared.items.EditRun.{EditRun}
 use Rattle.play_edits.specs.declared.items.MadeEdit.{MadeEdit}

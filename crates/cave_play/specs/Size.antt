@@ -6,8 +6,8 @@ use Rattle.std.specs.Str.Lines.{lines}
 use Rattle.base_lines.specs.Limits.{MAX_INPUT_BYTES}
 use Rattle.cave_play.specs.declared.fault.PlayFault.{PlayFault}
 use Rattle.cave_play.specs.declared.fault.PlayFault.TheVariants as fault
-use Rattle.play_command.specs.declared.editing.EditView.{EditView}
-use Rattle.play_command.specs.declared.editing.EditView.TheVariants as asked
+use Rattle.play_command.specs.declared.views.EditView.{EditView}
+use Rattle.play_command.specs.declared.views.EditView.TheVariants as asked
 use Rattle.play_edits.specs.Edits.{ending_refusal}
 use Rattle.play_edits.specs.Ends.{EndsOfLog, ended_view, ends_after_items, log_ends}
 use Rattle.play_edits.specs.Views.{text_to_read}

@@ -17,7 +17,7 @@ use Rattle.play_edits.proofs.UndoLemmas.{Undoes, undoes-append, undoes-one}
 use Rattle.std.proofs.lemmas.Grind.{flat_map-append}
 use Rattle.std.proofs.lemmas.List.Elements.{All-append, All-cons, All-nil}
 use Rattle.cave_data.specs.CaveView.{CaveView}
-use Rattle.play_command.specs.declared.editing.EditView.TheVariants as asked
+use Rattle.play_command.specs.declared.views.EditView.TheVariants as asked
 use Rattle.replay_edits.specs.Faults.{fault_of_all}
 use Rattle.replay_edits.proofs.Inverses.{group_free}
 use Rattle.play_edits.specs.Accounts.{text_of_items}

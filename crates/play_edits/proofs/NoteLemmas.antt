@@ -9,8 +9,8 @@ use Rattle.std.specs.Prelude.{slice_get}
 use Rattle.cave_data.specs.CaveView.{CaveView}
 use Rattle.cave_replay.specs.Session.{SessionView}
 use Rattle.cave_world.specs.declared.state.State.{State}
-use Rattle.play_command.specs.declared.editing.EditView.{EditView}
-use Rattle.play_command.specs.declared.editing.Editing.{Editing}
+use Rattle.play_command.specs.declared.views.EditView.{EditView}
+use Rattle.play_command.specs.declared.line.Editing.{Editing}
 use Rattle.play_edits.proofs.UndoLemmas.{asked-append, asked-none, back_of-outcome}
 use Rattle.play_edits.proofs.EditLemmas.{item_refusal-outcome}
 use Rattle.play_edits.specs.Accounts.{text_of_items}

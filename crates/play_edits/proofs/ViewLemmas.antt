@@ -7,14 +7,14 @@ use Rattle.play_edits.specs.Views.{IsMadeOf, IsSideReportOf, refusals_of, seed_a
 use Rattle.play_edits.specs.Views.{IsViewOf}
 use Rattle.cave_replay.specs.Session.{SessionView}
 use Rattle.cave_world.specs.declared.state.State.{State}
-use Rattle.play_command.specs.Aside.{edit_view_of}
-use Rattle.play_command.specs.declared.aside.ReportView.{ReportView}
-use Rattle.play_command.specs.declared.aside.ReportView.TheVariants as side
-use Rattle.play_command.specs.declared.editing.Editing.{Editing}
-use Rattle.play_command.specs.declared.editing.EditView.{EditView}
-use Rattle.play_command.specs.declared.editing.EditView.TheVariants.{Transcript, Play, Log, Reports}
-use Rattle.play_command.specs.declared.editing.EditView.TheVariants.{Steps, Score, FinalState}
-use Rattle.play_command.specs.declared.editing.EditView.TheVariants.{Table, Undo, Guarded, Walk}
+use Rattle.play_command.specs.Asked.{edit_view_of}
+use Rattle.play_command.specs.declared.views.ReportView.{ReportView}
+use Rattle.play_command.specs.declared.views.ReportView.TheVariants as side
+use Rattle.play_command.specs.declared.line.Editing.{Editing}
+use Rattle.play_command.specs.declared.views.EditView.{EditView}
+use Rattle.play_command.specs.declared.views.EditView.TheVariants.{Transcript, Play, Log, Reports}
+use Rattle.play_command.specs.declared.views.EditView.TheVariants.{Steps, Score, FinalState, Table}
+use Rattle.play_command.specs.declared.views.EditView.TheVariants.{Undo, Guarded, Walk}
 use Rattle.play_edits.specs.Edits.{IsMade, kept_backs}
 use Rattle.play_edits.specs.Ends.{EndsOfLog}
 use Rattle.play_edits.specs.Undo.{backs_of, if_asked}

@@ -4,9 +4,9 @@ use Rattle.std.specs.Prelude.{option_map, reverse}
 use Rattle.std.specs.List.{sum_by}
 use Rattle.cave_replay.specs.Session.{SessionView}
 use Rattle.cave_world.specs.declared.state.State.{State}
-use Rattle.play_command.specs.Aside.{edit_view_of}
-use Rattle.play_command.specs.declared.aside.ReportView.{ReportView}
-use Rattle.play_command.specs.declared.editing.Editing.{Editing}
+use Rattle.play_command.specs.Asked.{edit_view_of}
+use Rattle.play_command.specs.declared.views.ReportView.{ReportView}
+use Rattle.play_command.specs.declared.line.Editing.{Editing}
 use Rattle.play_edits.specs.Items.{game_after_item, game_after_items, refusals}
 use Rattle.play_edits.specs.Ends.{EndsOfLog, ended_view, ends_after_items}
 use Rattle.play_edits.specs.Outcome.{AreLeft, AreOutcomes, IsItemOutcome, ItemOutcome, played_in}

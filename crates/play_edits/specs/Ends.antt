@@ -5,8 +5,8 @@ use Rattle.std.specs.Prelude.{insert, remove, if◌then◌else◌, slice_get, Op
 use Rattle.std.specs.List.{list_all}
 use Rattle.std.specs.Option.{unwrap_or}
 use Rattle.std.specs.Str.Lines.{lines}
-use Rattle.play_command.specs.declared.editing.EditView.{EditView}
-use Rattle.play_command.specs.declared.editing.EditView.TheVariants as asked
+use Rattle.play_command.specs.declared.views.EditView.{EditView}
+use Rattle.play_command.specs.declared.views.EditView.TheVariants as asked
 use Rattle.play_edits.specs.Items.{game_after_item}
 use Rattle.play_edits.specs.Refusal.{item_refusal}
 use Rattle.play_edits.specs.contracts.ends.LineEndPartialEq.TheImpl as line_end_eq

@@ -2,8 +2,8 @@
 -- them, each edit with a guard of the line at its place.
 use Rattle.std.specs.Prelude.{ℕ, Bool, true, false, List, [], ◌∷◌, ◌++◌, map, reverse, Option, None}
 use Rattle.std.specs.Prelude.{Some, slice_get, option_map, Ok, Err, if◌then◌else◌, is_none}
-use Rattle.play_command.specs.declared.editing.EditView.{EditView}
-use Rattle.play_command.specs.declared.editing.EditView.TheVariants as asked
+use Rattle.play_command.specs.declared.views.EditView.{EditView}
+use Rattle.play_command.specs.declared.views.EditView.TheVariants as asked
 use Rattle.replay_edits.specs.Edit.{Change, Game, changes_of, inverses_of, log_after, inserts}
 use Rattle.replay_edits.specs.Edit.{deletes, replaces, reseeds}
 use Rattle.replay_edits.specs.LineText.{LineText}

@@ -3,8 +3,8 @@ use Rattle.std.specs.Prelude.{ℕ, List, [], ◌++◌, Option, None, Some}
 use Rattle.cave_data.specs.CaveView.{CaveView}
 use Rattle.cave_replay.specs.LogText.{log_text}
 use Rattle.cave_world.specs.declared.state.State.{State}
-use Rattle.play_command.specs.declared.editing.EditView.{EditView}
-use Rattle.play_command.specs.declared.editing.EditView.TheVariants as asked
+use Rattle.play_command.specs.declared.views.EditView.{EditView}
+use Rattle.play_command.specs.declared.views.EditView.TheVariants as asked
 use Rattle.play_edits.specs.Accounts.{account_by, text_of_items, totals_line, last_state, row_by}
 use Rattle.play_edits.specs.Undo.{guarded_group, text_if_done}
 use Rattle.play_edits.specs.Items.{game_after_item, game_after_items, item_report_by}

@@ -5,10 +5,10 @@ use Rattle.std.specs.List.{sum_by}
 use Rattle.std.specs.Str.Lines.{lines}
 use Rattle.cave_data.specs.CaveView.{CaveView}
 use Rattle.cave_replay.specs.LogText.{log_text}
-use Rattle.play_command.specs.Aside.{edit_view_of}
-use Rattle.play_command.specs.declared.aside.ReportView.{ReportView}
-use Rattle.play_command.specs.declared.editing.EditView.{EditView}
-use Rattle.play_command.specs.declared.editing.EditView.TheVariants as asked
+use Rattle.play_command.specs.Asked.{edit_view_of}
+use Rattle.play_command.specs.declared.views.ReportView.{ReportView}
+use Rattle.play_command.specs.declared.views.EditView.{EditView}
+use Rattle.play_command.specs.declared.views.EditView.TheVariants as asked
 use Rattle.play_edits.specs.Accounts.{accounts, table_text}
 use Rattle.play_edits.specs.Edits.{ending_refusal}
 use Rattle.play_edits.specs.Ends.{EndsOfLog, ended_view, ends_after_items, log_ends}

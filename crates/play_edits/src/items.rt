@@ -2,7 +2,7 @@
 
 ghost use Rattle.std.specs.Prelude.{◌≡◌, ◌<◌, ◌^◌, ◌++◌, IfOk, MatchResult, None, OnOk, Some};
 ghost use Rattle.std.specs.Prelude.{length, map, option_map};
-ghost use Rattle.play_command.specs.Aside.{edit_view_of};
+ghost use Rattle.play_command.specs.Asked.{edit_view_of};
 ghost use Rattle.replay_scripts.specs.Views.{applied_item};
 ghost use Rattle.play_edits.specs.Edits.{Applies, IsMade, ending_refusal, if_strict};
 ghost use Rattle.play_edits.specs.Items.{refusal_list};

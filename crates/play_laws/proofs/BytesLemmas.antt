@@ -9,7 +9,7 @@ use Rattle.base_lines.specs.Line.{flaw_of, is_line}
 use Rattle.base_lines.proofs.GoodLines.{good_bytes}
 use Rattle.cave_data.specs.CaveView.{CaveView}
 use Rattle.cave_replay.specs.Opening.{first_bad_line}
-use Rattle.play_command.specs.declared.editing.EditView.TheVariants as asked
+use Rattle.play_command.specs.declared.views.EditView.TheVariants as asked
 use Rattle.play_edits.specs.Undo.{guarded_groups, backs_of}
 use Rattle.play_edits.specs.Items.{game_after_items}
 use Rattle.play_edits.proofs.EditLemmas.{IsGame-after_all}

@@ -6,8 +6,8 @@ use Rattle.std.specs.Prelude.{Result}
 use Rattle.std.specs.Str.Lines.{lines}
 use Rattle.std.proofs.lemmas.List.Elements.{All-head, All-tail}
 use Rattle.cave_data.specs.CaveView.{CaveView}
-use Rattle.play_command.specs.declared.editing.EditView.{EditView}
-use Rattle.play_command.specs.declared.editing.EditView.TheVariants as asked
+use Rattle.play_command.specs.declared.views.EditView.{EditView}
+use Rattle.play_command.specs.declared.views.EditView.TheVariants as asked
 use Rattle.play_edits.specs.Items.{game_after_item, game_after_items}
 use Rattle.play_edits.specs.Outcome.{ItemOutcome}
 use Rattle.play_edits.proofs.GuardLemmas.{guards_refuse_alone}

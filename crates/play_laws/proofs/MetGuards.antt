@@ -14,12 +14,12 @@ use Rattle.play_edits.specs.Views.{IsViewOf}
 use Rattle.play_laws.specs.GuardLaws.{AreMet, HasNoGuard, NoGuardsNoOtherOutput}
 use Rattle.play_laws.specs.GuardLaws.{NoGuardsNoOtherScript}
 use Rattle.play_edits.specs.Edits.{ending_refusal}
-use Rattle.play_command.specs.Aside.{edit_view_of}
-use Rattle.play_command.specs.declared.aside.ReportView.{ReportView}
-use Rattle.play_command.specs.declared.aside.ReportView.TheVariants.{Reports, Table}
-use Rattle.play_command.specs.declared.editing.Editing.{Editing}
-use Rattle.play_command.specs.declared.editing.EditView.{EditView}
-use Rattle.play_command.specs.declared.editing.EditView.TheVariants as asked
+use Rattle.play_command.specs.Asked.{edit_view_of}
+use Rattle.play_command.specs.declared.views.ReportView.{ReportView}
+use Rattle.play_command.specs.declared.views.ReportView.TheVariants.{Reports, Table}
+use Rattle.play_command.specs.declared.line.Editing.{Editing}
+use Rattle.play_command.specs.declared.views.EditView.{EditView}
+use Rattle.play_command.specs.declared.views.EditView.TheVariants as asked
 use Rattle.play_edits.specs.Items.{game_after_items}
 use Rattle.play_edits.specs.Outcome.{AreOutcomes, ItemOutcome}
 use Rattle.play_machine.specs.FinalState.{final_state_text}

@@ -3,10 +3,10 @@ use Rattle.std.proofs.Common.{◌≡◌, ℕ, Bool, List, subst, sym, ap, ◌∙
 use Rattle.std.specs.Str.Lines.{lines}
 use Rattle.cave_data.specs.CaveView.{CaveView}
 use Rattle.cave_data.proofs.ReadLemmas.{same_cave}
-use Rattle.play_command.specs.declared.editing.EditView.{EditView}
-use Rattle.play_command.specs.declared.editing.EditView.TheVariants.{Transcript, Play, Log, Reports}
-use Rattle.play_command.specs.declared.editing.EditView.TheVariants.{Steps, Score, FinalState}
-use Rattle.play_command.specs.declared.editing.EditView.TheVariants.{Table, Undo, Guarded, Walk}
+use Rattle.play_command.specs.declared.views.EditView.{EditView}
+use Rattle.play_command.specs.declared.views.EditView.TheVariants.{Transcript, Play, Log, Reports}
+use Rattle.play_command.specs.declared.views.EditView.TheVariants.{Steps, Score, FinalState, Table}
+use Rattle.play_command.specs.declared.views.EditView.TheVariants.{Undo, Guarded, Walk}
 use Rattle.replay_edits.specs.Edit.{Game, game_of}
 use Rattle.replay_scripts.specs.Script.{Applied}
 use Rattle.play_laws.specs.RunLaws.{OneCheckedOutput, OnePlayedOutput, OneEditedOutput}

@@ -10,7 +10,7 @@ use Rattle.play_laws.specs.Bytes.{EndsAlike}
 use Rattle.play_edits.specs.Views.{IsEndedEdit, IsUndo}
 use Rattle.play_edits.specs.Ends.{ended_view, ended_text, ends_in, first_end, is_unended}
 use Rattle.play_edits.specs.Edits.{ending_refusal}
-use Rattle.play_command.specs.declared.editing.EditView.TheVariants as asked
+use Rattle.play_command.specs.declared.views.EditView.TheVariants as asked
 use Rattle.play_edits.proofs.EndLemmas.{unended-closed}
 use Rattle.play_edits.proofs.EditLemmas.{IsGame-after_all}
 use Rattle.play_edits.specs.Items.{game_after_items}

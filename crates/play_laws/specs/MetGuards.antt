@@ -4,9 +4,9 @@ use Rattle.std.specs.Str.Lines.{lines}
 use Rattle.cave_play.specs.EditRun.{IsEditRun}
 use Rattle.play_laws.specs.GuardLaws.{AreMet, PrintsNoGuards}
 use Rattle.play_edits.specs.declared.items.EditRun.{EditRun}
-use Rattle.play_command.specs.declared.aside.ReportView.{ReportView}
-use Rattle.play_command.specs.declared.editing.Editing.{Editing}
-use Rattle.play_command.specs.declared.editing.EditView.{EditView}
+use Rattle.play_command.specs.declared.views.ReportView.{ReportView}
+use Rattle.play_command.specs.declared.line.Editing.{Editing}
+use Rattle.play_command.specs.declared.views.EditView.{EditView}
 use Rattle.play_edits.specs.Ends.{ends_in}
 use Rattle.replay_edits.specs.Edit.{game_of}
 use Rattle.replay_scripts.specs.Guards.{script_by, unguarded}

@@ -6,7 +6,7 @@ use Rattle.play_laws.specs.Bytes.{EndsAlike}
 use Rattle.play_edits.specs.Views.{IsEndedEdit}
 use Rattle.cave_play.specs.Judge.{large_seed, log_fault}
 use Rattle.play_edits.specs.Edits.{ending_refusal}
-use Rattle.play_command.specs.declared.editing.EditView.TheVariants as asked
+use Rattle.play_command.specs.declared.views.EditView.TheVariants as asked
 use Rattle.play_edits.specs.Items.{game_after_items}
 use Rattle.replay_edits.specs.Edit.{Game, game_of}
 use Rattle.replay_scripts.specs.Script.{Applied}

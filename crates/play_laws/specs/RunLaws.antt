@@ -18,9 +18,9 @@ use Rattle.cave_play.specs.Run.{IsFoundIn, AtMostOne}
 use Rattle.cave_play.specs.Stages.{Stage, first_decided, cave_stages}
 use Rattle.cave_play.specs.declared.fault.PlayFault.{PlayFault}
 use Rattle.cave_play.specs.declared.fault.PlayFault.TheVariants as fault
-use Rattle.play_command.specs.declared.editing.EditView.{EditView}
+use Rattle.play_command.specs.declared.views.EditView.{EditView}
 use Rattle.play_command.specs.declared.views.CheckView.{CheckView}
-use Rattle.play_command.specs.declared.editing.EditView.TheVariants as asked
+use Rattle.play_command.specs.declared.views.EditView.TheVariants as asked
 use Rattle.play_command.specs.declared.views.PlayView.{PlayView}
 use Rattle.cave_play.specs.EditRun.{IsEdited}
 

@@ -6,7 +6,7 @@ use Rattle.std.proofs.lemmas.List.Folds.{flat_map-map}
 use Rattle.cave_data.specs.CaveView.{CaveView}
 use Rattle.cave_play.specs.Logs.{games_of}
 use Rattle.map_graph.specs.Map.{map_of_places}
-use Rattle.play_command.specs.declared.map_part.MapPart.{MapPart}
+use Rattle.play_command.specs.declared.line.MapPart.{MapPart}
 use Rattle.play_map.specs.Parts.{drawn_part}
 use Rattle.play_map.specs.Plays.{map_of_games, map_text, stops_in, stops_in_all}
 use Rattle.replay_edits.specs.Edit.{game_of}

@@ -7,8 +7,8 @@ use Rattle.cave_play.specs.declared.fault.PlayFault.TheVariants.{Unmapped}
 use Rattle.map_graph.specs.declared.parts.DrawnPart.{DrawnPart}
 use Rattle.map_ways.specs.Ways.{is_mapped}
 use Rattle.map_ways.specs.declared.regions.Region.{Region}
-use Rattle.play_command.specs.declared.map_part.MapPart.{MapPart}
-use Rattle.play_command.specs.declared.map_part.Surroundings.{Surroundings}
+use Rattle.play_command.specs.declared.line.MapPart.{MapPart}
+use Rattle.play_command.specs.declared.line.Surroundings.{Surroundings}
 
 abbrev pub region_of : Option Surroundings → Option Region
 region_of None = None

@@ -13,7 +13,7 @@ use Rattle.cave_world.specs.declared.state.State.{State}
 use Rattle.replay_edits.specs.Edit.{Game, game_of}
 use Rattle.map_graph.specs.Map.{map_of_places}
 use Rattle.map_graph.specs.Stops.{ways_by_rows}
-use Rattle.play_command.specs.declared.map_part.MapPart.{MapPart}
+use Rattle.play_command.specs.declared.line.MapPart.{MapPart}
 use Rattle.play_map.specs.Parts.{drawn_part, place_stage}
 use Rattle.map_graph.specs.declared.stops.Stop.{Stop}
 use Rattle.map_graph.specs.declared.stops.Stop.TheVariants.{InState}

@@ -5,9 +5,9 @@ use Rattle.std.specs.Prelude.{option_map, unwrap_or}
 use Rattle.std.specs.Option.{option_or}
 use Rattle.cave_play.specs.Fault.{input_of}
 use Rattle.cave_play.specs.declared.fault.PlayFault.{PlayFault}
-use Rattle.play_command.specs.Files.{named_file}
-use Rattle.play_command.specs.declared.editing.EditView.{EditView}
-use Rattle.play_command.specs.declared.editing.EditView.TheVariants as asked
+use Rattle.play_command.specs.Found.{named_file}
+use Rattle.play_command.specs.declared.views.EditView.{EditView}
+use Rattle.play_command.specs.declared.views.EditView.TheVariants as asked
 use Rattle.play_command.specs.declared.input.Input.{Input}
 use Rattle.play_command.specs.declared.input.Input.TheVariants as input
 use Rattle.play_command.specs.declared.input.NamedFile.{NamedFile}

@@ -1,7 +1,7 @@
 //! Over which of the files that it reads a run may write.
 
 ghost use Rattle.std.specs.Prelude.{◌≡◌, ◌↔◌, IsTrue, MatchResult, Some, map, option_map};
-ghost use Rattle.play_command.specs.Files.{named_file};
+ghost use Rattle.play_command.specs.Found.{named_file};
 ghost use Rattle.play_program.specs.Calls.{told_by};
 ghost use Rattle.play_program.specs.Files.{AreApart, IsClash, MayReplace, view_over};
 

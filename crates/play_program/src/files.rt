@@ -1,7 +1,7 @@
 //! The files of a run.
 
 ghost use Rattle.std.specs.Prelude.{◌≡◌, map, option_map};
-ghost use Rattle.play_command.specs.Files.{named_file};
+ghost use Rattle.play_command.specs.Found.{named_file};
 ghost use Rattle.play_program.specs.Files.{file_of, is_same_input, log_count, made_name, name_at};
 ghost use Rattle.play_program.specs.Files.{number_of};
 

@@ -5,7 +5,7 @@ ghost use Rattle.std.specs.Prelude.{◌≡◌, ◌⊎◌, ℕ, List, [], ◌∷�
 ghost use Rattle.std.specs.Prelude.{option_map};
 ghost use Rattle.std.specs.List.{position};
 ghost use Rattle.cave_play.specs.Sources.{IsReading};
-ghost use Rattle.play_command.specs.Files.{named_file};
+ghost use Rattle.play_command.specs.Found.{named_file};
 ghost use Rattle.play_program.specs.Calls.{and_then, told_by};
 ghost use Rattle.play_program.specs.Calls.Call.{Opens};
 ghost use Rattle.play_program.specs.Files.{files_in, is_same_input};

@@ -10,10 +10,10 @@ use Rattle.cave_play.proofs.JudgeLemmas.{IsFoundIn-log, Judges-log}
 use Rattle.std.specs.Str.Lines.{lines}
 use Rattle.std.proofs.lemmas.Result.{err_from_is_err_and}
 use Rattle.cave_data.specs.CaveView.{CaveView}
-use Rattle.play_command.specs.declared.editing.Editing.{Editing}
+use Rattle.play_command.specs.declared.line.Editing.{Editing}
 use Rattle.replay_edits.specs.Edit.{Game, IsGame, game_of}
 use Rattle.play_edits.specs.Views.{IsMadeOf}
-use Rattle.play_command.specs.declared.aside.ReportView.{ReportView}
+use Rattle.play_command.specs.declared.views.ReportView.{ReportView}
 use Rattle.play_edits.specs.Ends.{log_ends}
 use Rattle.play_edits.specs.declared.items.MadeEdit.{MadeEdit}
 use Rattle.cave_play.specs.Run.{IsFoundIn, Judges}

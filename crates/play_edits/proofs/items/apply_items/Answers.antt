@@ -9,7 +9,7 @@ use Rattle.play_edits.specs.Outcome.{lines_in, played_in}
 use Rattle.play_edits.specs.Undo.{backs_of, back_by, if_asked}
 use Rattle.play_edits.specs.ViewText.{text_at_start}
 use Rattle.std.proofs.lemmas.List.{drop_all}
-use Rattle.play_command.specs.Aside.{edit_view_of}
+use Rattle.play_command.specs.Asked.{edit_view_of}
 use Rattle.play_edits.proofs.UndoLemmas.{groups_turned}
 use Rattle.play_edits.proofs.EditLemmas.{item_refusal-outcome}
 use Rattle.play_edits.specs.Items.{game_after_item, game_after_items, refusals}

@@ -1,6 +1,6 @@
 -- The items that are left lead to what all items lead to, and a strict run ends as all items end it.
 use Rattle.std.proofs.Common.{◌≡◌, ◌≤◌, ◌*◌, ◌^◌, drop, map, option_map, Some}
-use Rattle.play_command.specs.Aside.{edit_view_of}
+use Rattle.play_command.specs.Asked.{edit_view_of}
 use Rattle.replay_scripts.specs.ScriptText.{groups_in}
 use Rattle.replay_scripts.specs.Views.{applied_item}
 use Rattle.play_edits.specs.Edits.{ending_refusal}

@@ -1,6 +1,6 @@
 use Rattle.std.proofs.Common.{All, get_or, inl, inr, refl, subst, take_all}
 use Rattle.std.proofs.lemmas.List.Elements.{All-map, All-more}
-use Rattle.play_command.specs.Files.{named_file}
+use Rattle.play_command.specs.Found.{named_file}
 use Rattle.play_program.specs.Clash.{IsApart, IsKnownAs}
 use Rattle.play_program.proofs.OpenLemmas.{Contains-named}
 use Rattle.play_program.specs.Files.{no_file}
