@@ -2,7 +2,7 @@
 use Rattle.std.proofs.Common.{List, ℕ, ◌≡◌, subst}
 use Rattle.check_doubts.specs.Doubts.{doubts}
 use Rattle.check_doubts.specs.declared.listing.DoubtFiles.{DoubtFiles}
-use Rattle.cave_play.specs.Doubted.{AreLeft, AreLeftIn, IsReadOf}
+use Rattle.cave_play.specs.Output.{AreLeft, AreLeftIn, IsReadOf}
 use Rattle.cave_play.specs.declared.doubted.LeftDoubts.{LeftDoubts}
 use Rattle.cave_play.specs.declared.judge.ReadCave.{ReadCave}
 

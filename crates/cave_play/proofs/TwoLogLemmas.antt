@@ -12,10 +12,9 @@ use Rattle.cave_play.specs.Judge.{lines_fault, log_fault}
 use Rattle.cave_play.specs.Sources.{IsUnread, InputTexts, AreRead, Leads}
 use Rattle.cave_play.specs.Run.{IsFoundIn, Writes, WritesEdit}
 use Rattle.cave_play.specs.Stages.{first_decided, judging_stage, log_stage, edit_stages}
-use Rattle.cave_play.specs.EditRun.{IsEditRun}
-use Rattle.cave_play.specs.TwoLogs.{IsDifferenceOf, IsReadDifferenceOf, JudgesEditTo, JudgesScript}
-use Rattle.cave_play.specs.TwoLogs.{RunsEditTo, RunsScript, new_log_fault, new_log_stage}
-use Rattle.cave_play.specs.TwoLogs.{two_logs_stages, ReadsWith}
+use Rattle.cave_play.specs.Output.{IsEditRun}
+use Rattle.cave_play.specs.TwoLogs.{IsDifferenceOf, JudgesEditTo, JudgesScript, RunsEditTo}
+use Rattle.cave_play.specs.TwoLogs.{RunsScript, new_log_fault, new_log_stage, ReadsWith}
 use Rattle.play_edits.specs.declared.items.EditRun.{EditRun}
 use Rattle.play_edits.specs.declared.items.MadeEdit.{MadeEdit}
 use Rattle.play_command.specs.declared.views.ReportView.{ReportView}
@@ -64,13 +63,16 @@ first_decided-new_log bytes none =
 pub RunsScript-made : (form : ScriptForm) (texts : InputTexts) (old new : Option (List ℕ))
     (made : Result (Vec ℕ) PlayFault) (r : Result (Unit {0}) PlayFault)
     → JudgesScript form texts made → Writes made old new r → RunsScript form texts old new r
-RunsScript-made form texts old new made r (inl judged) written =
-    inl (Runs-made (two_logs_stages texts.log texts.script)
-    (IsReadDifferenceOf form texts.log texts.script) old new made r
-    judged written)
-RunsScript-made form texts old new made r (inr (none, large, is)) written =
+RunsScript-made form texts old new made r (inl (found, is, there)) written =
     let (ended, kept) = subst (λ m. Writes m old new r) is written in
-    inr (none, large, ended, kept)
+    inl ((found, ended, there), kept)
+RunsScript-made form texts old new made r (inr (script, difference, judged)) written =
+    inr (
+      script,
+      difference,
+      Runs-made (script_stages texts script) (λ output. output ≡ script) old new made r judged
+          written,
+    )
 
 -- edits that were made and written
 pub RunsEditTo-made : (editing : Editing) (report : Option ReportView) (texts : InputTexts)
@@ -79,7 +81,7 @@ pub RunsEditTo-made : (editing : Editing) (report : Option ReportView) (texts : 
     → RunsEditTo texts editing report old new r
 RunsEditTo-made editing report texts old new made r (inl (found, is, there)) written =
     let (ended, kept) = subst (λ m. WritesEdit m old new r) is written in
-    inl (found, ended, there, kept)
+    inl ((found, ended, there), kept)
 RunsEditTo-made editing report texts old new made r (inr (script, difference, judged)) written =
     inr (
       script,

@@ -1,13 +1,10 @@
 pub mod Sources
 pub mod Logs
-pub mod Doubted
 pub mod Fault
 pub mod Judge
 pub mod Stages
 pub mod Run
 pub mod Output
-pub mod EditRun
-pub mod Size
 pub mod TwoLogs
 pub use Rattle.base_lines.specs.Limits
 pub use Rattle.base_lines.specs.Line

@@ -1,16 +1,55 @@
--- What a stage of a run is, and the stages of each run, in their order.
-use Rattle.std.specs.Prelude.{ℕ, Bool, List, [], ◌∷◌, ◌++◌, Option, None, Some}
-use Rattle.std.specs.Option.{option_or}
+-- What a stage of a run is, the stages of each run in their order, and outputs that are too large for
+-- a run to read again.
+use Rattle.std.specs.Prelude.{ℕ, Bool, List, length, nat_lt, if◌then◌else◌, Option, None, Some}
+use Rattle.std.specs.Prelude.{Result, Ok, Err, option_map, [], ◌∷◌, ◌++◌}
 use Rattle.std.specs.Str.Lines.{lines}
-use Rattle.play_command.specs.declared.line.Editing.{Editing}
+use Rattle.base_lines.specs.Limits.{MAX_INPUT_BYTES}
+use Rattle.cave_play.specs.declared.fault.PlayFault.{PlayFault}
+use Rattle.cave_play.specs.declared.fault.PlayFault.TheVariants as fault
+use Rattle.play_command.specs.declared.views.EditView.{EditView}
+use Rattle.play_command.specs.declared.views.EditView.TheVariants as asked
+use Rattle.play_edits.specs.Edits.{ending_refusal}
+use Rattle.play_edits.specs.Ends.{EndsOfLog, ended_view, ends_after_items, log_ends}
+use Rattle.play_edits.specs.Views.{text_to_read}
 use Rattle.replay_edits.specs.Edit.{Game, game_of}
+use Rattle.replay_scripts.specs.Script.{Applied}
+use Rattle.replay_scripts.specs.declared.fault.ScriptRefusal.{ScriptRefusal}
+use Rattle.std.specs.Option.{option_or}
+use Rattle.play_command.specs.declared.line.Editing.{Editing}
 use Rattle.replay_scripts.specs.Guards.{script_by}
 use Rattle.cave_play.specs.Judge.{large_seed, every_fault, input_size_fault, inputs_fault}
 use Rattle.cave_play.specs.Judge.{log_fault, script_fault}
-use Rattle.cave_play.specs.Size.{output_fault, fault_of_items}
 use Rattle.play_command.specs.declared.input.Input.{Input}
 use Rattle.play_command.specs.declared.input.Input.TheVariants as input
-use Rattle.cave_play.specs.declared.fault.PlayFault.{PlayFault}
+
+-- the fault of an output of this many bytes: a log and a script may have as many as an input
+abbrev pub size_fault : EditView → ℕ → Option PlayFault
+size_fault asked.Log bytes =
+    if nat_lt MAX_INPUT_BYTES bytes then Some fault.LargeLog else None
+size_fault asked.Undo bytes =
+    if nat_lt MAX_INPUT_BYTES bytes then Some fault.LargeScript else None
+size_fault asked.Guarded bytes =
+    if nat_lt MAX_INPUT_BYTES bytes then Some fault.LargeScript else None
+size_fault _ bytes = None
+
+abbrev pub bytes_to_read : EditView → Bool → List Applied → Game → EndsOfLog → ℕ
+bytes_to_read view guarded items game ends =
+    length (ended_view view (ends_after_items items game ends)
+    (text_to_read view guarded items game))
+
+-- the fault of the output of an edit of a log, if the script spells items
+abbrev pub output_fault : EditView → Bool → List ℕ → ℕ → List ℕ
+    → Result (List Applied) ScriptRefusal → Option PlayFault
+output_fault view guarded log seed script (Ok items) =
+    size_fault view
+    (bytes_to_read view guarded items (game_of seed (lines log)) (log_ends log script))
+output_fault view guarded log seed script (Err refusal) = None
+
+-- if the run is strict, the fault of the first of the items of a script that is refused, if it
+-- spells some, each in the game that those before it left
+abbrev pub fault_of_items : Bool → Game → Result (List Applied) ScriptRefusal → Option PlayFault
+fault_of_items strict game (Ok items) = option_map fault.Refused (ending_refusal strict items game)
+fault_of_items strict game (Err refusal) = None
 
 -- a stage of a run: the input that is read there, if one is, and the fault that is decided there
 pub record Stage : Type 0 where

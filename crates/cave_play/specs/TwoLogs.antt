@@ -1,6 +1,7 @@
 -- Runs over two logs: the edits that make one of the other, and what they lead to.
-use Rattle.std.specs.Prelude.{◌≡◌, ◌⊎◌, ℕ, ◌<◌, ◌≤◌, false, List, [], ◌∷◌, length, Option, None}
-use Rattle.std.specs.Prelude.{Some, option_map, Result, Err, if◌then◌else◌}
+use Rattle.std.specs.Prelude.{◌≡◌, ◌⊎◌, ℕ, false, List, [], ◌∷◌, length, Option, None, Some}
+use Rattle.std.specs.Prelude.{option_map, Result, Err, if◌then◌else◌, ◌++◌, nat_lt}
+use Rattle.cave_play.specs.Stages.{judging_stage, Stage, edit_stages, log_stage, reading_stage}
 use Rattle.std.specs.Global.{Vec}
 use Rattle.std.specs.Io.KnownBytes.{Keeps}
 use Rattle.std.specs.Str.Lines.{lines}
@@ -14,8 +15,7 @@ use Rattle.cave_play.specs.Sources.{InputTexts, Held, Leads}
 use Rattle.cave_play.specs.Judge.{log_fault}
 use Rattle.cave_play.specs.Run.{IsFoundIn, Judges, Runs, RunsWith}
 use Rattle.play_command.specs.declared.input.Input.{Input}
-use Rattle.cave_play.specs.Stages.{Stage, edit_stages, first_decided, log_stage, reading_stage}
-use Rattle.cave_play.specs.EditRun.{IsEditRun, IsMadeEdit}
+use Rattle.cave_play.specs.Output.{IsEditRun, IsMadeEdit}
 use Rattle.play_command.specs.declared.input.Input.TheVariants as input
 use Rattle.cave_play.specs.declared.fault.PlayFault.{PlayFault}
 use Rattle.cave_play.specs.declared.fault.PlayFault.TheVariants as fault
@@ -46,40 +46,29 @@ abbrev pub IsDifferenceOf : ScriptForm → List ℕ → List ℕ → List ℕ �
 IsDifferenceOf form old new script =
     IsScriptTo form script (lines old) (lines new) × (lines old ≡ lines new → script ≡ [])
 
--- the script has as many bytes as a script may have
-abbrev pub IsReadDifferenceOf : ScriptForm → List ℕ → List ℕ → List ℕ → Type 0
-IsReadDifferenceOf form old new script =
-    IsDifferenceOf form old new script × (length script ≤ MAX_INPUT_BYTES)
+-- the size of the script is judged last, since a run has to be able to read it
+abbrev pub script_stages : InputTexts → List ℕ → List Stage
+script_stages texts script = two_logs_stages texts.log texts.script
+    ++ judging_stage (if nat_lt MAX_INPUT_BYTES (length script) then Some fault.LargeScript else None)
+    ∷ []
 
--- or it has more
-abbrev pub IsLargeDifferenceOf : ScriptForm → List ℕ → List ℕ → List ℕ → Type 0
-IsLargeDifferenceOf form old new script =
-    IsDifferenceOf form old new script × (MAX_INPUT_BYTES < length script)
+-- one of two logs is refused
+abbrev pub AreRefused : {A : Type 0} → InputTexts → Result A PlayFault → Type 0
+AreRefused texts made = (found : PlayFault) × (made ≡ Err found)
+    × IsFoundIn (two_logs_stages texts.log texts.script) found
 
--- the logs are compared, and nothing is written, since no run could read the script
-abbrev pub IsTooLarge : ScriptForm → InputTexts → Option (List ℕ) → Option (List ℕ)
-    → Result (Unit {0}) PlayFault → Type 0
-IsTooLarge form texts old new ended =
-    (first_decided (two_logs_stages texts.log texts.script) ≡ None)
-    × ((script : List ℕ) × IsLargeDifferenceOf form texts.log texts.script script)
-    × (ended ≡ Err fault.LargeScript) × Keeps old new
-
--- the script that is made of two logs, unless one of them is refused or it is too large
+-- the script that is made of two logs
 abbrev pub JudgesScript : ScriptForm → InputTexts → Result (Vec ℕ) PlayFault → Type 0
-JudgesScript form texts made =
-    Judges (two_logs_stages texts.log texts.script)
-    (λ script. IsReadDifferenceOf form texts.log texts.script script.items) made
-    ⊎ ((first_decided (two_logs_stages texts.log texts.script) ≡ None)
-    × ((script : List ℕ) × IsLargeDifferenceOf form texts.log texts.script script)
-    × (made ≡ Err fault.LargeScript))
+JudgesScript form texts made = AreRefused texts made
+    ⊎ ((script : List ℕ) × IsDifferenceOf form texts.log texts.script script
+    × Judges (script_stages texts script) (λ text. text.items ≡ script) made)
 
--- what a run leaves that writes the script of two logs
+-- what a run leaves that writes it
 abbrev pub RunsScript : ScriptForm → InputTexts → Option (List ℕ) → Option (List ℕ)
     → Result (Unit {0}) PlayFault → Type 0
-RunsScript form texts old new ended =
-    Runs (two_logs_stages texts.log texts.script)
-    (IsReadDifferenceOf form texts.log texts.script) old new ended
-    ⊎ IsTooLarge form texts old new ended
+RunsScript form texts old new ended = (AreRefused texts ended × Keeps old new)
+    ⊎ ((script : List ℕ) × IsDifferenceOf form texts.log texts.script script
+    × Runs (script_stages texts script) (λ output. output ≡ script) old new ended)
 
 -- the script of the old log, which is kept
 abbrev pub IsCompared : ScriptForm → List ℕ → List ℕ → Compared → Type 0
@@ -108,25 +97,16 @@ ReadsWith reads from old new =
 -- log of the old one; or one of the logs is refused
 abbrev pub JudgesEditTo : InputTexts → Editing → Option ReportView → Result MadeEdit PlayFault
     → Type 0
-JudgesEditTo texts editing report made =
-    ((found : PlayFault) × (made ≡ Err found)
-    × IsFoundIn (two_logs_stages texts.log texts.script) found)
+JudgesEditTo texts editing report made = AreRefused texts made
     ⊎ ((script : List ℕ) × IsDifferenceOf (form_of editing) texts.log texts.script script
     × Judges (edit_stages texts.database texts.bindings texts.log script editing)
     (IsMadeEdit (record texts { script = script }) editing report) made)
-
--- one of two logs is refused, and nothing is written
-abbrev pub IsUncompared : InputTexts → Option (List ℕ) → Option (List ℕ)
-    → Result EditRun PlayFault → Type 0
-IsUncompared texts old new ended = (found : PlayFault) × (ended ≡ Err found)
-    × IsFoundIn (two_logs_stages texts.log texts.script) found × Keeps old new
 
 -- what a run leaves that edits a log so that it becomes another: what the run of a script leaves
 -- that makes the new log of the old one; or one of the logs is refused
 abbrev pub RunsEditTo : InputTexts → Editing → Option ReportView → Option (List ℕ) → Option (List ℕ)
     → Result EditRun PlayFault → Type 0
-RunsEditTo texts editing report old new ended =
-    IsUncompared texts old new ended
+RunsEditTo texts editing report old new ended = (AreRefused texts ended × Keeps old new)
     ⊎ ((script : List ℕ) × IsDifferenceOf (form_of editing) texts.log texts.script script
     × RunsWith (edit_stages texts.database texts.bindings texts.log script editing)
     (IsEditRun texts.database texts.bindings texts.log script editing report) old new ended)

@@ -1,9 +1,8 @@
 //! The run that lists what is doubtful about a cave.
 
-ghost use Rattle.std.specs.Prelude.{◌≡◌, IfOk, MatchOption};
+ghost use Rattle.std.specs.Prelude.{◌≡◌, IfOk};
 ghost use Rattle.check_doubts.specs.Doubts.{doubts};
-ghost use Rattle.cave_play.specs.Doubted.{AreLeft, AreLeftIn, IsFirstDoubt, IsTaken, RunsDoubts};
-ghost use Rattle.cave_play.specs.Doubted.{first_doubt};
+ghost use Rattle.cave_play.specs.Output.{AreLeft, AreLeftIn, RunsDoubts, first_doubt};
 ghost use Rattle.cave_play.specs.Sources.{AreTextsOf, InputTexts, AreHeld, Leads};
 ghost use Rattle.cave_play.specs.Run.{Judges};
 ghost use Rattle.cave_play.specs.Stages.{doubts_stages};
@@ -20,15 +19,11 @@ use std::io::{Read, Write};
 
 /// The fault of a strict run in a doubtful cave.
 pub fn first_doubt(strict: bool, left: &[Doubt]) -> Option<PlayFault>
-    ensures value { result ≡ first_doubt strict left.now }
-    ensures told { MatchOption result (IsTaken strict left.now) (IsFirstDoubt strict left.now) }
+    ensures { result ≡ first_doubt strict left.now }
 {
-    if !strict {
-        return None;
-    }
     match left {
-        [first, ..] => Some(PlayFault::Doubt(*first)),
-        [] => None,
+        [first, ..] if strict => Some(PlayFault::Doubt(*first)),
+        _ => None,
     }
 }
 

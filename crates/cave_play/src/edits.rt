@@ -3,11 +3,10 @@
 ghost use Rattle.std.specs.Prelude.{◌≡◌, ℕ, List, [], ◌∷◌, length, MatchResult, None, Some};
 ghost use Rattle.replay_checkpoints.specs.Spacing.{IsSpaced};
 ghost use Rattle.replay_edits.specs.Edit.{IsGame};
-ghost use Rattle.cave_play.specs.EditRun.{FinishesEdit};
+ghost use Rattle.cave_play.specs.Output.{FinishesEdit};
 ghost use Rattle.cave_play.specs.Sources.{Says, Leads};
 ghost use Rattle.cave_play.specs.Run.{Judges};
-ghost use Rattle.cave_play.specs.Size.{size_fault};
-ghost use Rattle.cave_play.specs.Stages.{script_stage, strict_stage};
+ghost use Rattle.cave_play.specs.Stages.{size_fault, script_stage, strict_stage};
 ghost use Rattle.play_edits.specs.Ends.{log_ends};
 ghost use Rattle.play_edits.specs.Views.{IsMadeOf};
 

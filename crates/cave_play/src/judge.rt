@@ -11,7 +11,7 @@ ghost use Rattle.replay_scripts.specs.Views.{IsFaultOf, items_of};
 ghost use Rattle.cave_play.specs.Sources.{Says, IsTaken, next_log, without_cave, Leads};
 ghost use Rattle.cave_play.specs.Judge.{large_seed, every_fault, lines_fault, script_refusal};
 ghost use Rattle.cave_play.specs.Judge.{cave_refusal, inputs_fault, opening_fault};
-ghost use Rattle.cave_play.specs.Doubted.{IsReadOf};
+ghost use Rattle.cave_play.specs.Output.{IsReadOf};
 ghost use Rattle.play_machine.specs.HeldGame.{HoldsGame};
 ghost use Rattle.play_machine.specs.Moments.{noted_of};
 ghost use Rattle.play_machine.specs.Watch.{IsEndOf, NotesMore};

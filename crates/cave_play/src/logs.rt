@@ -2,7 +2,7 @@
 
 ghost use Rattle.std.specs.Prelude.{◌≡◌, ℕ, List, [], IfOk, None, length, ◌++◌};
 ghost use Rattle.std.specs.List.{AllZip};
-ghost use Rattle.cave_play.specs.Doubted.{IsReadOf};
+ghost use Rattle.cave_play.specs.Output.{IsReadOf};
 ghost use Rattle.cave_play.specs.Sources.{Says, Leads};
 ghost use Rattle.cave_play.specs.Judge.{large_seed};
 ghost use Rattle.cave_play.specs.Logs.{IsMadeReport, IsReportOn, IsReported, JudgesLogs};

@@ -6,11 +6,11 @@ ghost use Rattle.std.specs.Str.Lines.{lines};
 ghost use Rattle.replay_edits.specs.Edit.{game_of};
 ghost use Rattle.cave_play.specs.Sources.{Says, InputTexts, AreTextsOf, AreHeld, next_log, Leads};
 ghost use Rattle.cave_play.specs.Judge.{large_seed, every_fault};
-ghost use Rattle.cave_play.specs.Output.{IsChecked, IsPlayed, play_view_text};
+ghost use Rattle.cave_play.specs.Output.{IsChecked, IsPlayed, play_view_text, IsEditRun};
+ghost use Rattle.cave_play.specs.Output.{IsMadeEdit};
 ghost use Rattle.cave_play.specs.Run.{Judges, Runs, RunsWith};
 ghost use Rattle.cave_play.specs.Stages.{cave_stages, log_stage, script_stage, strict_stage};
 ghost use Rattle.cave_play.specs.Stages.{play_stages, edit_stages};
-ghost use Rattle.cave_play.specs.EditRun.{IsEditRun, IsMadeEdit};
 ghost use Rattle.play_edits.specs.Views.{IsMadeOf};
 ghost use Rattle.play_edits.specs.Ends.{log_ends};
 

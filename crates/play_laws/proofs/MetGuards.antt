@@ -6,7 +6,7 @@ use Rattle.std.proofs.lemmas.List.Elements.{All-cons, All-nil}
 use Rattle.std.specs.Str.Lines.{lines}
 use Rattle.cave_data.specs.CaveView.{CaveView}
 use Rattle.cave_play.proofs.ScriptLemmas.{script_by-spelled}
-use Rattle.cave_play.specs.EditRun.{IsSideReport, IsEdited}
+use Rattle.cave_play.specs.Output.{IsSideReport, IsEdited}
 use Rattle.play_edits.specs.Ends.{ended_view, ends_after_items, ends_by, log_ends, ends_in}
 use Rattle.play_edits.specs.Ends.{is_unended}
 use Rattle.play_edits.specs.Views.{IsEndedEdit, refusals_of, seed_after, IsEditOf, IsLogOf}

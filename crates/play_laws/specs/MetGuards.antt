@@ -1,7 +1,7 @@
 -- If all guards of a script are met, blank lines in their place change nothing in a run.
 use Rattle.std.specs.Prelude.{◌≡◌, ◌↔◌, ℕ, Bool, true, false, List, Option, Ok, ⊤}
 use Rattle.std.specs.Str.Lines.{lines}
-use Rattle.cave_play.specs.EditRun.{IsEditRun}
+use Rattle.cave_play.specs.Output.{IsEditRun}
 use Rattle.play_laws.specs.GuardLaws.{AreMet, PrintsNoGuards}
 use Rattle.play_edits.specs.declared.items.EditRun.{EditRun}
 use Rattle.play_command.specs.declared.views.ReportView.{ReportView}

@@ -12,7 +12,7 @@ use Rattle.replay_edits.specs.declared.fault.EditFault.TheVariants.{MeterFull, M
 use Rattle.replay_edits.specs.declared.fault.GroupFault.{GroupFault}
 use Rattle.cave_play.specs.Judge.{inputs_fault, large_seed, log_fault}
 use Rattle.play_edits.specs.Items.{game_after_items}
-use Rattle.cave_play.specs.Output.{IsChecked, IsPlayed}
+use Rattle.cave_play.specs.Output.{IsChecked, IsPlayed, IsEdited}
 use Rattle.play_edits.specs.Refusal.{group_refusal}
 use Rattle.cave_play.specs.Run.{IsFoundIn, AtMostOne}
 use Rattle.cave_play.specs.Stages.{Stage, first_decided, cave_stages}
@@ -22,7 +22,6 @@ use Rattle.play_command.specs.declared.views.EditView.{EditView}
 use Rattle.play_command.specs.declared.views.CheckView.{CheckView}
 use Rattle.play_command.specs.declared.views.EditView.TheVariants as asked
 use Rattle.play_command.specs.declared.views.PlayView.{PlayView}
-use Rattle.cave_play.specs.EditRun.{IsEdited}
 
 -- a check of a database and its bindings has at most one output
 abbrev pub OneCheckedOutput : Type 0

@@ -2,11 +2,9 @@
 use Rattle.std.specs.Prelude.{◌≡◌, ℕ, ⊤, ◌&&◌, nat_lt, Bool, List, [], Option, None, Some, Result}
 use Rattle.std.specs.Prelude.{Ok, Err, if◌then◌else◌, unwrap_or}
 use Rattle.std.specs.Global.{Vec}
-use Rattle.cave_play.specs.Doubted.{AreLeftIn, first_doubt}
-use Rattle.cave_play.specs.EditRun.{IsMadeEdit}
+use Rattle.cave_play.specs.Output.{AreLeftIn, first_doubt, IsMadeEdit, IsChecked, IsPlayed}
 use Rattle.cave_play.specs.Sources.{InputTexts}
 use Rattle.cave_play.specs.Logs.{IsMadeReport, JudgesLogs, at_none}
-use Rattle.cave_play.specs.Output.{IsChecked, IsPlayed}
 use Rattle.cave_play.specs.Run.{Judges}
 use Rattle.cave_play.specs.Stages.{Stage, cave_stages, doubts_stages, edit_stages, play_stages}
 use Rattle.cave_play.specs.TwoLogs.{JudgesEditTo, JudgesScript}

@@ -3,8 +3,8 @@ use Rattle.std.specs.Prelude.{ℕ, List, map, Option, None, Some, option_map, st
 use Rattle.std.specs.Prelude.{bytes_eq, if◌then◌else◌}
 use Rattle.play_program.specs.Calls.{Call, Told}
 use Rattle.play_program.specs.Calls.Call.{Opens, Puts, Tells}
-use Rattle.play_program.specs.Calls.Told.{faulty, misused, unopened, unprinted, unread}
-use Rattle.play_program.specs.Calls.Told.{headed, unwritten, clashing, reseeded}
+use Rattle.play_program.specs.Calls.Told.{faulty, misused, unopened, unprinted, unread, headed}
+use Rattle.play_program.specs.Calls.Told.{unwritten, clashing, reseeded}
 use Rattle.test_runs.specs.declared.calls.KeptCall.{KeptCall}
 use Rattle.test_runs.specs.declared.calls.KeptCall.TheVariants as kept
 use Rattle.test_runs.specs.declared.calls.KeptMessage.{KeptMessage}

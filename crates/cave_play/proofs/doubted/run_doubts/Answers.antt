@@ -1,7 +1,7 @@
-use Rattle.std.proofs.Common.{inl, inr, refl, subst, ◌∙◌}
+use Rattle.std.proofs.Common.{ap, inl, inr, refl, sym, ◌∙◌}
 use Rattle.std.proofs.lemmas.Result.{err_from_is_err_and}
 use Rattle.std.proofs.KnownBytes.{Keeps-refl}
-use Rattle.cave_play.specs.Doubted.{IsDoubtsList, IsFirstDoubt, IsTaken}
+use Rattle.cave_play.specs.Output.{by_doubt, first_doubt}
 use Rattle.cave_play.specs.Stages.{doubts_stages}
 use Rattle.cave_play.proofs.RunLemmas.{EndsBy-written}
 use Rattle.play_command.specs.declared.input.Input.TheVariants.{Known}
@@ -18,7 +18,7 @@ returns-in_err-listed g c =
         texts,
         AreTextsOf-held g.C.Read.remaining g.B.Read.remaining g.L.Read.remaining
             g.S.Read.remaining _ _ c.of_one-readers.ensures Known texts refl are,
-        inl (inr (found, Keeps-refl _)),
+        inr (_, refl, inr (found, Keeps-refl _)),
       );
     })
 
@@ -27,59 +27,57 @@ returns-in_err-write_output g c =
     let exit =
     err_from_is_err_and c.from_residual-in_err-write_output.result
     c.from_residual-in_err-write_output.ensures.1 in
-    let (texts, are, listed) = c.in_ok-listed.ensures.judged in
-    let (cave, reads, left) = listed.1 in
+    let (texts, are, (none, left)) = c.in_ok-listed.ensures.judged in
     rw (exit.1, exit.2)
     (record {
       runs = (
         texts,
         AreTextsOf-held g.C.Read.remaining g.B.Read.remaining g.L.Read.remaining
             g.S.Read.remaining _ _ c.of_one-readers.ensures Known texts refl are,
-        inl (EndsBy-written (doubts_stages texts.database texts.bindings texts.script)
-            (IsDoubtsList c.args.strict c.args.files.now texts) _ _ _ _ listed.0
-            (cave, reads, c.deref.ensures.value ∙ left.text)
-            c.in_err-write_output.ensures.written),
+        inr (
+          _,
+          refl,
+          EndsBy-written (doubts_stages texts.database texts.bindings texts.script) _ _ _ _ _ none
+              (c.in_ok-listed.listed, left, c.deref.ensures.value)
+              c.in_err-write_output.ensures.written,
+        ),
       );
     })
 
 pub returns-in-Some : goal.returns-in-Some
 returns-in-Some g c =
-    let (texts, are, listed) = c.in_ok-listed.ensures.judged in
-    let (cave, reads, left) = listed.1 in
-    let first =
-    subst (λ doubts. IsFirstDoubt c.args.strict doubts c.in-Some.fault)
-    (c.deref-2.ensures.value ∙ left.left) c.in-Some.ensures.told in
+    let (texts, are, (none, left)) = c.in_ok-listed.ensures.judged in
     record {
       runs = (
         texts,
         AreTextsOf-held g.C.Read.remaining g.B.Read.remaining g.L.Read.remaining
             g.S.Read.remaining _ _ c.of_one-readers.ensures Known texts refl are,
-        inr (
-          _,
-          (cave, reads, (first, c.deref.ensures.value ∙ left.text)),
-          c.in_ok-write_output.ensures.written,
+        inl (
+          c.in_ok-listed.listed,
+          ap by_doubt (c.in-Some.ensures
+              ∙ ap (first_doubt c.args.strict) c.deref-2.ensures.value),
+          none,
+          left,
+          rw (sym c.deref.ensures.value) c.in_ok-write_output.ensures.written,
         ),
       );
     }
 
 pub returns : goal.returns
 returns g c =
-    let (texts, are, listed) = c.in_ok-listed.ensures.judged in
-    let (cave, reads, left) = listed.1 in
-    let taken =
-    subst (IsTaken c.args.strict) (c.deref-2.ensures.value ∙ left.left) c.in-None.ensures.told in
+    let (texts, are, (none, left)) = c.in_ok-listed.ensures.judged in
     record {
       runs = (
         texts,
         AreTextsOf-held g.C.Read.remaining g.B.Read.remaining g.L.Read.remaining
             g.S.Read.remaining _ _ c.of_one-readers.ensures Known texts refl are,
-        (
-          listed.0,
-          (
-            _,
-            (cave, reads, (taken, c.deref.ensures.value ∙ left.text)),
-            c.in_ok-write_output.ensures.written,
-          ),
+        inl (
+          c.in_ok-listed.listed,
+          ap by_doubt (c.in-None.ensures
+              ∙ ap (first_doubt c.args.strict) c.deref-2.ensures.value),
+          none,
+          left,
+          rw (sym c.deref.ensures.value) c.in_ok-write_output.ensures.written,
         ),
       );
     }

@@ -1,5 +1,5 @@
 use Rattle.std.proofs.Common.{refl}
-use Rattle.cave_play.specs.EditRun.{IsEditRun}
+use Rattle.cave_play.specs.Output.{IsEditRun}
 use Rattle.cave_play.specs.Stages.{edit_stages}
 use Rattle.cave_play.proofs.RunLemmas.{RunsWith-made}
 use Rattle.play_command.specs.declared.input.Input.TheVariants.{Script}

@@ -1,9 +1,26 @@
-use Rattle.std.proofs.Common.{◌≤◌, ◌<◌, inl, inr, refl, subst, sym, ◌∙◌}
-use Rattle.std.proofs.lemmas.Bool.{ltb-false, ltb-true}
+use Rattle.std.proofs.Common.{ℕ, Bool, List, None, Some, nat_lt, ap, inl, inr, refl, sym, ◌∙◌}
+use Rattle.std.specs.Prelude.{if◌then◌else◌}
 use Rattle.std.proofs.lemmas.Result.{err_from_is_err_and}
 use Rattle.base_lines.specs.Limits.{MAX_INPUT_BYTES}
+use Rattle.cave_play.specs.Sources.{Held, InputTexts}
+use Rattle.cave_play.specs.Stages.{judging_stage}
+use Rattle.cave_play.specs.TwoLogs.{two_logs_stages}
+use Rattle.cave_play.specs.declared.fault.PlayFault.TheVariants.{LargeScript}
 use Rattle.cave_play.proofs.SourceLemmas.{said, some_bytes}
+use Rattle.cave_play.proofs.StageLemmas.{IsFoundIn-later, first_decided-later, first_decided-one}
 use Rattle.cave_play.proofs.two_logs.make_script.Goals as goal
+
+abbrev is_large : ℕ → Bool
+is_large bytes = nat_lt MAX_INPUT_BYTES bytes
+
+-- two logs, and a cave that isn't asked for
+abbrev texts_with : Held → List ℕ → List ℕ → InputTexts
+texts_with held old made = record {
+  database = some_bytes held.cave;
+  bindings = some_bytes held.bindings;
+  log = old;
+  script = made;
+}
 
 pub returns-in_err-compared : goal.returns-in_err-compared
 returns-in_err-compared g c =
@@ -13,19 +30,14 @@ returns-in_err-compared g c =
     rw (exit.1, exit.2)
     (record {
       judged = (
-        record {
-          database = some_bytes held.cave;
-          bindings = some_bytes held.bindings;
-          log = old;
-          script = made;
-        },
+        texts_with held old made,
         record {
           database = said held.cave;
           bindings = said held.bindings;
           log = three;
           script = four;
         },
-        inl found,
+        inl (_, refl, found),
       );
       leads = c.in_err-compared.ensures.leads;
     })
@@ -35,17 +47,11 @@ returns-then-is_large_input g c =
     let held = g.I.Sources.held c.args.inputs.now in
     let (old, made, three, four, judged) = c.in_ok-compared.ensures.judged in
     let script = c.in_ok-compared.compared.script in
-    let bytes = c.len.ensures ∙ script.ok.0 in
-    let large =
-    ltb-true MAX_INPUT_BYTES _ (sym c.is_large_input.ensures ∙ c.if-is_large_input.true) in
+    let size = ap is_large (sym script.ok.0 ∙ sym c.len.ensures) ∙ sym c.is_large_input.ensures
+    ∙ c.if-is_large_input.true in
     record {
       judged = (
-        record {
-          database = some_bytes held.cave;
-          bindings = some_bytes held.bindings;
-          log = old;
-          script = made;
-        },
+        texts_with held old made,
         record {
           database = said held.cave;
           bindings = said held.bindings;
@@ -53,9 +59,10 @@ returns-then-is_large_input g c =
           script = four;
         },
         inr (
-          judged.0,
-          (script.items, (judged.1.1, subst (λ n. MAX_INPUT_BYTES < n) bytes large)),
-          refl,
+          script.items,
+          judged.1.1,
+          IsFoundIn-later (two_logs_stages old made) _ LargeScript judged.0
+              (inl (inr (ap (λ large. if large then Some LargeScript else None) size))),
         ),
       );
       leads = c.in_ok-compared.ensures.leads;
@@ -66,24 +73,25 @@ returns g c =
     let held = g.I.Sources.held c.args.inputs.now in
     let (old, made, three, four, judged) = c.in_ok-compared.ensures.judged in
     let script = c.in_ok-compared.compared.script in
-    let bytes = c.len.ensures ∙ script.ok.0 in
-    let small =
-    ltb-false MAX_INPUT_BYTES _ (sym c.is_large_input.ensures ∙ c.if-is_large_input.false) in
+    let size = ap is_large (sym script.ok.0 ∙ sym c.len.ensures) ∙ sym c.is_large_input.ensures
+    ∙ c.if-is_large_input.false in
     record {
       judged = (
-        record {
-          database = some_bytes held.cave;
-          bindings = some_bytes held.bindings;
-          log = old;
-          script = made;
-        },
+        texts_with held old made,
         record {
           database = said held.cave;
           bindings = said held.bindings;
           log = three;
           script = four;
         },
-        inl (judged.0, (judged.1.1, subst (λ n. n ≤ MAX_INPUT_BYTES) bytes small)),
+        inr (
+          script.items,
+          judged.1.1,
+          first_decided-later (two_logs_stages old made) _ judged.0
+              ∙ first_decided-one (judging_stage _)
+              (ap (λ large. if large then Some LargeScript else None) size),
+          refl,
+        ),
       );
       leads = c.in_ok-compared.ensures.leads;
     }
