@@ -2,9 +2,11 @@
 use Rattle.std.proofs.Common.{◌≡◌, ℕ, List, [], ◌∷◌, None, Some, refl, ap, drop, subst, ◌∙◌}
 use Rattle.std.specs.declared.option.Option.{Option}
 use Rattle.cave_play.specs.Sources.{AreTextsOf, InputTexts, Says, AreHeld, Held, IsTaken, held_by}
-use Rattle.cave_play.specs.Sources.{held_for, next_log, without_cave}
+use Rattle.cave_play.specs.Sources.{held_for, next_log, without_cave, IsOneLogOf, held_by_one}
 use Rattle.cave_play.specs.declared.inputs.CaveReaders.{CaveReaders}
 use Rattle.cave_play.specs.declared.inputs.Inputs.{Inputs}
+use Rattle.cave_play.specs.declared.inputs.OneLog.{OneLog}
+use Rattle.std.specs.Prelude.{if◌then◌else◌}
 use Rattle.cave_play.specs.declared.inputs.Readers.{Readers}
 use Rattle.play_command.specs.declared.input.Input.{Input}
 use Rattle.play_command.specs.declared.input.Input.TheVariants as input
@@ -129,15 +131,19 @@ module _ {C B L S : Type 0} (left_database : C → Option (List ℕ))
       (are.logs_are i) (are.script_is i))
 
   -- the texts of a run over one log
-  pub AreTextsOf-held : (inputs : Inputs C B L S) (readers : Readers C B L S)
-      → AreReadersOf inputs.cave (inputs.log ∷ []) inputs.script readers
-      → (third : Input) (texts : InputTexts)
+  pub AreTextsOf-held : (inputs : Inputs C B L S) (readers : OneLog C B L S)
+      → IsOneLogOf inputs readers → (third : Input) (texts : InputTexts)
       → held_for third (held_of left_database left_bindings left_log left_script inputs.cave
       (inputs.log ∷ []) inputs.script) ≡ left_script inputs.script
-      → AreHeld third (held_by left_database left_bindings left_log left_script readers) texts
+      → AreHeld third (held_by_one left_database left_bindings left_log left_script readers) texts
       → AreTextsOf left_database left_bindings left_log left_script inputs texts
-  AreTextsOf-held inputs readers of_one third texts same are =
-      let held = subst (λ h. AreHeld third h texts) (held_first _ _ _ readers of_one) are in
+  AreTextsOf-held inputs readers (same_inputs, unread) third texts same are =
+      let first = ap (λ n. held_of left_database left_bindings left_log left_script
+      readers.inputs.now.cave (if n then [] else readers.inputs.now.log ∷ [])
+      readers.inputs.now.script) unread
+      ∙ ap (λ (i : Inputs C B L S). held_of left_database left_bindings left_log left_script i.cave
+      (i.log ∷ []) i.script) same_inputs in
+      let held = subst (λ h. AreHeld third h texts) first are in
       record {
         database = held.database;
         bindings = held.bindings;

@@ -1,6 +1,7 @@
 -- The bytes of the inputs of a run, and what is known of them before they are read.
 use Rattle.std.specs.Prelude.{◌≡◌, ℕ, ⊤, List, Option, None, Some, ◌⊎◌, ◌+◌, ◌<◌, ◌≤◌, Bool, true}
 use Rattle.std.specs.Prelude.{false, ◌++◌, length, MatchResult, Result, [], ◌∷◌, drop, map}
+use Rattle.std.specs.Prelude.{if◌then◌else◌}
 use Rattle.cave_play.specs.declared.inputs.Inputs.{Inputs}
 use Rattle.std.specs.Global.{Vec}
 use Rattle.std.specs.Io.KnownBytes.{Consumes, IsAtEnd}
@@ -10,6 +11,7 @@ use Rattle.cave_play.specs.Run.{IsOutsideOf}
 use Rattle.cave_play.specs.declared.fault.PlayFault.{PlayFault}
 use Rattle.play_command.specs.declared.input.Input.{Input}
 use Rattle.cave_play.specs.declared.inputs.CaveReaders.{CaveReaders}
+use Rattle.cave_play.specs.declared.inputs.OneLog.{OneLog}
 use Rattle.cave_play.specs.declared.inputs.Readers.{Readers}
 use Rattle.play_command.specs.declared.input.Input.TheVariants as input
 
@@ -135,6 +137,10 @@ pub record AreReadersOf {C B L S : Type 0} (cave : CaveReaders C B) (logs : List
   pub script_is : readers.script.now ≡ script
   pub unread : readers.read ≡ 0
 
+-- and these of one log
+abbrev pub IsOneLogOf : {C B L S : Type 0} → Inputs C B L S → OneLog C B L S → Type 0
+IsOneLogOf inputs readers = (readers.inputs.now ≡ inputs) × (readers.is_read ≡ false)
+
 -- what they have, if these functions say what one has left
 module _ {C B L S : Type 0} (left_database : C → Option (List ℕ))
     (left_bindings : B → Option (List ℕ)) (left_log : L → Option (List ℕ))
@@ -152,3 +158,7 @@ module _ {C B L S : Type 0} (left_database : C → Option (List ℕ))
   abbrev pub held_by : Readers C B L S → Held
   held_by readers =
       held_of readers.cave.now (drop readers.read readers.logs.now) readers.script.now
+
+  abbrev pub held_by_one : OneLog C B L S → Held
+  held_by_one readers = let inputs = readers.inputs.now in
+      held_of inputs.cave (if readers.is_read then [] else inputs.log ∷ []) inputs.script

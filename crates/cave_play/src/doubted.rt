@@ -8,7 +8,7 @@ ghost use Rattle.cave_play.specs.Run.{Judges};
 ghost use Rattle.cave_play.specs.Stages.{doubts_stages};
 
 use crate::fault::PlayFault;
-use crate::inputs::{Inputs, Readers};
+use crate::inputs::{Inputs, OneLog};
 use crate::judge::{ReadCave, read_cave};
 use crate::output::write_output;
 use crate::sources::Sources;
@@ -85,7 +85,7 @@ pub fn run_doubts<C: Read, B: Read, L: Read, S: Read, W: Write>(
         × RunsDoubts strict files.now texts (W.contents output.old) (W.contents output.new)
         result }
 {
-    let mut readers = Readers::of_one(inputs);
+    let mut readers = OneLog::of(inputs);
     let listed = make_doubts(alloc, &mut readers, files)?;
     write_output(output, &listed.text)?;
     match first_doubt(strict, &listed.left) {

@@ -1,7 +1,6 @@
 //! The readers of a run.
 
-ghost use Rattle.std.specs.Prelude.{[], ◌∷◌};
-ghost use Rattle.cave_play.specs.Sources.{AreReadersOf, held_by};
+ghost use Rattle.cave_play.specs.Sources.{AreReadersOf, IsOneLogOf, held_by, held_by_one};
 
 use crate::fault::PlayFault;
 use crate::read::read;
@@ -9,7 +8,6 @@ use crate::sources::Sources;
 use play_command::Input;
 use std::alloc::Global;
 use std::io::Read;
-use std::slice;
 
 /// The readers of a cave.
 #[derive(Drop)]
@@ -26,6 +24,45 @@ pub struct Inputs<C, B, L, S> {
     pub cave: CaveReaders<C, B>,
     pub log: L,
     pub script: S,
+}
+
+/// The readers of a run over one log.
+#[derive(Drop)]
+pub(crate) struct OneLog<'r, C, B, L, S> {
+    inputs: &'r mut Inputs<C, B, L, S>,
+    /// Whether the log was read.
+    is_read: bool,
+}
+
+impl<'r, C: Read, B: Read, L: Read, S: Read> OneLog<'r, C, B, L, S> {
+    /// These readers, before anything is read.
+    pub(crate) fn of(inputs: &'r mut Inputs<C, B, L, S>) -> OneLog<'r, C, B, L, S>
+        ensures { IsOneLogOf inputs.old result }
+    {
+        let is_read = false;
+        OneLog { inputs, is_read }
+    }
+}
+
+impl<C: Read, B: Read, L: Read, S: Read> Sources for OneLog<'_, C, B, L, S> {
+    ghost held = { held_by_one C.remaining B.remaining L.remaining S.remaining };
+
+    ghost Reads = { λ _ _ _. Unit {0} };
+
+    fn read(&mut self, alloc: Global, input: Input) -> Result<Vec<u8>, PlayFault> {
+        match input {
+            Input::Cave => read(alloc, input, &mut self.inputs.cave.database),
+            Input::Bindings => read(alloc, input, &mut self.inputs.cave.bindings),
+            Input::Log if self.is_read => Ok(Vec::new(alloc)),
+            Input::Log => {
+                self.is_read = true;
+                read(alloc, input, &mut self.inputs.log)
+            }
+            Input::NewLog | Input::Script | Input::Known => {
+                read(alloc, input, &mut self.inputs.script)
+            }
+        }
+    }
 }
 
 /// The readers of a run over any number of logs, the first of which were read.
@@ -52,14 +89,6 @@ impl<'r, C: Read, B: Read, L: Read, S: Read> Readers<'r, C, B, L, S> {
             script,
             read: 0,
         }
-    }
-
-    /// The readers of a run over one log, before anything is read.
-    pub(crate) fn of_one(inputs: &'r mut Inputs<C, B, L, S>) -> Readers<'r, C, B, L, S>
-        ensures { AreReadersOf inputs.old.cave (inputs.old.log ∷ []) inputs.old.script result }
-    {
-        let log = slice::from_mut(&mut inputs.log);
-        Readers::of(&mut inputs.cave, log, &mut inputs.script)
     }
 }
 

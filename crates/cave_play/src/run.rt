@@ -16,7 +16,7 @@ ghost use Rattle.play_edits.specs.Ends.{log_ends};
 
 use crate::edits::{edit_session, finish_edit};
 use crate::fault::PlayFault;
-use crate::inputs::{Inputs, Readers};
+use crate::inputs::{Inputs, OneLog};
 use crate::judge::{check_every, check_seed, open_session, read_cave};
 use crate::output::{write_edit, write_made};
 use crate::sources::Sources;
@@ -154,7 +154,7 @@ pub fn run_check<C: Read, B: Read, L: Read, S: Read, W: Write>(
         (IsChecked view texts.database texts.bindings)
         (W.contents output.old) (W.contents output.new) result }
 {
-    let mut readers = Readers::of_one(inputs);
+    let mut readers = OneLog::of(inputs);
     let made = make_check(alloc, &mut readers, view);
     write_made(made, output)
 }
@@ -173,7 +173,7 @@ pub fn run_play<C: Read, B: Read, L: Read, S: Read, W: Write>(
         (IsPlayed texts.database texts.bindings texts.log seed view)
         (W.contents output.old) (W.contents output.new) result }
 {
-    let mut readers = Readers::of_one(inputs);
+    let mut readers = OneLog::of(inputs);
     let made = make_play(alloc, &mut readers, seed, view);
     write_made(made, output)
 }
@@ -194,7 +194,7 @@ pub fn run_edit<C: Read, B: Read, L: Read, S: Read, W: Write>(
         (IsEditRun texts.database texts.bindings texts.log texts.script editing report)
         (W.contents output.old) (W.contents output.new) result }
 {
-    let mut readers = Readers::of_one(inputs);
+    let mut readers = OneLog::of(inputs);
     let made = make_edit(alloc, &mut readers, editing, report);
     write_edit(made, output)
 }

@@ -14,7 +14,7 @@ ghost use Rattle.cave_play.specs.TwoLogs.{ReadsWith, two_logs_stages, with_compa
 
 use play_edits::{EditRun, MadeEdit};
 use crate::fault::PlayFault;
-use crate::inputs::{Inputs, Readers};
+use crate::inputs::{Inputs, OneLog};
 use crate::judge::opening_fault;
 use crate::output::{write_edit, write_made};
 use crate::read::too_large;
@@ -209,7 +209,7 @@ pub fn run_script<C: Read, B: Read, L: Read, S: Read, W: Write>(
         × AreTextsOf C.remaining B.remaining L.remaining S.remaining inputs.old texts
         × RunsScript form texts (W.contents output.old) (W.contents output.new) result }
 {
-    let mut readers = Readers::of_one(inputs);
+    let mut readers = OneLog::of(inputs);
     let made = make_script(alloc, &mut readers, form);
     write_made(made, output)
 }
@@ -227,7 +227,7 @@ pub fn run_edit_to<C: Read, B: Read, L: Read, S: Read, W: Write>(
         × AreTextsOf C.remaining B.remaining L.remaining S.remaining inputs.old texts
         × RunsEditTo texts editing report (W.contents output.old) (W.contents output.new) result }
 {
-    let mut readers = Readers::of_one(inputs);
+    let mut readers = OneLog::of(inputs);
     let made = make_edit_to(alloc, &mut readers, editing, report);
     write_edit(made, output)
 }

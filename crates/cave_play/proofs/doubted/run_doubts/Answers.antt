@@ -17,7 +17,7 @@ returns-in_err-listed g c =
       runs = (
         texts,
         AreTextsOf-held g.C.Read.remaining g.B.Read.remaining g.L.Read.remaining
-            g.S.Read.remaining _ _ c.of_one-readers.ensures Known texts refl are,
+            g.S.Read.remaining _ _ c.of-readers.ensures Known texts refl are,
         inr (_, refl, inr (found, Keeps-refl _)),
       );
     })
@@ -33,7 +33,7 @@ returns-in_err-write_output g c =
       runs = (
         texts,
         AreTextsOf-held g.C.Read.remaining g.B.Read.remaining g.L.Read.remaining
-            g.S.Read.remaining _ _ c.of_one-readers.ensures Known texts refl are,
+            g.S.Read.remaining _ _ c.of-readers.ensures Known texts refl are,
         inr (
           _,
           refl,
@@ -51,7 +51,7 @@ returns-in-Some g c =
       runs = (
         texts,
         AreTextsOf-held g.C.Read.remaining g.B.Read.remaining g.L.Read.remaining
-            g.S.Read.remaining _ _ c.of_one-readers.ensures Known texts refl are,
+            g.S.Read.remaining _ _ c.of-readers.ensures Known texts refl are,
         inl (
           c.in_ok-listed.listed,
           ap by_doubt (c.in-Some.ensures
@@ -70,7 +70,7 @@ returns g c =
       runs = (
         texts,
         AreTextsOf-held g.C.Read.remaining g.B.Read.remaining g.L.Read.remaining
-            g.S.Read.remaining _ _ c.of_one-readers.ensures Known texts refl are,
+            g.S.Read.remaining _ _ c.of-readers.ensures Known texts refl are,
         inl (
           c.in_ok-listed.listed,
           ap by_doubt (c.in-None.ensures
