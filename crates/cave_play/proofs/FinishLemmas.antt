@@ -103,7 +103,7 @@ module _ (database bindings log script : List ℕ) (editing : Editing)
   -- and what the size of what is printed decides
   size_of : (made : MadeEdit) → IsRight made
       → size_fault editing.view (length made.text.items) ≡ (size_stage log script editing).decides
-  size_of made (is, others) =
+  size_of made (is, refused, side, seed) =
       size_printed editing.view cave (game_of editing.seed (lines log)) editing.guarded
       is.edit.items is.edit.outcomes (log_ends log script) is.text made.text.items is.edit.written
       is.printed

@@ -4,8 +4,8 @@ ghost use Rattle.std.specs.Prelude.{◌≡◌, ℕ, take, MatchResult};
 ghost use Rattle.std.specs.Io.KnownBytes.{Appends};
 ghost use Rattle.cave_play.specs.Run.{Writes, WritesEdit};
 
-use play_edits::{EditRun, MadeEdit};
 use crate::fault::PlayFault;
+use play_edits::{EditRun, MadeEdit};
 use std::io::Write;
 
 /// Writes the whole output, or a prefix of it if the writer fails: it returned an error, or took

@@ -12,7 +12,6 @@ ghost use Rattle.cave_play.specs.TwoLogs.{IsCompared, IsReadLog, JudgesEditTo, J
 ghost use Rattle.cave_play.specs.TwoLogs.{RunsEditTo, RunsScript, new_log_fault, new_log_stage};
 ghost use Rattle.cave_play.specs.TwoLogs.{ReadsWith, two_logs_stages, with_compared};
 
-use play_edits::{EditRun, MadeEdit};
 use crate::fault::PlayFault;
 use crate::inputs::{Inputs, OneLog};
 use crate::judge::opening_fault;
@@ -23,6 +22,7 @@ use crate::sources::Sources;
 use base_lines::limits::{USUAL_EVERY, is_large_input};
 use cave_replay::log::read_lines;
 use play_command::{Editing, Input, ReportView};
+use play_edits::{EditRun, MadeEdit};
 use replay_difference::script::{ScriptForm, push_difference};
 use replay_edits::LineText;
 use std::alloc::Global;

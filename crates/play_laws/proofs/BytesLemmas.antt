@@ -19,7 +19,7 @@ use Rattle.replay_edits.specs.Edit.{Game, IsGame, game_of}
 use Rattle.play_edits.specs.Ends.{ended_text, ends_in, first_end, are_alike, is_unended, ends_with}
 use Rattle.play_edits.specs.Ends.{log_ends, ends_after_items, ended_view}
 use Rattle.play_edits.specs.declared.ends.LineEnd.{LineEnd}
-use Rattle.play_edits.specs.declared.line_end.LineEnd.TheVariants.{Feed}
+use Rattle.play_edits.specs.declared.ends.LineEnd.TheVariants.{Feed}
 use Rattle.play_edits.proofs.EndLemmas.{alike-again, ends-alike, first-alike, first-closed}
 use Rattle.play_edits.proofs.EndLemmas.{ends_after_items-alike, log_ends-alike, unended-closed}
 use Rattle.play_edits.proofs.EndLemmas.{lines-ended}

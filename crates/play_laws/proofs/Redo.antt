@@ -15,7 +15,7 @@ use Rattle.play_edits.proofs.EndLemmas.{unended-closed}
 use Rattle.play_edits.proofs.EditLemmas.{IsGame-after_all}
 use Rattle.play_edits.specs.Items.{game_after_items}
 use Rattle.play_edits.specs.declared.ends.LineEnd.{LineEnd}
-use Rattle.play_edits.specs.declared.line_end.LineEnd.TheVariants.{Feed}
+use Rattle.play_edits.specs.declared.ends.LineEnd.TheVariants.{Feed}
 use Rattle.replay_edits.specs.Edit.{Game, IsGame, game_of}
 use Rattle.replay_scripts.specs.Guards.{IsScriptBy}
 use Rattle.play_laws.specs.Redo.{RedoGivesTheEdits}

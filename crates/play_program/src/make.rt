@@ -11,7 +11,6 @@ ghost use Rattle.play_program.specs.Making.{third_of};
 
 use crate::files::{file_of, log_count};
 use cave_play::doubted::{LeftDoubts, first_doubt, make_doubts};
-use play_edits::MadeEdit;
 use cave_play::logs::Reported;
 use cave_play::run::{make_check, make_edit, make_play};
 use cave_play::sources::Sources;
@@ -20,6 +19,7 @@ use cave_play::{EditRun, LogsFault, PlayFault};
 use check_doubts::DoubtFiles;
 use play_command::{CoverView, EditAsked, EditsFrom, Input, Request, What};
 use play_cover::run::{CoverAsked, make_cover};
+use play_edits::MadeEdit;
 use play_map::run::make_map;
 use std::alloc::Global;
 

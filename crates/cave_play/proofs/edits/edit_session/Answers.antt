@@ -1,4 +1,4 @@
-use Rattle.std.proofs.Common.{◌≡◌, [], ◌∷◌, None, ap, map, ◌∙◌}
+use Rattle.std.proofs.Common.{◌≡◌, [], ◌∷◌, None, ap, map, ◌∙◌, Some}
 use Rattle.std.proofs.lemmas.Result.{IfOk-at_ok, MatchResult-at_ok, err_from_is_err_and}
 use Rattle.replay_scripts.specs.Views.{applied_item, items_of}
 use Rattle.play_edits.specs.Edits.{IsMade, ending_refusal}
@@ -58,16 +58,20 @@ returns-in-Ok-clause-judged g c =
     rw (← all, ← opened)
     (IfOk-at_ok (IsMade editing c.args.report (map applied_item c.deref-2.result.now) old
     (shown_ends c.in_ok-ends.ends)) c.in-Ok.is c.in_ok-made.ensures.made) in
+    let refused = ending_refusal strict (map applied_item c.deref-2.result.now) old.game in
     let goes : ending_refusal strict items old.game ≡ None =
     rw (← all)
-    (MatchResult-at_ok (λ _. ending_refusal strict (map applied_item c.deref-2.result.now) old.game
-    ≡ None) _ made c.in-Ok.is c.in_ok-made.ensures.refused) in
+    (MatchResult-at_ok (λ _. refused ≡ None) (λ refusal. refused ≡ Some refusal) made c.in-Ok.is
+    c.in_ok-made.ensures.refused) in
     let none =
     first_decided-later (script_stage guarded edits ∷ [])
     (strict_stage strict old.game guarded edits ∷ []) read.0
     ∙ first_decided-strict strict old.game guarded edits items read.1.2 goes in (
       edits,
       said,
-      (none, log_made old editing edits items read.1.0 read.1.2 c.requires.spaced c.requires.game
-          c.args.report (log_ends c.args.log.now edits) made is),
+      (
+        none,
+        log_made old editing edits items read.1.0 read.1.2 c.requires.spaced c.requires.game
+            c.args.report (log_ends c.args.log.now edits) made is,
+      ),
     )
