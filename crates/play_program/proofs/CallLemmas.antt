@@ -2,7 +2,7 @@
 use Rattle.std.proofs.Common.{◌≡◌, ◌<◌, ◌+◌, ℕ, List, [], ◌∷◌, ◌++◌, None, Some, Option, drop, take}
 use Rattle.std.proofs.Common.{append-nil, append_assoc, ap, get_or, length, map, refl, subst, sym}
 use Rattle.std.proofs.Common.{◌∙◌}
-use Rattle.std.specs.Prelude.{Contains, Err}
+use Rattle.std.specs.Prelude.{Contains, Err, if◌then◌else◌, true}
 use Rattle.std.proofs.lemmas.List.{drop_more, get_or-map, length-map, map-append, take-append-drop}
 use Rattle.std.proofs.lemmas.List.{take_more}
 use Rattle.std.proofs.lemmas.List.Concat.{flat_map-append}
@@ -12,7 +12,8 @@ use Rattle.play_command.specs.declared.input.NamedFile.{NamedFile}
 use Rattle.play_command.specs.declared.line.What.{What}
 use Rattle.play_program.specs.Calls.{Call, Told, and_then}
 use Rattle.play_program.specs.Files.{FileName}
-use Rattle.play_program.specs.Sources.{IsStoppedAt, Opened, opening, opening_of}
+use Rattle.play_program.specs.Calls.Call.{Opens}
+use Rattle.play_program.specs.Sources.{is_first, IsStoppedAt, Opened, opening, opening_of}
 
 -- no further call
 pub and_then-none : (known : Option (List Call)) → known ≡ and_then known []
@@ -34,6 +35,22 @@ Contains-named files i d inside =
     (subst (λ n. i < n) (sym (length-map files named_file)) inside))
 
 module _ (what : What) where
+  -- one file can't be opened
+  pub stopped-at : {X : Type 0} (file : FileName) (a c : Option (List Call)) (said : Told)
+      → is_first what file.0 ≡ true → c ≡ and_then a (Opens file.1 ∷ [])
+      → IsStoppedAt what file said → Opened {X} what (file ∷ []) a c (Err said)
+  stopped-at file a c said first calls stopped = (
+    [],
+    file,
+    [],
+    record {
+      files_are = refl;
+      calls = calls ∙ ap (λ is. and_then a ((if is then Opens file.1 ∷ [] else []) ++ []))
+          (sym first);
+      stopped = stopped;
+    },
+  )
+
   -- some files were opened, and then others
   pub opened-more : (xs ys : List FileName) (a b c : Option (List Call))
       → b ≡ and_then a (opening what xs) → c ≡ and_then b (opening what ys)

@@ -63,8 +63,8 @@ pub record Entry : Type 0 where
 
 abbrev pub known_left : {F : Type 0} → (F → Option (List ℕ)) → Option (List ℕ) → Option F
     → Option (List ℕ)
-known_left left unopened None = unopened
-known_left left unopened (Some file) = left file
+known_left left closed None = closed
+known_left left closed (Some file) = left file
 
 abbrev pub waiting_entry : {F : Type 0} → (List ℕ → Option (List ℕ)) → (F → Option (List ℕ))
     → WaitingFile F → Entry
@@ -156,11 +156,16 @@ pub record ReadFile : Type 0 where
 
 -- a file is opened, if it isn't open; then, if it is a log that was read whole, it is reported what
 -- its head says differently
+abbrev pub opening_unless : Bool → List ℕ → List Call
+opening_unless open name = if open then [] else Opens name ∷ []
+
+abbrev pub telling_if : Bool → Request → FileName → List ℕ → List Call
+telling_if whole request file text =
+    if whole && is_log file.0 then told_of_head file.1 (head_notice request text) else []
+
 abbrev pub calls_for : Request → ReadFile → List Call
-calls_for request read =
-    (if read.entry.is_open then [] else Opens read.entry.file.1 ∷ [])
-    ++ (if read.is_whole && is_log read.entry.file.0
-    then told_of_head read.entry.file.1 (head_notice request read.text) else [])
+calls_for request read = opening_unless read.entry.is_open read.entry.file.1
+    ++ telling_if read.is_whole request read.entry.file read.text
 
 -- what is asked to read a file, if there is one
 abbrev pub AsksFor : Request → Option Entry → Option (List Call) → Option (List Call) → Type 0

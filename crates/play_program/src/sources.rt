@@ -2,17 +2,17 @@
 //! after another as their turn comes.
 
 ghost use Rattle.std.specs.Prelude.{◌≡◌, ◌⊎◌, ℕ, List, [], ◌∷◌, Option, IfErr, IfOk, Some, map};
-ghost use Rattle.std.specs.Prelude.{option_map};
+ghost use Rattle.std.specs.Prelude.{option_map, is_some, true};
 ghost use Rattle.std.specs.List.{position};
 ghost use Rattle.cave_play.specs.Sources.{IsReading};
 ghost use Rattle.play_command.specs.Found.{named_file};
 ghost use Rattle.play_program.specs.Calls.{and_then, told_by};
-ghost use Rattle.play_program.specs.Calls.Call.{Opens};
 ghost use Rattle.play_program.specs.Files.{files_in, is_same_input};
 ghost use Rattle.play_program.specs.Head.{head_notice};
-ghost use Rattle.play_program.specs.Sources.{AsksFor, IsTakenFrom, Opened, ReadsOne, entries_by};
-ghost use Rattle.play_program.specs.Sources.{entry_of, held_in, is_first, is_log, missing_text};
-ghost use Rattle.play_program.specs.Sources.{told_of_head, typed_text, waiting_entry};
+ghost use Rattle.play_program.specs.Sources.{known_left, opening_unless, telling_if, AsksFor};
+ghost use Rattle.play_program.specs.Sources.{IsTakenFrom, Opened, ReadsOne, entries_by, entry_of};
+ghost use Rattle.play_program.specs.Sources.{held_in, is_first, is_log, missing_text, typed_text};
+ghost use Rattle.play_program.specs.Sources.{waiting_entry};
 
 use crate::files::is_same_input;
 use crate::head::head_notice;
@@ -130,19 +130,25 @@ fn take<'a, F: Read>(
     Some(waiting.remove(place))
 }
 
-/// Opens a file as its turn comes, and keeps the system's reason if it can't be opened.
+/// A file that waits, which is opened now if it isn't open, with the system's reason if it can't be.
 fn open_now<S: System>(
     system: &mut S,
     input: Input,
     name: &str,
+    file: Option<S::File>,
     unopened: &mut Option<io::Error>,
 ) -> Result<S::File, PlayFault>
-    ensures file { IfOk result (λ file. S.File.remaining file ≡ S.bytes_of system.old name.now) }
+    ensures file { IfOk result (λ opened. S.File.remaining opened
+        ≡ known_left S.File.remaining (S.bytes_of system.old name.now) file.entry) }
     ensures failed { IfErr result (λ found.
         (found ≡ PlayFault.Memory) ⊎ (found ≡ PlayFault.Read input)) }
-    ensures call { S.calls system.new ≡ and_then (S.calls system.old) (Opens name.now ∷ []) }
+    ensures call { S.calls system.new
+        ≡ and_then (S.calls system.old) (opening_unless (is_some file.entry) name.now) }
     ensures kept { S.bytes_of system.new ≡ S.bytes_of system.old }
 {
+    if let Some(file) = file {
+        return Ok(file);
+    }
     match system.open(name) {
         Ok(file) => Ok(file),
         Err(reason) if reason.kind() == ErrorKind::OutOfMemory => Err(PlayFault::Memory),
@@ -163,14 +169,23 @@ fn is_log(input: Input) -> bool
     }
 }
 
-/// Reports what the head of a log says differently from the request, if it does.
-fn tell_head<S: System>(system: &mut S, request: &Request<'_>, log: &str, text: &[u8])
+/// Reports what the head of a file says differently from the request, if it is a log and does.
+fn tell_head<S: System>(
+    system: &mut S,
+    request: &Request<'_>,
+    input: Input,
+    name: &str,
+    text: &[u8],
+)
     ensures call { S.calls system.new ≡ and_then (S.calls system.old)
-        (told_of_head log.now (head_notice request.now text.now)) }
+        (telling_if true request.now (input, name.now) text.now) }
     ensures kept { S.bytes_of system.new ≡ S.bytes_of system.old }
 {
+    if !is_log(input) {
+        return;
+    }
     if let Some(said) = head_notice(request, text) {
-        system.tell(Message::Head(log, said));
+        system.tell(Message::Head(name, said));
     }
 }
 
@@ -190,14 +205,9 @@ fn read_file<S: System>(
     ensures kept { S.bytes_of system.new ≡ S.bytes_of system.old }
 {
     let WaitingFile { input, name, file } = waiting;
-    let mut file = match file {
-        Some(file) => file,
-        None => open_now(system, input, name, unopened)?,
-    };
+    let mut file = open_now(system, input, name, file, unopened)?;
     let text = read(alloc, input, &mut file)?;
-    if is_log(input) {
-        tell_head(system, request, name, &text);
-    }
+    tell_head(system, request, input, name, &text);
     Ok(text)
 }
 

@@ -1,4 +1,4 @@
-use Rattle.cave_play.proofs.SourceLemmas.{goes_on, stays, same_script_after_log}
+use Rattle.cave_play.proofs.SourceLemmas.{goes_on, once, stays, same_script_after_log}
 use Rattle.std.proofs.Common.{◌≡◌, ◌≤◌, ℕ, List, [], ◌∷◌, length, None, Ok, Err, Option, subst, sym}
 use Rattle.std.proofs.Common.{◌∙◌}
 use Rattle.std.specs.Prelude.{⊤}
@@ -102,7 +102,7 @@ returns-in_err-bytes g c =
             (script_stage guarded edits ∷ strict_of c.args.editing moves edits ∷ []) _
             (IsFoundIn-log moves _ refused),
       );
-      leads = c.in_err-bytes.ensures.leads;
+      leads = once g.I.Sources.Reads _ _ _ c.in_err-bytes.ensures.reads;
     })
 
 pub returns-in_err-session : goal.returns-in_err-session
@@ -125,7 +125,7 @@ returns-in_err-session g c =
             (log_refused moves c.deref.result.now _ (c.deref.ensures.value ∙ read.0) read.1
             c.in_err-session.ensures.judged),
       );
-      leads = c.in_ok-bytes.ensures.leads;
+      leads = once g.I.Sources.Reads _ _ _ c.in_ok-bytes.ensures.reads;
     })
 
 pub returns : goal.returns
@@ -171,4 +171,4 @@ returns g c =
     λ (cave : CaveView). Judges (log_stage moves ∷ script_stage guarded edits ∷ strict ∷ [])
     (right cave)
     c.edit_session-made.result in
-    record { judged = (moves, edits, said, others, subst here c.new-machine.ensures judged); leads = goes_on g.I.Sources.Reads _ _ _ c.in_ok-bytes.ensures.leads c.edit_session-made.ensures.leads }
+    record { judged = (moves, edits, said, others, subst here c.new-machine.ensures judged); leads = goes_on g.I.Sources.Reads _ _ _ (once g.I.Sources.Reads _ _ _ c.in_ok-bytes.ensures.reads) c.edit_session-made.ensures.leads }
