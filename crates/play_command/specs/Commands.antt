@@ -27,16 +27,16 @@ use Rattle.play_command.specs.declared.commands.CommandRow.{CommandRow}
 abbrev pub Needs : Type 0
 Needs = CommandName × List (List ℕ) × List (List ℕ)
 
+abbrev pub entry : String → CommandName → List String → List String → List ℕ × Needs
+entry name command files others = (codes name, (command, map codes files, map codes others))
+
 abbrev pub commands : List (List ℕ × Needs)
-commands = (codes "check", (command.Check, codes "cave" ∷ [], codes "test" ∷ codes "verify" ∷ []))
-    ∷ (codes "play", (command.Play, codes "cave" ∷ codes "log" ∷ [], codes "run" ∷ []))
-    ∷ (
-      codes "edit",
-      (command.Edit, codes "cave" ∷ codes "log" ∷ [], codes "replay" ∷ codes "patch" ∷ []),
-    )
-    ∷ (codes "script", (command.Script, codes "old" ∷ codes "new" ∷ [], codes "diff" ∷ []))
-    ∷ (codes "cover", (command.Cover, codes "cave" ∷ codes "log" ∷ [], codes "coverage" ∷ []))
-    ∷ (codes "map", (command.Map, codes "cave" ∷ [], codes "graph" ∷ [])) ∷ []
+commands = entry "check" command.Check ("cave" ∷ []) ("test" ∷ "verify" ∷ [])
+    ∷ entry "play" command.Play ("cave" ∷ "log" ∷ []) ("run" ∷ [])
+    ∷ entry "edit" command.Edit ("cave" ∷ "log" ∷ []) ("replay" ∷ "patch" ∷ [])
+    ∷ entry "script" command.Script ("old" ∷ "new" ∷ []) ("diff" ∷ [])
+    ∷ entry "cover" command.Cover ("cave" ∷ "log" ∷ []) ("coverage" ∷ [])
+    ∷ entry "map" command.Map ("cave" ∷ []) ("graph" ∷ []) ∷ []
 
 -- all the files that a command needs were found
 abbrev pub has_files : List (List ℕ) → List Row → Bool

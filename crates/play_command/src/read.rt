@@ -1,12 +1,12 @@
 //! Which run the words ask for.
 
-ghost use Rattle.std.specs.Prelude.{◌≡◌, Err, IfOk, Some, map, option_map, string_bytes};
+ghost use Rattle.std.specs.Prelude.{◌≡◌, Err, Some, map};
 ghost use Rattle.clap.specs.Words.{HasKind, IsAmong, Kinds, kind_of, subcommand_rows_of};
 ghost use Rattle.clap.specs.declared.error.kind.ErrorKind.TheVariants.{InvalidSubcommand};
 ghost use Rattle.play_command.specs.Commands.{has_files, needed_in};
 ghost use Rattle.play_command.specs.Found.{rows_in};
 ghost use Rattle.play_command.specs.Line.{IsAnswer, IsErrorAnswer, IsParse, IsRunAnswer, asked_by};
-ghost use Rattle.play_command.specs.Line.{given_for, typed_of};
+ghost use Rattle.play_command.specs.Line.{given_for};
 
 use crate::app::cave_app;
 use crate::arguments::Argument;
@@ -19,7 +19,7 @@ use crate::line::{Line, Request, What};
 use clap::error::ErrorKind;
 use clap::{ArgMatches, Error};
 use replay_scripts::text_of_lines;
-use std::alloc::{AllocError, Global};
+use std::alloc::Global;
 use std::convert::AsStr;
 
 /// What the words of a command line ask for. The first word is the program's name.
@@ -94,7 +94,10 @@ fn answer_by<'a>(
         Err(misuse) => Err(CommandFault::Misuse(misuse, given_for(misuse, found))),
         Ok(what) => Ok(Line::Run(Request {
             files: files_in(alloc, found, &FILES)?,
-            typed: typed_in(alloc, found)?,
+            typed: match values_in(found, "edit") {
+                Some(lines) => Some(text_of_lines(alloc, lines)?),
+                None => None,
+            },
             output: output_in(found),
             quiet: is_set(found, "quiet"),
             what,
@@ -132,14 +135,4 @@ fn has_files(arguments: &[Argument], found: &ArgMatches<'_>) -> bool
         }
     }
     true
-}
-
-/// The text of a script whose lines the parser found.
-fn typed_in(alloc: Global, found: &ArgMatches<'_>) -> Result<Option<String>, AllocError>
-    ensures { IfOk result (λ typed. option_map string_bytes typed ≡ typed_of (rows_in found.now)) }
-{
-    match values_in(found, "edit") {
-        Some(lines) => Ok(Some(text_of_lines(alloc, lines)?)),
-        None => Ok(None),
-    }
 }
