@@ -112,17 +112,12 @@ abbrev pub edits_from_of : List Row → Result EditsFrom Misuse
 edits_from_of rows = edits_from (is_given (codes "script") rows)
     (is_some (all_of (codes "edit") rows)) (is_given (codes "to") rows)
 
--- an edit prints the log in place, and else what was found for it, or the transcript
-unfoldable pub edit_view_asked : List Row → Result EditView Misuse
-edit_view_asked rows =
-    if is_in_place rows then Ok edited.Log else view_of edit_views edited.Transcript rows
-
--- how a log is edited
+-- how a log is edited; it is printed as a log in place, and else as was found, or as the transcript
 unfoldable pub editing_of : List Row → Result Editing Misuse
 editing_of rows = do
   seed ← number_of Seed 0 rows
   every ← number_of Every 50 rows
-  view ← edit_view_asked rows
+  view ← if is_in_place rows then Ok edited.Log else view_of edit_views edited.Transcript rows
   Ok (record {
     seed = seed;
     every = every;

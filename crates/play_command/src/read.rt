@@ -6,10 +6,9 @@ ghost use Rattle.clap.specs.declared.error.kind.ErrorKind.TheVariants.{InvalidSu
 ghost use Rattle.play_command.specs.Commands.{has_files, needed_in};
 ghost use Rattle.play_command.specs.Found.{rows_in};
 ghost use Rattle.play_command.specs.Line.{IsAnswer, IsErrorAnswer, IsParse, IsRunAnswer, asked_by};
-ghost use Rattle.play_command.specs.Line.{given_for};
 
 use crate::app::cave_app;
-use crate::arguments::Argument;
+use crate::arguments::{Argument, Form};
 use crate::asked::what_in;
 use crate::commands::{meant_command, row_named};
 use crate::fault::{CommandFault, Misuse};
@@ -91,7 +90,13 @@ fn answer_by<'a>(
     ensures { IsRunAnswer (Some (name.now, rows_in found.now)) result }
 {
     match asked_by(name, found) {
-        Err(misuse) => Err(CommandFault::Misuse(misuse, given_for(misuse, found))),
+        Err(misuse) => {
+            let given = match misuse {
+                Misuse::BadNumber(option) => value_in(found, option.row().0).unwrap_or(""),
+                _ => "",
+            };
+            Err(CommandFault::Misuse(misuse, given))
+        }
         Ok(what) => Ok(Line::Run(Request {
             files: files_in(alloc, found, &FILES)?,
             typed: match values_in(found, "edit") {
@@ -115,22 +120,13 @@ fn asked_by(name: &str, found: &ArgMatches<'_>) -> Result<What, Misuse>
     }
 }
 
-/// What was given for the option of a number, if a misuse is of one.
-fn given_for<'a>(misuse: Misuse, found: &ArgMatches<'a>) -> &'a str
-    ensures { result.now ≡ given_for misuse (rows_in found.now) }
-{
-    match misuse {
-        Misuse::BadNumber(option) => value_in(found, option.row().0).unwrap_or(""),
-        _ => "",
-    }
-}
-
 /// Whether all the files that a command needs were found.
 fn has_files(arguments: &[Argument], found: &ArgMatches<'_>) -> bool
     ensures { result ≡ has_files (needed_in arguments.now) (rows_in found.now) }
 {
     for argument in arguments {
-        if argument.is_needed() && !is_given(found, argument.id) {
+        let is_needed = matches!(&argument.form, Form::NeededFile | Form::NeededFiles);
+        if is_needed && !is_given(found, argument.id) {
             return false;
         }
     }
