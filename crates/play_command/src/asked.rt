@@ -1,9 +1,8 @@
 //! What each command asks, by what the parser found.
 
 ghost use Rattle.std.specs.Prelude.{◌≡◌, map};
-ghost use Rattle.play_command.specs.Asked.{around_of, check_of, edit_of};
-ghost use Rattle.play_command.specs.Asked.{editing_of, edits_from_of, judges_left};
-ghost use Rattle.play_command.specs.Asked.{part_of, report_of, view_of, what_of};
+ghost use Rattle.play_command.specs.Asked.{around_of, check_of, edit_of, editing_of, edits_from_of};
+ghost use Rattle.play_command.specs.Asked.{judges_left, part_of, report_of, view_of, what_of};
 ghost use Rattle.play_command.specs.Found.{rows_in, with_text};
 
 use crate::commands::CommandName;
