@@ -183,6 +183,12 @@ part_of rows =
 
 -- of texts is printed what was found for it; otherwise each that is left if they are to be judged
 -- or left out, and else how many there are
+abbrev pub cover_of : List Row → Result What Misuse
+cover_of rows = do
+  seed ← number_of Seed 0 rows
+  view ← view_of cover_views (Said (if judges_left rows then Texts else Counts)) rows
+  Ok (what.Cover seed view (is_set (codes "strict") rows))
+
 abbrev pub what_of : CommandName → List Row → Result What Misuse
 what_of command.Check rows = check_of rows
 what_of command.Play rows = do
@@ -194,10 +200,7 @@ what_of command.Script rows = Ok (what.Script (record {
   guarded = is_set (codes "guarded") rows;
   grouped = is_set (codes "group") rows;
 }))
-what_of command.Cover rows = do
-  seed ← number_of Seed 0 rows
-  view ← view_of cover_views (Said (if judges_left rows then Texts else Counts)) rows
-  Ok (what.Cover seed view (is_set (codes "strict") rows))
+what_of command.Cover rows = cover_of rows
 what_of command.Map rows = do
   seed ← number_of Seed 0 rows
   part ← part_of rows

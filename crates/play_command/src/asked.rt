@@ -1,8 +1,9 @@
 //! What each command asks, by what the parser found.
 
 ghost use Rattle.std.specs.Prelude.{◌≡◌, map};
-ghost use Rattle.play_command.specs.Asked.{around_of, check_of, edit_of, editing_of, edits_from_of};
-ghost use Rattle.play_command.specs.Asked.{judges_left, part_of, report_of, view_of, what_of};
+ghost use Rattle.play_command.specs.Asked.{around_of, check_of, cover_of, edit_of, editing_of};
+ghost use Rattle.play_command.specs.Asked.{edits_from_of, judges_left, part_of, report_of, view_of};
+ghost use Rattle.play_command.specs.Asked.{what_of};
 ghost use Rattle.play_command.specs.Found.{rows_in, with_text};
 
 use crate::commands::CommandName;
@@ -165,7 +166,7 @@ fn part_in(found: &ArgMatches<'_>) -> Result<MapPart, Misuse>
 }
 
 fn cover_in(found: &ArgMatches<'_>) -> Result<What, Misuse>
-    ensures { result ≡ what_of CommandName.Cover (rows_in found.now) }
+    ensures { result ≡ cover_of (rows_in found.now) }
 {
     let usual = if judges_left(found) {
         CoverView::Said(TextView::Texts)
