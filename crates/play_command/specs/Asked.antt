@@ -112,17 +112,12 @@ abbrev pub edits_from_of : List Row → Result EditsFrom Misuse
 edits_from_of rows = edits_from (is_given (codes "script") rows)
     (is_some (all_of (codes "edit") rows)) (is_given (codes "to") rows)
 
--- an edit prints the log in place, and else what was found for it, or the transcript
-unfoldable pub edit_view_asked : List Row → Result EditView Misuse
-edit_view_asked rows =
-    if is_in_place rows then Ok edited.Log else view_of edit_views edited.Transcript rows
-
--- how a log is edited
+-- how a log is edited; it is printed as a log in place, and else as was found, or as the transcript
 unfoldable pub editing_of : List Row → Result Editing Misuse
 editing_of rows = do
   seed ← number_of Seed 0 rows
   every ← number_of Every 50 rows
-  view ← edit_view_asked rows
+  view ← if is_in_place rows then Ok edited.Log else view_of edit_views edited.Transcript rows
   Ok (record {
     seed = seed;
     every = every;
@@ -188,6 +183,12 @@ part_of rows =
 
 -- of texts is printed what was found for it; otherwise each that is left if they are to be judged
 -- or left out, and else how many there are
+abbrev pub cover_of : List Row → Result What Misuse
+cover_of rows = do
+  seed ← number_of Seed 0 rows
+  view ← view_of cover_views (Said (if judges_left rows then Texts else Counts)) rows
+  Ok (what.Cover seed view (is_set (codes "strict") rows))
+
 abbrev pub what_of : CommandName → List Row → Result What Misuse
 what_of command.Check rows = check_of rows
 what_of command.Play rows = do
@@ -199,10 +200,7 @@ what_of command.Script rows = Ok (what.Script (record {
   guarded = is_set (codes "guarded") rows;
   grouped = is_set (codes "group") rows;
 }))
-what_of command.Cover rows = do
-  seed ← number_of Seed 0 rows
-  view ← view_of cover_views (Said (if judges_left rows then Texts else Counts)) rows
-  Ok (what.Cover seed view (is_set (codes "strict") rows))
+what_of command.Cover rows = cover_of rows
 what_of command.Map rows = do
   seed ← number_of Seed 0 rows
   part ← part_of rows

@@ -27,16 +27,16 @@ use Rattle.play_command.specs.declared.commands.CommandRow.{CommandRow}
 abbrev pub Needs : Type 0
 Needs = CommandName × List (List ℕ) × List (List ℕ)
 
+abbrev pub entry : String → CommandName → List String → List String → List ℕ × Needs
+entry name command files others = (codes name, (command, map codes files, map codes others))
+
 abbrev pub commands : List (List ℕ × Needs)
-commands = (codes "check", (command.Check, codes "cave" ∷ [], codes "test" ∷ codes "verify" ∷ []))
-    ∷ (codes "play", (command.Play, codes "cave" ∷ codes "log" ∷ [], codes "run" ∷ []))
-    ∷ (
-      codes "edit",
-      (command.Edit, codes "cave" ∷ codes "log" ∷ [], codes "replay" ∷ codes "patch" ∷ []),
-    )
-    ∷ (codes "script", (command.Script, codes "old" ∷ codes "new" ∷ [], codes "diff" ∷ []))
-    ∷ (codes "cover", (command.Cover, codes "cave" ∷ codes "log" ∷ [], codes "coverage" ∷ []))
-    ∷ (codes "map", (command.Map, codes "cave" ∷ [], codes "graph" ∷ [])) ∷ []
+commands = entry "check" command.Check ("cave" ∷ []) ("test" ∷ "verify" ∷ [])
+    ∷ entry "play" command.Play ("cave" ∷ "log" ∷ []) ("run" ∷ [])
+    ∷ entry "edit" command.Edit ("cave" ∷ "log" ∷ []) ("replay" ∷ "patch" ∷ [])
+    ∷ entry "script" command.Script ("old" ∷ "new" ∷ []) ("diff" ∷ [])
+    ∷ entry "cover" command.Cover ("cave" ∷ "log" ∷ []) ("coverage" ∷ [])
+    ∷ entry "map" command.Map ("cave" ∷ []) ("graph" ∷ []) ∷ []
 
 -- all the files that a command needs were found
 abbrev pub has_files : List (List ℕ) → List Row → Bool
@@ -149,42 +149,33 @@ needed id = argument form.NeededFile id
 abbrev pub value : String → Rule
 value id = argument form.Value id
 
+abbrev pub short_value : String → Rule
+short_value id = lettered form.Value id
+
 abbrev pub flag : String → Rule
 flag id = argument form.Flag id
-
--- the arguments of several commands
-abbrev pub cave : Rule
-cave = needed "cave"
-
-abbrev pub bind : Rule
-bind = lettered form.Value "bind"
-
-abbrev pub seed : Rule
-seed = lettered form.Value "seed"
 
 abbrev pub print : Names → Rule
 print names = lettered (form.View names) "print"
 
-abbrev pub output : Rule
-output = lettered form.Value "output"
-
 -- the arguments of each command
 abbrev pub rules_of : ViewNames → CommandName → List Rule
-rules_of names command.Check =
-    cave ∷ bind ∷ print names.check.0 ∷ flag "strict" ∷ value "known" ∷ output ∷ []
-rules_of names command.Play =
-    cave ∷ needed "log" ∷ bind ∷ seed ∷ print names.play.0 ∷ output ∷ []
-rules_of names command.Edit =
-    cave ∷ needed "log" ∷ argument form.File "script" ∷ lettered form.Values "edit" ∷ value "to"
-    ∷ bind ∷ seed ∷ value "every" ∷ print names.edit.0 ∷ flag "strict" ∷ flag "guarded"
-    ∷ lettered form.Flag "quiet" ∷ argument (form.Report names.report.0) "report" ∷ output
-    ∷ flag "in-place" ∷ []
-rules_of names command.Script =
-    needed "old" ∷ needed "new" ∷ flag "guarded" ∷ flag "group" ∷ output ∷ []
-rules_of names command.Cover = cave ∷ argument form.NeededFiles "log" ∷ bind ∷ seed
-    ∷ print names.cover.0 ∷ flag "strict" ∷ value "known" ∷ output ∷ []
-rules_of names command.Map = cave ∷ argument form.Files "log" ∷ bind ∷ seed ∷ flag "seen"
-    ∷ value "from" ∷ value "within" ∷ output ∷ []
+rules_of names command.Check = needed "cave" ∷ short_value "bind" ∷ print names.check.0
+    ∷ flag "strict" ∷ value "known" ∷ short_value "output" ∷ []
+rules_of names command.Play = needed "cave" ∷ needed "log" ∷ short_value "bind"
+    ∷ short_value "seed" ∷ print names.play.0 ∷ short_value "output" ∷ []
+rules_of names command.Edit = needed "cave" ∷ needed "log" ∷ argument form.File "script"
+    ∷ lettered form.Values "edit" ∷ value "to" ∷ short_value "bind" ∷ short_value "seed"
+    ∷ value "every" ∷ print names.edit.0 ∷ flag "strict" ∷ flag "guarded"
+    ∷ lettered form.Flag "quiet" ∷ argument (form.Report names.report.0) "report"
+    ∷ short_value "output" ∷ flag "in-place" ∷ []
+rules_of names command.Script = needed "old" ∷ needed "new" ∷ flag "guarded" ∷ flag "group"
+    ∷ short_value "output" ∷ []
+rules_of names command.Cover = needed "cave" ∷ argument form.NeededFiles "log"
+    ∷ short_value "bind" ∷ short_value "seed" ∷ print names.cover.0 ∷ flag "strict"
+    ∷ value "known" ∷ short_value "output" ∷ []
+rules_of names command.Map = needed "cave" ∷ argument form.Files "log" ∷ short_value "bind"
+    ∷ short_value "seed" ∷ flag "seen" ∷ value "from" ∷ value "within" ∷ short_value "output" ∷ []
 
 abbrev pub shape_of : ViewNames → List ℕ × Needs → Shape
 shape_of names entry = record (new_app entry.0).top { rules = rules_of names entry.1.0 }

@@ -41,6 +41,12 @@ misuse_text misuse.WithinAlone = codes "'--within <N>' is for '--from <PLACE>'"
 misuse_text misuse.SeenAlone = codes "'--seen' needs a LOG"
 misuse_text misuse.SeedAlone = codes "'--seed <N>' needs a LOG"
 
+-- the whole text of a misuse, with what was given for the option of a number
+abbrev pub misuse_refusal : Misuse → List ℕ → List ℕ
+misuse_refusal (misuse.BadNumber option) given =
+    codes "error: invalid value '" ++ (given ++ (misuse_text (misuse.BadNumber option) ++ help))
+misuse_refusal found given = codes "error: " ++ (misuse_text found ++ help)
+
 -- the word isn't a command, and this one is meant
 abbrev pub command_text : List ℕ → List ℕ → List ℕ
 command_text word command = codes "error: unrecognized subcommand '" ++ (word
@@ -51,8 +57,5 @@ command_text word command = codes "error: unrecognized subcommand '" ++ (word
 abbrev pub refusal_text : CommandFault → Option (List ℕ)
 refusal_text (fault_is.Usage error) = None
 refusal_text (fault_is.OtherName word command) = Some (command_text word.now command.now)
-refusal_text (fault_is.Misuse (misuse.BadNumber option) given) =
-    Some (codes "error: invalid value '"
-    ++ (given.now ++ (misuse_text (misuse.BadNumber option) ++ help)))
-refusal_text (fault_is.Misuse found given) = Some (codes "error: " ++ (misuse_text found ++ help))
+refusal_text (fault_is.Misuse found given) = Some (misuse_refusal found given.now)
 refusal_text fault_is.Memory = Some (codes "cave: there isn't enough memory\n")

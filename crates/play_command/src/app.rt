@@ -56,11 +56,11 @@ fn with_commands<'a>(
     Ok(made)
 }
 
-/// The program's command without its subcommands.
-fn plain_app<'a>(alloc: Global) -> Command<'a>
-    ensures { app_of result ≡ plain_app }
+/// The program's command, with its subcommands.
+pub fn cave_app<'a>(alloc: Global) -> Result<Command<'a>, AllocError>
+    ensures { IfOk result IsCave }
 {
-    Command::new(alloc, "cave")
+    let program = Command::new(alloc, "cave")
         .about(
             "Plays logs of a text adventure, edits and replays them, and reports what they never \
             show",
@@ -68,12 +68,6 @@ fn plain_app<'a>(alloc: Global) -> Command<'a>
         .version(VERSION)
         .after_help(STATUSES)
         .subcommand_required(true)
-        .arg_required_else_help(true)
-}
-
-/// The program's command, with its subcommands.
-pub fn cave_app<'a>(alloc: Global) -> Result<Command<'a>, AllocError>
-    ensures { IfOk result IsCave }
-{
-    with_commands(alloc, plain_app(alloc), &COMMANDS)
+        .arg_required_else_help(true);
+    with_commands(alloc, program, &COMMANDS)
 }

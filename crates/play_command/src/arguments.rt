@@ -3,8 +3,7 @@
 ghost use Rattle.std.specs.Prelude.{◌≡◌, IfOk, false, fold, map};
 ghost use Rattle.clap.specs.Words.{app_of, rule_of, with_rule};
 ghost use Rattle.clap.specs.declared.builder.command.Command.TheViews.{out-Command};
-ghost use Rattle.play_command.specs.Commands.{IsLocal, argument_rule, is_needed, plain_argument};
-ghost use Rattle.play_command.specs.Commands.{with_letter, with_names};
+ghost use Rattle.play_command.specs.Commands.{IsLocal, argument_rule, plain_argument};
 
 use clap::builder::ValueParser;
 use clap::{Arg, ArgAction, Command};
@@ -41,25 +40,6 @@ pub(crate) struct Argument {
     pub(crate) help: &'static str,
 }
 
-impl Argument {
-    /// Whether a command isn't complete without it.
-    pub(crate) fn is_needed(&self) -> bool
-        ensures { result ≡ is_needed self.now.form }
-    {
-        matches!(&self.form, Form::NeededFile | Form::NeededFiles)
-    }
-}
-
-fn with_letter<'a>(arg: Arg<'a>, letter: Option<char>) -> Arg<'a>
-    ensures rule { rule_of result ≡ with_letter letter (rule_of arg.entry) }
-    ensures local { result.global ≡ arg.entry.global }
-{
-    match letter {
-        Some(letter) => arg.short(letter),
-        None => arg,
-    }
-}
-
 /// An argument that is given so, without its letter.
 fn plain_argument<'a>(alloc: Global, argument: &Argument) -> Arg<'a>
     ensures rule { rule_of result ≡ plain_argument argument.now.form argument.now.id.now }
@@ -77,21 +57,20 @@ fn plain_argument<'a>(alloc: Global, argument: &Argument) -> Arg<'a>
         Form::Files => arg.action(ArgAction::Append).value_name(value),
         Form::Value => arg.long(id).value_name(value),
         Form::Values => arg.long(id).action(ArgAction::Append).value_name(value),
-        Form::View(names) => with_names(arg.long(id).value_name(value), names),
-        Form::Report(names) => with_names(arg.long(id).value_name(value), names)
+        Form::View(names) => arg
+            .long(id)
+            .value_name(value)
+            .value_parser(ValueParser::Names(names))
+            .hide_possible_values(true),
+        Form::Report(names) => arg
+            .long(id)
+            .value_name(value)
+            .value_parser(ValueParser::Names(names))
+            .hide_possible_values(true)
             .num_args(0..=1)
             .default_missing_value("reports"),
         Form::Flag => arg.long(id).action(ArgAction::SetTrue),
     }
-}
-
-/// The argument, of which the parser takes only these values. Help lists them by itself.
-fn with_names<'a>(arg: Arg<'a>, names: &'static [&'static str]) -> Arg<'a>
-    ensures rule { rule_of result ≡ with_names names.entry (rule_of arg.entry) }
-    ensures local { result.global ≡ arg.entry.global }
-{
-    arg.value_parser(ValueParser::Names(names))
-        .hide_possible_values(true)
 }
 
 /// Adds arguments to a command.
@@ -106,7 +85,11 @@ pub(crate) fn with_arguments<'a>(
 {
     let mut made = command;
     for argument in arguments {
-        made = made.arg(with_letter(plain_argument(alloc, argument), argument.letter))?;
+        let arg = plain_argument(alloc, argument);
+        made = made.arg(match argument.letter {
+            Some(letter) => arg.short(letter),
+            None => arg,
+        })?;
     }
     Ok(made)
 }

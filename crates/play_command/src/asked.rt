@@ -1,9 +1,9 @@
 //! What each command asks, by what the parser found.
 
 ghost use Rattle.std.specs.Prelude.{◌≡◌, map};
-ghost use Rattle.play_command.specs.Asked.{around_of, check_of, edit_of, edit_view_asked};
-ghost use Rattle.play_command.specs.Asked.{editing_of, edits_from_of, has_reports, judges_left};
-ghost use Rattle.play_command.specs.Asked.{part_of, report_of, view_of, what_of};
+ghost use Rattle.play_command.specs.Asked.{around_of, check_of, cover_of, edit_of, editing_of};
+ghost use Rattle.play_command.specs.Asked.{edits_from_of, judges_left, part_of, report_of, view_of};
+ghost use Rattle.play_command.specs.Asked.{what_of};
 ghost use Rattle.play_command.specs.Found.{rows_in, with_text};
 
 use crate::commands::CommandName;
@@ -69,18 +69,7 @@ fn edits_from_in(found: &ArgMatches<'_>) -> Result<EditsFrom, Misuse>
     }
 }
 
-/// What an edit prints: in place the log.
-#[tactic(auto, unfolding(crate::specs::Asked::edit_view_asked))]
-fn edit_view_in(found: &ArgMatches<'_>) -> Result<EditView, Misuse>
-    ensures { result ≡ edit_view_asked (rows_in found.now) }
-{
-    if is_in_place(found) {
-        return Ok(EditView::Log);
-    }
-    view_in(found, EDIT_VIEWS.by_name, EDIT_VIEWS.usual)
-}
-
-/// How a log is to be edited.
+/// How a log is to be edited. In place it is printed as a log.
 #[tactic(auto, unfolding(crate::specs::Asked::editing_of))]
 fn editing_in(found: &ArgMatches<'_>) -> Result<Editing, Misuse>
     ensures { result ≡ editing_of (rows_in found.now) }
@@ -88,7 +77,11 @@ fn editing_in(found: &ArgMatches<'_>) -> Result<Editing, Misuse>
     Ok(Editing {
         seed: number_in(found, NumberOption::Seed, USUAL_SEED)?,
         every: number_in(found, NumberOption::Every, USUAL_EVERY)?,
-        view: edit_view_in(found)?,
+        view: if is_in_place(found) {
+            EditView::Log
+        } else {
+            view_in(found, EDIT_VIEWS.by_name, EDIT_VIEWS.usual)?
+        },
         strict: is_set(found, "strict"),
         guarded: is_set(found, "guarded"),
     })
@@ -111,16 +104,6 @@ fn report_in(found: &ArgMatches<'_>) -> Result<Option<ReportView>, Misuse>
     }
 }
 
-/// Whether what is printed has reports on the items: the view has, or they are beside it.
-fn has_reports(view: EditView, beside: Option<ReportView>) -> bool
-    ensures { result ≡ has_reports view beside }
-{
-    matches!(
-        (view, beside),
-        (_, Some(ReportView::Reports)) | (EditView::Transcript | EditView::Reports, _)
-    )
-}
-
 /// What an edit asks. In place it has its own file and its own view, so it is given neither.
 #[tactic(auto, unfolding(crate::specs::Asked::edit_of))]
 fn edit_in(found: &ArgMatches<'_>) -> Result<EditAsked, Misuse>
@@ -132,11 +115,15 @@ fn edit_in(found: &ArgMatches<'_>) -> Result<EditAsked, Misuse>
     let editing = editing_in(found)?;
     let edits_from = edits_from_in(found)?;
     let report = report_in(found)?;
+    let has_reports = matches!(
+        (editing.view, report),
+        (_, Some(ReportView::Reports)) | (EditView::Transcript | EditView::Reports, _)
+    );
     Ok(EditAsked {
         edits_from,
         editing,
         report,
-        refusals: !is_set(found, "quiet") && !has_reports(editing.view, report),
+        refusals: !is_set(found, "quiet") && !has_reports,
     })
 }
 
@@ -179,7 +166,7 @@ fn part_in(found: &ArgMatches<'_>) -> Result<MapPart, Misuse>
 }
 
 fn cover_in(found: &ArgMatches<'_>) -> Result<What, Misuse>
-    ensures { result ≡ what_of CommandName.Cover (rows_in found.now) }
+    ensures { result ≡ cover_of (rows_in found.now) }
 {
     let usual = if judges_left(found) {
         CoverView::Said(TextView::Texts)

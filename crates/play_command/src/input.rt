@@ -1,6 +1,6 @@
 //! The files that a run reads, and the one that it writes.
 
-ghost use Rattle.std.specs.Prelude.{◌≡◌, ◌++◌, IfOk, OnOk, map, option_map};
+ghost use Rattle.std.specs.Prelude.{◌≡◌, IfOk, map, option_map};
 ghost use Rattle.std.specs.List.{flat_map};
 ghost use Rattle.play_command.specs.Found.{files_at, is_in_place, named_file, output_of};
 ghost use Rattle.play_command.specs.Found.{rows_in, with_text};
@@ -41,24 +41,6 @@ pub(crate) const FILES: [(&str, Input); 8] = [
     ("known", Input::Known),
 ];
 
-/// Adds what the parser found for an argument, as files of its input.
-fn push_files<'a>(
-    files: &mut Vec<NamedFile<'a>>,
-    found: &ArgMatches<'a>,
-    id: &str,
-    input: Input,
-) -> Result<(), AllocError>
-    ensures { OnOk result (map named_file files.new.items
-        ≡ map named_file files.old.items ++ files_at (rows_in found.now) (id.now, input)) }
-{
-    if let Some(names) = values_in(found, id) {
-        for name in names {
-            files.push(NamedFile { input, name: *name })?;
-        }
-    }
-    Ok(())
-}
-
 /// The files to read that the parser found for some arguments.
 pub(crate) fn files_in<'a>(
     alloc: Global,
@@ -70,7 +52,14 @@ pub(crate) fn files_in<'a>(
 {
     let mut files = Vec::new(alloc);
     for (id, input) in arguments {
-        push_files(&mut files, found, id, *input)?;
+        if let Some(names) = values_in(found, id) {
+            for name in names {
+                files.push(NamedFile {
+                    input: *input,
+                    name: *name,
+                })?;
+            }
+        }
     }
     Ok(files)
 }

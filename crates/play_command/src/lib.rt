@@ -13,8 +13,7 @@ pub mod line;
 mod read;
 pub mod views;
 
-pub use fault::{CommandFault, Misuse};
-pub use found::NumberOption;
+pub use fault::CommandFault;
 pub use input::{Input, NamedFile};
 pub use line::{EditAsked, Editing, EditsFrom, Line, MapPart, Request, Surroundings, What};
 pub use read::command_line;

@@ -1,15 +1,14 @@
 //! Which run the words ask for.
 
-ghost use Rattle.std.specs.Prelude.{◌≡◌, Err, IfOk, Some, map, option_map, string_bytes};
+ghost use Rattle.std.specs.Prelude.{◌≡◌, Err, Some, map};
 ghost use Rattle.clap.specs.Words.{HasKind, IsAmong, Kinds, kind_of, subcommand_rows_of};
 ghost use Rattle.clap.specs.declared.error.kind.ErrorKind.TheVariants.{InvalidSubcommand};
 ghost use Rattle.play_command.specs.Commands.{has_files, needed_in};
 ghost use Rattle.play_command.specs.Found.{rows_in};
 ghost use Rattle.play_command.specs.Line.{IsAnswer, IsErrorAnswer, IsParse, IsRunAnswer, asked_by};
-ghost use Rattle.play_command.specs.Line.{given_for, typed_of};
 
 use crate::app::cave_app;
-use crate::arguments::Argument;
+use crate::arguments::{Argument, Form};
 use crate::asked::what_in;
 use crate::commands::{meant_command, row_named};
 use crate::fault::{CommandFault, Misuse};
@@ -19,7 +18,7 @@ use crate::line::{Line, Request, What};
 use clap::error::ErrorKind;
 use clap::{ArgMatches, Error};
 use replay_scripts::text_of_lines;
-use std::alloc::{AllocError, Global};
+use std::alloc::Global;
 use std::convert::AsStr;
 
 /// What the words of a command line ask for. The first word is the program's name.
@@ -91,10 +90,19 @@ fn answer_by<'a>(
     ensures { IsRunAnswer (Some (name.now, rows_in found.now)) result }
 {
     match asked_by(name, found) {
-        Err(misuse) => Err(CommandFault::Misuse(misuse, given_for(misuse, found))),
+        Err(misuse) => {
+            let given = match misuse {
+                Misuse::BadNumber(option) => value_in(found, option.row().0).unwrap_or(""),
+                _ => "",
+            };
+            Err(CommandFault::Misuse(misuse, given))
+        }
         Ok(what) => Ok(Line::Run(Request {
             files: files_in(alloc, found, &FILES)?,
-            typed: typed_in(alloc, found)?,
+            typed: match values_in(found, "edit") {
+                Some(lines) => Some(text_of_lines(alloc, lines)?),
+                None => None,
+            },
             output: output_in(found),
             quiet: is_set(found, "quiet"),
             what,
@@ -112,34 +120,15 @@ fn asked_by(name: &str, found: &ArgMatches<'_>) -> Result<What, Misuse>
     }
 }
 
-/// What was given for the option of a number, if a misuse is of one.
-fn given_for<'a>(misuse: Misuse, found: &ArgMatches<'a>) -> &'a str
-    ensures { result.now ≡ given_for misuse (rows_in found.now) }
-{
-    match misuse {
-        Misuse::BadNumber(option) => value_in(found, option.row().0).unwrap_or(""),
-        _ => "",
-    }
-}
-
 /// Whether all the files that a command needs were found.
 fn has_files(arguments: &[Argument], found: &ArgMatches<'_>) -> bool
     ensures { result ≡ has_files (needed_in arguments.now) (rows_in found.now) }
 {
     for argument in arguments {
-        if argument.is_needed() && !is_given(found, argument.id) {
+        let is_needed = matches!(&argument.form, Form::NeededFile | Form::NeededFiles);
+        if is_needed && !is_given(found, argument.id) {
             return false;
         }
     }
     true
-}
-
-/// The text of a script whose lines the parser found.
-fn typed_in(alloc: Global, found: &ArgMatches<'_>) -> Result<Option<String>, AllocError>
-    ensures { IfOk result (λ typed. option_map string_bytes typed ≡ typed_of (rows_in found.now)) }
-{
-    match values_in(found, "edit") {
-        Some(lines) => Ok(Some(text_of_lines(alloc, lines)?)),
-        None => Ok(None),
-    }
 }

@@ -1,4 +1,4 @@
-use Rattle.std.proofs.Common.{◌≡◌, ◌++◌, drop, map}
+use Rattle.std.proofs.Common.{◌≡◌, ◌++◌, drop, map, take}
 use Rattle.std.specs.List.{flat_map}
 use Rattle.play_command.specs.Found.{files_at, named_file, rows_in, with_text}
 use Rattle.play_command.proofs.input.files_in.Given as goal
@@ -9,3 +9,9 @@ invariant-loop-id l =
     map named_file l.files.items
     ++ flat_map (files_at (rows_in l.found)) (map with_text (drop l.id-index l.arguments))
     ≡ flat_map (files_at (rows_in l.found)) (map with_text l.arguments)
+
+abbrev pub invariant-loop-name : goal.invariant-loop-name
+invariant-loop-name l =
+    map named_file l.files.items
+    ≡ map named_file l.initial.files.items
+    ++ map (λ name. (l.input, name)) (map (λ name. name.now) (take l.name-index l.names))
