@@ -1,8 +1,9 @@
 -- What the inputs of a run still have after some of them were read.
 use Rattle.std.proofs.Common.{◌≡◌, ℕ, List, [], ◌∷◌, None, Some, refl, ap, drop, subst, ◌∙◌}
 use Rattle.std.specs.declared.option.Option.{Option}
-use Rattle.cave_play.specs.Sources.{AreTextsOf, InputTexts, Says, AreHeld, Held, IsTaken, held_by}
-use Rattle.cave_play.specs.Sources.{held_for, next_log, without_cave, IsOneLogOf, held_by_one}
+use Rattle.cave_play.specs.Sources.{AreRead, AreReadersOf, Leads, held_of, held_by, held_for}
+use Rattle.cave_play.specs.Sources.{AreHeld, Held, IsTaken, next_log, IsOneLogOf, held_by_one}
+use Rattle.cave_play.specs.Sources.{AreTextsOf, InputTexts, Says, without_cave}
 use Rattle.cave_play.specs.declared.inputs.CaveReaders.{CaveReaders}
 use Rattle.cave_play.specs.declared.inputs.Inputs.{Inputs}
 use Rattle.cave_play.specs.declared.inputs.OneLog.{OneLog}
