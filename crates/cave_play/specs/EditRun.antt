@@ -31,8 +31,8 @@ IsSideReport None database bindings log script editing played text = text ≡ []
 IsSideReport (Some view) database bindings log script editing played text =
     IsEdited database bindings log script (record editing { view = edit_view_of view }) played text
 
--- the output is that of the edit, and what is returned says which items are refused, has the report,
--- if one is asked for, and the seed that is left
+-- the output is that of the edit, and what is returned says which items are refused, has the
+-- report, if one is asked for, and the seed that is left
 abbrev pub IsEditRun : List ℕ → List ℕ → List ℕ → List ℕ → Editing → Option ReportView → EditRun
     → List ℕ → Type 0
 IsEditRun database bindings log script editing report run output =
