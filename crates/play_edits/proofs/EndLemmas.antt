@@ -62,8 +62,11 @@ no_such_last other never last (byte ∷ line) good before =
 ends_in-line : (line text : List ℕ) (end : LineEnd) → IsTextLine line
     → ends_in ((line ++ bytes_of_end end) ++ text) ≡ end ∷ ends_in text
 ends_in-line line text Feed good =
-    rw (append_assoc line (10 ∷ []) text, past_line 10 line (10 ∷ text) good,
-    no_such_last 13 refl 10 line good refl) refl
+    rw (
+      append_assoc line (10 ∷ []) text,
+      past_line 10 line (10 ∷ text) good,
+      no_such_last 13 refl 10 line good refl,
+    ) refl
 ends_in-line line text Return good =
     rw (append_assoc line (13 ∷ 10 ∷ []) text, past_line 10 line (13 ∷ 10 ∷ text) good) refl
 

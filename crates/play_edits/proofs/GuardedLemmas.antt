@@ -1,7 +1,7 @@
 -- What is written of items with guards is their script, a script can say it, and it does what the
 -- items do.
 use Rattle.std.proofs.Common.{◌≡◌, ℕ, true, List, [], ◌∷◌, Option, None, Some, sym, refl, ◌-◌, ◌^◌}
-use Rattle.std.proofs.Common.{◌++◌, Ok, Err, All, ap, ◌∙◌, append-nil}
+use Rattle.std.proofs.Common.{Ok, Err, All, append-nil}
 use Rattle.replay_edits.specs.Edit.{Game, IsGame, apply_all, Change}
 use Rattle.replay_scripts.specs.Script.{Applied}
 use Rattle.replay_scripts.specs.ScriptText.{spelled_items, IsSpellable, group_text, script_text}
@@ -55,11 +55,11 @@ told-guarded cave every (item ∷ items) game checkpoints [] came = absurd came
 told-guarded cave every (item ∷ items) game checkpoints (outcome ∷ outcomes)
     (is, (after, left, others)) =
     let next = game_after_item item game in
-    ap (λ t. text_if_done outcome (guarded_group item.changes game.log) ++ t)
-    (told-guarded cave every items next after outcomes others)
-    ∙ ap (λ t. t ++ guarded_text items next)
-    (guarded_item-outcome cave every item game checkpoints outcome is)
-    ∙ sym (flat_map-append group_text (guarded_of item game) (guarded_groups items next))
+    rw (
+      guarded_item-outcome cave every item game checkpoints outcome is,
+      told-guarded cave every items next after outcomes others,
+    )
+    (sym (flat_map-append group_text (guarded_of item game) (guarded_groups items next)))
 
 -- ---- what a script can say
 
@@ -72,7 +72,8 @@ spellable-guarded item game good None accepted =
     rw accepted (All-cons (All (IsSpellable true)) (with_guards item.changes game.log) []
     (all_spellable true item.changes game good (changes_free item game good met))
     (All-nil (All (IsSpellable true))))
-spellable-guarded item game good (Some fault) refused = rw refused (All-nil (All (IsSpellable true)))
+spellable-guarded item game good (Some fault) refused =
+    rw refused (All-nil (All (IsSpellable true)))
 
 pub spellable-guarded_all : (items : List Applied) (game : Game) → IsGame game
     → All (All (IsSpellable true)) (guarded_groups items game)

@@ -32,9 +32,8 @@ use Rattle.cave_replay.proofs.LogTextLemmas.{reads_back}
 use Rattle.cave_replay.specs.LogText.{log_text}
 use Rattle.play_edits.proofs.EditLemmas.{item_refusal-outcome, IsGame-after_all}
 use Rattle.play_edits.specs.Accounts.{text_of_items}
-use Rattle.play_edits.specs.Items.{game_after_item, game_after_items, item_report, item_report_by}
-use Rattle.play_edits.specs.Items.{reports}
-use Rattle.play_edits.specs.Outcome.{AreOutcomes, ItemOutcome, refusal_in}
+use Rattle.play_edits.specs.Items.{game_after_item, game_after_items, item_report, reports}
+use Rattle.play_edits.specs.Outcome.{AreOutcomes, ItemOutcome}
 use Rattle.play_tables.specs.ItemRow.{item_head_row}
 use Rattle.play_machine.specs.FinalState.{final_state_text}
 use Rattle.play_machine.specs.Score.{score_text}
@@ -53,11 +52,10 @@ told-reports cave every [] game checkpoints outcomes came = refl
 told-reports cave every (item ∷ items) game checkpoints [] came = absurd came
 told-reports cave every (item ∷ items) game checkpoints (outcome ∷ outcomes)
     (is, (after, left, others)) =
-    let rest = told-reports cave every items (game_after_item item game) after outcomes others in
-    let same = item_refusal-outcome cave every item game checkpoints outcome is in
-    ap (λ t. item_report_by item (refusal_in outcome) ++ t) rest
-    ∙ ap (λ refusal. item_report_by item refusal ++ reports items (game_after_item item game))
-    (sym same)
+    rw (
+      item_refusal-outcome cave every item game checkpoints outcome is,
+      told-reports cave every items (game_after_item item game) after outcomes others,
+    ) refl
 
 -- and for a log, just a play or a state, nothing is written of them
 pub told-nothing : (tell : Applied → Game → ItemOutcome → List ℕ)
@@ -67,9 +65,7 @@ pub told-nothing : (tell : Applied → Game → ItemOutcome → List ℕ)
 told-nothing tell none [] game outcomes = refl
 told-nothing tell none (item ∷ items) game [] = refl
 told-nothing tell none (item ∷ items) game (outcome ∷ outcomes) =
-    let next = game_after_item item game in
-    ap (λ t. t ++ text_of_items tell items next outcomes) (none item game outcome)
-    ∙ told-nothing tell none items next outcomes
+    rw (none item game outcome) (told-nothing tell none items (game_after_item item game) outcomes)
 
 -- what is written of items, and then what is written after them, is what the view asks for
 module _ (cave : CaveView) (every : ℕ) (items : List Applied) (game : Game) (guarded : Bool)
@@ -91,7 +87,8 @@ module _ (cave : CaveView) (every : ℕ) (items : List Applied) (game : Game) (g
       → IsViewOf view cave game guarded items outcomes text
   told-whole Transcript text taken is =
       is
-      ∙ ap (λ t. t ++ play_text cave after) (told-reports cave every items game opened outcomes came)
+      ∙ ap (λ t. t ++ play_text cave after)
+      (told-reports cave every items game opened outcomes came)
   told-whole Play text taken is = is ∙ nothing Play (λ _ _ _. refl) (play_text cave after)
   told-whole Steps text taken is = is ∙ nothing Steps (λ _ _ _. refl) (steps_text cave after)
   told-whole Walk text taken is = is ∙ nothing Walk (λ _ _ _. refl) (walk_text cave after)

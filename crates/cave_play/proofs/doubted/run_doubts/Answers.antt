@@ -17,7 +17,8 @@ returns-in_err-listed g c =
       runs = (
         texts,
         AreTextsOf-held g.C.Read.remaining g.B.Read.remaining g.L.Read.remaining
-            g.S.Read.remaining _ _ c.of-readers.ensures Known texts refl are,
+            g.S.Read.remaining c.args.inputs.now c.of-readers.result c.of-readers.ensures Known
+            texts refl are,
         inr (_, refl, inr (found, Keeps-refl _)),
       );
     })
@@ -33,7 +34,8 @@ returns-in_err-write_output g c =
       runs = (
         texts,
         AreTextsOf-held g.C.Read.remaining g.B.Read.remaining g.L.Read.remaining
-            g.S.Read.remaining _ _ c.of-readers.ensures Known texts refl are,
+            g.S.Read.remaining c.args.inputs.now c.of-readers.result c.of-readers.ensures Known
+            texts refl are,
         inr (
           _,
           refl,
@@ -51,7 +53,8 @@ returns-in-Some g c =
       runs = (
         texts,
         AreTextsOf-held g.C.Read.remaining g.B.Read.remaining g.L.Read.remaining
-            g.S.Read.remaining _ _ c.of-readers.ensures Known texts refl are,
+            g.S.Read.remaining c.args.inputs.now c.of-readers.result c.of-readers.ensures Known
+            texts refl are,
         inl (
           c.in_ok-listed.listed,
           ap by_doubt (c.in-Some.ensures
@@ -70,7 +73,8 @@ returns g c =
       runs = (
         texts,
         AreTextsOf-held g.C.Read.remaining g.B.Read.remaining g.L.Read.remaining
-            g.S.Read.remaining _ _ c.of-readers.ensures Known texts refl are,
+            g.S.Read.remaining c.args.inputs.now c.of-readers.result c.of-readers.ensures Known
+            texts refl are,
         inl (
           c.in_ok-listed.listed,
           ap by_doubt (c.in-None.ensures

@@ -147,17 +147,9 @@ returns g c =
     let log_is = c.deref-2.ensures.value ∙ read.0 in
     let held_cave = held.machine.rules.cave.now in
     let held_right = right_in c.args.report editing edits held_cave held.every held.game log in
-    let gives =
-    λ (edited : MadeEdit) (is : held_right edited).
-    subst (λ bytes. right_in c.args.report editing edits cave editing.every game bytes edited)
-    log_is
-    (subst (λ now. right_in c.args.report editing edits cave editing.every now log edited)
-    made.1.game_is
-    (subst (λ every. right_in c.args.report editing edits cave every held.game log edited)
-    c.in_ok-session.ensures.every
-    (subst
-    (λ (k : CaveView). right_in c.args.report editing edits k held.every held.game log edited)
-    made.1.cave_is is))) in
+    let gives : (edited : MadeEdit) → held_right edited → right cave edited =
+    λ edited is.
+    rw (← made.1.game_is, ← log_is, ← c.in_ok-session.ensures.every, ← made.1.cave_is) is in
     let strict = strict_of editing moves edits in
     let staged =
     subst (λ (game : Game). Judges (script_stage guarded edits

@@ -13,7 +13,8 @@ returns g c =
       runs = (
         texts,
         AreTextsOf-held g.C.Read.remaining g.B.Read.remaining g.L.Read.remaining
-            g.S.Read.remaining _ _ c.of-readers.ensures Script texts refl are,
+            g.S.Read.remaining c.args.inputs.now c.of-readers.result c.of-readers.ensures Script
+            texts refl are,
         Runs-made (cave_stages texts.database texts.bindings)
             (IsChecked c.args.view texts.database texts.bindings) _ _ _ _ judged
             c.write_made.ensures,

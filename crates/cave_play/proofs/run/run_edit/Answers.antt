@@ -13,7 +13,8 @@ returns g c =
       runs = (
         texts,
         AreTextsOf-held g.C.Read.remaining g.B.Read.remaining g.L.Read.remaining
-            g.S.Read.remaining _ _ c.of-readers.ensures Script texts refl are,
+            g.S.Read.remaining c.args.inputs.now c.of-readers.result c.of-readers.ensures Script
+            texts refl are,
         RunsWith-made (edit_stages texts.database texts.bindings texts.log texts.script
             c.args.editing) (IsEditRun texts.database texts.bindings texts.log texts.script
             c.args.editing c.args.report) _ _ _ _ judged c.write_edit.ensures,

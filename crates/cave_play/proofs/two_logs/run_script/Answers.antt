@@ -11,7 +11,8 @@ returns g c =
       runs = (
         texts,
         AreTextsOf-held g.C.Read.remaining g.B.Read.remaining g.L.Read.remaining
-            g.S.Read.remaining _ _ c.of-readers.ensures NewLog texts refl are,
+            g.S.Read.remaining c.args.inputs.now c.of-readers.result c.of-readers.ensures NewLog
+            texts refl are,
         RunsScript-made c.args.form texts _ _ _ _ judged c.write_made.ensures,
       );
     }

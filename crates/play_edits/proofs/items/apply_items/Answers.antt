@@ -128,7 +128,8 @@ returns-clause-made c =
     record {
       outcomes = whole;
       came = came;
-      text = c.in_ok-text.ensures ∙ ap₂ (ended_view editing.view) (ap (λ (n : Noted). n.ends) is) told;
+      text = c.in_ok-text.ensures
+          ∙ ap₂ (ended_view editing.view) (ap (λ (n : Noted). n.ends) is) told;
       beside = end-text (option_map edit_view_of c.args.report) _ cave _ _ _ _ _ _ _ _ _ _ _ _ _ _
           inv.beside inv.cave game_is plays counts (ap groups_in c.deref-2.ensures.value ∙ turned)
           (c.in_ok-beside.ensures.text ∙ ap text_at_start c.edit_view_of.ensures)
