@@ -1,6 +1,8 @@
 -- A script has no more items than lines, and no more lines than bytes.
-use Rattle.std.proofs.Common.{◌≡◌, ℕ, ◌+◌, ◌<◌, ◌≤◌, ◌^◌, Bool, true, false, List, [], ◌∷◌, length}
-use Rattle.std.proofs.Common.{map, ap, arith, length-append}
+use Rattle.replay_scripts.proofs.Grammar.{script_of-only}
+use Rattle.std.proofs.Common.{Ok, ◌≡◌, ℕ, ◌+◌, ◌<◌, ◌≤◌, ◌^◌, Bool, true, false, List, [], ◌∷◌}
+use Rattle.std.proofs.Common.{length, map, ap, arith, length-append}
+use Rattle.replay_scripts.specs.Guards.{script_by, IsScriptBy, unguarded, unguarded_items}
 use Rattle.std.specs.Prelude.{◌==◌, if◌then◌else◌}
 use Rattle.std.specs.List.{slice_split}
 use Rattle.std.specs.Str.Lines.{lines, lines_of_parts}
@@ -9,7 +11,6 @@ use Rattle.std.proofs.lemmas.List.{length-map}
 use Rattle.std.proofs.lemmas.List.Sums.{count_by-le-length}
 use Rattle.std.proofs.lemmas.List.Splits.{length-slice_split}
 use Rattle.replay_scripts.specs.Script.{Applied, IsScript, done, skips, spells, groups}
-use Rattle.replay_scripts.specs.Guards.{IsScriptBy, unguarded, unguarded_items}
 use Rattle.replay_scripts.specs.Views.{applied_item, items_of}
 use Rattle.replay_scripts.specs.declared.script.Item.{Item}
 

@@ -1,4 +1,6 @@
 -- Two logs, of which one is made of the other.
+use Rattle.cave_play.specs.TwoLogs.{script_stages, IsDifferenceOf, JudgesEditTo, JudgesScript}
+use Rattle.cave_play.specs.TwoLogs.{RunsEditTo, RunsScript, new_log_fault, new_log_stage, ReadsWith}
 use Rattle.std.proofs.Common.{◌≡◌, ◌∙◌, ℕ, ◌≤◌, List, [], ◌∷◌, ◌++◌, length, None, Some, inl, inr}
 use Rattle.std.proofs.Common.{refl, sym, ap, subst, lt-ltb}
 use Rattle.std.specs.Global.{Vec}
@@ -13,8 +15,6 @@ use Rattle.cave_play.specs.Sources.{IsUnread, InputTexts, AreRead, Leads}
 use Rattle.cave_play.specs.Run.{IsFoundIn, Writes, WritesEdit}
 use Rattle.cave_play.specs.Stages.{first_decided, judging_stage, log_stage, edit_stages}
 use Rattle.cave_play.specs.Output.{IsEditRun}
-use Rattle.cave_play.specs.TwoLogs.{IsDifferenceOf, JudgesEditTo, JudgesScript, RunsEditTo}
-use Rattle.cave_play.specs.TwoLogs.{RunsScript, new_log_fault, new_log_stage, ReadsWith}
 use Rattle.play_edits.specs.declared.items.EditRun.{EditRun}
 use Rattle.play_edits.specs.declared.items.MadeEdit.{MadeEdit}
 use Rattle.play_command.specs.declared.views.ReportView.{ReportView}

@@ -47,10 +47,13 @@ IsDifferenceOf form old new script =
     IsScriptTo form script (lines old) (lines new) × (lines old ≡ lines new → script ≡ [])
 
 -- the size of the script is judged last, since a run has to be able to read it
+abbrev pub script_size_stage : List ℕ → Stage
+script_size_stage script = judging_stage
+    (if nat_lt MAX_INPUT_BYTES (length script) then Some fault.LargeScript else None)
+
 abbrev pub script_stages : InputTexts → List ℕ → List Stage
-script_stages texts script = two_logs_stages texts.log texts.script
-    ++ judging_stage (if nat_lt MAX_INPUT_BYTES (length script) then Some fault.LargeScript else None)
-    ∷ []
+script_stages texts script =
+    two_logs_stages texts.log texts.script ++ script_size_stage script ∷ []
 
 -- one of two logs is refused
 abbrev pub AreRefused : {A : Type 0} → InputTexts → Result A PlayFault → Type 0

@@ -1,10 +1,9 @@
 use Rattle.std.proofs.Common.{ℕ, Bool, List, None, Some, nat_lt, ap, inl, inr, refl, sym, ◌∙◌}
-use Rattle.std.specs.Prelude.{if◌then◌else◌}
+use Rattle.std.specs.Prelude.{if◌then◌else◌, ◌∷◌, []}
 use Rattle.std.proofs.lemmas.Result.{err_from_is_err_and}
 use Rattle.base_lines.specs.Limits.{MAX_INPUT_BYTES}
 use Rattle.cave_play.specs.Sources.{Held, InputTexts}
-use Rattle.cave_play.specs.Stages.{judging_stage}
-use Rattle.cave_play.specs.TwoLogs.{two_logs_stages}
+use Rattle.cave_play.specs.TwoLogs.{script_size_stage, two_logs_stages}
 use Rattle.cave_play.specs.declared.fault.PlayFault.TheVariants.{LargeScript}
 use Rattle.cave_play.proofs.SourceLemmas.{said, some_bytes}
 use Rattle.cave_play.proofs.StageLemmas.{IsFoundIn-later, first_decided-later, first_decided-one}
@@ -61,7 +60,8 @@ returns-then-is_large_input g c =
         inr (
           script.items,
           judged.1.1,
-          IsFoundIn-later (two_logs_stages old made) _ LargeScript judged.0
+          IsFoundIn-later (two_logs_stages old made) (script_size_stage script.items ∷ []) LargeScript
+              judged.0
               (inl (inr (ap (λ large. if large then Some LargeScript else None) size))),
         ),
       );
@@ -87,10 +87,13 @@ returns g c =
         inr (
           script.items,
           judged.1.1,
-          first_decided-later (two_logs_stages old made) _ judged.0
-              ∙ first_decided-one (judging_stage _)
-              (ap (λ large. if large then Some LargeScript else None) size),
-          refl,
+          (
+            first_decided-later (two_logs_stages old made) (script_size_stage script.items ∷ [])
+                judged.0
+                ∙ first_decided-one (script_size_stage script.items)
+                (ap (λ large. if large then Some LargeScript else None) size),
+            refl,
+          ),
         ),
       );
       leads = c.in_ok-compared.ensures.leads;
