@@ -35,10 +35,12 @@ fn why_unmade<'a>(
     let LogsFault { fault, log } = found;
     match (Message::of_run(request, fault, log), unopened) {
         (
-            Message::Fault(Complaint {
-                fault: PlayFault::Read(_),
-                file: Some(name),
-            }),
+            Message::Fault(
+                Complaint {
+                    fault: PlayFault::Read(_),
+                    file: Some(name),
+                },
+            ),
             Some(reason),
         ) => Message::Unopened(name, reason),
         (message, _) => message,
@@ -148,10 +150,12 @@ fn with_reason<'a>(message: Message<'a>, reason: Option<io::Error>) -> Message<'
 {
     match (message, reason) {
         (
-            Message::Fault(Complaint {
-                fault: PlayFault::Write,
-                ..
-            }),
+            Message::Fault(
+                Complaint {
+                    fault: PlayFault::Write,
+                    ..
+                },
+            ),
             Some(reason),
         ) => Message::Unprinted(reason),
         (message, _) => message,

@@ -212,11 +212,7 @@ fn read_file<S: System>(
 }
 
 /// Reads an input that has no file: the lines of a script may be on the command line.
-fn read_missing(
-    alloc: Global,
-    request: &Request<'_>,
-    input: Input,
-) -> Result<Vec<u8>, PlayFault>
+fn read_missing(alloc: Global, request: &Request<'_>, input: Input) -> Result<Vec<u8>, PlayFault>
     ensures { IsReading (Some (missing_text (typed_text request.now) input)) input result }
 {
     match (input, &request.typed) {

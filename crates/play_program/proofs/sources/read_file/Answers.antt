@@ -23,9 +23,11 @@ returns-in_err-file-clause-read g c =
     let exit = err_from_is_err_and c.from_residual.result c.from_residual.ensures.1 in
     let entry = waiting_entry (g.S.System.bytes_of c.args.system.now) g.S.File.Read.remaining
     c.args.waiting in
-    rw (exit.1, exit.2)
-    (some_bytes entry.known, said entry.known,
-    inl (outside c.args.waiting.input _ c.in_err-file.ensures.failed))
+    rw (exit.1, exit.2) (
+      some_bytes entry.known,
+      said entry.known,
+      inl (outside c.args.waiting.input _ c.in_err-file.ensures.failed),
+    )
 
 pub returns-in_err-file-clause-asks : goal.returns-in_err-file-clause-asks
 returns-in_err-file-clause-asks g c =
