@@ -1,8 +1,9 @@
 -- Calls of the system one after another, and files that are opened by them.
-use Rattle.std.proofs.Common.{◌≡◌, ◌<◌, ◌+◌, ℕ, List, [], ◌∷◌, ◌++◌, None, Some, Option, drop, take}
-use Rattle.std.proofs.Common.{append-nil, append_assoc, ap, get_or, length, map, refl, subst, sym}
-use Rattle.std.proofs.Common.{◌∙◌}
-use Rattle.std.specs.Prelude.{Contains, Err, if◌then◌else◌, true}
+use Rattle.std.proofs.Common.{ap₂, Bool, ◌≡◌, ◌<◌, ◌+◌, ℕ, List, [], ◌∷◌, ◌++◌, None, Some, Option}
+use Rattle.std.proofs.Common.{drop, take, append-nil, append_assoc, ap, get_or, length, map, refl}
+use Rattle.std.proofs.Common.{subst, sym, ◌∙◌}
+use Rattle.play_program.specs.Sources.{Stops, Entry, is_first, IsStoppedAt, opening, opening_of}
+use Rattle.std.specs.Prelude.{Contains, if◌then◌else◌, true}
 use Rattle.std.proofs.lemmas.List.{drop_more, get_or-map, length-map, map-append, take-append-drop}
 use Rattle.std.proofs.lemmas.List.{take_more}
 use Rattle.std.proofs.lemmas.List.Concat.{flat_map-append}
@@ -13,7 +14,6 @@ use Rattle.play_command.specs.declared.line.What.{What}
 use Rattle.play_program.specs.Calls.{Call, Told, and_then}
 use Rattle.play_program.specs.Files.{FileName}
 use Rattle.play_program.specs.Calls.Call.{Opens}
-use Rattle.play_program.specs.Sources.{is_first, IsStoppedAt, Opened, opening, opening_of}
 
 -- no further call
 pub and_then-none : (known : Option (List Call)) → known ≡ and_then known []
@@ -34,11 +34,18 @@ Contains-named files i d inside =
     (Contains-get_or (map named_file files) i (named_file d)
     (subst (λ n. i < n) (sym (length-map files named_file)) inside))
 
+abbrev entry_with : FileName → Option (List ℕ) → Bool → Entry
+entry_with file known is_open = record { file = file; known = known; is_open = is_open }
+
+pub same_entry : (file : FileName) (one other : Option (List ℕ)) (here there : Bool) → one ≡ other
+    → here ≡ there → entry_with file one here ≡ entry_with file other there
+same_entry file one other here there known is_open = ap₂ (entry_with file) known is_open
+
 module _ (what : What) where
   -- one file can't be opened
-  pub stopped-at : {X : Type 0} (file : FileName) (a c : Option (List Call)) (said : Told)
+  pub stopped-at : (file : FileName) (a c : Option (List Call)) (said : Told)
       → is_first what file.0 ≡ true → c ≡ and_then a (Opens file.1 ∷ [])
-      → IsStoppedAt what file said → Opened {X} what (file ∷ []) a c (Err said)
+      → IsStoppedAt what file said → Stops what (file ∷ []) a c said
   stopped-at file a c said first calls stopped = (
     [],
     file,
@@ -60,36 +67,46 @@ module _ (what : What) where
       ∙ and_then-more a (opening what xs) (opening what ys)
       ∙ ap (and_then a) (sym (flat_map-append (opening_of what) xs ys))
 
-  -- the files before a place were opened, and then the one at the place
-  pub opened-next : (files : List NamedFile) (place : ℕ) (d : NamedFile) → place < length files
-      → (a b c : Option (List Call)) → b ≡ and_then a (opening what (map named_file (take place files)))
-      → c ≡ and_then b (opening what (named_file (get_or files place d) ∷ []))
-      → c ≡ and_then a (opening what (map named_file (take (place + 1) files)))
-  opened-next files place d inside a b c first second =
-      opened-more (map named_file (take place files)) (named_file (get_or files place d) ∷ []) a b c
-      first second
-      ∙ ap (λ l. and_then a (opening what l))
-      (sym (map-append named_file (take place files) (get_or files place d ∷ []))
-      ∙ ap (map named_file) (sym (take_more files place d inside)))
-
-  -- or that one couldn't be
-  pub stopped-next : {X : Type 0} (files : List NamedFile) (place : ℕ) (d : NamedFile)
-      → place < length files → (a b c : Option (List Call)) (said : Told)
-      → b ≡ and_then a (opening what (map named_file (take place files)))
-      → c ≡ and_then b (opening what (named_file (get_or files place d) ∷ []))
-      → IsStoppedAt what (named_file (get_or files place d)) said
-      → Opened {X} what (map named_file files) a c (Err said)
-  stopped-next files place d inside a b c said first second stopped = (
-    map named_file (take place files),
-    named_file (get_or files place d),
-    map named_file (drop (place + 1) files),
+  -- some files were opened, and then one of others couldn't be
+  stops-within : (done files rest : List FileName) (a b c : Option (List Call)) (said : Told)
+      → b ≡ and_then a (opening what done) → Stops what files b c said
+      → Stops what (done ++ (files ++ rest)) a c said
+  stops-within done files rest a b c said first (before, last, after, stops) = (
+    done ++ before,
+    last,
+    after ++ rest,
     record {
-      files_are = ap (map named_file) (sym (take-append-drop place files)
-          ∙ ap (λ l. take place files ++ l) (drop_more files place d inside))
-          ∙ map-append named_file (take place files)
-          (get_or files place d ∷ drop (place + 1) files);
-      calls = opened-more (map named_file (take place files))
-          (named_file (get_or files place d) ∷ []) a b c first second;
-      stopped = stopped;
+      files_are = ap (λ l. done ++ (l ++ rest)) stops.files_are
+          ∙ ap (λ l. done ++ l) (append_assoc before (last ∷ after) rest)
+          ∙ sym (append_assoc done before (last ∷ (after ++ rest)));
+      calls = opened-more done (before ++ last ∷ []) a b c first stops.calls
+          ∙ ap (λ l. and_then a (opening what l)) (sym (append_assoc done before (last ∷ [])));
+      stopped = stops.stopped;
     },
   )
+
+  module _ (files : List NamedFile) (place : ℕ) (d : NamedFile) (inside : place < length files)
+      (a b c : Option (List Call))
+      (first : b ≡ and_then a (opening what (map named_file (take place files)))) where
+    -- the files before a place were opened, and then the one at the place
+    pub opened-next : c ≡ and_then b (opening what (named_file (get_or files place d) ∷ []))
+        → c ≡ and_then a (opening what (map named_file (take (place + 1) files)))
+    opened-next second =
+        opened-more (map named_file (take place files)) (named_file (get_or files place d) ∷ [])
+        a b c first second
+        ∙ ap (λ l. and_then a (opening what l))
+        (sym (map-append named_file (take place files) (get_or files place d ∷ []))
+        ∙ ap (map named_file) (sym (take_more files place d inside)))
+
+    -- or that one couldn't be
+    pub stopped-next : (said : Told) → Stops what (named_file (get_or files place d) ∷ []) b c said
+        → Stops what (map named_file files) a c said
+    stopped-next said stops =
+        let all = ap (map named_file) (sym (take-append-drop place files)
+        ∙ ap (λ l. take place files ++ l) (drop_more files place d inside))
+        ∙ map-append named_file (take place files)
+        (get_or files place d ∷ drop (place + 1) files) in
+        subst (λ l. Stops what l a c said) (sym all)
+        (stops-within (map named_file (take place files))
+        (named_file (get_or files place d) ∷ []) (map named_file (drop (place + 1) files)) a b c said
+        first stops)

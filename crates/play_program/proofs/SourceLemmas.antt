@@ -11,7 +11,7 @@ use Rattle.play_program.specs.Sources.{of_input, without_first}
 
 -- ---- inputs
 
-numbered : ℕ → Input
+abbrev numbered : ℕ → Input
 numbered n = get_or (input.Cave ∷ input.Bindings ∷ input.Log ∷ input.NewLog ∷ input.Script
     ∷ input.Known ∷ []) n input.Cave
 

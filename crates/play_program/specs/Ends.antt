@@ -32,7 +32,7 @@ use Rattle.play_program.specs.Calls.Told.{faulty, misused, reseeded, unopened, u
 use Rattle.play_program.specs.Calls.Told.{unwritten}
 use Rattle.play_program.specs.Files.{AreApart, IsClash, fault_told, file_of_input, files_in}
 use Rattle.play_program.specs.Making.{HasReadAll, IsMade, third_of}
-use Rattle.play_program.specs.Sources.{Entry, Opened, ReadFile, calls_for, entries_by, held_of}
+use Rattle.play_program.specs.Sources.{Entry, ReadFile, Stops, calls_for, entries_by, held_of}
 use Rattle.play_program.specs.Sources.{of_input, opening, typed_text}
 use Rattle.play_program.specs.declared.make.Made.{Made}
 
@@ -84,7 +84,7 @@ MakesOf bytes_of request calls called made =
     MakesOpened bytes_of request (and_then calls (opening request.what (files_in request))) called
     made
     ⊎ ((said : Told) × (made ≡ Err said)
-    × Opened {Made} request.what (files_in request) calls called (Err said))
+    × Stops request.what (files_in request) calls called said)
 
 -- ---- what is delivered
 

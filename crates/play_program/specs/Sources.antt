@@ -46,12 +46,15 @@ pub record StopsAt (what : What) (files : List FileName) (old new : Option (List
   pub calls : new ≡ and_then old (opening what (before ++ last ∷ []))
   pub stopped : IsStoppedAt what last said
 
+abbrev pub Stops : What → List FileName → Option (List Call) → Option (List Call) → Told → Type 0
+Stops what files old new said = (before : List FileName) × (last : FileName)
+    × (after : List FileName) × StopsAt what files old new said before last after
+
 -- the files were opened in their order: all of them, or none after one that couldn't be opened
 abbrev pub Opened : {X : Type 0} → What → List FileName → Option (List Call) → Option (List Call)
     → Result X Told → Type 0
 Opened what files old new (Ok opened) = new ≡ and_then old (opening what files)
-Opened what files old new (Err said) = (before : List FileName) × (last : FileName)
-    × (after : List FileName) × StopsAt what files old new said before last after
+Opened what files old new (Err said) = Stops what files old new said
 
 -- ---- what the files have
 
@@ -157,7 +160,7 @@ pub record ReadFile : Type 0 where
 -- a file is opened, if it isn't open; then, if it is a log that was read whole, it is reported what
 -- its head says differently
 abbrev pub opening_unless : Bool → List ℕ → List Call
-opening_unless open name = if open then [] else Opens name ∷ []
+opening_unless is_open name = if is_open then [] else Opens name ∷ []
 
 abbrev pub telling_if : Bool → Request → FileName → List ℕ → List Call
 telling_if whole request file text =

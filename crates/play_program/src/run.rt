@@ -58,12 +58,7 @@ fn make_of_files<'a, S: System>(
 {
     let mut waiting = open_first(alloc, system, request)?;
     let mut unopened = None;
-    let mut files = Files {
-        system,
-        request: &*request,
-        waiting: &mut waiting,
-        unopened: &mut unopened,
-    };
+    let mut files = Files::of(system, &*request, &mut waiting, &mut unopened);
     match make(alloc, &mut files, request) {
         Ok(made) => Ok(made),
         Err(found) => Err(why_unmade(request, found, unopened)),

@@ -38,11 +38,11 @@ pub(crate) struct WaitingFile<'a, F> {
 /// The files of a run.
 #[derive(Drop)]
 pub(crate) struct Files<'v, 'a, S, F> {
-    pub(crate) system: &'v mut S,
-    pub(crate) request: &'v Request<'a>,
-    pub(crate) waiting: &'v mut Vec<WaitingFile<'a, F>>,
+    system: &'v mut S,
+    request: &'v Request<'a>,
+    waiting: &'v mut Vec<WaitingFile<'a, F>>,
     /// Why the last of several logs couldn't be opened, if it couldn't be.
-    pub(crate) unopened: &'v mut Option<io::Error>,
+    unopened: &'v mut Option<io::Error>,
 }
 
 /// Whether a file of an input is opened before the run: it is, unless it is one of several logs.
@@ -139,11 +139,11 @@ fn open_now<S: System>(
     unopened: &mut Option<io::Error>,
 ) -> Result<S::File, PlayFault>
     ensures file { IfOk result (λ opened. S.File.remaining opened
-        ≡ known_left S.File.remaining (S.bytes_of system.old name.now) file.entry) }
+        ≡ known_left S.File.remaining (S.bytes_of system.old name.now) file) }
     ensures failed { IfErr result (λ found.
         (found ≡ PlayFault.Memory) ⊎ (found ≡ PlayFault.Read input)) }
     ensures call { S.calls system.new
-        ≡ and_then (S.calls system.old) (opening_unless (is_some file.entry) name.now) }
+        ≡ and_then (S.calls system.old) (opening_unless (is_some file) name.now) }
     ensures kept { S.bytes_of system.new ≡ S.bytes_of system.old }
 {
     if let Some(file) = file {
@@ -218,6 +218,29 @@ fn read_missing(alloc: Global, request: &Request<'_>, input: Input) -> Result<Ve
     match (input, &request.typed) {
         (Input::Script, Some(text)) => read(alloc, input, &mut text.as_bytes()),
         _ => Ok(Vec::new(alloc)),
+    }
+}
+
+impl<'v, 'a, S: System> Files<'v, 'a, S, S::File> {
+    /// The files of a request, which wait.
+    pub(crate) fn of(
+        system: &'v mut S,
+        request: &'v Request<'a>,
+        waiting: &'v mut Vec<WaitingFile<'a, S::File>>,
+        unopened: &'v mut Option<io::Error>,
+    ) -> Files<'v, 'a, S, S::File>
+        ensures reference { result.system.ghost_name ≡ system.entry.ghost_name }
+        ensures reason { result.unopened.ghost_name ≡ unopened.entry.ghost_name }
+        ensures system { result.system.now ≡ system.old }
+        ensures request { result.request.now ≡ request.now }
+        ensures waiting { result.waiting.now ≡ waiting.old }
+    {
+        Files {
+            system,
+            request,
+            waiting,
+            unopened,
+        }
     }
 }
 

@@ -1,7 +1,7 @@
 -- The output goes over none of the files so far.
 use Rattle.std.proofs.Common.{All, take}
 use Rattle.play_command.specs.Found.{named_file}
-use Rattle.play_program.specs.Clash.{IsApart}
+use Rattle.play_program.specs.Files.{IsApart}
 use Rattle.play_program.proofs.clash.check_output.Given as goal
 
 abbrev pub invariant-loop-file : goal.invariant-loop-file

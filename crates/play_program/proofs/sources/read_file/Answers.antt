@@ -7,9 +7,9 @@ use Rattle.cave_play.specs.declared.fault.PlayFault.{PlayFault}
 use Rattle.cave_play.specs.declared.fault.PlayFault.TheVariants as fault
 use Rattle.cave_play.proofs.SourceLemmas.{said, some_bytes}
 use Rattle.play_command.specs.declared.input.Input.{Input}
-use Rattle.std.specs.Prelude.{Some}
+use Rattle.std.specs.Prelude.{Some, is_some}
 use Rattle.play_program.specs.Calls.{and_then}
-use Rattle.play_program.specs.Sources.{waiting_entry}
+use Rattle.play_program.specs.Sources.{opening_unless, telling_if, waiting_entry}
 use Rattle.play_program.proofs.CallLemmas.{and_then-more}
 use Rattle.play_program.proofs.sources.read_file.Goals as goal
 
@@ -66,12 +66,15 @@ returns-clause-read g c =
 pub returns-clause-asks : goal.returns-clause-asks
 returns-clause-asks g c =
     let (bytes, says, whole) = c.in_ok-text.ensures in
+    let file = (c.args.waiting.input, c.args.waiting.name.now) in
+    let told = telling_if true c.args.request.now file c.deref.result.now in
     let says_text = subst (Says (g.S.File.Read.remaining c.in_ok-file.file))
     (sym (c.deref.ensures.value ∙ whole.0)) says in (
       c.deref.result.now,
       true,
       subst (λ known. Says known c.deref.result.now) c.in_ok-file.ensures.file says_text,
       c.tell_head.ensures.call
-          ∙ ap (λ k. and_then k _) c.in_ok-file.ensures.call
-          ∙ and_then-more (g.S.System.calls c.args.system.now) _ _,
+          ∙ ap (λ k. and_then k told) c.in_ok-file.ensures.call
+          ∙ and_then-more (g.S.System.calls c.args.system.now)
+          (opening_unless (is_some c.args.waiting.file) c.args.waiting.name.now) told,
     )
