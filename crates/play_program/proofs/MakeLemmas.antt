@@ -1,6 +1,6 @@
 -- What a run has of its inputs before it, and of several logs after it.
-use Rattle.std.proofs.Common.{◌≡◌, ℕ, Bool, true, false, List, [], ◌∷◌, map, Option, ap, Result, Ok}
-use Rattle.std.proofs.Common.{Err, length, refl, sym, subst, ◌∙◌}
+use Rattle.std.proofs.Common.{suc, ◌≡◌, ℕ, Bool, true, false, List, [], ◌∷◌, map, Option, ap}
+use Rattle.std.proofs.Common.{Result, Ok, Err, length, refl, sym, subst, ◌∙◌}
 use Rattle.std.proofs.lemmas.List.{length-map}
 use Rattle.std.specs.List.{AllZip, flat_map}
 use Rattle.std.specs.Prelude.{⊤, IfOk, MatchResult, if◌then◌else◌, unwrap_or}

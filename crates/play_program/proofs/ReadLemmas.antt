@@ -21,7 +21,6 @@ module _ {S F : Type 0} (calls_of : S → Option (List Call))
   pub record Reads (old new : Files S F) (read : List ReadFile) : Type 0 where
     pub request : new.request.now ≡ old.request.now
     pub system : new.system.ghost_name ≡ old.system.ghost_name
-    pub reason : new.unopened.ghost_name ≡ old.unopened.ghost_name
     pub bytes : bytes_of new.system.now ≡ bytes_of old.system.now
     pub called : calls_of new.system.now
         ≡ and_then (calls_of old.system.now) (flat_map (calls_for old.request.now) read)
@@ -34,10 +33,9 @@ module _ {S F : Type 0} (calls_of : S → Option (List Call))
   reads_none old = record {
     request = refl;
     system = refl;
-    reason = refl;
     bytes = refl;
     called = and_then-none (calls_of old.system.now);
-    texts = All-nil;
+    texts = All-nil (λ (file : ReadFile). Says file.entry.known file.text);
     first = λ from. refl;
   }
 
@@ -66,7 +64,6 @@ module _ {S F : Type 0} (calls_of : S → Option (List Call))
       record {
         request = more.request ∙ one.request;
         system = more.system ∙ one.system;
-        reason = more.reason ∙ one.reason;
         bytes = more.bytes ∙ one.bytes;
         called = called_more [] (asks ∙ and_then-none (calls_of old.system.now));
         texts = more.texts;
@@ -79,10 +76,10 @@ module _ {S F : Type 0} (calls_of : S → Option (List Call))
       record {
         request = more.request ∙ one.request;
         system = more.system ∙ one.system;
-        reason = more.reason ∙ one.reason;
         bytes = more.bytes ∙ one.bytes;
         called = called_more _ asks;
-        texts = All-cons said more.texts;
+        texts = All-cons (λ (file : ReadFile). Says file.entry.known file.text) _ read said
+            more.texts;
         first = λ other. of_input-parts from other entries entry is
             ∙ ap (λ l. of_input other (entry ∷ []) ++ l)
             (ap (of_input other) (sym one.entries) ∙ more.first other)

@@ -1,8 +1,8 @@
 -- What the program leaves for its words: what it makes of its files, where that goes, what it says,
 -- and with which status it ends.
 use Rattle.std.specs.Prelude.{◌≡◌, ◌<◌, ◌⊎◌, ◌==◌, ◌&&◌, ℕ, Bool, true, false, not, List, [], ◌∷◌}
-use Rattle.std.specs.Prelude.{◌++◌, length, map, take, All, Option, None, Some, IfSome, option_map}
-use Rattle.std.specs.Prelude.{Result, Ok, Err, MatchResult, if◌then◌else◌}
+use Rattle.std.specs.Prelude.{◌++◌, length, map, take, All, Option, None, Some, IfSome, Result, Ok}
+use Rattle.std.specs.Prelude.{Err, MatchResult, if◌then◌else◌}
 use Rattle.std.specs.Io.KnownBytes.{Appends}
 use Rattle.std.specs.List.{AllZip, flat_map}
 use Rattle.std.specs.declared.io.Error.{Error}
@@ -30,7 +30,8 @@ use Rattle.play_program.specs.Calls.{Call, EndsTold, Told, and_then, out_of_memo
 use Rattle.play_program.specs.Calls.Call.{Puts, Tells}
 use Rattle.play_program.specs.Calls.Told.{faulty, misused, reseeded, unopened, unprinted, unread}
 use Rattle.play_program.specs.Calls.Told.{unwritten}
-use Rattle.play_program.specs.Files.{AreApart, IsClash, fault_told, file_of_input, files_in}
+use Rattle.play_program.specs.Files.{output_of, AreApart, IsClash, fault_told, file_of_input}
+use Rattle.play_program.specs.Files.{files_in}
 use Rattle.play_program.specs.Making.{HasReadAll, IsMade, third_of}
 use Rattle.play_program.specs.Sources.{Entry, ReadFile, Stops, calls_for, entries_by, held_of}
 use Rattle.play_program.specs.Sources.{of_input, opening, typed_text}
@@ -140,9 +141,6 @@ with_left request (Some found) edits = Err (fault_told request found None)
 abbrev pub ended_by : Request → Made → Result (Unit {0}) Told → Result (Option EditRun) Told
 ended_by request made (Ok done) = with_left request made.left made.edits
 ended_by request made (Err said) = Err said
-
-abbrev pub output_of : Request → Option (List ℕ)
-output_of request = option_map (λ s. s.now) request.output
 
 -- what was made is delivered; if nothing was, nothing is
 abbrev pub DeliversIf : Request → Result Made Told → Option (List Call)

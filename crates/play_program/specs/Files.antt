@@ -79,6 +79,9 @@ log_count files = length (log_names files)
 
 -- ---- the file of the output
 
+abbrev pub output_of : Request → Option (List ℕ)
+output_of request = option_map (λ s. s.now) request.output
+
 -- the view of an edit whose output may go over an input, by its name: the edited log over the log,
 -- and the script with guards over the script
 abbrev pub view_over : What → Input → Option (List ℕ × EditView)

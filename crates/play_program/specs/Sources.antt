@@ -183,7 +183,6 @@ pub record ReadsOne {S F : Type 0} (calls_of : S → Option (List Call))
     (old new : Files S F) : Type 0 where
   pub request : new.request.now ≡ old.request.now
   pub system : new.system.ghost_name ≡ old.system.ghost_name
-  pub reason : new.unopened.ghost_name ≡ old.unopened.ghost_name
   pub bytes : bytes_of new.system.now ≡ bytes_of old.system.now
   pub entries : entries_in bytes_of left new ≡ without_first from (entries_in bytes_of left old)
   pub asks : AsksFor old.request.now (first_among (of_input from (entries_in bytes_of left old)))

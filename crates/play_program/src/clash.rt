@@ -3,11 +3,12 @@
 ghost use Rattle.std.specs.Prelude.{◌≡◌, ◌↔◌, IsTrue, MatchResult, Some, map, option_map};
 ghost use Rattle.play_command.specs.Found.{named_file};
 ghost use Rattle.play_program.specs.Calls.{told_by};
-ghost use Rattle.play_program.specs.Files.{AreApart, IsClash, MayReplace, view_over};
+ghost use Rattle.play_program.specs.Files.{AreApart, IsClash, MayReplace, files_in, output_of};
+ghost use Rattle.play_program.specs.Files.{view_over};
 
 use crate::message::Message;
 use crate::system::System;
-use play_command::{EditView, Input, NamedFile, What};
+use play_command::{EditView, Input, NamedFile, Request, What};
 
 /// The view of an edit whose output may go over an input, with its name: the edited log over the
 /// log, and the script with guards over the script.
@@ -43,7 +44,7 @@ fn may_replace(what: What, input: Input) -> bool
 }
 
 /// Checks that the output goes over none of these files, or over one that it may replace.
-pub(crate) fn check_output<'a, S: System>(
+fn check_files<'a, S: System>(
     system: &S,
     what: What,
     output: &str,
@@ -66,4 +67,22 @@ pub(crate) fn check_output<'a, S: System>(
         }
     }
     Ok(())
+}
+
+/// Checks that the output of a request goes over no file that it reads, or over one that it may
+/// replace.
+pub(crate) fn check_output<'a, S: System>(
+    system: &S,
+    request: &Request<'a>,
+) -> Result<(), Message<'a>>
+    ensures { MatchResult (told_by result)
+        (λ _. AreApart (S.one_file system.now) request.now.what (output_of request.now)
+        (files_in request.now))
+        (IsClash (S.one_file system.now) request.now.what (output_of request.now)
+        (files_in request.now)) }
+{
+    match request.output {
+        Some(output) => check_files(system, request.what, output, &request.files),
+        None => Ok(()),
+    }
 }

@@ -127,9 +127,7 @@ fn run_apart<'a, S: System, W: Write>(
         (S.calls system.old) (S.calls system.new) (W.contents output.old) (W.contents output.new)
         (told_by result) }
 {
-    if let Some(file) = request.output {
-        check_output(system, request.what, file, &request.files)?;
-    }
+    check_output(system, request)?;
     let made = make_of_files(alloc, system, request)?;
     deliver(system, request.output, &made, output)?;
     match made.left {

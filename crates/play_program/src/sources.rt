@@ -230,7 +230,6 @@ impl<'v, 'a, S: System> Files<'v, 'a, S, S::File> {
         unopened: &'v mut Option<io::Error>,
     ) -> Files<'v, 'a, S, S::File>
         ensures reference { result.system.ghost_name ≡ system.entry.ghost_name }
-        ensures reason { result.unopened.ghost_name ≡ unopened.entry.ghost_name }
         ensures system { result.system.now ≡ system.old }
         ensures request { result.request.now ≡ request.now }
         ensures waiting { result.waiting.now ≡ waiting.old }

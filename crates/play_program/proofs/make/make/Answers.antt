@@ -43,7 +43,7 @@ returns-in-Doubts g c =
               made,
             ),
           );
-      all = subst (λ what. IfOk c.of_doubts.result (λ _. HasReadAll what left)) (sym c.in-Doubts.is)
+      all = subst (λ what. IfOk c.of_doubts.result (λ _. HasReadAll what left.logs)) (sym c.in-Doubts.is)
           (any_ok c.of_doubts.result);
       leads = c.make_doubts.ensures.leads;
     }
@@ -112,7 +112,7 @@ returns-in-Cover g c =
                 c.in-Cover.strict c.cover_asked-asked.result c.cover_asked-asked.ensures
                 c.make_cover.result c.of_cover.result c.of_cover.ensures made,
           );
-      all = subst (λ what. IfOk c.of_cover.result (λ _. HasReadAll what left)) (sym c.in-Cover.is)
+      all = subst (λ what. IfOk c.of_cover.result (λ _. HasReadAll what left.logs)) (sym c.in-Cover.is)
           (subst (λ (m : Result Made LogsFault). IfOk m (λ _. left.logs ≡ []))
           (sym c.of_cover.ensures)
           (all_of_cover c.in-Cover.strict (left.logs ≡ []) c.make_cover.result

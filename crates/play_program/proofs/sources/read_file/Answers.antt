@@ -1,3 +1,4 @@
+use Rattle.play_program.specs.Files.{FileName}
 use Rattle.std.proofs.Common.{◌≡◌, ◌⊎◌, append-nil, false, refl, true, ap, inl, inr, subst, sym}
 use Rattle.std.proofs.Common.{◌∙◌}
 use Rattle.std.proofs.lemmas.Result.{err_from_is_err_and}
@@ -66,7 +67,7 @@ returns-clause-read g c =
 pub returns-clause-asks : goal.returns-clause-asks
 returns-clause-asks g c =
     let (bytes, says, whole) = c.in_ok-text.ensures in
-    let file = (c.args.waiting.input, c.args.waiting.name.now) in
+    let file : FileName = (c.args.waiting.input, c.args.waiting.name.now) in
     let told = telling_if true c.args.request.now file c.deref.result.now in
     let says_text = subst (Says (g.S.File.Read.remaining c.in_ok-file.file))
     (sym (c.deref.ensures.value ∙ whole.0)) says in (

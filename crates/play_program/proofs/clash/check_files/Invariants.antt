@@ -2,7 +2,7 @@
 use Rattle.std.proofs.Common.{All, take}
 use Rattle.play_command.specs.Found.{named_file}
 use Rattle.play_program.specs.Files.{IsApart}
-use Rattle.play_program.proofs.clash.check_output.Given as goal
+use Rattle.play_program.proofs.clash.check_files.Given as goal
 
 abbrev pub invariant-loop-file : goal.invariant-loop-file
 invariant-loop-file g l =
