@@ -21,7 +21,6 @@ use Rattle.play_edits.specs.Refusal.{item_refusal}
 use Rattle.play_edits.proofs.EditLemmas.{game_after_item-accepted, IsGame-after}
 use Rattle.play_edits.proofs.GuardLemmas.{all_met, item_refusal-met}
 use Rattle.play_edits.proofs.SayableLemmas.{unrefused_group}
-use Rattle.cave_play.specs.TwoLogs.{DifferencesMakeTheLog}
 
 met : (item : Applied) (log : List (List ℕ)) → All (MeetsGuard item.changes log) item.guards
     → AllByRecursion (IsMet item.changes log) item.guards

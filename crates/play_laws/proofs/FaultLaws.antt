@@ -1,4 +1,5 @@
 -- Which fault of a run is found, and why an item of a script is refused.
+use Rattle.cave_play.proofs.AcceptedLogs.{IsGame-accepted}
 use Rattle.base_lines.specs.Limits.{MAX_LOG_LINES, MAX_SEED}
 use Rattle.base_lines.specs.Line.{flaw_of, is_line}
 use Rattle.cave_play.specs.Run.{IsFoundIn, IsOutsideOf}

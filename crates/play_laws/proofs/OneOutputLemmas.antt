@@ -1,4 +1,5 @@
 -- Two outputs of the same inputs are the same.
+use Rattle.cave_play.proofs.ScriptLemmas.{same_items}
 use Rattle.std.proofs.Common.{◌≡◌, ℕ, Bool, List, subst, sym, ap, ◌∙◌}
 use Rattle.std.specs.Str.Lines.{lines}
 use Rattle.cave_data.specs.CaveView.{CaveView}

@@ -13,4 +13,3 @@ returns-in-Ok-clause-words g c =
     c.begin.new.output.reason c.begin.result)
     c.as_slice.ensures.value c.begin.ensures.ends in
     rw c.in-Ok.is words
-
