@@ -7,7 +7,6 @@ use Rattle.base_lines.specs.Limits.{MAX_INPUT_BYTES, MAX_LOG_LINES, MAX_SEED}
 use Rattle.base_lines.specs.declared.line.LineFault.{LineFault}
 use Rattle.replay_edits.specs.Edit.{game_of, IsGame}
 use Rattle.cave_replay.specs.Opening.{first_bad_line, or_game_fault}
-use Rattle.replay_edits.specs.declared.fault.EditFault.TheVariants.{LogFull, BadSeed}
 use Rattle.cave_replay.specs.declared.fault.OpenFault.TheVariants as session
 use Rattle.cave_replay.proofs.Openings.{IsGame-from_no_fault}
 use Rattle.cave_play.specs.Judge.{large_seed, lines_fault, log_fault, or_too_many}

@@ -4,7 +4,6 @@ use Rattle.base_lines.specs.Limits.{MAX_LOG_LINES, MAX_SEED}
 use Rattle.base_lines.specs.Line.{flaw_of, is_line}
 use Rattle.cave_play.specs.Run.{IsFoundIn, IsOutsideOf}
 use Rattle.cave_play.specs.Stages.{Stage, first_decided}
-use Rattle.cave_play.specs.declared.fault.LogFault.TheVariants as log
 use Rattle.cave_play.specs.declared.fault.PlayFault.TheVariants as fault
 use Rattle.cave_play.specs.declared.fault.PlayFault.{PlayFault}
 use Rattle.play_command.specs.declared.input.Input.{Input}

@@ -24,4 +24,4 @@ pub use score::push_score;
 pub use steps::{StepTable, push_steps};
 pub use transcript::{Transcript, push_play, push_play_end};
 pub use walk::{WalkLines, push_walk};
-pub use watch::{Begun, LineRows, SeenLine, Unwatched, Watch};
+pub use watch::{Begun, SeenLine, Unwatched, Watch};

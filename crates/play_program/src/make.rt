@@ -15,11 +15,11 @@ use cave_play::logs::Reported;
 use cave_play::run::{make_check, make_edit, make_play};
 use cave_play::sources::Sources;
 use cave_play::two_logs::{make_edit_to, make_script};
-use cave_play::{EditRun, LogsFault, PlayFault};
+use cave_play::{LogsFault, PlayFault};
 use check_doubts::DoubtFiles;
 use play_command::{CoverView, EditAsked, EditsFrom, Input, Request, What};
 use play_cover::run::{CoverAsked, make_cover};
-use play_edits::MadeEdit;
+use play_edits::{EditRun, MadeEdit};
 use play_map::run::make_map;
 use std::alloc::Global;
 

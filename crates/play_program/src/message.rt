@@ -61,7 +61,11 @@ impl<'a> Message<'a> {
 
     /// The fault of the run of a request, with the file that it is about, of several logs the one at
     /// this place, from 0.
-    pub(crate) fn of_run(request: &Request<'a>, fault: PlayFault, log: Option<usize>) -> Message<'a>
+    pub(crate) fn of_fault(
+        request: &Request<'a>,
+        fault: PlayFault,
+        log: Option<usize>,
+    ) -> Message<'a>
         ensures { told_of result ≡ fault_told request.now fault log }
     {
         let file = match fault.input() {

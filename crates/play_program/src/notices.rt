@@ -6,8 +6,9 @@ ghost use Rattle.play_program.specs.Ends.{notices, refusal_notices, report_in, s
 
 use crate::message::Message;
 use crate::system::System;
-use cave_play::{EditRun, PlayFault};
+use cave_play::PlayFault;
 use play_command::{EditAsked, EditView, Request, What};
+use play_edits::EditRun;
 
 /// The report that a run has made, if it was asked for one.
 pub(crate) fn report_in(edits: &Option<EditRun>) -> &[u8]
@@ -28,7 +29,7 @@ fn tell_refusals<S: System>(system: &mut S, request: &Request<'_>, asked: EditAs
         return;
     }
     for refusal in &run.refused {
-        system.tell(Message::of_run(request, PlayFault::Refused(*refusal), None));
+        system.tell(Message::of_fault(request, PlayFault::Refused(*refusal), None));
     }
 }
 

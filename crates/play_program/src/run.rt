@@ -7,7 +7,6 @@ ghost use Rattle.play_program.specs.Ends.{Delivers, EndsRun, IsUnput, MakesOf, P
 ghost use Rattle.play_program.specs.Ends.{why_unmade, with_reason};
 
 use crate::clash::check_output;
-use crate::files::file_of;
 use crate::make::{Made, make};
 use crate::message::Message;
 use crate::notices::{report_in, tell_notices};
@@ -15,8 +14,9 @@ use crate::output::Output;
 use crate::sources::{Files, open_first};
 use crate::system::System;
 use cave_play::output::write_output;
-use cave_play::{Complaint, EditRun, LogsFault, PlayFault};
-use play_command::{Input, Request};
+use cave_play::{Complaint, LogsFault, PlayFault};
+use play_command::Request;
+use play_edits::EditRun;
 use std::alloc::Global;
 use std::io;
 use std::io::{ErrorKind, Write};
@@ -33,7 +33,7 @@ fn why_unmade<'a>(
     ensures { told_of result ≡ why_unmade request.now found unopened }
 {
     let LogsFault { fault, log } = found;
-    match (Message::of_run(request, fault, log), unopened) {
+    match (Message::of_fault(request, fault, log), unopened) {
         (
             Message::Fault(
                 Complaint {
@@ -131,7 +131,7 @@ fn run_apart<'a, S: System, W: Write>(
     let made = make_of_files(alloc, system, request)?;
     deliver(system, request.output, &made, output)?;
     match made.left {
-        Some(fault) => Err(Message::of_run(request, fault, None)),
+        Some(fault) => Err(Message::of_fault(request, fault, None)),
         None => Ok(made.edits),
     }
 }

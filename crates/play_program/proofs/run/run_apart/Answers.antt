@@ -40,7 +40,7 @@ returns-in-Some g c =
         (
           Ok tt,
           c.in_ok-deliver.ensures,
-          ap Err c.of_run.ensures ∙ ap (λ left. with_left c.args.request.now left made.edits)
+          ap Err c.of_fault.ensures ∙ ap (λ left. with_left c.args.request.now left made.edits)
               (sym c.in-Some.is),
         ),
       ),
