@@ -94,11 +94,6 @@ check_of rows =
 
 -- ---- what an edit asks
 
--- an edit in place has its own file and its own view, so none of them was found
-abbrev pub is_two_outputs : List Row → Bool
-is_two_outputs rows = is_in_place rows
-    && (is_given (codes "output") rows || is_given (codes "print") rows)
-
 -- there is the file of a script, or there are lines of one, or there is the file of a log, and no
 -- other of the three
 abbrev pub edits_from : Bool → Bool → Bool → Result EditsFrom Misuse
@@ -143,9 +138,12 @@ has_reports edited.Transcript beside = true
 has_reports edited.Reports beside = true
 has_reports _ beside = false
 
--- why items are refused is said of what is printed without reports, unless that wasn't to be said
+-- An edit in place has its own file and its own view, so none of them was found. Why items are
+-- refused is said of what is printed without reports, unless that wasn't to be said.
 unfoldable pub edit_of : List Row → Result EditAsked Misuse
-edit_of rows = if is_two_outputs rows then Err misuse.TwoOutputs else do
+edit_of rows =
+  if is_in_place rows && (is_given (codes "output") rows || is_given (codes "print") rows)
+  then Err misuse.TwoOutputs else do
   editing ← editing_of rows
   source ← edits_from_of rows
   beside ← report_of rows

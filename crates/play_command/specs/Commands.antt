@@ -177,9 +177,6 @@ rules_of names command.Cover = needed "cave" ∷ argument form.NeededFiles "log"
 rules_of names command.Map = needed "cave" ∷ argument form.Files "log" ∷ short_value "bind"
     ∷ short_value "seed" ∷ flag "seen" ∷ value "from" ∷ value "within" ∷ short_value "output" ∷ []
 
-abbrev pub shape_of : ViewNames → List ℕ × Needs → Shape
-shape_of names entry = record (new_app entry.0).top { rules = rules_of names entry.1.0 }
-
 -- the program, which requires one of its commands
 abbrev pub plain_app : App
 plain_app = record {
@@ -194,7 +191,7 @@ plain_app = record {
 abbrev pub cave_app : ViewNames → App
 cave_app names = record {
   top = record plain_app.top { is_leaf = false };
-  subs = map (shape_of names) commands;
+  subs = map (λ entry. record (new_app entry.0).top { rules = rules_of names entry.1.0 }) commands;
 }
 
 -- the fact holds of the program's command, wherever the names of views lie

@@ -55,14 +55,10 @@ number_row Every = (codes "every", 1, MAX_EVERY)
 number_row From = (codes "from", 1, 300)
 number_row Within = (codes "within", 0, 300)
 
--- 1 to 10 digits and nothing else
-abbrev pub is_option_number : List ℕ → Bool
-is_option_number text = nat_lt 0 (length text) && nat_le (length text) MAX_DIGITS
-    && list_all bytes.is_digit text
-
--- the number that the text writes, if it is from `least` to `most`
+-- the number that the text writes in 1 to 10 digits and nothing else, if it is from `least` to `most`
 unfoldable pub number_in_range : ℕ → ℕ → List ℕ → Option ℕ
-number_in_range least most text = if is_option_number text
+number_in_range least most text =
+    if nat_lt 0 (length text) && nat_le (length text) MAX_DIGITS && list_all bytes.is_digit text
     && nat_le least (bytes.number_of text) && nat_le (bytes.number_of text) most
     then Some (bytes.number_of text) else None
 
@@ -81,19 +77,16 @@ number_of option usual rows =
 abbrev pub named_file : NamedFile → Input × List ℕ
 named_file file = (file.input, file.name.now)
 
--- the arguments that are files to read, in the order in which these are opened
-abbrev pub file_arguments : List (List ℕ × Input)
-file_arguments = (codes "cave", Cave) ∷ (codes "bind", Bindings) ∷ (codes "old", Log)
-    ∷ (codes "log", Log) ∷ (codes "script", Script) ∷ (codes "new", NewLog) ∷ (codes "to", NewLog)
-    ∷ (codes "known", Known) ∷ []
-
 -- all that was found for an argument, as files of its input
 abbrev pub files_at : List Row → List ℕ × Input → List (Input × List ℕ)
 files_at rows argument =
     map (λ name. (argument.1, name)) (unwrap_or (all_of argument.0 rows) [])
 
+-- those of the arguments that are files to read, in the order in which they are opened
 abbrev pub files_of : List Row → List (Input × List ℕ)
-files_of rows = flat_map (files_at rows) file_arguments
+files_of rows = flat_map (files_at rows) ((codes "cave", Cave) ∷ (codes "bind", Bindings)
+    ∷ (codes "old", Log) ∷ (codes "log", Log) ∷ (codes "script", Script)
+    ∷ (codes "new", NewLog) ∷ (codes "to", NewLog) ∷ (codes "known", Known) ∷ [])
 
 -- an edited log is written over the log
 abbrev pub is_in_place : List Row → Bool

@@ -43,25 +43,11 @@ run_in request = record {
   what = request.what;
 }
 
--- the text of a script whose lines were found
-abbrev pub typed_of : List Row → Option (List ℕ)
-typed_of rows = option_map text_of_lines (all_of (codes "edit") rows)
-
-abbrev pub run_by : List Row → What → Asked
-run_by rows what = record {
-  files = files_of rows;
-  typed = typed_of rows;
-  output = output_of rows;
-  quiet = is_set (codes "quiet") rows;
-  what = what;
-}
-
--- what a command asks with all the files that it needs
-abbrev pub asked_with : List Row → Needs → Result What Misuse
-asked_with rows needs = if has_files needs.1 rows then what_of needs.0 rows else Err Incomplete
-
+-- what the command of a name asks with all the files that it needs
 abbrev pub asked_by : List ℕ → List Row → Result What Misuse
-asked_by name rows = option_map_or (asked_with rows) (named commands name) (Err Incomplete)
+asked_by name rows =
+    option_map_or (λ needs. if has_files needs.1 rows then what_of needs.0 rows else Err Incomplete)
+    (named commands name) (Err Incomplete)
 
 -- a command that was met, with what was found for its arguments
 abbrev pub MetCommand : Type 0
@@ -69,7 +55,13 @@ MetCommand = Option (List ℕ × List Row)
 
 abbrev pub run_of : MetCommand → Result Asked Misuse
 run_of None = Err Incomplete
-run_of (Some met) = asked_by met.0 met.1 >>= (λ what. Ok (run_by met.1 what))
+run_of (Some (name, rows)) = asked_by name rows >>= (λ what. Ok (record {
+  files = files_of rows;
+  typed = option_map text_of_lines (all_of (codes "edit") rows);
+  output = output_of rows;
+  quiet = is_set (codes "quiet") rows;
+  what = what;
+}))
 
 -- what was given for the option of a number, if the misuse is of one
 abbrev pub given_for : Misuse → List Row → List ℕ
@@ -115,12 +107,9 @@ WordsAskForOneRun = (met : MetCommand) (one other : Request)
     → IsRunAnswer met (Ok (Run one)) → IsRunAnswer met (Ok (Run other)) → run_in one ≡ run_in other
 
 -- the answer to words, in which the parser finds a command or what is wrong with them
-abbrev pub IsAnswerBy : List (List ℕ) → Result Line CommandFault → App → Type 0
-IsAnswerBy words answer app = IsErrorAnswer words (fault_of app words) answer
-    ⊎ ((fault_of app words ≡ []) × IsRunAnswer (subcommand_of app words) answer)
-
 abbrev pub IsAnswer : List (List ℕ) → Result Line CommandFault → Type 0
-IsAnswer words answer = ForCave (IsAnswerBy words answer)
+IsAnswer words answer = ForCave (λ app. IsErrorAnswer words (fault_of app words) answer
+    ⊎ ((fault_of app words ≡ []) × IsRunAnswer (subcommand_of app words) answer))
 
 -- the parser's answer to words: what they say, if nothing is wrong with them, and otherwise an
 -- error that says what is wrong, unless memory ran out
