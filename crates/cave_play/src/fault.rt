@@ -12,7 +12,7 @@ use play_command::Input;
 use play_edits::Refusal;
 use replay_scripts::{EditFlaw, ScriptFlaw};
 use std::alloc::AllocError;
-use std::{fmt, io};
+use std::fmt;
 use thiserror::Error;
 
 /// What is wrong with a line of a log. The first bytes of a log may be a byte order mark.
@@ -98,7 +98,7 @@ impl fmt::Display for CaveWords {
     }
 }
 
-/// Why a run failed. The text says what is wrong, and not where: that is `Complaint`.
+/// Why a run failed. The text says what is wrong, and not where.
 #[derive(Clone, Copy, Debug, PartialEq, Eq, Error)]
 pub enum PlayFault {
     /// The database or its bindings are refused.
@@ -217,40 +217,5 @@ impl PlayFault {
             PlayFault::Refused(refusal) => Some(refusal.line()),
             _ => None,
         }
-    }
-}
-
-/// A fault as the program reports it: the file and the line at fault, if there are any, and what is
-/// wrong.
-#[derive(Clone, Copy, Debug)]
-pub struct Complaint<'a> {
-    pub fault: PlayFault,
-    /// The file of the input at fault.
-    pub file: Option<&'a str>,
-}
-
-impl fmt::Display for Complaint<'_> {
-    fn fmt<W: fmt::Write>(&self, f: &mut fmt::Formatter<W>) -> fmt::Result {
-        let fault = self.fault;
-        match (self.file, fault.line()) {
-            (Some(file), Some(line)) => write!(f, "cave: {file}:{line}: {fault}"),
-            (Some(file), None) => write!(f, "cave: {file}: {fault}"),
-            (None, _) => write!(f, "cave: {fault}"),
-        }
-    }
-}
-
-/// A file that can't be opened, as the program reports it.
-#[derive(Drop)]
-pub struct Unopened<'a> {
-    pub file: &'a str,
-    /// The system's reason.
-    pub reason: &'a io::Error,
-}
-
-impl fmt::Display for Unopened<'_> {
-    fn fmt<W: fmt::Write>(&self, f: &mut fmt::Formatter<W>) -> fmt::Result {
-        let (file, reason) = (self.file, self.reason);
-        write!(f, "cave: {file}: the file can't be opened: {reason}")
     }
 }

@@ -23,7 +23,7 @@ pub use check_doubts::DoubtFiles;
 pub use check_tables::Clue;
 pub use data_rows::{Cause, CaveError, FaultSite, Role};
 pub use doubted::run_doubts;
-pub use fault::{Complaint, LogFault, PlayFault, ScriptFault, Unopened};
+pub use fault::{LogFault, PlayFault, ScriptFault};
 pub use inputs::{CaveReaders, Inputs};
 pub use logs::LogsFault;
 pub use play_command::{

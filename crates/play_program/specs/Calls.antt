@@ -31,8 +31,7 @@ pub data Told : Type 0 where
 
 -- what a message reports, regardless of where its names are borrowed from
 abbrev pub told_of : Message → Told
-told_of (message.Fault complaint) =
-    faulty complaint.fault (option_map (λ s. s.now) complaint.file)
+told_of (message.Fault found file) = faulty found (option_map (λ s. s.now) file)
 told_of (message.Unopened file reason) = unopened file.now reason
 told_of (message.Unwritten file reason) = unwritten file.now reason
 told_of (message.Unprinted reason) = unprinted reason

@@ -8,6 +8,7 @@ use Rattle.cave_play.specs.declared.fault.PlayFault.{PlayFault}
 use Rattle.play_command.specs.Found.{named_file}
 use Rattle.play_command.specs.declared.views.EditView.{EditView}
 use Rattle.play_command.specs.declared.views.EditView.TheVariants as asked
+use Rattle.play_command.specs.contracts.input.InputPartialEq.TheImpl as input_eq
 use Rattle.play_command.specs.declared.input.Input.{Input}
 use Rattle.play_command.specs.declared.input.Input.TheVariants as input
 use Rattle.play_command.specs.declared.input.NamedFile.{NamedFile}
@@ -21,17 +22,8 @@ use Rattle.play_program.specs.Calls.Told.{clashing, faulty}
 abbrev pub FileName : Type 0
 FileName = Input × List ℕ
 
--- the number of an input, by which one input is known from another
-abbrev pub number_of : Input → ℕ
-number_of input.Cave = 0
-number_of input.Bindings = 1
-number_of input.Log = 2
-number_of input.NewLog = 3
-number_of input.Script = 4
-number_of input.Known = 5
-
 abbrev pub is_same_input : Input → Input → Bool
-is_same_input one other = number_of one == number_of other
+is_same_input one other = input_eq.eq-value.it one other
 
 abbrev pub files_in : Request → List FileName
 files_in request = map named_file request.files.items

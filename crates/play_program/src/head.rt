@@ -59,38 +59,13 @@ fn next_word(text: &[u8]) -> Option<(&[u8], &[u8])>
     }
 }
 
-fn is_option(word: &[u8]) -> bool
-    ensures { result ≡ is_option word.now }
-{
-    match word {
-        [byte, ..] => *byte == b'-',
-        [] => false,
-    }
-}
-
 /// The database of a head: its first word, unless that is an option.
 fn first_file(text: &[u8]) -> Option<&[u8]>
     ensures { option_map (λ word. word.now) result ≡ first_file (fields text.now) }
 {
     match next_word(text) {
-        Some((word, _)) if !is_option(word) => Some(word),
-        _ => None,
-    }
-}
-
-/// What follows the first bytes of a word, if it begins with them.
-fn after_start<'a>(start: &[u8], word: &'a [u8]) -> Option<&'a [u8]>
-    ensures { option_map (λ rest. rest.now) result ≡ after_start start.now word.now }
-{
-    word.strip_prefix(start)
-}
-
-fn after_equals(bytes: &[u8]) -> &[u8]
-    ensures { result.now ≡ after_equals bytes.now }
-{
-    match after_start(b"=", bytes) {
-        Some(rest) => rest,
-        None => bytes,
+        None | Some(([b'-', ..], _)) => None,
+        Some((word, _)) => Some(word),
     }
 }
 
@@ -99,13 +74,13 @@ fn value_in_word<'a>(name: &[u8], letter: &[u8], word: &'a [u8]) -> Option<&'a [
     ensures { option_map (λ value. value.now) result
         ≡ value_in_word name.now letter.now word.now }
 {
-    if let Some(rest) = after_start(name, word) {
-        if let Some(value) = after_start(b"=", rest) {
+    if let Some(rest) = word.strip_prefix(name) {
+        if let Some(value) = rest.strip_prefix(b"=") {
             return Some(value);
         }
     }
-    let value = after_start(letter, word)?;
-    Some(after_equals(value))
+    let value = word.strip_prefix(letter)?;
+    Some(value.strip_prefix(b"=").unwrap_or(value))
 }
 
 /// The value of an option among the words of a head.
@@ -161,16 +136,6 @@ fn is_same_file(said: &[u8], given: &str) -> bool
     base_name(said) == base_name(given.as_bytes())
 }
 
-/// Whether the bindings, if there are some, are in a file of the same name.
-fn is_bound_by(said: &[u8], bind: Option<&str>) -> bool
-    ensures { result ≡ is_bound_by said.now (option_map (λ bind. bind.now) bind.entry) }
-{
-    match bind {
-        Some(bind) => is_same_file(said, bind),
-        None => false,
-    }
-}
-
 /// Whether 1 to 10 digits write another number.
 #[tactic(auto, unfolding(crate::specs::Head::is_other_seed))]
 fn is_other_seed(seed: u32, said: &[u8]) -> bool
@@ -193,12 +158,14 @@ fn other_said<'a>(request: &Request<'_>, seed: u32, head: &'a [u8]) -> Option<He
         }
         _ => {}
     }
-    match value_of(b"--bind", b"-b", head) {
-        Some(text) if !is_bound_by(text, file_of(request, Input::Bindings, 0)) => {
-            let option = "--bind ";
-            return Some(HeadSaid { option, text });
+    if let Some(text) = value_of(b"--bind", b"-b", head) {
+        match file_of(request, Input::Bindings, 0) {
+            Some(bindings) if is_same_file(text, bindings) => {}
+            _ => {
+                let option = "--bind ";
+                return Some(HeadSaid { option, text });
+            }
         }
-        _ => {}
     }
     match value_of(b"--seed", b"-s", head) {
         Some(text) if is_other_seed(seed, text) => {

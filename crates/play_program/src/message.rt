@@ -9,7 +9,7 @@ ghost use Rattle.play_program.specs.Files.{fault_told};
 
 use crate::files::file_of;
 use crate::head::HeadSaid;
-use cave_play::{Complaint, PlayFault, Unopened};
+use cave_play::PlayFault;
 use play_command::Request;
 use std::io::ErrorKind;
 use std::{fmt, io};
@@ -17,8 +17,8 @@ use std::{fmt, io};
 /// What the program says apart from its output, in whole lines.
 #[derive(Drop)]
 pub enum Message<'a> {
-    /// A fault of a run, with the file that it is about.
-    Fault(Complaint<'a>),
+    /// A fault of a run, with the file that it is about, if it is about one.
+    Fault(PlayFault, Option<&'a str>),
     /// The file can't be opened, for this reason.
     Unopened(&'a str, io::Error),
     /// The file of the output can't be written, for this reason.
@@ -49,7 +49,7 @@ impl<'a> Message<'a> {
     pub(crate) fn of(fault: PlayFault) -> Message<'a>
         ensures { told_of result ≡ faulty fault None }
     {
-        Message::Fault(Complaint { fault, file: None })
+        Message::Fault(fault, None)
     }
 
     /// Memory ran out.
@@ -72,7 +72,7 @@ impl<'a> Message<'a> {
             Some(input) => file_of(request, input, log.unwrap_or(0)),
             None => None,
         };
-        Message::Fault(Complaint { fault, file })
+        Message::Fault(fault, file)
     }
 
     /// The status of the program that ends with it.
@@ -80,7 +80,7 @@ impl<'a> Message<'a> {
         ensures { result ≡ status_told (told_of self.now) }
     {
         match self {
-            Message::Fault(complaint) => complaint.fault.status(),
+            Message::Fault(fault, _) => fault.status(),
             Message::Unopened(_, _) => 5,
             Message::Unwritten(_, _) | Message::Unprinted(_) => 6,
             Message::Usage(_, _) | Message::Unread(_) | Message::Clash(_, _) => 2,
@@ -102,10 +102,13 @@ impl<'a> Message<'a> {
 impl fmt::Display for Message<'_> {
     fn fmt<W: fmt::Write>(&self, f: &mut fmt::Formatter<W>) -> fmt::Result {
         match self {
-            Message::Fault(complaint) => writeln!(f, "{complaint}"),
+            Message::Fault(fault, Some(file)) => match fault.line() {
+                Some(line) => writeln!(f, "cave: {file}:{line}: {fault}"),
+                None => writeln!(f, "cave: {file}: {fault}"),
+            },
+            Message::Fault(fault, None) => writeln!(f, "cave: {fault}"),
             Message::Unopened(file, reason) => {
-                let file = *file;
-                writeln!(f, "{}", Unopened { file, reason })
+                writeln!(f, "cave: {file}: the file can't be opened: {reason}")
             }
             Message::Unwritten(file, reason) => {
                 writeln!(f, "cave: {file}: {}: {reason}", PlayFault::Write)

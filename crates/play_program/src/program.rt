@@ -26,23 +26,6 @@ fn print<S: System, W: Write>(system: &mut S, text: &Error, output: &mut Output<
     }
 }
 
-/// Does what a command line asks for: a run, or help or the version, which are printed.
-fn answer<S: System, W: Write>(
-    alloc: Global,
-    system: &mut S,
-    asked: &Line<'_>,
-    output: &mut Output<W>,
-) -> u8
-    ensures ends { EndsLine (Ok asked.now) (S.one_file system.old) (S.bytes_of system.old)
-        (S.calls system.old) (S.calls system.new) (W.contents output.old.writer)
-        (W.contents output.new.writer) output.new.reason result }
-{
-    match asked {
-        Line::Run(request) => run(alloc, system, request, output),
-        Line::Text(text) => print(system, text, output),
-    }
-}
-
 /// A text without the parser's tip to put `--` before an unknown option, which would then be taken
 /// for a file.
 fn without_tip(text: &str) -> (&str, &str) {
@@ -72,7 +55,7 @@ fn refuse<S: System>(alloc: Global, system: &mut S, fault: &CommandFault<'_>) ->
     }
 }
 
-/// Does what words ask for.
+/// Does what words ask for: a run, or help or the version, which are printed.
 fn begin<S: System, W: Write>(
     alloc: Global,
     system: &mut S,
@@ -84,7 +67,8 @@ fn begin<S: System, W: Write>(
         (W.contents output.old.writer) (W.contents output.new.writer) output.new.reason result }
 {
     match command_line(alloc, words) {
-        Ok(asked) => answer(alloc, system, &asked, output),
+        Ok(Line::Run(request)) => run(alloc, system, &request, output),
+        Ok(Line::Text(text)) => print(system, &text, output),
         Err(fault) => refuse(alloc, system, &fault),
     }
 }

@@ -14,7 +14,6 @@ ghost use Rattle.play_program.specs.Sources.{IsTakenFrom, Opened, ReadsOne, entr
 ghost use Rattle.play_program.specs.Sources.{held_in, is_first, is_log, missing_text, typed_text};
 ghost use Rattle.play_program.specs.Sources.{waiting_entry};
 
-use crate::files::is_same_input;
 use crate::head::head_notice;
 use crate::message::Message;
 use crate::system::System;
@@ -113,7 +112,7 @@ fn place_of<F>(waiting: &[WaitingFile<'_, F>], input: Input) -> Option<usize>
 {
     waiting
         .iter()
-        .position(|file| is_same_input(file.input, input))
+        .position(|file| file.input == input)
 }
 
 /// Takes the first file of an input out of those that wait.
