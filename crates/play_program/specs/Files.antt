@@ -74,20 +74,18 @@ log_count files = length (log_names files)
 abbrev pub output_of : Request → Option (List ℕ)
 output_of request = option_map (λ s. s.now) request.output
 
--- the view of an edit whose output may go over an input, by its name: the edited log over the log,
--- and the script with guards over the script
-abbrev pub view_over : What → Input → Option (List ℕ × EditView)
-view_over (Edit what) input.Log = Some (codes "log", asked.Log)
-view_over (Edit what) input.Script = Some (codes "guarded", asked.Guarded)
-view_over _ _ = None
-
-abbrev pub IsView : What → Option (List ℕ × EditView) → Type 0
-IsView (Edit what) (Some view) = what.editing.view ≡ view.1
-IsView _ _ = ⊥
-
--- the output of a run may go over an input of its own kind
+-- the output of an edit may go over an input of its own kind: the edited log over the log, and the
+-- script with guards over the script
 abbrev pub MayReplace : What → Input → Type 0
-MayReplace what from = IsView what (view_over what from)
+MayReplace (Edit what) input.Log = what.editing.view ≡ asked.Log
+MayReplace (Edit what) input.Script = what.editing.view ≡ asked.Guarded
+MayReplace _ _ = ⊥
+
+-- the name of that view
+abbrev pub view_over : What → Input → Option (List ℕ)
+view_over (Edit what) input.Log = Some (codes "log")
+view_over (Edit what) input.Script = Some (codes "guarded")
+view_over _ _ = None
 
 -- the answer is this, if it is known
 abbrev pub IsKnownAs : Bool → Option Bool → Type 0
@@ -112,5 +110,5 @@ IsClash one_file what None files said = ⊥
 IsClash one_file what (Some output) files said =
     ((file : FileName) × Contains files file × (¬ MayReplace what file.0)
     × IsKnownAs true (one_file output file.1)
-    × (said ≡ clashing file.1 (option_map (λ over. over.0) (view_over what file.0))))
+    × (said ≡ clashing file.1 (view_over what file.0)))
     ⊎ (said ≡ out_of_memory)

@@ -63,11 +63,9 @@ of_edits (Ok made) = Ok (record { output = made.text; edits = Some made.run; lef
 of_edits (Err found) = Err (at_none found)
 
 -- of what logs show, which fails if the run is strict and something is left
-abbrev pub left_unshown : Bool → ℕ → Option PlayFault
-left_unshown strict left = if strict && nat_lt 0 left then Some (fault.Unshown left) else None
-
 abbrev pub of_cover : Bool → Result (Reported ℕ) LogsFault → Result Made LogsFault
-of_cover strict (Ok made) = Ok (made_of made.text (left_unshown strict made.found))
+of_cover strict (Ok made) = Ok (made_of made.text
+    (if strict && nat_lt 0 made.found then Some (fault.Unshown made.found) else None))
 of_cover strict (Err found) = Err found
 
 abbrev pub of_map : Result (Reported (Unit {0})) LogsFault → Result Made LogsFault
@@ -112,9 +110,6 @@ IsMadeFrom edits_from.Script asked texts edited =
 IsMadeFrom edits_from.NewLog asked texts edited =
     JudgesEditTo texts asked.editing asked.report edited
 
-abbrev pub IsMadeEdits : EditAsked → InputTexts → Result MadeEdit PlayFault → Type 0
-IsMadeEdits asked texts edited = IsMadeFrom asked.edits_from asked texts edited
-
 -- what a command makes of the texts of its inputs
 abbrev pub IsMadeBy : What → Request → InputTexts → List (List ℕ) → Result Made LogsFault → Type 0
 IsMadeBy (Check view) request texts logs made =
@@ -126,7 +121,8 @@ IsMadeBy (Play seed view) request texts logs made =
     (play_stages texts.database texts.bindings texts.log seed)
     (IsPlayed texts.database texts.bindings texts.log seed view)
 IsMadeBy (Edit asked) request texts logs made =
-    (edited : Result MadeEdit PlayFault) × (made ≡ of_edits edited) × IsMadeEdits asked texts edited
+    (edited : Result MadeEdit PlayFault) × (made ≡ of_edits edited)
+    × IsMadeFrom asked.edits_from asked texts edited
 IsMadeBy (Script form) request texts logs made =
     (text : Result (Vec ℕ) PlayFault) × (made ≡ of_text text) × JudgesScript form texts text
 IsMadeBy (Cover seed view strict) request texts logs made =

@@ -4,6 +4,7 @@ use Rattle.std.specs.Prelude.{◌≡◌, ◌⊎◌, ◌&&◌, ℕ, Bool, true, f
 use Rattle.std.specs.Prelude.{Option, None, Some, Result, Ok, Err, if◌then◌else◌, is_some}
 use Rattle.std.specs.Prelude.{option_map, string_bytes, unwrap_or}
 use Rattle.std.specs.List.{filter, flat_map}
+use Rattle.std.specs.Option.{option_map_or}
 use Rattle.std.specs.declared.io.Error.{Error}
 use Rattle.cave_play.specs.Sources.{Says, Held}
 use Rattle.play_command.specs.declared.input.Input.{Input}
@@ -141,11 +142,6 @@ held_in bytes_of left files =
 
 -- ---- what reading asks of the system
 
--- a log of this name whose head says something else is reported
-abbrev pub told_of_head : List ℕ → Option Said → List Call
-told_of_head log None = []
-told_of_head log (Some said) = Tells (headed log said.0 said.1) ∷ []
-
 abbrev pub is_log : Input → Bool
 is_log input.Log = true
 is_log input.NewLog = true
@@ -164,7 +160,9 @@ opening_unless is_open name = if is_open then [] else Opens name ∷ []
 
 abbrev pub telling_if : Bool → Request → FileName → List ℕ → List Call
 telling_if whole request file text =
-    if whole && is_log file.0 then told_of_head file.1 (head_notice request text) else []
+    if whole && is_log file.0
+    then option_map_or (λ said. Tells (headed file.1 said.0 said.1) ∷ []) (head_notice request text) []
+    else []
 
 abbrev pub calls_for : Request → ReadFile → List Call
 calls_for request read = opening_unless read.entry.is_open read.entry.file.1

@@ -2,8 +2,8 @@
 
 ghost use Rattle.std.specs.Prelude.{◌≡◌, ◌<◌, [], ◌∷◌, IfSome, MatchOption, length, option_map};
 ghost use Rattle.data_rows.specs.Fields.{fields};
-ghost use Rattle.play_program.specs.Head.{after_equals, after_start, base_name, first_file};
-ghost use Rattle.play_program.specs.Head.{head_notice, head_of, is_bound_by, is_option};
+ghost use Rattle.play_program.specs.Head.{base_name, first_file};
+ghost use Rattle.play_program.specs.Head.{head_notice, head_of};
 ghost use Rattle.play_program.specs.Head.{is_other_seed, is_same_file, other_said, said_in};
 ghost use Rattle.play_program.specs.Head.{seed_asked, value_in_word, value_of};
 

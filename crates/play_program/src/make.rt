@@ -5,7 +5,7 @@ ghost use Rattle.std.specs.List.{AllZip};
 ghost use Rattle.cave_play.specs.Sources.{InputTexts, Says, AreHeld, Leads};
 ghost use Rattle.play_command.specs.Found.{named_file};
 ghost use Rattle.play_program.specs.Files.{log_count};
-ghost use Rattle.play_program.specs.Making.{AreAsked, AreListed, HasReadAll, IsMade, IsMadeEdits};
+ghost use Rattle.play_program.specs.Making.{AreAsked, AreListed, HasReadAll, IsMade, IsMadeFrom};
 ghost use Rattle.play_program.specs.Making.{of_cover, of_doubts, of_edits, of_map, of_text};
 ghost use Rattle.play_program.specs.Making.{third_of};
 
@@ -119,7 +119,7 @@ fn make_edits<I: Sources>(
 ) -> Result<MadeEdit, PlayFault>
     ensures judged { (texts : InputTexts)
         × AreHeld (third_of (What.Edit asked)) (I.held inputs.old) texts
-        × IsMadeEdits asked texts result }
+        × IsMadeFrom asked.edits_from asked texts result }
     ensures leads { Leads I.Reads inputs.old inputs.new }
 {
     match asked.edits_from {

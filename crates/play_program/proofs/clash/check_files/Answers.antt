@@ -17,7 +17,7 @@ returns-in-Ok-true g c =
       Contains-named files i no_file c.loop-file-test.true,
       (λ may. let no = c.if-may_replace.ensures.1 may in cc),
       subst (λ same. IsKnownAs same known) c.in-Ok-true.field-0-test c.in-Ok-true.ensures,
-      ap (clashing file.1) c.name_over.ensures,
+      ap (clashing file.1) c.view_over.ensures,
     )
 
 pub loop-file-preserved : goal.loop-file-preserved
