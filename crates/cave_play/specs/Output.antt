@@ -89,17 +89,13 @@ abbrev pub first_doubt : Bool → List Doubt → Option PlayFault
 first_doubt true (first ∷ others) = Some (fault.Doubt first)
 first_doubt _ _ = None
 
--- what is said of these doubts: which entries of the list of known ones none of them meets, and
--- which of them it doesn't know
-abbrev pub list_text : DoubtFiles → List ℕ → List Doubt → List ℕ
-list_text files known all =
-    unmet_text files known all ++ doubts_text files (left_doubts files known all)
-
--- these are the doubts that the list doesn't know, with what is said
+-- these are the doubts that the list doesn't know, and what is said: which entries of the list of
+-- known ones no doubt meets, and then these doubts
 pub record AreLeft (files : DoubtFiles) (known : List ℕ) (all : List Doubt) (found : LeftDoubts)
     : Type 0 where
   pub left : found.left.items ≡ left_doubts files known all
-  pub text : found.text.items ≡ list_text files known all
+  pub text : found.text.items
+      ≡ unmet_text files known all ++ doubts_text files (left_doubts files known all)
 
 -- the same for the doubts of the cave of a database and its bindings
 abbrev pub AreLeftIn : DoubtFiles → List ℕ → List ℕ → List ℕ → LeftDoubts → Type 0
