@@ -34,8 +34,8 @@ use Rattle.cave_play.specs.Sources.{IsUnread}
 use Rattle.cave_play.specs.Run.{Judges, IsFoundAt, IsFoundIn}
 use Rattle.cave_play.specs.Stages.{reading_stage, judging_stage, first_decided, cave_stages}
 use Rattle.cave_play.specs.Stages.{known_stage, log_stage, script_stage}
-use Rattle.play_command.specs.declared.input.Input.{Input}
-use Rattle.play_command.specs.declared.input.Input.TheVariants as input
+use Rattle.play_command.specs.declared.line.Input.{Input}
+use Rattle.play_command.specs.declared.line.Input.TheVariants as input
 use Rattle.cave_play.specs.declared.fault.LogFault.TheVariants as log
 use Rattle.cave_play.specs.declared.fault.PlayFault.{PlayFault}
 use Rattle.cave_play.specs.declared.fault.PlayFault.TheVariants as fault

@@ -19,11 +19,11 @@ use Rattle.play_edits.specs.declared.items.EditRun.{EditRun}
 use Rattle.play_edits.specs.declared.items.MadeEdit.{MadeEdit}
 use Rattle.play_command.specs.declared.views.ReportView.{ReportView}
 use Rattle.play_command.specs.declared.line.Editing.{Editing}
-use Rattle.play_command.specs.declared.input.Input.TheVariants as input
+use Rattle.play_command.specs.declared.line.Input.TheVariants as input
 use Rattle.cave_play.specs.declared.fault.PlayFault.{PlayFault}
 use Rattle.cave_play.proofs.SourceLemmas.{goes_on, stays}
 use Rattle.cave_play.specs.declared.two_logs.WithCompared.{WithCompared}
-use Rattle.play_command.specs.declared.input.Input.{Input}
+use Rattle.play_command.specs.declared.line.Input.{Input}
 use Rattle.cave_play.proofs.AcceptedLogs.{IsGame-accepted}
 use Rattle.cave_play.proofs.RunLemmas.{Runs-made, RunsWith-made}
 use Rattle.cave_play.proofs.JudgeLemmas.{log_fault-lines}

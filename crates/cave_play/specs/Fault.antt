@@ -5,8 +5,8 @@ use Rattle.data_rows.specs.declared.error.FaultSite.TheVariants as site
 use Rattle.check_doubts.specs.declared.flaw.Source.{Source}
 use Rattle.check_doubts.specs.declared.flaw.Source.TheVariants.{Database, Bindings}
 use Rattle.play_edits.specs.Refusal.{refusal_line}
-use Rattle.play_command.specs.declared.input.Input.{Input}
-use Rattle.play_command.specs.declared.input.Input.TheVariants as input
+use Rattle.play_command.specs.declared.line.Input.{Input}
+use Rattle.play_command.specs.declared.line.Input.TheVariants as input
 use Rattle.cave_play.specs.declared.fault.LogFault.TheVariants as log
 use Rattle.cave_play.specs.declared.fault.ScriptFault.TheVariants as script
 use Rattle.cave_play.specs.declared.fault.PlayFault.{PlayFault}

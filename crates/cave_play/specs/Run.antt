@@ -4,7 +4,7 @@ use Rattle.std.specs.Prelude.{Some, MatchResult}
 use Rattle.std.specs.Io.KnownBytes.{Appends, Keeps}
 use Rattle.cave_play.specs.declared.fault.PlayFault.{PlayFault}
 use Rattle.cave_play.specs.declared.fault.PlayFault.TheVariants as fault
-use Rattle.play_command.specs.declared.input.Input.{Input}
+use Rattle.play_command.specs.declared.line.Input.{Input}
 use Rattle.cave_play.specs.Stages.{Stage, first_decided}
 use Rattle.std.specs.Global.{Vec}
 use Rattle.play_edits.specs.declared.items.EditRun.{EditRun}

@@ -19,8 +19,8 @@ use Rattle.play_command.specs.declared.line.Editing.{Editing}
 use Rattle.replay_scripts.specs.Guards.{script_by}
 use Rattle.cave_play.specs.Judge.{large_seed, every_fault, input_size_fault, inputs_fault}
 use Rattle.cave_play.specs.Judge.{log_fault, script_fault}
-use Rattle.play_command.specs.declared.input.Input.{Input}
-use Rattle.play_command.specs.declared.input.Input.TheVariants as input
+use Rattle.play_command.specs.declared.line.Input.{Input}
+use Rattle.play_command.specs.declared.line.Input.TheVariants as input
 
 -- the fault of an output of this many bytes: a log and a script may have as many as an input
 abbrev pub size_fault : EditView → ℕ → Option PlayFault

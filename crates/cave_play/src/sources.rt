@@ -1,6 +1,6 @@
 //! Where a run has its inputs from.
 
-ghost use Rattle.play_command.specs.declared.input.Input.{Input};
+ghost use Rattle.play_command.specs.declared.line.Input.{Input};
 ghost use Rattle.cave_play.specs.Sources.{IsReading, Held, IsTaken, held_for};
 
 use crate::fault::PlayFault;

@@ -13,10 +13,10 @@ use Rattle.play_command.specs.declared.fault.Misuse.{Misuse}
 use Rattle.play_command.specs.declared.fault.Misuse.TheVariants.{BadNumber}
 use Rattle.play_command.specs.declared.found.NumberOption.{NumberOption}
 use Rattle.play_command.specs.declared.found.NumberOption.TheVariants.{Every, From, Seed, Within}
-use Rattle.play_command.specs.declared.input.Input.{Input}
-use Rattle.play_command.specs.declared.input.Input.TheVariants.{Cave, Bindings, Log, NewLog, Script}
-use Rattle.play_command.specs.declared.input.Input.TheVariants.{Known}
-use Rattle.play_command.specs.declared.input.NamedFile.{NamedFile}
+use Rattle.play_command.specs.declared.line.Input.{Input}
+use Rattle.play_command.specs.declared.line.Input.TheVariants.{Cave, Bindings, Log, NewLog, Script}
+use Rattle.play_command.specs.declared.line.Input.TheVariants.{Known}
+use Rattle.play_command.specs.declared.line.NamedFile.{NamedFile}
 
 -- what was found for the arguments of a command
 abbrev pub rows_in : ArgMatches → List Row

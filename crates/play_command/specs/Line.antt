@@ -17,7 +17,7 @@ use Rattle.play_command.specs.declared.fault.CommandFault.{CommandFault}
 use Rattle.play_command.specs.declared.fault.CommandFault.TheVariants as fault_is
 use Rattle.play_command.specs.declared.fault.Misuse.{Misuse}
 use Rattle.play_command.specs.declared.fault.Misuse.TheVariants.{BadNumber, Incomplete}
-use Rattle.play_command.specs.declared.input.Input.{Input}
+use Rattle.play_command.specs.declared.line.Input.{Input}
 use Rattle.play_command.specs.declared.line.Line.{Line}
 use Rattle.play_command.specs.declared.line.Line.TheVariants.{Run, Text}
 use Rattle.play_command.specs.declared.line.Request.{Request}

@@ -8,8 +8,10 @@ ghost use Rattle.play_command.specs.Found.{rows_in, with_text};
 
 use crate::commands::CommandName;
 use crate::fault::Misuse;
-use crate::found::{NumberOption, is_given, is_set, number_in, number_said, value_in, values_in};
-use crate::input::{is_in_place, output_in};
+use crate::found::{
+    NumberOption, is_given, is_in_place, is_set, number_in, number_said, output_in, value_in,
+    values_in,
+};
 use crate::line::{EditAsked, Editing, EditsFrom, MapPart, Surroundings, What};
 use crate::views::{
     CHECK_VIEWS, COVER_VIEWS, CoverView, EDIT_VIEWS, EditView, PLAY_VIEWS, REPORT_VIEWS,

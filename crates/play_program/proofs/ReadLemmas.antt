@@ -6,7 +6,7 @@ use Rattle.std.specs.Prelude.{if◌then◌else◌}
 use Rattle.play_program.specs.Files.{is_same_input}
 use Rattle.std.proofs.lemmas.List.Elements.{All-cons, All-nil}
 use Rattle.cave_play.specs.Sources.{Says, AreRead}
-use Rattle.play_command.specs.declared.input.Input.{Input}
+use Rattle.play_command.specs.declared.line.Input.{Input}
 use Rattle.play_command.specs.declared.line.Request.{Request}
 use Rattle.play_program.specs.Calls.{Call, and_then}
 use Rattle.play_program.specs.Sources.{AsksFor, Entry, ReadFile, ReadsOne, calls_for, entries_in}

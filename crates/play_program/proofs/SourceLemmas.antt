@@ -4,8 +4,8 @@ use Rattle.std.proofs.Common.{eqb-true, get_or, map, refl, subst, sym, ◌∙◌
 use Rattle.std.proofs.lemmas.Bool.{false≢true}
 use Rattle.std.specs.Prelude.{if◌then◌else◌}
 use Rattle.cave_play.specs.Sources.{Says, IsTaken, held_for, next_log}
-use Rattle.play_command.specs.declared.input.Input.{Input}
-use Rattle.play_command.specs.declared.input.Input.TheVariants as input
+use Rattle.play_command.specs.declared.line.Input.{Input}
+use Rattle.play_command.specs.declared.line.Input.TheVariants as input
 use Rattle.play_program.specs.Files.{is_same_input}
 use Rattle.play_program.specs.Sources.{Entry, first_among, first_known, held_of, missing_text}
 use Rattle.play_program.specs.Sources.{of_input, without_first}

@@ -6,7 +6,7 @@ use Rattle.std.specs.List.{position, position_or_len, remove}
 use Rattle.std.specs.Prelude.{is_some}
 use Rattle.std.proofs.lemmas.Bool.{cases_lt, false≢true}
 use Rattle.std.proofs.lemmas.Bool.Decides.{nat_tests}
-use Rattle.play_command.specs.declared.input.Input.{Input}
+use Rattle.play_command.specs.declared.line.Input.{Input}
 use Rattle.play_program.specs.Files.{is_same_input}
 use Rattle.play_program.specs.Sources.{Entry, IsTakenFrom, waiting_entry}
 use Rattle.play_program.specs.declared.sources.WaitingFile.{WaitingFile}

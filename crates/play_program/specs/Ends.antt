@@ -17,8 +17,8 @@ use Rattle.play_command.specs.Refusal.{refusal_text, status_of_command}
 use Rattle.play_command.specs.declared.views.EditView.{EditView}
 use Rattle.play_command.specs.declared.views.EditView.TheVariants as view
 use Rattle.play_command.specs.declared.fault.CommandFault.{CommandFault}
-use Rattle.play_command.specs.declared.input.Input.{Input}
-use Rattle.play_command.specs.declared.input.Input.TheVariants as input
+use Rattle.play_command.specs.declared.line.Input.{Input}
+use Rattle.play_command.specs.declared.line.Input.TheVariants as input
 use Rattle.play_command.specs.declared.line.EditAsked.{EditAsked}
 use Rattle.play_command.specs.declared.line.Line.{Line}
 use Rattle.play_command.specs.declared.line.Line.TheVariants as line

@@ -8,10 +8,10 @@ use Rattle.cave_play.specs.declared.fault.PlayFault.{PlayFault}
 use Rattle.play_command.specs.Found.{named_file}
 use Rattle.play_command.specs.declared.views.EditView.{EditView}
 use Rattle.play_command.specs.declared.views.EditView.TheVariants as asked
-use Rattle.play_command.specs.contracts.input.InputPartialEq.TheImpl as input_eq
-use Rattle.play_command.specs.declared.input.Input.{Input}
-use Rattle.play_command.specs.declared.input.Input.TheVariants as input
-use Rattle.play_command.specs.declared.input.NamedFile.{NamedFile}
+use Rattle.play_command.specs.contracts.line.InputPartialEq.TheImpl as input_eq
+use Rattle.play_command.specs.declared.line.Input.{Input}
+use Rattle.play_command.specs.declared.line.Input.TheVariants as input
+use Rattle.play_command.specs.declared.line.NamedFile.{NamedFile}
 use Rattle.play_command.specs.declared.line.Request.{Request}
 use Rattle.play_command.specs.declared.line.What.{What}
 use Rattle.play_command.specs.declared.line.What.TheVariants.{Edit}

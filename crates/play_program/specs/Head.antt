@@ -8,7 +8,7 @@ use Rattle.base_lines.specs.Bytes.{after_prefix, is_digit, number_of, prefix_whi
 use Rattle.base_lines.specs.Limits.{MAX_DIGITS}
 use Rattle.base_lines.specs.Line.{is_line}
 use Rattle.data_rows.specs.Fields.{fields}
-use Rattle.play_command.specs.declared.input.Input.TheVariants as input
+use Rattle.play_command.specs.declared.line.Input.TheVariants as input
 use Rattle.play_command.specs.declared.line.Request.{Request}
 use Rattle.play_command.specs.declared.line.What.{What}
 use Rattle.play_command.specs.declared.line.What.TheVariants.{Cover, Edit, Map, Play}

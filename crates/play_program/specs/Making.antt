@@ -15,8 +15,8 @@ use Rattle.cave_play.specs.declared.fault.PlayFault.TheVariants as fault
 use Rattle.cave_play.specs.declared.logs.Reported.{Reported}
 use Rattle.cave_play.specs.declared.logs.LogsFault.{LogsFault}
 use Rattle.check_doubts.specs.declared.listing.DoubtFiles.{DoubtFiles}
-use Rattle.play_command.specs.declared.input.Input.{Input}
-use Rattle.play_command.specs.declared.input.Input.TheVariants as input
+use Rattle.play_command.specs.declared.line.Input.{Input}
+use Rattle.play_command.specs.declared.line.Input.TheVariants as input
 use Rattle.play_command.specs.declared.line.EditAsked.{EditAsked}
 use Rattle.play_command.specs.declared.line.EditsFrom.{EditsFrom}
 use Rattle.play_command.specs.declared.line.EditsFrom.TheVariants as edits_from

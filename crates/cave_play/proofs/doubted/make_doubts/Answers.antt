@@ -9,7 +9,7 @@ use Rattle.cave_play.proofs.JudgeLemmas.{IsFoundIn-known, first_decided-known}
 use Rattle.cave_play.proofs.StageLemmas.{IsFoundIn-first, IsFoundIn-later, IsFoundIn-memory}
 use Rattle.cave_play.proofs.StageLemmas.{first_decided-later}
 use Rattle.cave_play.proofs.doubted.make_doubts.Goals as goal
-use Rattle.play_command.specs.declared.input.Input.TheVariants.{Known}
+use Rattle.play_command.specs.declared.line.Input.TheVariants.{Known}
 
 pub returns-in_err-read : goal.returns-in_err-read
 returns-in_err-read g c =

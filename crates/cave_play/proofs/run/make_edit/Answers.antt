@@ -8,7 +8,7 @@ use Rattle.cave_play.proofs.FinishLemmas.{Judges-finished, after_cave}
 use Rattle.cave_play.specs.Sources.{Held, next_log}
 use Rattle.cave_play.proofs.StageLemmas.{IsFoundIn-first, Judges-after, Judges-later}
 use Rattle.cave_play.proofs.run.make_edit.Goals as goal
-use Rattle.play_command.specs.declared.input.Input.TheVariants.{Script}
+use Rattle.play_command.specs.declared.line.Input.TheVariants.{Script}
 
 pub returns-in_err-check_seed : goal.returns-in_err-check_seed
 returns-in_err-check_seed g c =
