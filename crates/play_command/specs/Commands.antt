@@ -14,9 +14,9 @@ use Rattle.clap.specs.declared.builder.value_parser.ValueParser.TheVariants as p
 use Rattle.play_command.specs.Asked.{check_views, cover_views, edit_views, play_views}
 use Rattle.play_command.specs.Asked.{report_views}
 use Rattle.play_command.specs.Found.{is_given}
-use Rattle.play_command.specs.declared.arguments.Argument.{Argument}
-use Rattle.play_command.specs.declared.arguments.Form.{Form}
-use Rattle.play_command.specs.declared.arguments.Form.TheVariants as form
+use Rattle.play_command.specs.declared.commands.Argument.{Argument}
+use Rattle.play_command.specs.declared.commands.Form.{Form}
+use Rattle.play_command.specs.declared.commands.Form.TheVariants as form
 use Rattle.play_command.specs.declared.commands.CommandName.{CommandName}
 use Rattle.play_command.specs.declared.commands.CommandName.TheVariants as command
 use Rattle.play_command.specs.declared.commands.CommandRow.{CommandRow}

@@ -2,7 +2,6 @@
 #![tactic(auto)]
 
 pub mod app;
-mod arguments;
 mod asked;
 mod commands;
 pub mod fault;

@@ -8,9 +8,8 @@ ghost use Rattle.play_command.specs.Found.{rows_in};
 ghost use Rattle.play_command.specs.Line.{IsAnswer, IsErrorAnswer, IsParse, IsRunAnswer, asked_by};
 
 use crate::app::cave_app;
-use crate::arguments::{Argument, Form};
 use crate::asked::what_in;
-use crate::commands::{meant_command, row_named};
+use crate::commands::{Argument, Form, meant_command, row_named};
 use crate::fault::{CommandFault, Misuse};
 use crate::found::{FILES, files_in, is_given, is_set, output_in, value_in, values_in};
 use crate::line::{Line, Request, What};

@@ -4,7 +4,7 @@ ghost use Rattle.std.specs.Prelude.{◌≡◌, map};
 ghost use Rattle.play_command.specs.Asked.{edit_view_of};
 ghost use Rattle.play_command.specs.Found.{named, with_text};
 
-use crate::arguments::{Argument, Form};
+use crate::commands::{Argument, Form};
 
 /// What a check of a cave prints.
 #[derive(Clone, Copy, Debug, PartialEq, Eq)]
