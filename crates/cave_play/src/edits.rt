@@ -1,12 +1,12 @@
 //! Applying a script to a session, and the size of what edits made.
 
-ghost use Rattle.std.specs.Prelude.{◌≡◌, ℕ, List, [], ◌∷◌, length, MatchResult, None, Some};
+ghost use Rattle.std.specs.Prelude.{◌≡◌, ℕ, List, [], ◌∷◌, length};
 ghost use Rattle.replay_checkpoints.specs.Spacing.{IsSpaced};
 ghost use Rattle.replay_edits.specs.Edit.{IsGame};
 ghost use Rattle.cave_play.specs.Output.{FinishesEdit};
 ghost use Rattle.cave_play.specs.Sources.{Says, Leads};
 ghost use Rattle.cave_play.specs.Run.{Judges};
-ghost use Rattle.cave_play.specs.Stages.{size_fault, script_stage, strict_stage};
+ghost use Rattle.cave_play.specs.Stages.{script_stage, strict_stage};
 ghost use Rattle.play_edits.specs.Ends.{log_ends};
 ghost use Rattle.play_edits.specs.Views.{IsMadeOf};
 
@@ -47,20 +47,6 @@ pub(crate) fn edit_session<I: Sources>(
     }
 }
 
-/// Checks that a run could read an output again, if that is a log or a script.
-fn check_size(view: EditView, output: &[u8]) -> Result<(), PlayFault>
-    ensures { MatchResult result (λ _. size_fault view (length output.now) ≡ None)
-        (λ found. size_fault view (length output.now) ≡ Some found) }
-{
-    match view {
-        EditView::Log if is_large_input(output.len()) => Err(PlayFault::LargeLog),
-        EditView::Undo | EditView::Guarded if is_large_input(output.len()) => {
-            Err(PlayFault::LargeScript)
-        }
-        _ => Ok(()),
-    }
-}
-
 /// What edits made, unless that is a log or a script that no run could read again.
 pub(crate) fn finish_edit(
     view: EditView,
@@ -69,6 +55,10 @@ pub(crate) fn finish_edit(
     ensures { FinishesEdit view made result }
 {
     let made = made?;
-    check_size(view, &made.text)?;
-    Ok(made)
+    let is_large = is_large_input(made.text.len());
+    match view {
+        EditView::Log if is_large => Err(PlayFault::LargeLog),
+        EditView::Undo | EditView::Guarded if is_large => Err(PlayFault::LargeScript),
+        _ => Ok(made),
+    }
 }

@@ -1,6 +1,6 @@
 //! Reading an input to its end, within a limit.
 
-ghost use Rattle.std.specs.Prelude.{◌≡◌, ◌<◌, ◌≤◌, None, length, IfOk, IfErr, vec_len};
+ghost use Rattle.std.specs.Prelude.{◌≡◌, ◌<◌, ◌≤◌, length, IfOk, IfErr, vec_len};
 ghost use Rattle.base_lines.specs.Limits as defined;
 ghost use Rattle.cave_play.specs.Judge.{too_large};
 ghost use Rattle.cave_play.specs.Sources.{Exceeds, Gives, IsReading};
@@ -9,7 +9,7 @@ use crate::fault::{LogFault, PlayFault, ScriptFault};
 use base_lines::limits::MAX_INPUT_BYTES;
 use data_rows::{Cause, CaveError, FaultSite};
 use play_command::Input;
-use std::alloc::{AllocError, Global};
+use std::alloc::Global;
 use std::io::Read;
 
 /// How many bytes are requested at once: few, since they are filled before the first reading.
@@ -19,7 +19,7 @@ const PIECE_BYTES: usize = 2_048;
 pub fn read<R: Read>(alloc: Global, input: Input, reader: &mut R) -> Result<Vec<u8>, PlayFault>
     ensures { IsReading (R.remaining reader.old) input result }
 {
-    let mut piece = zeros(alloc, PIECE_BYTES)?;
+    let mut piece = vec![in alloc; 0; PIECE_BYTES]?;
     let mut text = Vec::new(alloc);
     'pieces: loop {
         match read_more(input, reader, piece.as_mut_slice(), &mut text) {
@@ -28,13 +28,6 @@ pub fn read<R: Read>(alloc: Global, input: Input, reader: &mut R) -> Result<Vec<
             Err(fault) => return Err(fault),
         }
     }
-}
-
-/// That many zero bytes, to be read into.
-fn zeros(alloc: Global, count: usize) -> Result<Vec<u8>, AllocError>
-    ensures { IfOk result (λ piece. vec_len piece ≡ count) }
-{
-    vec![in alloc; 0; count]
 }
 
 /// Reads once, appends what came, and returns whether anything came.
@@ -67,24 +60,14 @@ fn read_more<R: Read>(
 pub(crate) fn too_large(input: Input) -> PlayFault
     ensures { result ≡ too_large input }
 {
-    match input {
-        Input::Cave => too_large_at(FaultSite::Database),
-        Input::Bindings => too_large_at(FaultSite::Bindings),
-        Input::Log => PlayFault::Log(LogFault::TooLarge),
-        Input::NewLog => PlayFault::NewLog(LogFault::TooLarge),
-        Input::Script => PlayFault::Script(ScriptFault::TooLarge),
-        Input::Known => PlayFault::LargeKnown,
-    }
-}
-
-fn too_large_at(site: FaultSite) -> PlayFault
-    ensures { result
-        ≡ PlayFault.Cave (record { cause = Cause.TooLarge; line = 0; site = site }) None }
-{
-    let error = CaveError {
-        cause: Cause::TooLarge,
-        line: 0,
-        site,
+    let site = match input {
+        Input::Cave => FaultSite::Database,
+        Input::Bindings => FaultSite::Bindings,
+        Input::Log => return PlayFault::Log(LogFault::TooLarge),
+        Input::NewLog => return PlayFault::NewLog(LogFault::TooLarge),
+        Input::Script => return PlayFault::Script(ScriptFault::TooLarge),
+        Input::Known => return PlayFault::LargeKnown,
     };
-    PlayFault::Cave(error, None)
+    let (cause, line) = (Cause::TooLarge, 0);
+    PlayFault::Cave(CaveError { cause, line, site }, None)
 }
