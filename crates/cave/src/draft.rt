@@ -4,10 +4,11 @@
 
 ghost use Rattle.std.specs.Prelude.{◌≡◌, ◌==◌, ◌||◌, ◌++◌, IfOk, codes, string_bytes};
 
+use crate::seen::{Stamp, unless_missing};
 use std::alloc::{AllocError, Global};
 use std::fs::{File, OpenOptions, Permissions, TryLockError};
-use std::io::{ErrorKind, Write};
-use std::os::unix::fs::{MetadataExt, OpenOptionsExt, PermissionsExt};
+use std::io::ErrorKind;
+use std::os::unix::fs::{OpenOptionsExt, PermissionsExt};
 use std::{fs, io};
 
 /// The bits of a file's mode that say who may read, write and run it.
@@ -20,27 +21,8 @@ const MAX_TRIES: u32 = 100;
 /// file that somebody keeps has these.
 const OWNER_WRITES: u32 = 0o200;
 
-/// A file that is written before it replaces another.
-#[derive(Drop)]
-pub(crate) struct DraftFile {
-    pub(crate) file: File,
-    pub(crate) path: String,
-    /// The permissions of a new file.
-    pub(crate) usual: Permissions,
-}
-
-impl Write for DraftFile {
-    fn write(&mut self, buf: &[u8]) -> io::Result<usize> {
-        self.file.write(buf)
-    }
-
-    fn flush(&mut self) -> io::Result<()> {
-        self.file.flush()
-    }
-}
-
 /// The name of a draft: that of the file, so that both are in one folder, with an ending.
-fn draft_name(alloc: Global, path: &str) -> Result<String, AllocError>
+pub(crate) fn draft_name(alloc: Global, path: &str) -> Result<String, AllocError>
     ensures { IfOk result (λ name. string_bytes name ≡ path.now ++ codes ".cave-draft") }
 {
     format!(in alloc; "{path}.cave-draft")
@@ -66,12 +48,9 @@ fn busy() -> io::Error {
 
 /// Whether an open file is the one that has this name.
 fn is_named(rt: &HostRuntime, file: &File, path: &str) -> io::Result<bool> {
-    let opened = file.metadata()?;
-    match fs::symlink_metadata(rt, path) {
-        Ok(named) => Ok(named.dev() == opened.dev() && named.ino() == opened.ino()),
-        Err(reason) if reason.kind() == ErrorKind::NotFound => Ok(false),
-        Err(reason) => Err(reason),
-    }
+    let opened = Stamp::of(&file.metadata()?);
+    let named = unless_missing(fs::symlink_metadata(rt, path))?;
+    Ok(named.is_some_and(|named| Stamp::of(&named).is_of_file(opened)))
 }
 
 /// Makes a draft, unless a file has its name.
@@ -131,54 +110,34 @@ fn remove_locked(rt: &HostRuntime, file: &File, path: &str) -> io::Result<()> {
 
 /// Removes an abandoned draft, if it is still there.
 fn remove_left(rt: &HostRuntime, path: &str) -> io::Result<()> {
-    match fs::symlink_metadata(rt, path) {
-        Ok(found) if found.is_file() => {}
-        Ok(_) => return Err(taken()),
-        Err(reason) if reason.kind() == ErrorKind::NotFound => return Ok(()),
-        Err(reason) => return Err(reason),
+    match unless_missing(fs::symlink_metadata(rt, path))? {
+        Some(found) if !found.is_file() => return Err(taken()),
+        Some(_) => {}
+        None => return Ok(()),
     }
-    match open_left(rt, path) {
-        Ok(file) => remove_locked(rt, &file, path),
-        Err(reason) if reason.kind() == ErrorKind::NotFound => Ok(()),
-        Err(reason) => Err(reason),
+    match unless_missing(open_left(rt, path))? {
+        Some(file) => remove_locked(rt, &file, path),
+        None => Ok(()),
     }
 }
 
-/// Lets nobody read a new draft, where the file system has permissions, and returns those that it
-/// had.
-fn hide(file: &File) -> io::Result<Permissions> {
-    let usual = file.metadata()?.permissions();
-    let _ = file.set_permissions(Permissions::from_mode(OWNER_WRITES));
-    Ok(usual)
-}
-
-/// Makes a draft that this run holds.
-fn make(rt: &HostRuntime, path: &str, replaces: bool) -> io::Result<File> {
+/// Makes a draft that this run holds and, where the file system has permissions, nobody may read.
+/// Also returns those with which it was made: those of a new file, unless it replaces one.
+pub(crate) fn make_draft(
+    rt: &HostRuntime,
+    path: &str,
+    replaces: bool,
+) -> io::Result<(File, Permissions)> {
     for _ in 0..MAX_TRIES {
-        match create(rt, path, replaces)? {
-            Some(file) => {
-                if hold(rt, &file, path)? {
-                    return Ok(file);
-                }
-            }
-            None => remove_left(rt, path)?,
+        let Some(file) = create(rt, path, replaces)? else {
+            remove_left(rt, path)?;
+            continue;
+        };
+        if hold(rt, &file, path)? {
+            let usual = file.metadata()?.permissions();
+            let _ = file.set_permissions(Permissions::from_mode(OWNER_WRITES));
+            return Ok((file, usual));
         }
     }
     Err(busy())
-}
-
-impl DraftFile {
-    /// The draft of the file of a path, which it replaces, or which doesn't exist yet.
-    pub(crate) fn for_file(rt: &HostRuntime, file: &str, replaces: bool) -> io::Result<DraftFile> {
-        let path = draft_name(rt.alloc(), file)?;
-        let file = make(rt, path.as_str(), replaces)?;
-        let usual = hide(&file)?;
-        Ok(DraftFile { file, path, usual })
-    }
-
-    /// Removes it.
-    pub(crate) fn remove(self, rt: &HostRuntime) {
-        let _ = fs::remove_file(rt, self.path.as_str());
-        drop(self);
-    }
 }

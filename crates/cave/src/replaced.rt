@@ -2,8 +2,8 @@
 
 ghost use Rattle.std.specs.Prelude.{None};
 
-use crate::draft::DraftFile;
-use crate::seen::{SeenFile, Stamp};
+use crate::draft::{draft_name, make_draft};
+use crate::seen::{SeenFile, Stamp, unless_missing};
 use play_program::Target;
 use std::fs::{File, Metadata, Permissions};
 use std::io::ErrorKind;
@@ -15,7 +15,10 @@ use std::{fs, io};
 pub(crate) struct ReplacedFile<'a> {
     rt: &'a HostRuntime,
     path: String,
-    /// Who may read and write the file, if it exists.
+    /// The path of its draft.
+    draft: String,
+    /// The permissions of the file, or, if it doesn't exist yet, those that it gets, once its draft
+    /// is made.
     permissions: Option<Permissions>,
     /// What this run saw of the file, if it has read it.
     read: Option<Stamp>,
@@ -75,31 +78,30 @@ impl<'a> ReplacedFile<'a> {
         name: &str,
         seen: &[SeenFile],
     ) -> io::Result<ReplacedFile<'a>> {
-        let (path, permissions) = match fs::metadata(rt, name) {
-            Ok(found) if found.is_dir() => {
+        let (path, permissions) = match unless_missing(fs::metadata(rt, name))? {
+            Some(found) if found.is_dir() => {
                 return Err(io::Error::from(ErrorKind::IsADirectory));
             }
-            Ok(found) if !found.is_file() => {
+            Some(found) if !found.is_file() => {
                 return Err(io::Error::other("is no regular file"));
             }
-            Ok(found) if is_standard_output(rt, &found)? => {
+            Some(found) if is_standard_output(rt, &found)? => {
                 return Err(io::Error::other(
                     "it is where standard output goes: leave --output out",
                 ));
             }
-            Ok(found) => (
+            Some(found) => (
                 fs::canonicalize(rt, name)?.into_string(),
                 Some(found.permissions()),
             ),
-            Err(reason) if reason.kind() == ErrorKind::NotFound => {
-                (String::from_str(rt.alloc(), name)?, None)
-            }
-            Err(reason) => return Err(reason),
+            None => (String::from_str(rt.alloc(), name)?, None),
         };
+        let draft = draft_name(rt.alloc(), path.as_str())?;
         let read = stamp_of(rt, seen, path.as_str(), name)?;
         Ok(ReplacedFile {
             rt,
             path,
+            draft,
             permissions,
             read,
         })
@@ -110,28 +112,21 @@ impl<'a> ReplacedFile<'a> {
         let Some(read) = self.read else {
             return Ok(true);
         };
-        match fs::metadata(self.rt, self.path.as_str()) {
-            Ok(found) => Ok(Stamp::of(&found) == read),
-            Err(reason) if reason.kind() == ErrorKind::NotFound => Ok(false),
-            Err(reason) => Err(reason),
-        }
-    }
-
-    /// Gives a draft the permissions of the file, or those of a new one.
-    fn permit(&self, draft: &DraftFile) -> io::Result<()> {
-        let permissions = self.permissions.as_ref().unwrap_or(&draft.usual);
-        draft.file.set_permissions(permissions.clone()?)
+        let found = unless_missing(fs::metadata(self.rt, self.path.as_str()))?;
+        Ok(found.is_some_and(|found| Stamp::of(&found) == read))
     }
 
     /// Puts a draft that is on the disk in the place of the file. The permissions come last, since
     /// they may keep the next run from opening an abandoned draft.
-    fn put(&self, draft: &DraftFile) -> io::Result<()> {
-        draft.file.sync_all()?;
+    fn put(&self, draft: &File) -> io::Result<()> {
+        draft.sync_all()?;
         if !self.is_as_read()? {
             return Err(io::Error::other("it has changed since it was read: run this again"));
         }
-        self.permit(draft)?;
-        fs::rename(self.rt, draft.path.as_str(), self.path.as_str())
+        if let Some(permissions) = &self.permissions {
+            draft.set_permissions(permissions.clone()?)?;
+        }
+        fs::rename(self.rt, self.draft.as_str(), self.path.as_str())
     }
 
     /// Has the system write the folder to the disk as well, if it can: the file is replaced anyway.
@@ -143,24 +138,27 @@ impl<'a> ReplacedFile<'a> {
 }
 
 impl Target for ReplacedFile<'_> {
-    type Draft = DraftFile;
+    type Draft = File;
 
     ghost shown = { λ _. None };
 
-    fn begin(&mut self) -> io::Result<DraftFile> {
-        DraftFile::for_file(self.rt, self.path.as_str(), self.permissions.is_some())
+    fn begin(&mut self) -> io::Result<File> {
+        let (file, usual) = make_draft(self.rt, self.draft.as_str(), self.permissions.is_some())?;
+        self.permissions.get_or_insert(usual);
+        Ok(file)
     }
 
-    fn publish(&mut self, draft: DraftFile) -> io::Result<()> {
+    fn publish(&mut self, draft: File) -> io::Result<()> {
         let put = self.put(&draft);
         match &put {
             Ok(()) => self.sync_folder(),
-            Err(_) => draft.remove(self.rt),
+            Err(_) => self.discard(draft),
         }
         put
     }
 
-    fn discard(&mut self, draft: DraftFile) {
-        draft.remove(self.rt);
+    fn discard(&mut self, draft: File) {
+        let _ = fs::remove_file(self.rt, self.draft.as_str());
+        drop(draft);
     }
 }

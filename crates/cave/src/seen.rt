@@ -5,6 +5,15 @@ use std::io::ErrorKind;
 use std::os::unix::fs::MetadataExt;
 use std::{fs, io};
 
+/// What was found of a file, unless there is none.
+pub(crate) fn unless_missing<T>(found: io::Result<T>) -> io::Result<Option<T>> {
+    match found {
+        Ok(found) => Ok(Some(found)),
+        Err(reason) if reason.kind() == ErrorKind::NotFound => Ok(None),
+        Err(reason) => Err(reason),
+    }
+}
+
 /// Which file it was, how long it was, and when it and its content were last changed.
 #[derive(Clone, Copy, PartialEq, Eq)]
 pub(crate) struct Stamp {

@@ -9,7 +9,7 @@ use Rattle.replay_edits.specs.Edit.{game_of, IsGame}
 use Rattle.cave_replay.specs.Opening.{first_bad_line, or_game_fault}
 use Rattle.cave_replay.specs.declared.fault.OpenFault.TheVariants as session
 use Rattle.cave_replay.proofs.Openings.{IsGame-from_no_fault}
-use Rattle.cave_play.specs.Judge.{large_seed, lines_fault, log_fault, or_too_many}
+use Rattle.cave_play.specs.Stages.{large_seed, lines_fault, log_fault, or_too_many}
 use Rattle.cave_play.specs.declared.fault.LogFault.TheVariants as log
 use Rattle.cave_play.specs.declared.fault.PlayFault.{PlayFault}
 use Rattle.cave_play.specs.declared.fault.PlayFault.TheVariants as fault

@@ -11,13 +11,12 @@ use Rattle.play_edits.specs.Ends.{EndsOfLog, log_ends, ends_after_items, ended_v
 use Rattle.replay_scripts.specs.Script.{Applied}
 use Rattle.cave_play.specs.Stages.{bytes_to_read, output_fault, size_fault, fault_of_items}
 use Rattle.cave_play.specs.Stages.{first_decided, strict_stage, Stage, log_stage, script_stage}
-use Rattle.cave_play.specs.Stages.{size_stage}
+use Rattle.cave_play.specs.Stages.{size_stage, Judges}
 use Rattle.play_edits.specs.Views.{IsViewOf, IsMadeOf, IsSideReportOf}
 use Rattle.cave_play.specs.declared.fault.PlayFault.{PlayFault}
 use Rattle.cave_play.specs.declared.fault.PlayFault.TheVariants as fault
 use Rattle.replay_scripts.specs.Guards.{script_by}
 use Rattle.play_edits.specs.Edits.{ending_refusal}
-use Rattle.cave_play.specs.Run.{Judges}
 use Rattle.cave_play.proofs.StageLemmas.{first_decided-one, IsFoundIn-first, IsFoundIn-later}
 use Rattle.cave_play.proofs.StageLemmas.{first_decided-later}
 use Rattle.cave_data.specs.Reads.{Reads}

@@ -27,15 +27,14 @@ use Rattle.replay_scripts.specs.Views.{IsFaultOf}
 use Rattle.replay_scripts.specs.declared.fault.ScriptRefusal.{ScriptRefusal}
 use Rattle.replay_scripts.specs.declared.fault.ScriptRefusal.TheVariants.{Malformed, Memory}
 use Rattle.cave_play.proofs.StageLemmas.{Judges-read, first_decided-one}
-use Rattle.cave_play.specs.Judge.{large_seed, every_fault, too_large, input_size_fault}
-use Rattle.cave_play.specs.Judge.{cave_refusal, inputs_fault, lines_fault, log_fault, script_fault}
-use Rattle.cave_play.specs.Judge.{first_malformed, script_refusal, or_too_many, opening_fault}
+use Rattle.cave_play.specs.Stages.{large_seed, every_fault, too_large, input_size_fault}
+use Rattle.cave_play.specs.Stages.{cave_refusal, inputs_fault, lines_fault, log_fault, script_fault}
+use Rattle.cave_play.specs.Stages.{first_malformed, script_refusal, or_too_many, opening_fault}
+use Rattle.cave_play.specs.Stages.{Judges, IsFoundAt, IsFoundIn, reading_stage, judging_stage}
+use Rattle.cave_play.specs.Stages.{first_decided, cave_stages, known_stage, log_stage, script_stage}
 use Rattle.cave_play.specs.Sources.{IsUnread}
-use Rattle.cave_play.specs.Run.{Judges, IsFoundAt, IsFoundIn}
-use Rattle.cave_play.specs.Stages.{reading_stage, judging_stage, first_decided, cave_stages}
-use Rattle.cave_play.specs.Stages.{known_stage, log_stage, script_stage}
-use Rattle.play_command.specs.declared.input.Input.{Input}
-use Rattle.play_command.specs.declared.input.Input.TheVariants as input
+use Rattle.play_command.specs.declared.line.Input.{Input}
+use Rattle.play_command.specs.declared.line.Input.TheVariants as input
 use Rattle.cave_play.specs.declared.fault.LogFault.TheVariants as log
 use Rattle.cave_play.specs.declared.fault.PlayFault.{PlayFault}
 use Rattle.cave_play.specs.declared.fault.PlayFault.TheVariants as fault

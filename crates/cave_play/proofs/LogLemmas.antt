@@ -4,9 +4,8 @@ use Rattle.std.proofs.Common.{Result, Ok, Err, inl, inr, refl, sym, ap, ◌∙�
 use Rattle.std.specs.List.{AllZip}
 use Rattle.std.specs.Option.{option_or}
 use Rattle.cave_play.specs.Sources.{Says}
-use Rattle.cave_play.specs.Judge.{log_fault}
-use Rattle.cave_play.specs.Stages.{Stage, first_decided, log_stage}
-use Rattle.cave_play.specs.Run as stage
+use Rattle.cave_play.specs.Stages.{log_fault, Stage, first_decided, log_stage}
+use Rattle.cave_play.specs.Stages as stage
 use Rattle.cave_play.specs.declared.fault.PlayFault.{PlayFault}
 use Rattle.cave_play.proofs.InputLemmas.{Says-some}
 use Rattle.cave_play.proofs.StageLemmas.{IsFoundIn-later, first_decided-later}

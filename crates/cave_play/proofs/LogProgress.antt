@@ -7,9 +7,8 @@ use Rattle.std.specs.List.{AllZip}
 use Rattle.std.specs.Str.Lines.{lines}
 use Rattle.std.proofs.lemmas.List.Concat.{flat_map-append}
 use Rattle.cave_play.specs.Sources.{Says, next_log}
-use Rattle.cave_play.specs.Judge.{log_fault}
-use Rattle.cave_play.specs.Run as stage
-use Rattle.cave_play.specs.Stages.{log_stage}
+use Rattle.cave_play.specs.Stages.{log_fault, log_stage}
+use Rattle.cave_play.specs.Stages as stage
 use Rattle.cave_play.specs.declared.fault.PlayFault.{PlayFault}
 use Rattle.replay_edits.specs.Edit.{Game, game_of}
 use Rattle.cave_data.specs.CaveView.{CaveView}

@@ -4,10 +4,10 @@ use Rattle.std.specs.Global.{Vec}
 use Rattle.std.specs.Prelude.{Result}
 use Rattle.std.specs.declared.option.Option.{Option}
 use Rattle.std.specs.Io.KnownBytes.{Appends}
-use Rattle.cave_play.specs.Run.{EndsBy, Judges, Runs, RunsWith, Writes, WritesEdit}
+use Rattle.cave_play.specs.Stages.{EndsBy, Judges, Runs, RunsWith, Writes, WritesEdit, Stage}
+use Rattle.cave_play.specs.Stages.{first_decided}
 use Rattle.play_edits.specs.declared.items.EditRun.{EditRun}
 use Rattle.play_edits.specs.declared.items.MadeEdit.{MadeEdit}
-use Rattle.cave_play.specs.Stages.{Stage, first_decided}
 use Rattle.cave_play.specs.declared.fault.PlayFault.{PlayFault}
 use Rattle.cave_play.specs.declared.fault.PlayFault.TheVariants as fault
 

@@ -9,8 +9,8 @@ use Rattle.cave_play.specs.declared.inputs.Inputs.{Inputs}
 use Rattle.cave_play.specs.declared.inputs.OneLog.{OneLog}
 use Rattle.std.specs.Prelude.{if◌then◌else◌}
 use Rattle.cave_play.specs.declared.inputs.Readers.{Readers}
-use Rattle.play_command.specs.declared.input.Input.{Input}
-use Rattle.play_command.specs.declared.input.Input.TheVariants as input
+use Rattle.play_command.specs.declared.line.Input.{Input}
+use Rattle.play_command.specs.declared.line.Input.TheVariants as input
 
 -- ---- the inputs that weren't read
 

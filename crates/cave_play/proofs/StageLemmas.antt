@@ -4,9 +4,9 @@ use Rattle.std.proofs.Common.{refl, subst, sym, MatchResult}
 use Rattle.std.specs.Prelude.{Result}
 use Rattle.std.specs.Option.{option_or}
 use Rattle.std.specs.declared.option.Option.{Option}
-use Rattle.cave_play.specs.Run.{IsOutsideOf, IsFoundIn, Judges}
-use Rattle.cave_play.specs.Stages.{Stage, reading_stage, judging_stage, first_decided}
-use Rattle.play_command.specs.declared.input.Input.{Input}
+use Rattle.cave_play.specs.Stages.{IsOutsideOf, IsFoundIn, Judges, Stage, reading_stage}
+use Rattle.cave_play.specs.Stages.{judging_stage, first_decided}
+use Rattle.play_command.specs.declared.line.Input.{Input}
 use Rattle.cave_play.specs.declared.fault.PlayFault.{PlayFault}
 use Rattle.cave_play.specs.declared.fault.PlayFault.TheVariants as fault
 

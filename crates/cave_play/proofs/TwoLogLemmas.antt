@@ -1,6 +1,7 @@
 -- Two logs, of which one is made of the other.
-use Rattle.cave_play.specs.TwoLogs.{script_stages, IsDifferenceOf, JudgesEditTo, JudgesScript}
-use Rattle.cave_play.specs.TwoLogs.{RunsEditTo, RunsScript, new_log_fault, new_log_stage, ReadsWith}
+use Rattle.cave_play.specs.Output.{script_stages, IsDifferenceOf, JudgesEditTo, JudgesScript}
+use Rattle.cave_play.specs.Output.{RunsEditTo, RunsScript, new_log_fault, new_log_stage, ReadsWith}
+use Rattle.cave_play.specs.Output.{IsEditRun}
 use Rattle.std.proofs.Common.{◌≡◌, ◌∙◌, ℕ, ◌≤◌, List, [], ◌∷◌, ◌++◌, length, None, Some, inl, inr}
 use Rattle.std.proofs.Common.{refl, sym, ap, subst, lt-ltb}
 use Rattle.std.specs.Global.{Vec}
@@ -10,20 +11,18 @@ use Rattle.base_lines.specs.Limits.{MAX_INPUT_BYTES}
 use Rattle.replay_difference.specs.Difference.{IsLog}
 use Rattle.replay_difference.specs.ScriptTo.{GrowsByScript, IsScriptTo}
 use Rattle.replay_difference.specs.declared.script.ScriptForm.{ScriptForm}
-use Rattle.cave_play.specs.Judge.{lines_fault, log_fault}
-use Rattle.cave_play.specs.Sources.{IsUnread, InputTexts, AreRead, Leads}
-use Rattle.cave_play.specs.Run.{IsFoundIn, Writes, WritesEdit}
+use Rattle.cave_play.specs.Stages.{lines_fault, log_fault, IsFoundIn, Writes, WritesEdit}
 use Rattle.cave_play.specs.Stages.{first_decided, judging_stage, log_stage, edit_stages}
-use Rattle.cave_play.specs.Output.{IsEditRun}
+use Rattle.cave_play.specs.Sources.{IsUnread, InputTexts, AreRead, Leads}
 use Rattle.play_edits.specs.declared.items.EditRun.{EditRun}
 use Rattle.play_edits.specs.declared.items.MadeEdit.{MadeEdit}
 use Rattle.play_command.specs.declared.views.ReportView.{ReportView}
 use Rattle.play_command.specs.declared.line.Editing.{Editing}
-use Rattle.play_command.specs.declared.input.Input.TheVariants as input
+use Rattle.play_command.specs.declared.line.Input.TheVariants as input
 use Rattle.cave_play.specs.declared.fault.PlayFault.{PlayFault}
 use Rattle.cave_play.proofs.SourceLemmas.{goes_on, stays}
 use Rattle.cave_play.specs.declared.two_logs.WithCompared.{WithCompared}
-use Rattle.play_command.specs.declared.input.Input.{Input}
+use Rattle.play_command.specs.declared.line.Input.{Input}
 use Rattle.cave_play.proofs.AcceptedLogs.{IsGame-accepted}
 use Rattle.cave_play.proofs.RunLemmas.{Runs-made, RunsWith-made}
 use Rattle.cave_play.proofs.JudgeLemmas.{log_fault-lines}

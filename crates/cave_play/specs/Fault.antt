@@ -5,11 +5,9 @@ use Rattle.data_rows.specs.declared.error.FaultSite.TheVariants as site
 use Rattle.check_doubts.specs.declared.flaw.Source.{Source}
 use Rattle.check_doubts.specs.declared.flaw.Source.TheVariants.{Database, Bindings}
 use Rattle.play_edits.specs.Refusal.{refusal_line}
-use Rattle.play_command.specs.declared.input.Input.{Input}
-use Rattle.play_command.specs.declared.input.Input.TheVariants as input
-use Rattle.cave_play.specs.declared.fault.LogFault.{LogFault}
+use Rattle.play_command.specs.declared.line.Input.{Input}
+use Rattle.play_command.specs.declared.line.Input.TheVariants as input
 use Rattle.cave_play.specs.declared.fault.LogFault.TheVariants as log
-use Rattle.cave_play.specs.declared.fault.ScriptFault.{ScriptFault}
 use Rattle.cave_play.specs.declared.fault.ScriptFault.TheVariants as script
 use Rattle.cave_play.specs.declared.fault.PlayFault.{PlayFault}
 use Rattle.cave_play.specs.declared.fault.PlayFault.TheVariants as fault
@@ -56,19 +54,11 @@ input_of (fault.Refused refusal) = Some input.Script
 input_of (fault.Read from) = Some from
 input_of _ = None
 
-abbrev pub log_line_of : LogFault → Option ℕ
-log_line_of (log.BadLine line flaw) = Some line
-log_line_of _ = None
-
-abbrev pub script_line_of : ScriptFault → Option ℕ
-script_line_of (script.Malformed line flaw) = Some line
-script_line_of _ = None
-
 abbrev pub faulty_line : PlayFault → Option ℕ
 faulty_line (fault.Cave error clue) = if nat_lt 0 error.line then Some error.line else None
 faulty_line (fault.Doubt found) = Some found.line
-faulty_line (fault.Log refused) = log_line_of refused
-faulty_line (fault.NewLog refused) = log_line_of refused
-faulty_line (fault.Script refused) = script_line_of refused
+faulty_line (fault.Log (log.BadLine line flaw)) = Some line
+faulty_line (fault.NewLog (log.BadLine line flaw)) = Some line
+faulty_line (fault.Script (script.Malformed line flaw)) = Some line
 faulty_line (fault.Refused refusal) = Some (refusal_line refusal)
 faulty_line _ = None

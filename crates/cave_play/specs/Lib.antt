@@ -1,11 +1,8 @@
 pub mod Sources
 pub mod Logs
 pub mod Fault
-pub mod Judge
 pub mod Stages
-pub mod Run
 pub mod Output
-pub mod TwoLogs
 pub use Rattle.base_lines.specs.Limits
 pub use Rattle.base_lines.specs.Line
 pub use Rattle.cave_data.specs.Reads

@@ -4,10 +4,9 @@ use Rattle.std.specs.Prelude.{◌≡◌, ℕ, ◌+◌, ◌⊎◌, ⊤, List, [],
 use Rattle.std.specs.Prelude.{Err, map, MatchResult, take}
 use Rattle.std.specs.Io.KnownBytes.{Appends, Keeps}
 use Rattle.cave_play.specs.declared.logs.Reported.{Reported}
-use Rattle.cave_play.specs.Judge.{log_fault, large_seed}
-use Rattle.cave_play.specs.Run.{WritesPrefix, IsFoundAt}
-use Rattle.cave_play.specs.Stages.{Stage, first_decided, judging_stage, cave_stages, log_stage}
-use Rattle.cave_play.specs.Run as stage
+use Rattle.cave_play.specs.Stages.{log_fault, large_seed, WritesPrefix, IsFoundAt, Stage}
+use Rattle.cave_play.specs.Stages.{first_decided, judging_stage, cave_stages, log_stage}
+use Rattle.cave_play.specs.Stages as stage
 use Rattle.cave_play.specs.declared.fault.PlayFault.{PlayFault}
 use Rattle.cave_play.specs.declared.fault.PlayFault.TheVariants as fault
 use Rattle.cave_play.specs.declared.logs.LogsFault.{LogsFault}

@@ -6,14 +6,13 @@ use Rattle.cave_play.specs.declared.inputs.Inputs.{Inputs}
 use Rattle.std.specs.Global.{Vec}
 use Rattle.std.specs.Io.KnownBytes.{Consumes, IsAtEnd}
 use Rattle.base_lines.specs.Limits.{MAX_INPUT_BYTES}
-use Rattle.cave_play.specs.Judge.{too_large}
-use Rattle.cave_play.specs.Run.{IsOutsideOf}
+use Rattle.cave_play.specs.Stages.{too_large, IsOutsideOf}
 use Rattle.cave_play.specs.declared.fault.PlayFault.{PlayFault}
-use Rattle.play_command.specs.declared.input.Input.{Input}
+use Rattle.play_command.specs.declared.line.Input.{Input}
 use Rattle.cave_play.specs.declared.inputs.CaveReaders.{CaveReaders}
 use Rattle.cave_play.specs.declared.inputs.OneLog.{OneLog}
 use Rattle.cave_play.specs.declared.inputs.Readers.{Readers}
-use Rattle.play_command.specs.declared.input.Input.TheVariants as input
+use Rattle.play_command.specs.declared.line.Input.TheVariants as input
 
 -- the bytes are those that a reader is known to have left, if that is known
 abbrev pub Says : Option (List ℕ) → List ℕ → Type 0

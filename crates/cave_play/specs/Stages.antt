@@ -1,9 +1,27 @@
--- What a stage of a run is, the stages of each run in their order, and outputs that are too large for
--- a run to read again.
-use Rattle.std.specs.Prelude.{ℕ, Bool, List, length, nat_lt, if◌then◌else◌, Option, None, Some}
-use Rattle.std.specs.Prelude.{Result, Ok, Err, option_map, [], ◌∷◌, ◌++◌}
+-- The fault that each input or output of a run decides, the stages of runs in their order, where in
+-- them a fault is found, and what a run leaves. The stages of two logs are in `Output.antt`.
+use Rattle.std.specs.Prelude.{ℕ, Bool, List, length, nat_lt, ◌||◌, ◌==◌, if◌then◌else◌, Option}
+use Rattle.std.specs.Prelude.{None, Some, option_map, Result, Err, Ok, [], ◌∷◌, ◌++◌, ◌≡◌, take}
+use Rattle.std.specs.Prelude.{◌⊎◌, ⊤, MatchResult}
 use Rattle.std.specs.Str.Lines.{lines}
-use Rattle.base_lines.specs.Limits.{MAX_INPUT_BYTES}
+use Rattle.check_tables.specs.Clues.{clue_of}
+use Rattle.cave_data.specs.Reads.{fault as cave_fault}
+use Rattle.data_rows.specs.declared.error.Cause.TheVariants as cause
+use Rattle.data_rows.specs.declared.error.CaveError.{CaveError}
+use Rattle.data_rows.specs.declared.error.FaultSite.TheVariants as site
+use Rattle.cave_replay.specs.Opening.{first_bad_line}
+use Rattle.base_lines.specs.declared.line.LineFault.{LineFault}
+use Rattle.base_lines.specs.Limits.{MAX_SEED, MAX_EVERY, MAX_LOG_LINES, MAX_INPUT_BYTES}
+use Rattle.cave_replay.specs.declared.fault.OpenFault.{OpenFault}
+use Rattle.cave_replay.specs.declared.fault.OpenFault.TheVariants as session
+use Rattle.replay_scripts.specs.Guards.{script_by}
+use Rattle.replay_scripts.specs.Script.{Applied}
+use Rattle.replay_scripts.specs.declared.fault.ScriptRefusal.{ScriptRefusal}
+use Rattle.replay_scripts.specs.declared.fault.ScriptRefusal.TheVariants.{Malformed, Memory}
+use Rattle.play_command.specs.declared.line.Input.{Input}
+use Rattle.play_command.specs.declared.line.Input.TheVariants as input
+use Rattle.cave_play.specs.declared.fault.LogFault.TheVariants as log
+use Rattle.cave_play.specs.declared.fault.ScriptFault.TheVariants as script
 use Rattle.cave_play.specs.declared.fault.PlayFault.{PlayFault}
 use Rattle.cave_play.specs.declared.fault.PlayFault.TheVariants as fault
 use Rattle.play_command.specs.declared.views.EditView.{EditView}
@@ -12,15 +30,79 @@ use Rattle.play_edits.specs.Edits.{ending_refusal}
 use Rattle.play_edits.specs.Ends.{EndsOfLog, ended_view, ends_after_items, log_ends}
 use Rattle.play_edits.specs.Views.{text_to_read}
 use Rattle.replay_edits.specs.Edit.{Game, game_of}
-use Rattle.replay_scripts.specs.Script.{Applied}
-use Rattle.replay_scripts.specs.declared.fault.ScriptRefusal.{ScriptRefusal}
 use Rattle.std.specs.Option.{option_or}
 use Rattle.play_command.specs.declared.line.Editing.{Editing}
-use Rattle.replay_scripts.specs.Guards.{script_by}
-use Rattle.cave_play.specs.Judge.{large_seed, every_fault, input_size_fault, inputs_fault}
-use Rattle.cave_play.specs.Judge.{log_fault, script_fault}
-use Rattle.play_command.specs.declared.input.Input.{Input}
-use Rattle.play_command.specs.declared.input.Input.TheVariants as input
+use Rattle.std.specs.Io.KnownBytes.{Appends, Keeps}
+use Rattle.std.specs.Global.{Vec}
+use Rattle.play_edits.specs.declared.items.EditRun.{EditRun}
+use Rattle.play_edits.specs.declared.items.MadeEdit.{MadeEdit}
+
+-- ---- the fault of an input
+
+-- the fault of a seed
+abbrev pub large_seed : ℕ → Option PlayFault
+large_seed seed = if nat_lt MAX_SEED seed then Some fault.Seed else None
+
+-- the fault of a distance of checkpoints
+abbrev pub every_fault : ℕ → Option PlayFault
+every_fault every = if every == 0 || nat_lt MAX_EVERY every then Some fault.Every else None
+
+-- the fault of an input that has too many bytes
+abbrev pub too_large : Input → PlayFault
+too_large input.Cave =
+    fault.Cave (record { cause = cause.TooLarge; line = 0; site = site.Database }) None
+too_large input.Bindings =
+    fault.Cave (record { cause = cause.TooLarge; line = 0; site = site.Bindings }) None
+too_large input.Log = fault.Log log.TooLarge
+too_large input.NewLog = fault.NewLog log.TooLarge
+too_large input.Script = fault.Script script.TooLarge
+too_large input.Known = fault.LargeKnown
+
+abbrev pub input_size_fault : Input → List ℕ → Option PlayFault
+input_size_fault from bytes = if nat_lt MAX_INPUT_BYTES (length bytes) then Some (too_large from)
+    else None
+
+-- the fault of a run whose cave is refused: what is wrong, with what is known beyond that
+abbrev pub cave_refusal : List ℕ → List ℕ → CaveError → PlayFault
+cave_refusal database bindings error = fault.Cave error (clue_of error database bindings)
+
+abbrev pub inputs_fault : List ℕ → List ℕ → Option PlayFault
+inputs_fault database bindings =
+    option_map (cave_refusal database bindings) (cave_fault database bindings)
+
+abbrev pub or_too_many : Option (ℕ × LineFault) → ℕ → Option PlayFault
+or_too_many (Some (number, flaw)) count = Some (fault.Log (log.BadLine number flaw))
+or_too_many None count = if nat_lt MAX_LOG_LINES count then Some (fault.Log log.Full) else None
+
+unfoldable pub lines_fault : List (List ℕ) → Option PlayFault
+lines_fault log = or_too_many (first_bad_line log 1) (length log)
+
+unfoldable pub log_fault : List ℕ → Option PlayFault
+log_fault bytes = if nat_lt MAX_INPUT_BYTES (length bytes) then Some (fault.Log log.TooLarge)
+    else lines_fault (lines bytes)
+
+abbrev pub first_malformed : Result (List Applied) ScriptRefusal → Option PlayFault
+first_malformed (Err (Malformed line flaw)) = Some (fault.Script (script.Malformed line flaw))
+first_malformed _ = None
+
+unfoldable pub script_fault : Bool → List ℕ → Option PlayFault
+script_fault guarded bytes = if nat_lt MAX_INPUT_BYTES (length bytes)
+    then Some (fault.Script script.TooLarge) else first_malformed (script_by guarded bytes)
+
+-- the fault of a run in which a session couldn't be opened
+abbrev pub opening_fault : OpenFault → PlayFault
+opening_fault session.BadEvery = fault.Every
+opening_fault (session.BadLine number flaw) = fault.Log (log.BadLine number flaw)
+opening_fault session.LogFull = fault.Log log.Full
+opening_fault session.BadSeed = fault.Seed
+opening_fault session.Memory = fault.Memory
+
+-- the fault of a run whose script was refused
+abbrev pub script_refusal : ScriptRefusal → PlayFault
+script_refusal (Malformed line flaw) = fault.Script (script.Malformed line flaw)
+script_refusal Memory = fault.Memory
+
+-- ---- the fault of an output, and of items
 
 -- the fault of an output of this many bytes: a log and a script may have as many as an input
 abbrev pub size_fault : EditView → ℕ → Option PlayFault
@@ -50,6 +132,8 @@ output_fault view guarded log seed script (Err refusal) = None
 abbrev pub fault_of_items : Bool → Game → Result (List Applied) ScriptRefusal → Option PlayFault
 fault_of_items strict game (Ok items) = option_map fault.Refused (ending_refusal strict items game)
 fault_of_items strict game (Err refusal) = None
+
+-- ---- stages
 
 -- a stage of a run: the input that is read there, if one is, and the fault that is decided there
 pub record Stage : Type 0 where
@@ -112,3 +196,80 @@ edit_stages database bindings log script editing =
     ++ log_stage log ∷ script_stage editing.guarded script
     ∷ strict_stage editing.strict (game_of editing.seed (lines log)) editing.guarded script
     ∷ size_stage log script editing ∷ []
+
+-- ---- where a fault is found
+
+-- no bytes decide the fault: the reading of the input failed, or memory was refused
+abbrev pub IsOutsideOf : Option Input → PlayFault → Type 0
+IsOutsideOf reads (fault.Read from) = reads ≡ Some from
+IsOutsideOf reads fault.Memory = ⊤
+IsOutsideOf reads _ = ⊥
+
+abbrev pub IsFoundAt : Stage → PlayFault → Type 0
+IsFoundAt stage found = IsOutsideOf stage.reads found ⊎ (stage.decides ≡ Some found)
+
+-- the fault is found at a stage before which none decides a fault; after the last, memory may run
+-- out
+abbrev pub IsFoundIn : List Stage → PlayFault → Type 0
+IsFoundIn [] found = found ≡ fault.Memory
+IsFoundIn (stage ∷ stages) found =
+    IsFoundAt stage found ⊎ ((stage.decides ≡ None) × IsFoundIn stages found)
+
+-- if the stages decide no fault, what was made is right, and otherwise the fault is found in them
+abbrev pub Judges : {X : Type 0} → List Stage → (X → Type 0) → Result X PlayFault → Type 0
+Judges stages P (Ok made) = (first_decided stages ≡ None) × P made
+Judges stages P (Err found) = IsFoundIn stages found
+
+-- ---- what a run leaves
+
+-- a prefix of a right output was written
+abbrev pub WritesPrefix : (List ℕ → Type 0) → Option (List ℕ) → Option (List ℕ) → Type 0
+WritesPrefix IsOutput old new = (output : List ℕ) × IsOutput output
+    × ((n : ℕ) × Appends old new (take n output))
+
+-- what a run that failed has written: a prefix of a right output if the writer failed, and nothing if
+-- a fault is found in its stages, none of which decides that the writer fails
+abbrev pub EndsBy : PlayFault → List Stage → (List ℕ → Type 0)
+    → Option (List ℕ) → Option (List ℕ) → Type 0
+EndsBy found stages IsOutput old new =
+    ((found ≡ fault.Write) × (first_decided stages ≡ None) × WritesPrefix IsOutput old new)
+    ⊎ (IsFoundIn stages found × Keeps old new)
+
+-- at most one output is right
+abbrev pub AtMostOne : (List ℕ → Type 0) → Type 0
+AtMostOne IsOutput = (one other : List ℕ) → IsOutput one → IsOutput other → one ≡ other
+
+-- what a run that returns something leaves: an output that is right with that, if its stages decide
+-- no fault, or what its fault leaves
+abbrev pub RunsWith : {A : Type 0} → List Stage → (A → List ℕ → Type 0)
+    → Option (List ℕ) → Option (List ℕ) → Result A PlayFault → Type 0
+RunsWith stages IsOutput old new (Ok made) =
+    (first_decided stages ≡ None)
+    × ((output : List ℕ) × IsOutput made output × Appends old new output)
+RunsWith {A} stages IsOutput old new (Err found) =
+    EndsBy found stages (λ output. (made : A) × IsOutput made output) old new
+
+-- what a run leaves: a right output, if its stages decide no fault, or what its fault leaves
+abbrev pub Runs : List Stage → (List ℕ → Type 0)
+    → Option (List ℕ) → Option (List ℕ) → Result (Unit {0}) PlayFault → Type 0
+Runs stages IsOutput old new (Ok done) =
+    (first_decided stages ≡ None) × ((output : List ℕ) × IsOutput output × Appends old new output)
+Runs stages IsOutput old new (Err found) = EndsBy found stages IsOutput old new
+
+-- a text was written, and this is returned; or a prefix of it was, and the writer failed
+abbrev pub WritesText : {A : Type 0} → List ℕ → A → Option (List ℕ) → Option (List ℕ)
+    → Result A PlayFault → Type 0
+WritesText text returned old new ended = MatchResult ended
+    (λ made. (made ≡ returned) × Appends old new text)
+    (λ found. (found ≡ fault.Write) × ((n : ℕ) × Appends old new (take n text)))
+
+-- the text that was made was written; or none was made, and nothing is written
+abbrev pub Writes : Result (Vec ℕ) PlayFault → Option (List ℕ) → Option (List ℕ)
+    → Result (Unit {0}) PlayFault → Type 0
+Writes (Ok text) old new ended = WritesText text.items tt old new ended
+Writes (Err found) old new ended = (ended ≡ Err found) × Keeps old new
+
+abbrev pub WritesEdit : Result MadeEdit PlayFault → Option (List ℕ) → Option (List ℕ)
+    → Result EditRun PlayFault → Type 0
+WritesEdit (Ok made) old new ended = WritesText made.text.items made.run old new ended
+WritesEdit (Err found) old new ended = (ended ≡ Err found) × Keeps old new

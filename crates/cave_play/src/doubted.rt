@@ -4,14 +4,12 @@ ghost use Rattle.std.specs.Prelude.{◌≡◌, IfOk};
 ghost use Rattle.check_doubts.specs.Doubts.{doubts};
 ghost use Rattle.cave_play.specs.Output.{AreLeft, AreLeftIn, RunsDoubts, first_doubt};
 ghost use Rattle.cave_play.specs.Sources.{AreTextsOf, InputTexts, AreHeld, Leads};
-ghost use Rattle.cave_play.specs.Run.{Judges};
-ghost use Rattle.cave_play.specs.Stages.{doubts_stages};
+ghost use Rattle.cave_play.specs.Stages.{Judges, doubts_stages};
 
 use crate::fault::PlayFault;
-use crate::inputs::{Inputs, OneLog};
+use crate::inputs::{Inputs, OneLog, Sources};
 use crate::judge::{ReadCave, read_cave};
 use crate::output::write_output;
-use crate::sources::Sources;
 use check_doubts::{Doubt, DoubtFiles, doubts, left_doubts, push_doubts, push_unmet};
 use play_command::Input;
 use std::alloc::{AllocError, Global};

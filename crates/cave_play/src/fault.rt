@@ -12,30 +12,8 @@ use play_command::Input;
 use play_edits::Refusal;
 use replay_scripts::{EditFlaw, ScriptFlaw};
 use std::alloc::AllocError;
-use std::{fmt, io};
+use std::fmt;
 use thiserror::Error;
-
-/// What is wrong with a line of a log. The first bytes of a log may be a byte order mark.
-#[derive(Clone, Copy, Debug)]
-struct LineWords {
-    line: usize,
-    flaw: LineFault,
-}
-
-impl fmt::Display for LineWords {
-    fn fmt<W: fmt::Write>(&self, f: &mut fmt::Formatter<W>) -> fmt::Result {
-        let flaw = self.flaw;
-        match (self.line, flaw) {
-            (1, LineFault::BadByte(239 | 254 | 255, 1)) => {
-                write!(
-                    f,
-                    "{flaw}: this looks like a byte order mark: save the log without one"
-                )
-            }
-            _ => write!(f, "{flaw}"),
-        }
-    }
-}
 
 /// Why a log is refused.
 #[derive(Clone, Copy, Debug, PartialEq, Eq, Error)]
@@ -44,26 +22,20 @@ pub enum LogFault {
     #[error("the log is too large: a log has at most 1,048,576 bytes")]
     TooLarge,
     /// The line with this number, from 1, isn't allowed in a log.
-    #[error("{}", LineWords {line: *.0, flaw: *.1})]
+    #[error("{}{}", .1, mark_hint(*.0, *.1))]
     BadLine(usize, LineFault),
     /// It has more lines than a log may have.
     #[error("the log has more than 65,535 lines")]
     Full,
 }
 
-/// What is wrong with a line of a script. Under `--guarded` it may be a guard.
-#[derive(Clone, Copy, Debug)]
-struct ScriptWords {
-    flaw: ScriptFlaw,
-}
-
-impl fmt::Display for ScriptWords {
-    fn fmt<W: fmt::Write>(&self, f: &mut fmt::Formatter<W>) -> fmt::Result {
-        let flaw = self.flaw;
-        match flaw {
-            ScriptFlaw::NoEdit(EditFlaw::Guard) => write!(f, "{flaw}: --guarded lets it have them"),
-            _ => write!(f, "{flaw}"),
+/// What else is said of a bad line of a log: the first bytes of a log may be a byte order mark.
+fn mark_hint(line: usize, flaw: LineFault) -> &'static str {
+    match (line, flaw) {
+        (1, LineFault::BadByte(239 | 254 | 255, 1)) => {
+            ": this looks like a byte order mark: save the log without one"
         }
+        _ => "",
     }
 }
 
@@ -74,8 +46,16 @@ pub enum ScriptFault {
     #[error("the script is too large: a script has at most 1,048,576 bytes")]
     TooLarge,
     /// The line with this number, from 1, is malformed.
-    #[error("{}", ScriptWords {flaw: *.1})]
+    #[error("{}{}", .1, guard_hint(*.1))]
     Malformed(usize, ScriptFlaw),
+}
+
+/// What else is said of a malformed line of a script, which may be a guard.
+fn guard_hint(flaw: ScriptFlaw) -> &'static str {
+    match flaw {
+        ScriptFlaw::NoEdit(EditFlaw::Guard) => ": --guarded lets it have them",
+        _ => "",
+    }
 }
 
 /// What is wrong with a cave: the cause, and what else is known, or otherwise what was expected.
@@ -98,7 +78,7 @@ impl fmt::Display for CaveWords {
     }
 }
 
-/// Why a run failed. The text says what is wrong, and not where: that is `Complaint`.
+/// Why a run failed. The text says what is wrong, and not where: `Message` of `play_program` does.
 #[derive(Clone, Copy, Debug, PartialEq, Eq, Error)]
 pub enum PlayFault {
     /// The database or its bindings are refused.
@@ -217,40 +197,5 @@ impl PlayFault {
             PlayFault::Refused(refusal) => Some(refusal.line()),
             _ => None,
         }
-    }
-}
-
-/// A fault as the program reports it: the file and the line at fault, if there are any, and what is
-/// wrong.
-#[derive(Clone, Copy, Debug)]
-pub struct Complaint<'a> {
-    pub fault: PlayFault,
-    /// The file of the input at fault.
-    pub file: Option<&'a str>,
-}
-
-impl fmt::Display for Complaint<'_> {
-    fn fmt<W: fmt::Write>(&self, f: &mut fmt::Formatter<W>) -> fmt::Result {
-        let fault = self.fault;
-        match (self.file, fault.line()) {
-            (Some(file), Some(line)) => write!(f, "cave: {file}:{line}: {fault}"),
-            (Some(file), None) => write!(f, "cave: {file}: {fault}"),
-            (None, _) => write!(f, "cave: {fault}"),
-        }
-    }
-}
-
-/// A file that can't be opened, as the program reports it.
-#[derive(Drop)]
-pub struct Unopened<'a> {
-    pub file: &'a str,
-    /// The system's reason.
-    pub reason: &'a io::Error,
-}
-
-impl fmt::Display for Unopened<'_> {
-    fn fmt<W: fmt::Write>(&self, f: &mut fmt::Formatter<W>) -> fmt::Result {
-        let (file, reason) = (self.file, self.reason);
-        write!(f, "cave: {file}: the file can't be opened: {reason}")
     }
 }

@@ -1,13 +1,101 @@
-//! The readers of a run.
+//! Where a run has its inputs from, how one is read to its end within a limit, and the readers.
 
-ghost use Rattle.cave_play.specs.Sources.{AreReadersOf, IsOneLogOf, held_by, held_by_one};
+ghost use Rattle.std.specs.Prelude.{◌≡◌, ◌<◌, ◌≤◌, length, IfOk, IfErr, vec_len};
+ghost use Rattle.base_lines.specs.Limits as defined;
+ghost use Rattle.play_command.specs.declared.line.Input.{Input};
+ghost use Rattle.cave_play.specs.Stages.{too_large};
+ghost use Rattle.cave_play.specs.Sources.{AreReadersOf, Exceeds, Gives, Held, IsOneLogOf, IsReading};
+ghost use Rattle.cave_play.specs.Sources.{IsTaken, held_by, held_by_one, held_for};
 
-use crate::fault::PlayFault;
-use crate::read::read;
-use crate::sources::Sources;
+use crate::fault::{LogFault, PlayFault, ScriptFault};
+use base_lines::limits::MAX_INPUT_BYTES;
+use data_rows::{Cause, CaveError, FaultSite};
 use play_command::Input;
-use std::alloc::Global;
+use std::alloc::{AllocError, Global};
 use std::io::Read;
+
+/// Where a run has its inputs from. A run asks for an input when the turn of that input comes to be
+/// judged, and not again.
+pub trait Sources {
+    /// What it is known to have for the inputs that weren't asked for.
+    ghost held: { Self → Held };
+
+    /// What reading an input makes of it.
+    ghost Reads: { Input → Self → Self → Type 0 };
+
+    /// Reads an input whole: of several logs the next one, and nothing for one that isn't there.
+    fn read(&mut self, alloc: Global, input: Input) -> Result<Vec<u8>, PlayFault>
+        ensures read { IsReading (held_for input (held self.old)) input result }
+        ensures taken { IsTaken input (held self.old) (held self.new) }
+        ensures reads { Reads input self.old self.new };
+}
+
+/// How many bytes are requested at once: few, since they are filled before the first reading.
+const PIECE_BYTES: usize = 2_048;
+
+/// Reads all that a reader has. An input is refused as soon as it is over the limit.
+pub fn read<R: Read>(alloc: Global, input: Input, reader: &mut R) -> Result<Vec<u8>, PlayFault>
+    ensures { IsReading (R.remaining reader.old) input result }
+{
+    let mut piece = zeros(alloc, PIECE_BYTES)?;
+    let mut text = Vec::new(alloc);
+    'pieces: loop {
+        match read_more(input, reader, piece.as_mut_slice(), &mut text) {
+            Ok(true) => {}
+            Ok(false) => return Ok(text),
+            Err(fault) => return Err(fault),
+        }
+    }
+}
+
+/// That many zero bytes, to be read into.
+fn zeros(alloc: Global, count: usize) -> Result<Vec<u8>, AllocError>
+    ensures { IfOk result (λ piece. vec_len piece ≡ count) }
+{
+    vec![in alloc; 0; count]
+}
+
+/// Reads once, appends what came, and returns whether anything came.
+fn read_more<R: Read>(
+    input: Input,
+    reader: &mut R,
+    piece: &mut [u8],
+    text: &mut Vec<u8>,
+) -> Result<bool, PlayFault>
+    requires room { 0 < length piece.old }
+    requires within { vec_len text.old ≤ defined.MAX_INPUT_BYTES }
+    ensures given { IfOk result
+        (Gives (R.remaining reader.old) (R.remaining reader.new) text.old.items text.new.items) }
+    ensures within { IfOk result (λ _. vec_len text.new ≤ defined.MAX_INPUT_BYTES) }
+    ensures over { IfErr result
+        (Exceeds input (R.remaining reader.old) (R.remaining reader.new) text.old.items) }
+{
+    let count = match reader.read(piece) {
+        Ok(count) => count,
+        Err(_) => return Err(PlayFault::Read(input)),
+    };
+    if count > MAX_INPUT_BYTES - text.len() {
+        return Err(too_large(input));
+    }
+    text.extend_from_slice(&piece[..count])?;
+    Ok(count > 0)
+}
+
+/// The fault of an input that has too many bytes.
+pub(crate) fn too_large(input: Input) -> PlayFault
+    ensures { result ≡ too_large input }
+{
+    let site = match input {
+        Input::Cave => FaultSite::Database,
+        Input::Bindings => FaultSite::Bindings,
+        Input::Log => return PlayFault::Log(LogFault::TooLarge),
+        Input::NewLog => return PlayFault::NewLog(LogFault::TooLarge),
+        Input::Script => return PlayFault::Script(ScriptFault::TooLarge),
+        Input::Known => return PlayFault::LargeKnown,
+    };
+    let (cause, line) = (Cause::TooLarge, 0);
+    PlayFault::Cave(CaveError { cause, line, site }, None)
+}
 
 /// The readers of a cave.
 #[derive(Drop)]

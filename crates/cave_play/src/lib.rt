@@ -2,15 +2,12 @@
 #![tactic(auto)]
 
 pub mod doubted;
-pub mod edits;
 pub mod fault;
 pub mod inputs;
 pub mod judge;
 pub mod logs;
 pub mod output;
-pub mod read;
 pub mod run;
-pub mod sources;
 pub mod two_logs;
 mod views;
 
@@ -23,7 +20,7 @@ pub use check_doubts::DoubtFiles;
 pub use check_tables::Clue;
 pub use data_rows::{Cause, CaveError, FaultSite, Role};
 pub use doubted::run_doubts;
-pub use fault::{Complaint, LogFault, PlayFault, ScriptFault, Unopened};
+pub use fault::{LogFault, PlayFault, ScriptFault};
 pub use inputs::{CaveReaders, Inputs};
 pub use logs::LogsFault;
 pub use play_command::{

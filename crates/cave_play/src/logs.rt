@@ -4,18 +4,17 @@ ghost use Rattle.std.specs.Prelude.{◌≡◌, ℕ, List, [], IfOk, None, length
 ghost use Rattle.std.specs.List.{AllZip};
 ghost use Rattle.cave_play.specs.Output.{IsReadOf};
 ghost use Rattle.cave_play.specs.Sources.{Says, Leads};
-ghost use Rattle.cave_play.specs.Judge.{large_seed};
+ghost use Rattle.cave_play.specs.Stages.{large_seed, Judges};
 ghost use Rattle.cave_play.specs.Logs.{IsMadeReport, IsReportOn, IsReported, JudgesLogs};
 ghost use Rattle.cave_play.specs.Logs.{WritesReport, first_stages, games_of, noted_of_all, at_none};
-ghost use Rattle.cave_play.specs.Run.{Judges};
 ghost use Rattle.cave_data.specs.CaveView.{CaveView};
 ghost use Rattle.replay_edits.specs.Edit.{Game};
 ghost use Rattle.cave_play.specs.declared.fault.PlayFault.TheVariants.{Memory};
 
 use crate::fault::PlayFault;
+use crate::inputs::Sources;
 use crate::judge::{ReadCave, check_seed, read_cave, watch_play};
 use crate::output::write_output;
-use crate::sources::Sources;
 use cave_data::Cave;
 use cave_words::Lexicon;
 use play_machine::{CaveMachine, Watch};

@@ -2,7 +2,7 @@
 
 ghost use Rattle.std.specs.Prelude.{◌≡◌, ℕ, take, MatchResult};
 ghost use Rattle.std.specs.Io.KnownBytes.{Appends};
-ghost use Rattle.cave_play.specs.Run.{Writes, WritesEdit};
+ghost use Rattle.cave_play.specs.Stages.{Writes, WritesEdit};
 
 use crate::fault::PlayFault;
 use play_edits::{EditRun, MadeEdit};

@@ -1,30 +1,30 @@
 //! What runs over at most one log make of their inputs, and the runs: from the inputs to a writer of
 //! the output. What a run makes is whole before it writes.
 
-ghost use Rattle.std.specs.Prelude.{◌≡◌, ℕ, List, [], ◌∷◌, None};
+ghost use Rattle.std.specs.Prelude.{◌≡◌, ℕ, List, [], ◌∷◌, None, length};
 ghost use Rattle.std.specs.Str.Lines.{lines};
-ghost use Rattle.replay_edits.specs.Edit.{game_of};
+ghost use Rattle.replay_checkpoints.specs.Spacing.{IsSpaced};
+ghost use Rattle.replay_edits.specs.Edit.{IsGame, game_of};
 ghost use Rattle.cave_play.specs.Sources.{Says, InputTexts, AreTextsOf, AreHeld, next_log, Leads};
-ghost use Rattle.cave_play.specs.Judge.{large_seed, every_fault};
-ghost use Rattle.cave_play.specs.Output.{IsChecked, IsPlayed, play_view_text, IsEditRun};
-ghost use Rattle.cave_play.specs.Output.{IsMadeEdit};
-ghost use Rattle.cave_play.specs.Run.{Judges, Runs, RunsWith};
+ghost use Rattle.cave_play.specs.Stages.{large_seed, every_fault, Judges, Runs, RunsWith};
 ghost use Rattle.cave_play.specs.Stages.{cave_stages, log_stage, script_stage, strict_stage};
 ghost use Rattle.cave_play.specs.Stages.{play_stages, edit_stages};
+ghost use Rattle.cave_play.specs.Output.{IsChecked, IsPlayed, play_view_text, IsEditRun};
+ghost use Rattle.cave_play.specs.Output.{FinishesEdit, IsMadeEdit};
 ghost use Rattle.play_edits.specs.Views.{IsMadeOf};
 ghost use Rattle.play_edits.specs.Ends.{log_ends};
 
-use crate::edits::{edit_session, finish_edit};
 use crate::fault::PlayFault;
-use crate::inputs::{Inputs, OneLog};
-use crate::judge::{check_every, check_seed, open_session, read_cave};
+use crate::inputs::{Inputs, OneLog, Sources};
+use crate::judge::{check_every, check_seed, open_session, read_cave, read_script};
 use crate::output::{write_edit, write_made};
-use crate::sources::Sources;
 use crate::views::{check_text, play_view_text};
+use base_lines::limits::is_large_input;
 use cave_data::Cave;
+use cave_replay::Session;
 use cave_words::Lexicon;
-use play_command::{CheckView, Editing, Input, PlayView, ReportView};
-use play_edits::{EditRun, MadeEdit};
+use play_command::{CheckView, EditView, Editing, Input, PlayView, ReportView};
+use play_edits::{EditRun, LogEnds, MadeEdit, apply_items};
 use play_machine::CaveMachine;
 use std::alloc::Global;
 use std::io::{Read, Write};
@@ -140,8 +140,48 @@ fn edit_in_cave<I: Sources>(
     made
 }
 
+/// What a script makes when it is applied to a session of the machine, over a log of these bytes.
+fn edit_session<I: Sources>(
+    alloc: Global,
+    session: &mut Session<CaveMachine<'_>>,
+    log: &[u8],
+    inputs: &mut I,
+    editing: Editing,
+    report: Option<ReportView>,
+) -> Result<MadeEdit, PlayFault>
+    requires spaced { IsSpaced session.old.every session.old.checkpoints
+        (length session.old.game.log) }
+    requires game { IsGame session.old.game }
+    ensures judged { (edits : List ℕ) × Says (I.held inputs.old).script edits
+        × Judges (script_stage editing.guarded edits
+        ∷ strict_stage editing.strict session.old.game editing.guarded edits ∷ [])
+        (IsMadeOf editing.view report session.old.machine.rules.cave.now session.old.every
+        session.old.game editing.guarded edits (log_ends log.now edits)) result }
+    ensures leads { Leads I.Reads inputs.old inputs.new }
+{
+    let read = read_script(alloc, inputs, editing.guarded)?;
+    let ends = LogEnds::of(alloc, log, &read.text)?;
+    match apply_items(alloc, session, &read.script.items, editing, report, ends)? {
+        Ok(made) => Ok(made),
+        Err(refusal) => Err(PlayFault::Refused(refusal)),
+    }
+}
+
+/// What edits made, unless that is a log or a script that no run could read again.
+fn finish_edit(view: EditView, made: Result<MadeEdit, PlayFault>) -> Result<MadeEdit, PlayFault>
+    ensures { FinishesEdit view made result }
+{
+    let made = made?;
+    let is_large = is_large_input(made.text.len());
+    match view {
+        EditView::Log if is_large => Err(PlayFault::LargeLog),
+        EditView::Undo | EditView::Guarded if is_large => Err(PlayFault::LargeScript),
+        _ => Ok(made),
+    }
+}
+
 /// Checks a database and its bindings, and says so if they are a cave. Its inputs determine what it
-/// writes, as in other runs: see `one_checked_output` in laws.rt.
+/// writes, as in other runs: see `one_checked_output` in `play_laws`.
 pub fn run_check<C: Read, B: Read, L: Read, S: Read, W: Write>(
     alloc: Global,
     inputs: &mut Inputs<C, B, L, S>,

@@ -4,15 +4,13 @@ ghost use Rattle.std.specs.Prelude.{◌≡◌, ℕ, List, [], ◌∷◌, None, �
 ghost use Rattle.std.specs.Str.Lines.{lines};
 ghost use Rattle.replay_edits.specs.Edit.{game_of};
 ghost use Rattle.cave_play.specs.Sources.{Says, next_log, Leads};
-ghost use Rattle.cave_play.specs.Judge.{large_seed};
-ghost use Rattle.cave_play.specs.Run.{Judges};
-ghost use Rattle.cave_play.specs.Stages.{log_stage};
+ghost use Rattle.cave_play.specs.Stages.{large_seed, Judges, log_stage};
 ghost use Rattle.cave_play.specs.Output.{cave_line, check_text, play_view_text};
 ghost use Rattle.turn_ends.specs.Score.{max_score_of};
 
 use crate::fault::PlayFault;
+use crate::inputs::Sources;
 use crate::judge::watch_play;
-use crate::sources::Sources;
 use cave_data::Cave;
 use check_tables::{push_names, push_unused, push_words};
 use data_bindings::push_bindings;

@@ -5,18 +5,17 @@ use Rattle.std.specs.Prelude.{codes, fold, if◌then◌else◌, map}
 use Rattle.std.specs.Borrow.{Bor}
 use Rattle.std.specs.List.{list_all, list_any, slice_get}
 use Rattle.base_lines.specs.Nearest.{is_near_name}
-use Rattle.clap.specs.Words.{App, Row, Rule, Shape, app_of, new_app, new_rule, with_rule}
+use Rattle.clap.specs.Words.{App, Row, Rule, app_of, new_app, new_rule, with_rule}
 use Rattle.clap.specs.Words.{with_subcommand}
 use Rattle.clap.specs.declared.builder.action.ArgAction.TheVariants.{Append, SetTrue}
 use Rattle.clap.specs.declared.builder.command.Command.{Command}
 use Rattle.clap.specs.declared.builder.command.Command.TheViews.{out-Command}
 use Rattle.clap.specs.declared.builder.value_parser.ValueParser.TheVariants as parser
-use Rattle.play_command.specs.Asked.{check_views, cover_views, edit_views, play_views}
-use Rattle.play_command.specs.Asked.{report_views}
-use Rattle.play_command.specs.Found.{is_given}
-use Rattle.play_command.specs.declared.arguments.Argument.{Argument}
-use Rattle.play_command.specs.declared.arguments.Form.{Form}
-use Rattle.play_command.specs.declared.arguments.Form.TheVariants as form
+use Rattle.play_command.specs.Asked.{check_views, cover_views, edit_views, play_views, report_views}
+use Rattle.play_command.specs.Asked.{is_given}
+use Rattle.play_command.specs.declared.commands.Argument.{Argument}
+use Rattle.play_command.specs.declared.commands.Form.{Form}
+use Rattle.play_command.specs.declared.commands.Form.TheVariants as form
 use Rattle.play_command.specs.declared.commands.CommandName.{CommandName}
 use Rattle.play_command.specs.declared.commands.CommandName.TheVariants as command
 use Rattle.play_command.specs.declared.commands.CommandRow.{CommandRow}
@@ -177,9 +176,6 @@ rules_of names command.Cover = needed "cave" ∷ argument form.NeededFiles "log"
 rules_of names command.Map = needed "cave" ∷ argument form.Files "log" ∷ short_value "bind"
     ∷ short_value "seed" ∷ flag "seen" ∷ value "from" ∷ value "within" ∷ short_value "output" ∷ []
 
-abbrev pub shape_of : ViewNames → List ℕ × Needs → Shape
-shape_of names entry = record (new_app entry.0).top { rules = rules_of names entry.1.0 }
-
 -- the program, which requires one of its commands
 abbrev pub plain_app : App
 plain_app = record {
@@ -194,7 +190,7 @@ plain_app = record {
 abbrev pub cave_app : ViewNames → App
 cave_app names = record {
   top = record plain_app.top { is_leaf = false };
-  subs = map (shape_of names) commands;
+  subs = map (λ entry. record (new_app entry.0).top { rules = rules_of names entry.1.0 }) commands;
 }
 
 -- the fact holds of the program's command, wherever the names of views lie

@@ -1,28 +1,31 @@
--- Which run the words ask for, and why they are refused.
+-- Which run the words ask for, why they are refused, what is said then, and the status.
 use Rattle.std.specs.Prelude.{◌≡◌, ◌⊎◌, ℕ, Bool, List, [], Option, Some, None, codes, map}
 use Rattle.std.specs.Prelude.{option_and_then, option_map, string_bytes, Result, Ok, Err}
-use Rattle.std.specs.Prelude.{MatchResult, if◌then◌else◌, slice_get, unwrap_or}
+use Rattle.std.specs.Prelude.{MatchResult, if◌then◌else◌, slice_get, unwrap_or, ◌++◌}
 use Rattle.std.specs.Option.{option_map_or}
-use Rattle.clap.specs.Words.{App, IsAmong, HasKind, Kinds, Row, all_of, fault_of, first_of}
-use Rattle.clap.specs.Words.{kind_of, subcommand_of, subcommand_rows_of}
+use Rattle.clap.specs.Words.{App, IsAmong, HasKind, Kinds, Row, all_of, fault_of, first_of, kind_of}
+use Rattle.clap.specs.Words.{subcommand_of, subcommand_rows_of}
 use Rattle.clap.specs.declared.error.Error.{Error}
 use Rattle.clap.specs.declared.error.kind.ErrorKind.{ErrorKind}
 use Rattle.clap.specs.declared.error.kind.ErrorKind.TheVariants.{DisplayHelp, DisplayVersion}
 use Rattle.clap.specs.declared.error.kind.ErrorKind.TheVariants.{InvalidSubcommand}
 use Rattle.clap.specs.declared.parser.matches.ArgMatches.{ArgMatches}
-use Rattle.play_command.specs.Asked.{◌>>=◌, what_of}
-use Rattle.play_command.specs.Commands.{ForCave, Needs, commands, has_files, meant_in}
-use Rattle.play_command.specs.Found.{files_of, is_set, named, named_file, number_row, output_of}
+use Rattle.play_command.specs.Asked.{◌>>=◌, what_of, files_of, is_set, named, named_file}
+use Rattle.play_command.specs.Asked.{number_row, output_of}
+use Rattle.play_command.specs.Commands.{ForCave, commands, has_files, meant_in}
 use Rattle.play_command.specs.declared.fault.CommandFault.{CommandFault}
 use Rattle.play_command.specs.declared.fault.CommandFault.TheVariants as fault_is
 use Rattle.play_command.specs.declared.fault.Misuse.{Misuse}
 use Rattle.play_command.specs.declared.fault.Misuse.TheVariants.{BadNumber, Incomplete}
-use Rattle.play_command.specs.declared.input.Input.{Input}
+use Rattle.play_command.specs.declared.line.Input.{Input}
 use Rattle.play_command.specs.declared.line.Line.{Line}
 use Rattle.play_command.specs.declared.line.Line.TheVariants.{Run, Text}
 use Rattle.play_command.specs.declared.line.Request.{Request}
 use Rattle.play_command.specs.declared.line.What.{What}
 use Rattle.replay_scripts.specs.ScriptText.{text_of_lines}
+use Rattle.play_command.specs.declared.fault.Misuse.TheVariants as misuse
+use Rattle.play_command.specs.declared.found.NumberOption.{NumberOption}
+use Rattle.play_command.specs.declared.found.NumberOption.TheVariants.{Every, From, Seed, Within}
 
 -- ---- the run of a command
 
@@ -43,25 +46,11 @@ run_in request = record {
   what = request.what;
 }
 
--- the text of a script whose lines were found
-abbrev pub typed_of : List Row → Option (List ℕ)
-typed_of rows = option_map text_of_lines (all_of (codes "edit") rows)
-
-abbrev pub run_by : List Row → What → Asked
-run_by rows what = record {
-  files = files_of rows;
-  typed = typed_of rows;
-  output = output_of rows;
-  quiet = is_set (codes "quiet") rows;
-  what = what;
-}
-
--- what a command asks with all the files that it needs
-abbrev pub asked_with : List Row → Needs → Result What Misuse
-asked_with rows needs = if has_files needs.1 rows then what_of needs.0 rows else Err Incomplete
-
+-- what the command of a name asks with all the files that it needs
 abbrev pub asked_by : List ℕ → List Row → Result What Misuse
-asked_by name rows = option_map_or (asked_with rows) (named commands name) (Err Incomplete)
+asked_by name rows =
+    option_map_or (λ needs. if has_files needs.1 rows then what_of needs.0 rows else Err Incomplete)
+    (named commands name) (Err Incomplete)
 
 -- a command that was met, with what was found for its arguments
 abbrev pub MetCommand : Type 0
@@ -69,7 +58,13 @@ MetCommand = Option (List ℕ × List Row)
 
 abbrev pub run_of : MetCommand → Result Asked Misuse
 run_of None = Err Incomplete
-run_of (Some met) = asked_by met.0 met.1 >>= (λ what. Ok (run_by met.1 what))
+run_of (Some (name, rows)) = asked_by name rows >>= (λ what. Ok (record {
+  files = files_of rows;
+  typed = option_map text_of_lines (all_of (codes "edit") rows);
+  output = output_of rows;
+  quiet = is_set (codes "quiet") rows;
+  what = what;
+}))
 
 -- what was given for the option of a number, if the misuse is of one
 abbrev pub given_for : Misuse → List Row → List ℕ
@@ -105,8 +100,8 @@ IsErrorAnswer words kinds _ = ⊥
 abbrev pub IsRunAnswer : MetCommand → Result Line CommandFault → Type 0
 IsRunAnswer met (Ok (Run request)) = run_of met ≡ Ok (run_in request)
 IsRunAnswer met (Err fault_is.Memory) = Unit {0}
-IsRunAnswer met (Err (fault_is.Misuse misuse given)) = (run_of met ≡ Err misuse)
-    × (given.now ≡ option_map_or (λ found. given_for misuse found.1) met [])
+IsRunAnswer met (Err (fault_is.Misuse wrong given)) = (run_of met ≡ Err wrong)
+    × (given.now ≡ option_map_or (λ found. given_for wrong found.1) met [])
 IsRunAnswer met _ = ⊥
 
 -- the words of a command line ask for one run at most
@@ -115,12 +110,9 @@ WordsAskForOneRun = (met : MetCommand) (one other : Request)
     → IsRunAnswer met (Ok (Run one)) → IsRunAnswer met (Ok (Run other)) → run_in one ≡ run_in other
 
 -- the answer to words, in which the parser finds a command or what is wrong with them
-abbrev pub IsAnswerBy : List (List ℕ) → Result Line CommandFault → App → Type 0
-IsAnswerBy words answer app = IsErrorAnswer words (fault_of app words) answer
-    ⊎ ((fault_of app words ≡ []) × IsRunAnswer (subcommand_of app words) answer)
-
 abbrev pub IsAnswer : List (List ℕ) → Result Line CommandFault → Type 0
-IsAnswer words answer = ForCave (IsAnswerBy words answer)
+IsAnswer words answer = ForCave (λ app. IsErrorAnswer words (fault_of app words) answer
+    ⊎ ((fault_of app words ≡ []) × IsRunAnswer (subcommand_of app words) answer))
 
 -- the parser's answer to words: what they say, if nothing is wrong with them, and otherwise an
 -- error that says what is wrong, unless memory ran out
@@ -131,3 +123,58 @@ IsParseBy words answer app = MatchResult answer
 
 abbrev pub IsParse : List (List ℕ) → Result ArgMatches Error → Type 0
 IsParse words answer = ForCave (IsParseBy words answer)
+
+-- ---- what is said of a refusal, and the status
+
+-- 7 if memory ran out, and 2 for anything wrong with the words
+abbrev pub status_of_command : CommandFault → ℕ
+status_of_command fault_is.Memory = 7
+status_of_command _ = 2
+
+-- where the texts end
+abbrev pub help : List ℕ
+help = codes "\n\nFor more information, try '--help'.\n"
+
+-- what is said of a number of an option, after what was given for it
+abbrev pub range_text : NumberOption → List ℕ
+range_text Seed = codes "' for '--seed <N>': expected 1 to 10 digits, from 0 to 2147483647"
+range_text Every = codes "' for '--every <K>': expected 1 to 10 digits, from 1 to 10000"
+range_text From = codes "' for '--from <PLACE>': expected 1 to 10 digits, from 1 to 300"
+range_text Within = codes "' for '--within <N>': expected 1 to 10 digits, from 0 to 300"
+
+-- what is said of a misuse; of a number after what was given for it
+unfoldable pub misuse_text : Misuse → List ℕ
+misuse_text misuse.Incomplete = codes "a command and its files are required"
+misuse_text (misuse.BadNumber option) = range_text option
+misuse_text misuse.NoScript = codes "SCRIPT, '--edit <EDIT>' or '--to <FILE>' is required"
+misuse_text misuse.TwoScripts =
+    codes "only one of SCRIPT, '--edit <EDIT>' and '--to <FILE>' can be used"
+misuse_text misuse.ReportAlone =
+    codes "'--report <WHAT>' is for '--output <FILE>' or '--in-place': "
+    ++ codes "without these, '--print <WHAT>' prints reports"
+misuse_text misuse.TwoOutputs =
+    codes "'--in-place' can be used neither with '--output <FILE>' nor with '--print <WHAT>': "
+    ++ codes "it is short for '--print log --output LOG'"
+misuse_text misuse.DoubtsAlone = codes "'--strict' and '--known <FILE>' are for '--print doubts'"
+misuse_text misuse.WithinAlone = codes "'--within <N>' is for '--from <PLACE>'"
+misuse_text misuse.SeenAlone = codes "'--seen' needs a LOG"
+misuse_text misuse.SeedAlone = codes "'--seed <N>' needs a LOG"
+
+-- the whole text of a misuse, with what was given for the option of a number
+abbrev pub misuse_refusal : Misuse → List ℕ → List ℕ
+misuse_refusal (misuse.BadNumber option) given =
+    codes "error: invalid value '" ++ (given ++ (misuse_text (misuse.BadNumber option) ++ help))
+misuse_refusal found given = codes "error: " ++ (misuse_text found ++ help)
+
+-- the word isn't a command, and this one is meant
+abbrev pub command_text : List ℕ → List ℕ → List ℕ
+command_text word command = codes "error: unrecognized subcommand '" ++ (word
+    ++ (codes "'\n\n  tip: did you mean '" ++ (command
+    ++ (codes "'?\n\nUsage: cave <COMMAND>" ++ help))))
+
+-- what is said of each fault, but not the parser's words
+abbrev pub refusal_text : CommandFault → Option (List ℕ)
+refusal_text (fault_is.Usage error) = None
+refusal_text (fault_is.OtherName word command) = Some (command_text word.now command.now)
+refusal_text (fault_is.Misuse found given) = Some (misuse_refusal found given.now)
+refusal_text fault_is.Memory = Some (codes "cave: there isn't enough memory\n")

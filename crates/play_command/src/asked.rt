@@ -3,13 +3,14 @@
 ghost use Rattle.std.specs.Prelude.{◌≡◌, map};
 ghost use Rattle.play_command.specs.Asked.{around_of, check_of, cover_of, edit_of, editing_of};
 ghost use Rattle.play_command.specs.Asked.{edits_from_of, judges_left, part_of, report_of, view_of};
-ghost use Rattle.play_command.specs.Asked.{what_of};
-ghost use Rattle.play_command.specs.Found.{rows_in, with_text};
+ghost use Rattle.play_command.specs.Asked.{what_of, rows_in, with_text};
 
 use crate::commands::CommandName;
 use crate::fault::Misuse;
-use crate::found::{NumberOption, is_given, is_set, number_in, number_said, value_in, values_in};
-use crate::input::{is_in_place, output_in};
+use crate::found::{
+    NumberOption, is_given, is_in_place, is_set, number_in, number_said, output_in, value_in,
+    values_in,
+};
 use crate::line::{EditAsked, Editing, EditsFrom, MapPart, Surroundings, What};
 use crate::views::{
     CHECK_VIEWS, COVER_VIEWS, CoverView, EDIT_VIEWS, EditView, PLAY_VIEWS, REPORT_VIEWS,
@@ -46,8 +47,8 @@ fn check_in(found: &ArgMatches<'_>) -> Result<What, Misuse>
     ensures { result ≡ check_of (rows_in found.now) }
 {
     let is_judged = judges_left(found);
-    let usual = if is_judged { None } else { CHECK_VIEWS.usual };
-    match view_in(found, CHECK_VIEWS.by_name, usual)? {
+    let usual = if is_judged { None } else { CHECK_VIEWS[0].1 };
+    match view_in(found, CHECK_VIEWS, usual)? {
         None => Ok(What::Doubts {
             strict: is_set(found, "strict"),
         }),
@@ -80,7 +81,7 @@ fn editing_in(found: &ArgMatches<'_>) -> Result<Editing, Misuse>
         view: if is_in_place(found) {
             EditView::Log
         } else {
-            view_in(found, EDIT_VIEWS.by_name, EDIT_VIEWS.usual)?
+            view_in(found, EDIT_VIEWS, EDIT_VIEWS[0].1)?
         },
         strict: is_set(found, "strict"),
         guarded: is_set(found, "guarded"),
@@ -171,11 +172,11 @@ fn cover_in(found: &ArgMatches<'_>) -> Result<What, Misuse>
     let usual = if judges_left(found) {
         CoverView::Said(TextView::Texts)
     } else {
-        COVER_VIEWS.usual
+        COVER_VIEWS[0].1
     };
     Ok(What::Cover {
         seed: number_in(found, NumberOption::Seed, USUAL_SEED)?,
-        view: view_in(found, COVER_VIEWS.by_name, usual)?,
+        view: view_in(found, COVER_VIEWS, usual)?,
         strict: is_set(found, "strict"),
     })
 }
@@ -188,7 +189,7 @@ pub(crate) fn what_in(command: CommandName, found: &ArgMatches<'_>) -> Result<Wh
         CommandName::Check => check_in(found),
         CommandName::Play => Ok(What::Play {
             seed: number_in(found, NumberOption::Seed, USUAL_SEED)?,
-            view: view_in(found, PLAY_VIEWS.by_name, PLAY_VIEWS.usual)?,
+            view: view_in(found, PLAY_VIEWS, PLAY_VIEWS[0].1)?,
         }),
         CommandName::Edit => Ok(What::Edit(edit_in(found)?)),
         CommandName::Script => Ok(What::Script(ScriptForm {

@@ -1,7 +1,7 @@
 //! Why a command line asks for no run.
 
 ghost use Rattle.std.specs.Prelude.{◌≡◌};
-ghost use Rattle.play_command.specs.Refusal.{misuse_text, status_of_command};
+ghost use Rattle.play_command.specs.Line.{misuse_text, status_of_command};
 ghost use Rattle.play_command.specs.declared.fault.CommandFault.TheVariants.{Memory};
 
 use crate::found::NumberOption;
@@ -40,7 +40,7 @@ pub enum Misuse {
 
 impl Misuse {
     /// What is said of it; of a number after what was given for it.
-    #[tactic(auto, unfolding(crate::specs::Refusal::misuse_text))]
+    #[tactic(auto, unfolding(crate::specs::Line::misuse_text))]
     fn text(self) -> &'static str
         ensures { result.now ≡ misuse_text self }
     {
@@ -106,7 +106,7 @@ impl From<AllocError> for CommandFault<'_> {
 }
 
 impl fmt::Display for CommandFault<'_> {
-    ghost use Rattle.play_command.specs.Refusal.{refusal_text};
+    ghost use Rattle.play_command.specs.Line.{refusal_text};
 
     ghost output = { refusal_text };
 

@@ -1,16 +1,19 @@
-//! What the parser found for an argument of a command, and the numbers that options have.
+//! What the parser found for the arguments of a command: texts, numbers and files.
 
 ghost use Rattle.std.specs.Prelude.{◌≡◌, ◌≤◌, IfOk, MatchOption, None, Some, map, option_map};
-ghost use Rattle.std.specs.List.{list_all};
+ghost use Rattle.std.specs.List.{flat_map, list_all};
 ghost use Rattle.base_lines.specs.Bytes.{is_digit};
 ghost use Rattle.clap.specs.Words.{all_of, first_of};
-ghost use Rattle.play_command.specs.Found.{is_given, is_set, number_of, number_row, number_said};
-ghost use Rattle.play_command.specs.Found.{rows_in};
+ghost use Rattle.play_command.specs.Asked.{files_at, is_given, is_in_place, is_set, named_file};
+ghost use Rattle.play_command.specs.Asked.{number_of, number_row, number_said, output_of, rows_in};
+ghost use Rattle.play_command.specs.Asked.{with_text};
 
 use crate::fault::Misuse;
+use crate::line::{Input, NamedFile};
 use base_lines::bytes::number_of;
 use base_lines::limits::{MAX_EVERY, MAX_SEED, is_long_number};
 use clap::ArgMatches;
+use std::alloc::{AllocError, Global};
 
 /// All that was found for an argument.
 #[tactic(auto, using(crate::proofs::Values::values))]
@@ -77,7 +80,7 @@ fn is_all_digits(text: &[u8]) -> bool
 }
 
 /// The number that a text writes in 1 to 10 digits and nothing else, if an option may have it.
-#[tactic(auto, unfolding(crate::specs::Found::number_in_range))]
+#[tactic(auto, unfolding(crate::specs::Asked::number_in_range))]
 pub(crate) fn number_said(option: NumberOption, text: &str) -> Result<u32, Misuse>
     ensures number { result ≡ number_said option text.now }
     ensures most { IfOk result (λ number. number ≤ (number_row option).2) }
@@ -95,7 +98,7 @@ pub(crate) fn number_said(option: NumberOption, text: &str) -> Result<u32, Misus
 }
 
 /// The number that was found for an option, or the usual one.
-#[tactic(auto, unfolding(crate::specs::Found::number_of))]
+#[tactic(auto, unfolding(crate::specs::Asked::number_of))]
 pub(crate) fn number_in(
     found: &ArgMatches<'_>,
     option: NumberOption,
@@ -109,4 +112,54 @@ pub(crate) fn number_in(
         None => Ok(usual),
         Some(text) => number_said(option, text),
     }
+}
+
+/// The arguments that are files to read, in the order in which these are opened.
+pub(crate) const FILES: [(&str, Input); 8] = [
+    ("cave", Input::Cave),
+    ("bind", Input::Bindings),
+    ("old", Input::Log),
+    ("log", Input::Log),
+    ("script", Input::Script),
+    ("new", Input::NewLog),
+    ("to", Input::NewLog),
+    ("known", Input::Known),
+];
+
+/// The files to read that the parser found for some arguments.
+pub(crate) fn files_in<'a>(
+    alloc: Global,
+    found: &ArgMatches<'a>,
+    arguments: &[(&str, Input)],
+) -> Result<Vec<NamedFile<'a>>, AllocError>
+    ensures { IfOk result (λ files. map named_file files.items
+        ≡ flat_map (files_at (rows_in found.now)) (map with_text arguments.now)) }
+{
+    let mut files = Vec::new(alloc);
+    for (id, input) in arguments {
+        if let Some(names) = values_in(found, id) {
+            for name in names {
+                files.push(NamedFile {
+                    input: *input,
+                    name: *name,
+                })?;
+            }
+        }
+    }
+    Ok(files)
+}
+
+/// Whether an edited log is written over the log.
+pub(crate) fn is_in_place(found: &ArgMatches<'_>) -> bool
+    ensures { result ≡ is_in_place (rows_in found.now) }
+{
+    is_set(found, "in-place")
+}
+
+/// The file of the output: the log, or the one that was found, if one was.
+pub(crate) fn output_in<'a>(found: &ArgMatches<'a>) -> Option<&'a str>
+    ensures { option_map (λ file. file.now) result ≡ output_of (rows_in found.now) }
+{
+    let id = if is_in_place(found) { "log" } else { "output" };
+    value_in(found, id)
 }

@@ -2,19 +2,18 @@
 #![tactic(auto)]
 
 pub mod app;
-mod arguments;
 mod asked;
 mod commands;
 pub mod fault;
 mod found;
-pub mod input;
 pub mod laws;
 pub mod line;
 mod read;
 pub mod views;
 
 pub use fault::CommandFault;
-pub use input::{Input, NamedFile};
-pub use line::{EditAsked, Editing, EditsFrom, Line, MapPart, Request, Surroundings, What};
+pub use line::{
+    EditAsked, Editing, EditsFrom, Input, Line, MapPart, NamedFile, Request, Surroundings, What,
+};
 pub use read::command_line;
 pub use views::{CheckView, CoverView, EditView, PlayView, ReportView, TextView};

@@ -1,6 +1,5 @@
 //! What the words of a command line ask for.
 
-use crate::input::NamedFile;
 use crate::views::{CheckView, CoverView, EditView, PlayView, ReportView};
 use clap::Error;
 use replay_difference::script::ScriptForm;
@@ -11,6 +10,26 @@ pub enum Line<'a> {
     Run(Request<'a>),
     /// Help or the version: the text to print.
     Text(Error),
+}
+
+/// What a run reads.
+#[derive(Clone, Copy, Debug, PartialEq, Eq)]
+pub enum Input {
+    Cave,
+    Bindings,
+    Log,
+    /// A log that edits are to make of another.
+    NewLog,
+    Script,
+    /// The list of what is known.
+    Known,
+}
+
+/// A file that a run reads.
+#[derive(Clone, Copy, Debug, PartialEq, Eq)]
+pub struct NamedFile<'a> {
+    pub input: Input,
+    pub name: &'a str,
 }
 
 /// A run that the words ask for.

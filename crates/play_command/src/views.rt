@@ -1,10 +1,9 @@
 //! What runs may print, by the names of views.
 
 ghost use Rattle.std.specs.Prelude.{◌≡◌, map};
-ghost use Rattle.play_command.specs.Asked.{edit_view_of};
-ghost use Rattle.play_command.specs.Found.{named, with_text};
+ghost use Rattle.play_command.specs.Asked.{edit_view_of, named, with_text};
 
-use crate::arguments::{Argument, Form};
+use crate::commands::{Argument, Form};
 
 /// What a check of a cave prints.
 #[derive(Clone, Copy, Debug, PartialEq, Eq)]
@@ -114,13 +113,6 @@ pub(crate) fn named<T: Copy>(items: &[(&str, T)], name: &str) -> Option<T>
     None
 }
 
-/// The views that an option takes by their names, and the one that is usual.
-#[derive(Drop)]
-pub(crate) struct Views<V: 'static> {
-    pub(crate) usual: V,
-    pub(crate) by_name: &'static [(&'static str, V)],
-}
-
 /// The views of a table by their names; the first is the usual one.
 macro_rules! by_name {
     (
@@ -128,7 +120,7 @@ macro_rules! by_name {
         $($name:literal $view:expr, $said:literal;)*
         or $last:literal $other:expr, $told:literal
     ) => {
-        Views { usual: $usual, by_name: &[($first, $usual), $(($name, $view),)* ($last, $other)] }
+        &[($first, $usual), $(($name, $view),)* ($last, $other)]
     };
 }
 
@@ -210,13 +202,13 @@ pub(crate) const EDIT_PRINT: Argument = views!(edit print_option);
 
 pub(crate) const COVER_PRINT: Argument = views!(cover print_option);
 
-pub(crate) const CHECK_VIEWS: Views<Option<CheckView>> = views!(check by_name);
+pub(crate) const CHECK_VIEWS: &[(&str, Option<CheckView>)] = views!(check by_name);
 
-pub(crate) const PLAY_VIEWS: Views<PlayView> = views!(play by_name);
+pub(crate) const PLAY_VIEWS: &[(&str, PlayView)] = views!(play by_name);
 
-pub(crate) const EDIT_VIEWS: Views<EditView> = views!(edit by_name);
+pub(crate) const EDIT_VIEWS: &[(&str, EditView)] = views!(edit by_name);
 
-pub(crate) const COVER_VIEWS: Views<CoverView> = views!(cover by_name);
+pub(crate) const COVER_VIEWS: &[(&str, CoverView)] = views!(cover by_name);
 
 /// What an edit prints beside its output.
 pub(crate) const REPORT_VIEWS: [(&str, ReportView); 2] = [

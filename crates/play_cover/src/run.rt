@@ -6,16 +6,14 @@ ghost use Rattle.play_cover.specs.Known.{known_entries};
 ghost use Rattle.play_cover.specs.Plays.{IsCovered, cover_stages};
 ghost use Rattle.cave_play.specs.Sources.{Says, IsTaken, Leads};
 ghost use Rattle.cave_play.specs.Logs.{IsMadeReport, JudgesLogs, RunsLogs};
-ghost use Rattle.cave_play.specs.Run.{Judges};
-ghost use Rattle.cave_play.specs.Stages.{known_stage};
+ghost use Rattle.cave_play.specs.Stages.{Judges, known_stage};
 
 use crate::known::KnownList;
 use crate::rule_notes::RuleNotes;
 use crate::said::SaidTexts;
 use crate::text_report::TextsAsked;
-use cave_play::inputs::Readers;
+use cave_play::inputs::{Readers, Sources};
 use cave_play::logs::{Reported, make_report, write_report};
-use cave_play::sources::Sources;
 use cave_play::{CaveReaders, LogsFault, PlayFault};
 use play_command::{CoverView, Input};
 use std::alloc::Global;

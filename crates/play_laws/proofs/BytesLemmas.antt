@@ -30,7 +30,7 @@ use Rattle.replay_scripts.proofs.Grammar.{script_of-only}
 use Rattle.play_laws.specs.Bytes.{EditedLogsAreAccepted, EndsAlike, GuardedScriptsDoTheSame}
 use Rattle.play_laws.specs.Bytes.{UndoGivesTheBytes, UndoScriptsTakeBack}
 use Rattle.play_edits.specs.Views.{IsEndedEdit, IsGuarded, IsUndo}
-use Rattle.cave_play.specs.Judge.{lines_fault, or_too_many}
+use Rattle.cave_play.specs.Stages.{lines_fault, or_too_many}
 use Rattle.cave_play.specs.declared.fault.LogFault.TheVariants as fault_of_log
 use Rattle.cave_play.specs.declared.fault.PlayFault.TheVariants as fault
 use Rattle.cave_play.proofs.ScriptLemmas.{same_items, script_by-spelled}

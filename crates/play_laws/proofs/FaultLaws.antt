@@ -2,11 +2,10 @@
 use Rattle.cave_play.proofs.AcceptedLogs.{IsGame-accepted}
 use Rattle.base_lines.specs.Limits.{MAX_LOG_LINES, MAX_SEED}
 use Rattle.base_lines.specs.Line.{flaw_of, is_line}
-use Rattle.cave_play.specs.Run.{IsFoundIn, IsOutsideOf}
-use Rattle.cave_play.specs.Stages.{Stage, first_decided}
+use Rattle.cave_play.specs.Stages.{IsFoundIn, IsOutsideOf, Stage, first_decided}
 use Rattle.cave_play.specs.declared.fault.PlayFault.TheVariants as fault
 use Rattle.cave_play.specs.declared.fault.PlayFault.{PlayFault}
-use Rattle.play_command.specs.declared.input.Input.{Input}
+use Rattle.play_command.specs.declared.line.Input.{Input}
 use Rattle.play_edits.proofs.EditLemmas.{IsGame-after_all}
 use Rattle.play_edits.specs.Items.{game_after_items}
 use Rattle.play_edits.specs.Refusal.{group_refusal}

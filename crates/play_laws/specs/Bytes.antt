@@ -12,7 +12,7 @@ use Rattle.play_edits.specs.declared.ends.LineEnd.{LineEnd}
 use Rattle.replay_scripts.specs.Guards.{IsScriptBy}
 use Rattle.replay_scripts.specs.Script.{Applied}
 use Rattle.play_edits.specs.Views.{IsEndedEdit}
-use Rattle.cave_play.specs.Judge.{large_seed, log_fault, script_fault}
+use Rattle.cave_play.specs.Stages.{large_seed, log_fault, script_fault}
 use Rattle.play_edits.specs.Edits.{ending_refusal}
 
 -- an edited log that is printed has the lines of the edited game, and is accepted unless it is too

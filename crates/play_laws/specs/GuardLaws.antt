@@ -12,7 +12,7 @@ use Rattle.replay_scripts.specs.Guards.{script_by, unguarded}
 use Rattle.replay_scripts.specs.Line.{expected_in}
 use Rattle.replay_scripts.specs.Script.{Applied}
 use Rattle.play_edits.specs.Views.{IsEndedEdit}
-use Rattle.cave_play.specs.Judge.{large_seed, log_fault}
+use Rattle.cave_play.specs.Stages.{large_seed, log_fault}
 
 -- no line of a script is spelled as a guard
 abbrev pub HasNoGuard : List ℕ → Type 0

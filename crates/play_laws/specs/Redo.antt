@@ -4,7 +4,7 @@ use Rattle.std.specs.Str.Lines.{lines}
 use Rattle.cave_data.specs.CaveView.{CaveView}
 use Rattle.play_laws.specs.Bytes.{EndsAlike}
 use Rattle.play_edits.specs.Views.{IsEndedEdit}
-use Rattle.cave_play.specs.Judge.{large_seed, log_fault}
+use Rattle.cave_play.specs.Stages.{large_seed, log_fault}
 use Rattle.play_edits.specs.Edits.{ending_refusal}
 use Rattle.play_command.specs.declared.views.EditView.TheVariants as asked
 use Rattle.play_edits.specs.Items.{game_after_items}

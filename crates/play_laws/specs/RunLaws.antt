@@ -10,12 +10,11 @@ use Rattle.replay_scripts.specs.Guards.{IsScriptBy}
 use Rattle.replay_edits.specs.declared.fault.EditFault.{EditFault}
 use Rattle.replay_edits.specs.declared.fault.EditFault.TheVariants.{MeterFull, Memory}
 use Rattle.replay_edits.specs.declared.fault.GroupFault.{GroupFault}
-use Rattle.cave_play.specs.Judge.{inputs_fault, large_seed, log_fault}
+use Rattle.cave_play.specs.Stages.{inputs_fault, large_seed, log_fault, IsFoundIn, AtMostOne, Stage}
+use Rattle.cave_play.specs.Stages.{first_decided, cave_stages}
 use Rattle.play_edits.specs.Items.{game_after_items}
 use Rattle.cave_play.specs.Output.{IsChecked, IsPlayed, IsEdited}
 use Rattle.play_edits.specs.Refusal.{group_refusal}
-use Rattle.cave_play.specs.Run.{IsFoundIn, AtMostOne}
-use Rattle.cave_play.specs.Stages.{Stage, first_decided, cave_stages}
 use Rattle.cave_play.specs.declared.fault.PlayFault.{PlayFault}
 use Rattle.cave_play.specs.declared.fault.PlayFault.TheVariants as fault
 use Rattle.play_command.specs.declared.views.EditView.{EditView}

@@ -18,8 +18,7 @@ use Rattle.play_map.specs.Parts.{drawn_part, place_stage}
 use Rattle.map_graph.specs.declared.stops.Stop.{Stop}
 use Rattle.map_graph.specs.declared.stops.Stop.TheVariants.{InState}
 use Rattle.std.specs.List.Sorted.{IsPermutation}
-use Rattle.cave_play.specs.Run.{AtMostOne}
-use Rattle.cave_play.specs.Stages.{Stage}
+use Rattle.cave_play.specs.Stages.{AtMostOne, Stage}
 
 -- the stops of a line: the state after it, and the ways by which the player went
 abbrev pub stops_at : Moment → List Stop

@@ -6,15 +6,14 @@ ghost use Rattle.cave_play.specs.Logs.{IsMadeReport, JudgesLogs, games_of};
 ghost use Rattle.play_map.specs.Parts.{place_stage};
 ghost use Rattle.play_map.specs.Plays.{JudgesMap, RunsMap, map_of_games};
 ghost use Rattle.cave_play.specs.Sources.{Says, Leads};
-ghost use Rattle.cave_play.specs.Judge.{large_seed};
+ghost use Rattle.cave_play.specs.Stages.{large_seed};
 
 use crate::part::{check_place, drawn_part};
 use crate::plays::Stops;
 use cave_data::Cave;
-use cave_play::inputs::Readers;
+use cave_play::inputs::{Readers, Sources};
 use cave_play::judge::ReadCave;
 use cave_play::logs::{PlayNotes, Reported, read_for_logs, report_in_cave, write_report};
-use cave_play::sources::Sources;
 use cave_play::{CaveReaders, LogsFault};
 use map_graph::map::push_map;
 use play_command::MapPart;

@@ -8,8 +8,8 @@ use Rattle.std.proofs.lemmas.List.{drop_more, get_or-map, length-map, map-append
 use Rattle.std.proofs.lemmas.List.{take_more}
 use Rattle.std.proofs.lemmas.List.Concat.{flat_map-append}
 use Rattle.std.proofs.lemmas.List.Elements.{Contains-get_or}
-use Rattle.play_command.specs.Found.{named_file}
-use Rattle.play_command.specs.declared.input.NamedFile.{NamedFile}
+use Rattle.play_command.specs.Asked.{named_file}
+use Rattle.play_command.specs.declared.line.NamedFile.{NamedFile}
 use Rattle.play_command.specs.declared.line.What.{What}
 use Rattle.play_program.specs.Calls.{Call, Told, and_then}
 use Rattle.play_program.specs.Files.{FileName}

@@ -8,7 +8,7 @@ use Rattle.cave_play.specs.Sources.{InputTexts, Says, AreHeld, Held, Leads}
 use Rattle.cave_play.specs.Logs.{IsMadeReport, JudgesLogs}
 use Rattle.cave_play.specs.declared.logs.Reported.{Reported}
 use Rattle.cave_play.specs.declared.logs.LogsFault.{LogsFault}
-use Rattle.play_command.specs.declared.input.Input.TheVariants as input
+use Rattle.play_command.specs.declared.line.Input.TheVariants as input
 use Rattle.play_command.specs.declared.line.Request.{Request}
 use Rattle.play_command.specs.declared.line.What.{What}
 use Rattle.play_command.specs.declared.line.What.TheVariants.{Check, Cover, Doubts, Edit, Map, Play}

@@ -6,7 +6,7 @@ use Rattle.std.specs.Prelude.{if◌then◌else◌}
 use Rattle.play_program.specs.Files.{is_same_input}
 use Rattle.std.proofs.lemmas.List.Elements.{All-cons, All-nil}
 use Rattle.cave_play.specs.Sources.{Says, AreRead}
-use Rattle.play_command.specs.declared.input.Input.{Input}
+use Rattle.play_command.specs.declared.line.Input.{Input}
 use Rattle.play_command.specs.declared.line.Request.{Request}
 use Rattle.play_program.specs.Calls.{Call, and_then}
 use Rattle.play_program.specs.Sources.{AsksFor, Entry, ReadFile, ReadsOne, calls_for, entries_in}
@@ -39,8 +39,8 @@ module _ {S F : Type 0} (calls_of : S → Option (List Call))
     first = λ from. refl;
   }
 
-  module _ (from : Input) (old next new : Files S F) (one : ReadsOne calls_of bytes_of left from old next)
-      (read : List ReadFile) (more : Reads next new read) where
+  module _ (from : Input) (old next new : Files S F)
+      (one : ReadsOne calls_of bytes_of left from old next) (read : List ReadFile) (more : Reads next new read) where
     abbrev entries : List Entry
     entries = entries_in bytes_of left old
 

@@ -1,32 +1,25 @@
 -- What the files of a run still have after one of them was read.
 use Rattle.std.proofs.Common.{◌≡◌, ℕ, Bool, true, false, List, [], ◌∷◌, ◌++◌, None, Some, ap, drop}
-use Rattle.std.proofs.Common.{eqb-true, get_or, map, refl, subst, sym, ◌∙◌}
+use Rattle.std.proofs.Common.{map, refl, subst, sym, ◌∙◌}
+use Rattle.std.proofs.lemmas.Bool.{false≢true}
 use Rattle.std.specs.Prelude.{if◌then◌else◌}
 use Rattle.cave_play.specs.Sources.{Says, IsTaken, held_for, next_log}
-use Rattle.play_command.specs.declared.input.Input.{Input}
-use Rattle.play_command.specs.declared.input.Input.TheVariants as input
-use Rattle.play_program.specs.Files.{is_same_input, number_of}
+use Rattle.play_command.specs.declared.line.Input.{Input}
+use Rattle.play_command.specs.declared.line.Input.TheVariants as input
+use Rattle.play_program.specs.Files.{is_same_input}
 use Rattle.play_program.specs.Sources.{Entry, first_among, first_known, held_of, missing_text}
 use Rattle.play_program.specs.Sources.{of_input, without_first}
 
 -- ---- inputs
 
-abbrev numbered : ℕ → Input
-numbered n = get_or (input.Cave ∷ input.Bindings ∷ input.Log ∷ input.NewLog ∷ input.Script
-    ∷ input.Known ∷ []) n input.Cave
-
-numbered-back : (one : Input) → numbered (number_of one) ≡ one
-numbered-back input.Cave = refl
-numbered-back input.Bindings = refl
-numbered-back input.Log = refl
-numbered-back input.NewLog = refl
-numbered-back input.Script = refl
-numbered-back input.Known = refl
-
 pub same_inputs : (one other : Input) → is_same_input one other ≡ true → one ≡ other
-same_inputs one other same =
-    sym (numbered-back one) ∙ ap numbered (eqb-true (number_of one) (number_of other) same)
-    ∙ numbered-back other
+same_inputs input.Cave input.Cave same = refl
+same_inputs input.Bindings input.Bindings same = refl
+same_inputs input.Log input.Log same = refl
+same_inputs input.NewLog input.NewLog same = refl
+same_inputs input.Script input.Script same = refl
+same_inputs input.Known input.Known same = refl
+same_inputs _ _ same = absurd (false≢true same)
 
 -- ---- the files of an input
 

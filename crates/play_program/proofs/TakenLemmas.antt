@@ -3,9 +3,10 @@ use Rattle.std.proofs.Common.{cond, sym, ap, refl, ◌∙◌, ◌≡◌, ◌<◌
 use Rattle.std.proofs.Common.{false, List, [], ◌∷◌, length, map, Option, Some, None, arith, get_or}
 use Rattle.std.proofs.Common.{nat_lt, inl, inr}
 use Rattle.std.specs.List.{position, position_or_len, remove}
-use Rattle.std.proofs.lemmas.Bool.{cases_lt}
+use Rattle.std.specs.Prelude.{is_some}
+use Rattle.std.proofs.lemmas.Bool.{cases_lt, false≢true}
 use Rattle.std.proofs.lemmas.Bool.Decides.{nat_tests}
-use Rattle.play_command.specs.declared.input.Input.{Input}
+use Rattle.play_command.specs.declared.line.Input.{Input}
 use Rattle.play_program.specs.Files.{is_same_input}
 use Rattle.play_program.specs.Sources.{Entry, IsTakenFrom, waiting_entry}
 use Rattle.play_program.specs.declared.sources.WaitingFile.{WaitingFile}
@@ -32,7 +33,7 @@ module _ {F : Type 0} (bytes_of : List ℕ → Option (List ℕ)) (left : F → 
           let shown : position is_of (x ∷ xs)
           ≡ cond (nat_lt 0 (suc (length xs))) (Some 0) None = rw e refl in
           let bad : Some 0 ≡ None = sym (rw t at shown) ∙ none in
-          cc
+          absurd (false≢true (sym (ap is_some bad)))
       go false e later =
           let n = position_or_len is_of xs in
           elim (cases_lt n (length xs)) [
@@ -41,7 +42,7 @@ module _ {F : Type 0} (bytes_of : List ℕ → Option (List ℕ)) (left : F → 
                 let shown : position is_of (x ∷ xs)
                 ≡ cond (nat_lt (1 + n) (suc (length xs))) (Some (1 + n)) None = rw e refl in
                 let bad : Some (1 + n) ≡ None = sym (rw t at shown) ∙ none in
-                cc
+                absurd (false≢true (sym (ap is_some bad)))
             | inr over ↦
                 let t : nat_lt n (length xs) ≡ false = grind (arith, nat_tests) in
                 let rest : position is_of xs ≡ None = rw t refl in

@@ -1,6 +1,6 @@
 -- What the program asks of its system, what it says, and with which status it ends.
 use Rattle.std.specs.Prelude.{◌≡◌, ℕ, Bool, true, false, List, [], ◌∷◌, ◌++◌, Option, None, Result}
-use Rattle.std.specs.Prelude.{Ok, Err, option_map}
+use Rattle.std.specs.Prelude.{Ok, Err, if◌then◌else◌, option_map}
 use Rattle.std.specs.IoError.{error_kind}
 use Rattle.std.specs.declared.io.Error.{Error}
 use Rattle.std.specs.declared.io.ErrorKind.{ErrorKind}
@@ -31,8 +31,7 @@ pub data Told : Type 0 where
 
 -- what a message reports, regardless of where its names are borrowed from
 abbrev pub told_of : Message → Told
-told_of (message.Fault complaint) =
-    faulty complaint.fault (option_map (λ s. s.now) complaint.file)
+told_of (message.Fault found file) = faulty found (option_map (λ s. s.now) file)
 told_of (message.Unopened file reason) = unopened file.now reason
 told_of (message.Unwritten file reason) = unwritten file.now reason
 told_of (message.Unprinted reason) = unprinted reason
@@ -82,12 +81,7 @@ pub data Call : Type 0 where
 abbrev pub and_then : Option (List Call) → List Call → Option (List Call)
 and_then known more = option_map (λ calls. calls ++ more) known
 
--- this is said, unless nothing is to be said about it, and nothing else is asked
-abbrev pub TellsUnless : Bool → Told → Option (List Call) → Option (List Call) → Type 0
-TellsUnless true said calls called = called ≡ calls
-TellsUnless false said calls called = called ≡ and_then calls (Tells said ∷ [])
-
--- so the program ends
+-- so the program ends: this is said, unless nothing is to be said about it, and nothing else is asked
 abbrev pub EndsTold : Told → Option (List Call) → Option (List Call) → ℕ → Type 0
-EndsTold said calls called status =
-    TellsUnless (is_silent said) said calls called × (status ≡ status_told said)
+EndsTold said calls called status = (status ≡ status_told said)
+    × (called ≡ (if is_silent said then calls else and_then calls (Tells said ∷ [])))

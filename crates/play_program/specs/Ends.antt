@@ -12,13 +12,12 @@ use Rattle.play_edits.specs.declared.items.EditRun.{EditRun}
 use Rattle.cave_play.specs.declared.fault.PlayFault.{PlayFault}
 use Rattle.cave_play.specs.declared.fault.PlayFault.TheVariants as fault
 use Rattle.cave_play.specs.declared.logs.LogsFault.{LogsFault}
-use Rattle.play_command.specs.Line.{IsAnswer}
-use Rattle.play_command.specs.Refusal.{refusal_text, status_of_command}
+use Rattle.play_command.specs.Line.{IsAnswer, refusal_text, status_of_command}
 use Rattle.play_command.specs.declared.views.EditView.{EditView}
 use Rattle.play_command.specs.declared.views.EditView.TheVariants as view
 use Rattle.play_command.specs.declared.fault.CommandFault.{CommandFault}
-use Rattle.play_command.specs.declared.input.Input.{Input}
-use Rattle.play_command.specs.declared.input.Input.TheVariants as input
+use Rattle.play_command.specs.declared.line.Input.{Input}
+use Rattle.play_command.specs.declared.line.Input.TheVariants as input
 use Rattle.play_command.specs.declared.line.EditAsked.{EditAsked}
 use Rattle.play_command.specs.declared.line.Line.{Line}
 use Rattle.play_command.specs.declared.line.Line.TheVariants as line
@@ -153,13 +152,6 @@ DeliversIf request (Ok made) calls called old new ended =
 DeliversIf request (Err said) calls called old new ended =
     (called ≡ calls) × (new ≡ old) × (ended ≡ Err said)
 
-abbrev pub RunsFiles : (List ℕ → Option (List ℕ)) → Request → Option (List Call)
-    → Option (List Call) → Option (List ℕ) → Option (List ℕ) → Result (Option EditRun) Told
-    → Type 0
-RunsFiles bytes_of request calls called old new ended =
-    (ran : Option (List Call)) × (made : Result Made Told)
-    × MakesOf bytes_of request calls ran made × DeliversIf request made ran called old new ended
-
 -- the output goes over no file that is read, or over one that it may replace, and the run was done;
 -- or nothing was
 abbrev pub RunsApart : (List ℕ → List ℕ → Option Bool) → (List ℕ → Option (List ℕ)) → Request
@@ -167,7 +159,8 @@ abbrev pub RunsApart : (List ℕ → List ℕ → Option Bool) → (List ℕ →
     → Result (Option EditRun) Told → Type 0
 RunsApart one_file bytes_of request calls called old new ended =
     (AreApart one_file request.what (output_of request) (files_in request)
-    × RunsFiles bytes_of request calls called old new ended)
+    × ((ran : Option (List Call)) × (made : Result Made Told)
+    × MakesOf bytes_of request calls ran made × DeliversIf request made ran called old new ended))
     ⊎ ((said : Told) × (ended ≡ Err said)
     × IsClash one_file request.what (output_of request) (files_in request) said
     × (called ≡ calls) × (new ≡ old))
@@ -236,19 +229,14 @@ EndsText calls called reason status =
     ⊎ ((found : Error) × IfSome reason (λ given. found ≡ given)
     × EndsTold (unprinted found) calls called status)
 
--- these two parts are what is said of the fault; they are free if it is the parser's or that of a
--- name
-abbrev pub AreSaidOf : CommandFault → List ℕ → List ℕ → Type 0
-AreSaidOf found before after =
-    IfSome (refusal_text found) (λ text. (before ≡ text) × (after ≡ []))
-
 -- what a refused line leaves: the reason is reported, unless memory runs out, and nothing else is
--- asked of the system
+-- asked of the system; its two parts are free if the parser words it
 abbrev pub EndsRefused : CommandFault → Option (List Call) → Option (List Call) → ℕ → Type 0
 EndsRefused found calls called status =
     ((before : List ℕ) × (after : List ℕ)
     × (called ≡ and_then calls (Tells (misused before after) ∷ []))
-    × AreSaidOf found before after × (status ≡ status_of_command found))
+    × IfSome (refusal_text found) (λ text. (before ≡ text) × (after ≡ []))
+    × (status ≡ status_of_command found))
     ⊎ EndsTold out_of_memory calls called status
 
 -- what the program leaves for a command line

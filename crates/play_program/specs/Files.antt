@@ -5,12 +5,12 @@ use Rattle.std.specs.Prelude.{option_map, unwrap_or}
 use Rattle.std.specs.Option.{option_or}
 use Rattle.cave_play.specs.Fault.{input_of}
 use Rattle.cave_play.specs.declared.fault.PlayFault.{PlayFault}
-use Rattle.play_command.specs.Found.{named_file}
-use Rattle.play_command.specs.declared.views.EditView.{EditView}
+use Rattle.play_command.specs.Asked.{named_file}
 use Rattle.play_command.specs.declared.views.EditView.TheVariants as asked
-use Rattle.play_command.specs.declared.input.Input.{Input}
-use Rattle.play_command.specs.declared.input.Input.TheVariants as input
-use Rattle.play_command.specs.declared.input.NamedFile.{NamedFile}
+use Rattle.play_command.specs.contracts.line.InputPartialEq.TheImpl as input_eq
+use Rattle.play_command.specs.declared.line.Input.{Input}
+use Rattle.play_command.specs.declared.line.Input.TheVariants as input
+use Rattle.play_command.specs.declared.line.NamedFile.{NamedFile}
 use Rattle.play_command.specs.declared.line.Request.{Request}
 use Rattle.play_command.specs.declared.line.What.{What}
 use Rattle.play_command.specs.declared.line.What.TheVariants.{Edit}
@@ -21,17 +21,9 @@ use Rattle.play_program.specs.Calls.Told.{clashing, faulty}
 abbrev pub FileName : Type 0
 FileName = Input × List ℕ
 
--- the number of an input, by which one input is known from another
-abbrev pub number_of : Input → ℕ
-number_of input.Cave = 0
-number_of input.Bindings = 1
-number_of input.Log = 2
-number_of input.NewLog = 3
-number_of input.Script = 4
-number_of input.Known = 5
-
+-- two inputs are the same, as the code compares them
 abbrev pub is_same_input : Input → Input → Bool
-is_same_input one other = number_of one == number_of other
+is_same_input one other = input_eq.eq-value.it one other
 
 abbrev pub files_in : Request → List FileName
 files_in request = map named_file request.files.items
@@ -82,20 +74,18 @@ log_count files = length (log_names files)
 abbrev pub output_of : Request → Option (List ℕ)
 output_of request = option_map (λ s. s.now) request.output
 
--- the view of an edit whose output may go over an input, by its name: the edited log over the log,
--- and the script with guards over the script
-abbrev pub view_over : What → Input → Option (List ℕ × EditView)
-view_over (Edit what) input.Log = Some (codes "log", asked.Log)
-view_over (Edit what) input.Script = Some (codes "guarded", asked.Guarded)
-view_over _ _ = None
-
-abbrev pub IsView : What → Option (List ℕ × EditView) → Type 0
-IsView (Edit what) (Some view) = what.editing.view ≡ view.1
-IsView _ _ = ⊥
-
--- the output of a run may go over an input of its own kind
+-- the output of an edit may go over an input of its own kind: the edited log over the log, and the
+-- script with guards over the script
 abbrev pub MayReplace : What → Input → Type 0
-MayReplace what from = IsView what (view_over what from)
+MayReplace (Edit what) input.Log = what.editing.view ≡ asked.Log
+MayReplace (Edit what) input.Script = what.editing.view ≡ asked.Guarded
+MayReplace _ _ = ⊥
+
+-- the name of the view whose output may go over an input, if there is one
+abbrev pub view_over : What → Input → Option (List ℕ)
+view_over (Edit what) input.Log = Some (codes "log")
+view_over (Edit what) input.Script = Some (codes "guarded")
+view_over _ _ = None
 
 -- the answer is this, if it is known
 abbrev pub IsKnownAs : Bool → Option Bool → Type 0
@@ -120,5 +110,5 @@ IsClash one_file what None files said = ⊥
 IsClash one_file what (Some output) files said =
     ((file : FileName) × Contains files file × (¬ MayReplace what file.0)
     × IsKnownAs true (one_file output file.1)
-    × (said ≡ clashing file.1 (option_map (λ over. over.0) (view_over what file.0))))
+    × (said ≡ clashing file.1 (view_over what file.0)))
     ⊎ (said ≡ out_of_memory)

@@ -1,14 +1,14 @@
 -- What the head of a log says of how the log is played, and what of it a request doesn't say.
 use Rattle.std.specs.Prelude.{ℕ, ◌==◌, ◌&&◌, ◌||◌, Bool, false, not, bytes_eq, nat_le, nat_lt, List}
 use Rattle.std.specs.Prelude.{[], ◌∷◌, length, take, drop, Option, None, Some, codes, if◌then◌else◌}
-use Rattle.std.specs.Prelude.{option_map, unwrap_or}
+use Rattle.std.specs.Prelude.{option_map, slice_get, unwrap_or}
 use Rattle.std.specs.Option.{option_and_then, option_map_or, option_or}
 use Rattle.std.specs.Str.Lines.{lines}
 use Rattle.base_lines.specs.Bytes.{after_prefix, is_digit, number_of, prefix_while}
 use Rattle.base_lines.specs.Limits.{MAX_DIGITS}
 use Rattle.base_lines.specs.Line.{is_line}
 use Rattle.data_rows.specs.Fields.{fields}
-use Rattle.play_command.specs.declared.input.Input.TheVariants as input
+use Rattle.play_command.specs.declared.line.Input.TheVariants as input
 use Rattle.play_command.specs.declared.line.Request.{Request}
 use Rattle.play_command.specs.declared.line.What.{What}
 use Rattle.play_command.specs.declared.line.What.TheVariants.{Cover, Edit, Map, Play}
@@ -21,10 +21,6 @@ abbrev pub is_option : List ℕ → Bool
 is_option [] = false
 is_option (byte ∷ bytes) = byte == 45
 
-abbrev pub first_word : List (List ℕ) → Option (List ℕ)
-first_word [] = None
-first_word (word ∷ words) = Some word
-
 -- the database of a head: its first word, unless that is an option
 abbrev pub first_file : List (List ℕ) → Option (List ℕ)
 first_file [] = None
@@ -35,23 +31,19 @@ abbrev pub after_start : List ℕ → List ℕ → Option (List ℕ)
 after_start start word =
     if bytes_eq (take (length start) word) start then Some (drop (length start) word) else None
 
--- bytes without a `=` before them
-abbrev pub after_equals : List ℕ → List ℕ
-after_equals bytes = unwrap_or (after_start (codes "=") bytes) bytes
-
 -- the value that an option has in its own word: after its name and `=`, or right after its letter,
 -- where `=` may be, too
 abbrev pub value_in_word : List ℕ → List ℕ → List ℕ → Option (List ℕ)
 value_in_word name letter word =
     option_or (option_and_then (after_start (codes "=")) (after_start name word))
-    (option_map after_equals (after_start letter word))
+    (option_map (λ rest. unwrap_or (after_start (codes "=") rest) rest) (after_start letter word))
 
 -- the value of an option: the word after its name or its letter, or what one word says of it,
 -- whichever comes first
 abbrev pub value_of : List ℕ → List ℕ → List (List ℕ) → Option (List ℕ)
 value_of name letter [] = None
 value_of name letter (word ∷ words) =
-    if bytes_eq word name || bytes_eq word letter then first_word words
+    if bytes_eq word name || bytes_eq word letter then slice_get words 0
     else option_or (value_in_word name letter word) (value_of name letter words)
 
 -- ---- the head of a log
@@ -79,9 +71,6 @@ base_name path = base_from path path
 abbrev pub is_same_file : List ℕ → List ℕ → Bool
 is_same_file said given = bytes_eq (base_name said) (base_name given)
 
-abbrev pub is_bound_by : List ℕ → Option (List ℕ) → Bool
-is_bound_by said bindings = option_map_or (is_same_file said) bindings false
-
 -- 1 to 10 digits that write another number
 unfoldable pub is_other_seed : ℕ → List ℕ → Bool
 is_other_seed seed said =
@@ -107,7 +96,8 @@ abbrev pub other_said : Request → ℕ → List (List ℕ) → Option Said
 other_said request seed head =
     let cave = unwrap_or (file_of request input.Cave 0) [] in
     option_or (said_unless (λ said. is_same_file said cave) [] (first_file head))
-    (option_or (said_unless (λ said. is_bound_by said (file_of request input.Bindings 0))
+    (option_or (said_unless
+    (λ said. option_map_or (is_same_file said) (file_of request input.Bindings 0) false)
     (codes "--bind ") (value_of (codes "--bind") (codes "-b") head))
     (said_unless (λ said. not (is_other_seed seed said)) (codes "--seed ")
     (value_of (codes "--seed") (codes "-s") head)))

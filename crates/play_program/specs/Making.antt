@@ -3,11 +3,11 @@ use Rattle.std.specs.Prelude.{◌≡◌, ℕ, ⊤, ◌&&◌, nat_lt, Bool, List,
 use Rattle.std.specs.Prelude.{Ok, Err, if◌then◌else◌, unwrap_or}
 use Rattle.std.specs.Global.{Vec}
 use Rattle.cave_play.specs.Output.{AreLeftIn, first_doubt, IsMadeEdit, IsChecked, IsPlayed}
+use Rattle.cave_play.specs.Output.{JudgesEditTo, JudgesScript}
 use Rattle.cave_play.specs.Sources.{InputTexts}
 use Rattle.cave_play.specs.Logs.{IsMadeReport, JudgesLogs, at_none}
-use Rattle.cave_play.specs.Run.{Judges}
-use Rattle.cave_play.specs.Stages.{Stage, cave_stages, doubts_stages, edit_stages, play_stages}
-use Rattle.cave_play.specs.TwoLogs.{JudgesEditTo, JudgesScript}
+use Rattle.cave_play.specs.Stages.{Judges, Stage, cave_stages, doubts_stages, edit_stages}
+use Rattle.cave_play.specs.Stages.{play_stages}
 use Rattle.cave_play.specs.declared.doubted.LeftDoubts.{LeftDoubts}
 use Rattle.play_edits.specs.declared.items.MadeEdit.{MadeEdit}
 use Rattle.cave_play.specs.declared.fault.PlayFault.{PlayFault}
@@ -15,8 +15,8 @@ use Rattle.cave_play.specs.declared.fault.PlayFault.TheVariants as fault
 use Rattle.cave_play.specs.declared.logs.Reported.{Reported}
 use Rattle.cave_play.specs.declared.logs.LogsFault.{LogsFault}
 use Rattle.check_doubts.specs.declared.listing.DoubtFiles.{DoubtFiles}
-use Rattle.play_command.specs.declared.input.Input.{Input}
-use Rattle.play_command.specs.declared.input.Input.TheVariants as input
+use Rattle.play_command.specs.declared.line.Input.{Input}
+use Rattle.play_command.specs.declared.line.Input.TheVariants as input
 use Rattle.play_command.specs.declared.line.EditAsked.{EditAsked}
 use Rattle.play_command.specs.declared.line.EditsFrom.{EditsFrom}
 use Rattle.play_command.specs.declared.line.EditsFrom.TheVariants as edits_from
@@ -63,11 +63,9 @@ of_edits (Ok made) = Ok (record { output = made.text; edits = Some made.run; lef
 of_edits (Err found) = Err (at_none found)
 
 -- of what logs show, which fails if the run is strict and something is left
-abbrev pub left_unshown : Bool → ℕ → Option PlayFault
-left_unshown strict left = if strict && nat_lt 0 left then Some (fault.Unshown left) else None
-
 abbrev pub of_cover : Bool → Result (Reported ℕ) LogsFault → Result Made LogsFault
-of_cover strict (Ok made) = Ok (made_of made.text (left_unshown strict made.found))
+of_cover strict (Ok made) = Ok (made_of made.text
+    (if strict && nat_lt 0 made.found then Some (fault.Unshown made.found) else None))
 of_cover strict (Err found) = Err found
 
 abbrev pub of_map : Result (Reported (Unit {0})) LogsFault → Result Made LogsFault
@@ -112,9 +110,6 @@ IsMadeFrom edits_from.Script asked texts edited =
 IsMadeFrom edits_from.NewLog asked texts edited =
     JudgesEditTo texts asked.editing asked.report edited
 
-abbrev pub IsMadeEdits : EditAsked → InputTexts → Result MadeEdit PlayFault → Type 0
-IsMadeEdits asked texts edited = IsMadeFrom asked.edits_from asked texts edited
-
 -- what a command makes of the texts of its inputs
 abbrev pub IsMadeBy : What → Request → InputTexts → List (List ℕ) → Result Made LogsFault → Type 0
 IsMadeBy (Check view) request texts logs made =
@@ -126,7 +121,8 @@ IsMadeBy (Play seed view) request texts logs made =
     (play_stages texts.database texts.bindings texts.log seed)
     (IsPlayed texts.database texts.bindings texts.log seed view)
 IsMadeBy (Edit asked) request texts logs made =
-    (edited : Result MadeEdit PlayFault) × (made ≡ of_edits edited) × IsMadeEdits asked texts edited
+    (edited : Result MadeEdit PlayFault) × (made ≡ of_edits edited)
+    × IsMadeFrom asked.edits_from asked texts edited
 IsMadeBy (Script form) request texts logs made =
     (text : Result (Vec ℕ) PlayFault) × (made ≡ of_text text) × JudgesScript form texts text
 IsMadeBy (Cover seed view strict) request texts logs made =

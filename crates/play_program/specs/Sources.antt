@@ -4,10 +4,11 @@ use Rattle.std.specs.Prelude.{◌≡◌, ◌⊎◌, ◌&&◌, ℕ, Bool, true, f
 use Rattle.std.specs.Prelude.{Option, None, Some, Result, Ok, Err, if◌then◌else◌, is_some}
 use Rattle.std.specs.Prelude.{option_map, string_bytes, unwrap_or}
 use Rattle.std.specs.List.{filter, flat_map}
+use Rattle.std.specs.Option.{option_map_or}
 use Rattle.std.specs.declared.io.Error.{Error}
 use Rattle.cave_play.specs.Sources.{Says, Held}
-use Rattle.play_command.specs.declared.input.Input.{Input}
-use Rattle.play_command.specs.declared.input.Input.TheVariants as input
+use Rattle.play_command.specs.declared.line.Input.{Input}
+use Rattle.play_command.specs.declared.line.Input.TheVariants as input
 use Rattle.play_command.specs.declared.line.Request.{Request}
 use Rattle.play_command.specs.declared.line.What.{What}
 use Rattle.play_command.specs.declared.line.What.TheVariants.{Cover, Map}
@@ -15,7 +16,7 @@ use Rattle.play_program.specs.Calls.{Call, Told, and_then, out_of_memory}
 use Rattle.play_program.specs.Calls.Call.{Opens, Tells}
 use Rattle.play_program.specs.Calls.Told.{headed, unopened}
 use Rattle.play_program.specs.Files.{FileName, files_in, is_same_input}
-use Rattle.play_program.specs.Head.{Said, head_notice}
+use Rattle.play_program.specs.Head.{head_notice}
 use Rattle.play_program.specs.declared.sources.Files.{Files}
 use Rattle.play_program.specs.declared.sources.WaitingFile.{WaitingFile}
 
@@ -141,11 +142,6 @@ held_in bytes_of left files =
 
 -- ---- what reading asks of the system
 
--- a log of this name whose head says something else is reported
-abbrev pub told_of_head : List ℕ → Option Said → List Call
-told_of_head log None = []
-told_of_head log (Some said) = Tells (headed log said.0 said.1) ∷ []
-
 abbrev pub is_log : Input → Bool
 is_log input.Log = true
 is_log input.NewLog = true
@@ -157,15 +153,18 @@ pub record ReadFile : Type 0 where
   pub text : List ℕ
   pub is_whole : Bool
 
--- a file is opened, if it isn't open; then, if it is a log that was read whole, it is reported what
--- its head says differently
+-- a file is opened, if it isn't open
 abbrev pub opening_unless : Bool → List ℕ → List Call
 opening_unless is_open name = if is_open then [] else Opens name ∷ []
 
+-- if it is a log that was read whole, it is reported what its head says differently
 abbrev pub telling_if : Bool → Request → FileName → List ℕ → List Call
 telling_if whole request file text =
-    if whole && is_log file.0 then told_of_head file.1 (head_notice request text) else []
+    if whole && is_log file.0
+    then option_map_or (λ said. Tells (headed file.1 said.0 said.1) ∷ []) (head_notice request text) []
+    else []
 
+-- what is asked for one file
 abbrev pub calls_for : Request → ReadFile → List Call
 calls_for request read = opening_unless read.entry.is_open read.entry.file.1
     ++ telling_if read.is_whole request read.entry.file read.text
@@ -175,7 +174,8 @@ abbrev pub AsksFor : Request → Option Entry → Option (List Call) → Option 
 AsksFor request None old new = new ≡ old
 AsksFor request (Some entry) old new = (text : List ℕ) × (is_whole : Bool)
     × Says entry.known text
-    × (new ≡ and_then old (calls_for request (record { entry = entry; text = text; is_whole = is_whole })))
+    × (new ≡ and_then old (calls_for request
+    (record { entry = entry; text = text; is_whole = is_whole })))
 
 -- the first file of an input was read
 pub record ReadsOne {S F : Type 0} (calls_of : S → Option (List Call))

@@ -1,7 +1,7 @@
 //! Over which of the files that it reads a run may write.
 
 ghost use Rattle.std.specs.Prelude.{◌≡◌, ◌↔◌, IsTrue, MatchResult, Some, map, option_map};
-ghost use Rattle.play_command.specs.Found.{named_file};
+ghost use Rattle.play_command.specs.Asked.{named_file};
 ghost use Rattle.play_program.specs.Calls.{told_by};
 ghost use Rattle.play_program.specs.Files.{AreApart, IsClash, MayReplace, files_in, output_of};
 ghost use Rattle.play_program.specs.Files.{view_over};
@@ -10,36 +10,26 @@ use crate::message::Message;
 use crate::system::System;
 use play_command::{EditView, Input, NamedFile, Request, What};
 
-/// The view of an edit whose output may go over an input, with its name: the edited log over the
-/// log, and the script with guards over the script.
-fn view_over(what: What, input: Input) -> Option<(&'static str, EditView)>
-    ensures { option_map (λ over. (over.0.now, over.1)) result ≡ view_over what input }
-{
-    match (what, input) {
-        (What::Edit(_), Input::Log) => Some(("log", EditView::Log)),
-        (What::Edit(_), Input::Script) => Some(("guarded", EditView::Guarded)),
-        _ => None,
-    }
-}
-
-/// The name of that view.
-fn name_over(what: What, input: Input) -> Option<&'static str>
-    ensures { option_map (λ name. name.now) result
-        ≡ option_map (λ over. over.0) (view_over what input) }
-{
-    match view_over(what, input) {
-        Some((name, _)) => Some(name),
-        None => None,
-    }
-}
-
-/// Whether the output of a run may go over an input, since it is of the same kind.
+/// Whether the output of an edit may go over an input, since it is of the same kind: the edited log
+/// over the log, and the script with guards over the script.
 fn may_replace(what: What, input: Input) -> bool
     ensures { IsTrue result ↔ MayReplace what input }
 {
-    match (what, view_over(what, input)) {
-        (What::Edit(asked), Some((_, view))) => asked.editing.view == view,
+    match (what, input) {
+        (What::Edit(asked), Input::Log) => asked.editing.view == EditView::Log,
+        (What::Edit(asked), Input::Script) => asked.editing.view == EditView::Guarded,
         _ => false,
+    }
+}
+
+/// The name of the view whose output may go over an input, if there is one: that of `may_replace`.
+fn view_over(what: What, input: Input) -> Option<&'static str>
+    ensures { option_map (λ name. name.now) result ≡ view_over what input }
+{
+    match (what, input) {
+        (What::Edit(_), Input::Log) => Some("log"),
+        (What::Edit(_), Input::Script) => Some("guarded"),
+        _ => None,
     }
 }
 
@@ -61,7 +51,7 @@ fn check_files<'a, S: System>(
         match system.is_one_file(output, file.name) {
             Ok(false) => {}
             Ok(true) => {
-                return Err(Message::Clash(file.name, name_over(what, file.input)));
+                return Err(Message::Clash(file.name, view_over(what, file.input)));
             }
             Err(_) => return Err(Message::memory()),
         }

@@ -1,31 +1,10 @@
 //! The files of a run.
 
 ghost use Rattle.std.specs.Prelude.{◌≡◌, map, option_map};
-ghost use Rattle.play_command.specs.Found.{named_file};
-ghost use Rattle.play_program.specs.Files.{file_of, is_same_input, log_count, made_name, name_at};
-ghost use Rattle.play_program.specs.Files.{number_of};
+ghost use Rattle.play_command.specs.Asked.{named_file};
+ghost use Rattle.play_program.specs.Files.{file_of, log_count, made_name, name_at};
 
 use play_command::{Input, NamedFile, Request};
-
-fn number_of(input: Input) -> u8
-    ensures { result ≡ number_of input }
-{
-    match input {
-        Input::Cave => 0,
-        Input::Bindings => 1,
-        Input::Log => 2,
-        Input::NewLog => 3,
-        Input::Script => 4,
-        Input::Known => 5,
-    }
-}
-
-/// Whether two inputs are one.
-pub(crate) fn is_same_input(one: Input, other: Input) -> bool
-    ensures { result ≡ is_same_input one other }
-{
-    number_of(one) == number_of(other)
-}
 
 /// The name of a file of an input: of several the one at a place.
 fn name_at<'a>(files: &[NamedFile<'a>], input: Input, place: usize) -> Option<&'a str>
@@ -34,7 +13,7 @@ fn name_at<'a>(files: &[NamedFile<'a>], input: Input, place: usize) -> Option<&'
 {
     let mut left = place;
     for file in files {
-        if is_same_input(file.input, input) {
+        if file.input == input {
             if left == 0 {
                 return Some(file.name);
             }
@@ -73,7 +52,7 @@ pub(crate) fn log_count(files: &[NamedFile<'_>]) -> usize
 {
     let mut count = 0;
     for file in files {
-        if is_same_input(file.input, Input::Log) {
+        if file.input == Input::Log {
             count += 1;
         }
     }

@@ -2,8 +2,8 @@
 
 ghost use Rattle.std.specs.Prelude.{◌≡◌, ◌<◌, [], ◌∷◌, IfSome, MatchOption, length, option_map};
 ghost use Rattle.data_rows.specs.Fields.{fields};
-ghost use Rattle.play_program.specs.Head.{after_equals, after_start, base_name, first_file};
-ghost use Rattle.play_program.specs.Head.{head_notice, head_of, is_bound_by, is_option};
+ghost use Rattle.play_program.specs.Head.{base_name, first_file};
+ghost use Rattle.play_program.specs.Head.{head_notice, head_of};
 ghost use Rattle.play_program.specs.Head.{is_other_seed, is_same_file, other_said, said_in};
 ghost use Rattle.play_program.specs.Head.{seed_asked, value_in_word, value_of};
 
@@ -12,25 +12,13 @@ use base_lines::bytes::{number_of, skip_blanks, split_digits, split_word};
 use base_lines::limits::is_long_number;
 use base_lines::{check_line, split_line};
 use play_command::{Input, Request, What};
-use std::fmt;
 
-/// What the head of a log says differently from a request.
+/// What the head of a log says differently from a request, in printable ASCII.
 #[derive(Clone, Copy, Debug)]
 pub struct HeadSaid<'a> {
     /// The option, with the blank after it, or no text for the database.
     pub option: &'static str,
     pub text: &'a [u8],
-}
-
-/// It as the words of a command line. A head has only printable ASCII.
-impl fmt::Display for HeadSaid<'_> {
-    fn fmt<W: fmt::Write>(&self, f: &mut fmt::Formatter<W>) -> fmt::Result {
-        write!(f, "{}", self.option)?;
-        for byte in self.text {
-            write!(f, "{}", char::from(*byte))?;
-        }
-        Ok(())
-    }
 }
 
 /// The seed with which a request plays its logs, if it plays some and isn't quiet.
@@ -59,38 +47,13 @@ fn next_word(text: &[u8]) -> Option<(&[u8], &[u8])>
     }
 }
 
-fn is_option(word: &[u8]) -> bool
-    ensures { result ≡ is_option word.now }
-{
-    match word {
-        [byte, ..] => *byte == b'-',
-        [] => false,
-    }
-}
-
 /// The database of a head: its first word, unless that is an option.
 fn first_file(text: &[u8]) -> Option<&[u8]>
     ensures { option_map (λ word. word.now) result ≡ first_file (fields text.now) }
 {
     match next_word(text) {
-        Some((word, _)) if !is_option(word) => Some(word),
-        _ => None,
-    }
-}
-
-/// What follows the first bytes of a word, if it begins with them.
-fn after_start<'a>(start: &[u8], word: &'a [u8]) -> Option<&'a [u8]>
-    ensures { option_map (λ rest. rest.now) result ≡ after_start start.now word.now }
-{
-    word.strip_prefix(start)
-}
-
-fn after_equals(bytes: &[u8]) -> &[u8]
-    ensures { result.now ≡ after_equals bytes.now }
-{
-    match after_start(b"=", bytes) {
-        Some(rest) => rest,
-        None => bytes,
+        None | Some(([b'-', ..], _)) => None,
+        Some((word, _)) => Some(word),
     }
 }
 
@@ -99,13 +62,13 @@ fn value_in_word<'a>(name: &[u8], letter: &[u8], word: &'a [u8]) -> Option<&'a [
     ensures { option_map (λ value. value.now) result
         ≡ value_in_word name.now letter.now word.now }
 {
-    if let Some(rest) = after_start(name, word) {
-        if let Some(value) = after_start(b"=", rest) {
+    if let Some(rest) = word.strip_prefix(name) {
+        if let Some(value) = rest.strip_prefix(b"=") {
             return Some(value);
         }
     }
-    let value = after_start(letter, word)?;
-    Some(after_equals(value))
+    let value = word.strip_prefix(letter)?;
+    Some(value.strip_prefix(b"=").unwrap_or(value))
 }
 
 /// The value of an option among the words of a head.
@@ -161,16 +124,6 @@ fn is_same_file(said: &[u8], given: &str) -> bool
     base_name(said) == base_name(given.as_bytes())
 }
 
-/// Whether the bindings, if there are some, are in a file of the same name.
-fn is_bound_by(said: &[u8], bind: Option<&str>) -> bool
-    ensures { result ≡ is_bound_by said.now (option_map (λ bind. bind.now) bind.entry) }
-{
-    match bind {
-        Some(bind) => is_same_file(said, bind),
-        None => false,
-    }
-}
-
 /// Whether 1 to 10 digits write another number.
 #[tactic(auto, unfolding(crate::specs::Head::is_other_seed))]
 fn is_other_seed(seed: u32, said: &[u8]) -> bool
@@ -193,12 +146,14 @@ fn other_said<'a>(request: &Request<'_>, seed: u32, head: &'a [u8]) -> Option<He
         }
         _ => {}
     }
-    match value_of(b"--bind", b"-b", head) {
-        Some(text) if !is_bound_by(text, file_of(request, Input::Bindings, 0)) => {
-            let option = "--bind ";
-            return Some(HeadSaid { option, text });
+    if let Some(text) = value_of(b"--bind", b"-b", head) {
+        match file_of(request, Input::Bindings, 0) {
+            Some(bindings) if is_same_file(text, bindings) => {}
+            _ => {
+                let option = "--bind ";
+                return Some(HeadSaid { option, text });
+            }
         }
-        _ => {}
     }
     match value_of(b"--seed", b"-s", head) {
         Some(text) if is_other_seed(seed, text) => {

@@ -14,7 +14,6 @@ pub mod run;
 mod sources;
 pub mod system;
 pub mod target;
-pub mod whole;
 
 pub use cave_play::{CaveReaders, LogsFault, PlayFault};
 pub use message::Message;
@@ -24,5 +23,4 @@ pub use play_cover::run::{CoverAsked, run_cover};
 pub use play_map::run::run_map;
 pub use program::run_program;
 pub use system::System;
-pub use target::Target;
-pub use whole::replace;
+pub use target::{Target, replace};

@@ -3,17 +3,17 @@
 ghost use Rattle.std.specs.Prelude.{◌≡◌, ℕ, List, IfOk, length, map};
 ghost use Rattle.std.specs.List.{AllZip};
 ghost use Rattle.cave_play.specs.Sources.{InputTexts, Says, AreHeld, Leads};
-ghost use Rattle.play_command.specs.Found.{named_file};
+ghost use Rattle.play_command.specs.Asked.{named_file};
 ghost use Rattle.play_program.specs.Files.{log_count};
-ghost use Rattle.play_program.specs.Making.{AreAsked, AreListed, HasReadAll, IsMade, IsMadeEdits};
+ghost use Rattle.play_program.specs.Making.{AreAsked, AreListed, HasReadAll, IsMade, IsMadeFrom};
 ghost use Rattle.play_program.specs.Making.{of_cover, of_doubts, of_edits, of_map, of_text};
 ghost use Rattle.play_program.specs.Making.{third_of};
 
 use crate::files::{file_of, log_count};
 use cave_play::doubted::{LeftDoubts, first_doubt, make_doubts};
+use cave_play::inputs::Sources;
 use cave_play::logs::Reported;
 use cave_play::run::{make_check, make_edit, make_play};
-use cave_play::sources::Sources;
 use cave_play::two_logs::{make_edit_to, make_script};
 use cave_play::{LogsFault, PlayFault};
 use check_doubts::DoubtFiles;
@@ -119,7 +119,7 @@ fn make_edits<I: Sources>(
 ) -> Result<MadeEdit, PlayFault>
     ensures judged { (texts : InputTexts)
         × AreHeld (third_of (What.Edit asked)) (I.held inputs.old) texts
-        × IsMadeEdits asked texts result }
+        × IsMadeFrom asked.edits_from asked texts result }
     ensures leads { Leads I.Reads inputs.old inputs.new }
 {
     match asked.edits_from {

@@ -1,24 +1,23 @@
 //! What the program says apart from its output, and the status with which it ends if that is why.
 
 ghost use Rattle.std.specs.Prelude.{◌≡◌, None};
-ghost use Rattle.std.specs.IoError.{error_kind};
-ghost use Rattle.play_program.specs.Calls.{is_closed_pipe, is_silent, out_of_memory, status_told};
+ghost use Rattle.play_program.specs.Calls.{is_silent, out_of_memory, status_told};
 ghost use Rattle.play_program.specs.Calls.{told_of};
 ghost use Rattle.play_program.specs.Calls.Told.{faulty};
 ghost use Rattle.play_program.specs.Files.{fault_told};
 
 use crate::files::file_of;
 use crate::head::HeadSaid;
-use cave_play::{Complaint, PlayFault, Unopened};
+use cave_play::PlayFault;
 use play_command::Request;
 use std::io::ErrorKind;
-use std::{fmt, io};
+use std::{fmt, io, str};
 
 /// What the program says apart from its output, in whole lines.
 #[derive(Drop)]
 pub enum Message<'a> {
-    /// A fault of a run, with the file that it is about.
-    Fault(Complaint<'a>),
+    /// A fault of a run, with the file that it is about, if it is about one.
+    Fault(PlayFault, Option<&'a str>),
     /// The file can't be opened, for this reason.
     Unopened(&'a str, io::Error),
     /// The file of the output can't be written, for this reason.
@@ -37,19 +36,12 @@ pub enum Message<'a> {
     Reseeded(u32),
 }
 
-/// Whether nobody reads any more what is written.
-fn is_closed_pipe(reason: &io::Error) -> bool
-    ensures { result ≡ is_closed_pipe (error_kind reason.now) }
-{
-    matches!(reason.kind(), ErrorKind::BrokenPipe)
-}
-
 impl<'a> Message<'a> {
     /// A fault that is about no file.
     pub(crate) fn of(fault: PlayFault) -> Message<'a>
         ensures { told_of result ≡ faulty fault None }
     {
-        Message::Fault(Complaint { fault, file: None })
+        Message::Fault(fault, None)
     }
 
     /// Memory ran out.
@@ -72,7 +64,7 @@ impl<'a> Message<'a> {
             Some(input) => file_of(request, input, log.unwrap_or(0)),
             None => None,
         };
-        Message::Fault(Complaint { fault, file })
+        Message::Fault(fault, file)
     }
 
     /// The status of the program that ends with it.
@@ -80,7 +72,7 @@ impl<'a> Message<'a> {
         ensures { result ≡ status_told (told_of self.now) }
     {
         match self {
-            Message::Fault(complaint) => complaint.fault.status(),
+            Message::Fault(fault, _) => fault.status(),
             Message::Unopened(_, _) => 5,
             Message::Unwritten(_, _) | Message::Unprinted(_) => 6,
             Message::Usage(_, _) | Message::Unread(_) | Message::Clash(_, _) => 2,
@@ -88,12 +80,12 @@ impl<'a> Message<'a> {
         }
     }
 
-    /// Whether the program says nothing about it.
+    /// Whether the program says nothing about it: nobody reads any more what is written.
     pub fn is_silent(&self) -> bool
         ensures { result ≡ is_silent (told_of self.now) }
     {
         match self {
-            Message::Unprinted(reason) => is_closed_pipe(reason),
+            Message::Unprinted(reason) => reason.kind() == ErrorKind::BrokenPipe,
             _ => false,
         }
     }
@@ -102,10 +94,13 @@ impl<'a> Message<'a> {
 impl fmt::Display for Message<'_> {
     fn fmt<W: fmt::Write>(&self, f: &mut fmt::Formatter<W>) -> fmt::Result {
         match self {
-            Message::Fault(complaint) => writeln!(f, "{complaint}"),
+            Message::Fault(fault, Some(file)) => match fault.line() {
+                Some(line) => writeln!(f, "cave: {file}:{line}: {fault}"),
+                None => writeln!(f, "cave: {file}: {fault}"),
+            },
+            Message::Fault(fault, None) => writeln!(f, "cave: {fault}"),
             Message::Unopened(file, reason) => {
-                let file = *file;
-                writeln!(f, "{}", Unopened { file, reason })
+                writeln!(f, "cave: {file}: the file can't be opened: {reason}")
             }
             Message::Unwritten(file, reason) => {
                 writeln!(f, "cave: {file}: {}: {reason}", PlayFault::Write)
@@ -115,7 +110,11 @@ impl fmt::Display for Message<'_> {
             Message::Unread(reason) => {
                 writeln!(f, "cave: the command line can't be read: {reason}")
             }
-            Message::Head(log, said) => writeln!(f, "cave: {log}:1: the log's head says {said}"),
+            Message::Head(log, HeadSaid { option, text }) => {
+                // A head has only ASCII, so this never fails.
+                let text = str::from_utf8(text).unwrap_or("");
+                writeln!(f, "cave: {log}:1: the log's head says {option}{text}")
+            }
             Message::Clash(file, Some(view)) => writeln!(
                 f,
                 "cave: {file}: the output would replace this file, which is read: \

@@ -14,10 +14,7 @@ use play_edits::EditRun;
 pub(crate) fn report_in(edits: &Option<EditRun>) -> &[u8]
     ensures { result.now ≡ report_in edits.now }
 {
-    match edits {
-        Some(run) => &run.report,
-        None => &[],
-    }
+    edits.as_ref().map_or(&[], |run| &run.report)
 }
 
 /// Reports each item that was refused, as it is reported if the run is strict.

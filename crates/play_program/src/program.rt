@@ -1,7 +1,7 @@
 //! The program, from its words to its status.
 
 ghost use Rattle.std.specs.Prelude.{◌≡◌, IfErr, IfOk, Ok, map, string_bytes};
-ghost use Rattle.play_program.specs.Ends.{EndsLine, EndsRefused, EndsText, EndsUnread, EndsWords};
+ghost use Rattle.play_program.specs.Ends.{EndsRefused, EndsText, EndsUnread, EndsWords};
 
 use crate::message::Message;
 use crate::output::Output;
@@ -23,23 +23,6 @@ fn print<S: System, W: Write>(system: &mut S, text: &Error, output: &mut Output<
             let reason = output.reason().unwrap_or(reason);
             end_with(system, Message::Unprinted(reason))
         }
-    }
-}
-
-/// Does what a command line asks for: a run, or help or the version, which are printed.
-fn answer<S: System, W: Write>(
-    alloc: Global,
-    system: &mut S,
-    asked: &Line<'_>,
-    output: &mut Output<W>,
-) -> u8
-    ensures ends { EndsLine (Ok asked.now) (S.one_file system.old) (S.bytes_of system.old)
-        (S.calls system.old) (S.calls system.new) (W.contents output.old.writer)
-        (W.contents output.new.writer) output.new.reason result }
-{
-    match asked {
-        Line::Run(request) => run(alloc, system, request, output),
-        Line::Text(text) => print(system, text, output),
     }
 }
 
@@ -72,7 +55,7 @@ fn refuse<S: System>(alloc: Global, system: &mut S, fault: &CommandFault<'_>) ->
     }
 }
 
-/// Does what words ask for.
+/// Does what words ask for: a run, or help or the version, which are printed.
 fn begin<S: System, W: Write>(
     alloc: Global,
     system: &mut S,
@@ -84,7 +67,8 @@ fn begin<S: System, W: Write>(
         (W.contents output.old.writer) (W.contents output.new.writer) output.new.reason result }
 {
     match command_line(alloc, words) {
-        Ok(asked) => answer(alloc, system, &asked, output),
+        Ok(Line::Run(request)) => run(alloc, system, &request, output),
+        Ok(Line::Text(text)) => print(system, &text, output),
         Err(fault) => refuse(alloc, system, &fault),
     }
 }
@@ -99,7 +83,8 @@ pub fn run_program<S: System, W: Write>(
     ensures words { IfOk words (λ given. EndsWords (map string_bytes given.items)
         (S.one_file system.old) (S.bytes_of system.old) (S.calls system.old) (S.calls system.new)
         (W.contents output.old.writer) (W.contents output.new.writer) output.new.reason result) }
-    ensures unread { IfErr words (λ reason. (W.contents output.new.writer ≡ W.contents output.old.writer)
+    ensures unread { IfErr words (λ reason.
+        (W.contents output.new.writer ≡ W.contents output.old.writer)
         × EndsUnread (S.calls system.old) (S.calls system.new) result) }
 {
     match words {

@@ -14,7 +14,7 @@ use crate::output::Output;
 use crate::sources::{Files, open_first};
 use crate::system::System;
 use cave_play::output::write_output;
-use cave_play::{Complaint, LogsFault, PlayFault};
+use cave_play::{LogsFault, PlayFault};
 use play_command::Request;
 use play_edits::EditRun;
 use std::alloc::Global;
@@ -34,15 +34,9 @@ fn why_unmade<'a>(
 {
     let LogsFault { fault, log } = found;
     match (Message::of_fault(request, fault, log), unopened) {
-        (
-            Message::Fault(
-                Complaint {
-                    fault: PlayFault::Read(_),
-                    file: Some(name),
-                },
-            ),
-            Some(reason),
-        ) => Message::Unopened(name, reason),
+        (Message::Fault(PlayFault::Read(_), Some(name)), Some(reason)) => {
+            Message::Unopened(name, reason)
+        }
         (message, _) => message,
     }
 }
@@ -142,15 +136,7 @@ fn with_reason<'a>(message: Message<'a>, reason: Option<io::Error>) -> Message<'
     ensures { told_of result ≡ with_reason (told_of message.entry) reason }
 {
     match (message, reason) {
-        (
-            Message::Fault(
-                Complaint {
-                    fault: PlayFault::Write,
-                    ..
-                },
-            ),
-            Some(reason),
-        ) => Message::Unprinted(reason),
+        (Message::Fault(PlayFault::Write, _), Some(reason)) => Message::Unprinted(reason),
         (message, _) => message,
     }
 }

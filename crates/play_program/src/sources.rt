@@ -5,22 +5,20 @@ ghost use Rattle.std.specs.Prelude.{◌≡◌, ◌⊎◌, ℕ, List, [], ◌∷�
 ghost use Rattle.std.specs.Prelude.{option_map, is_some, true};
 ghost use Rattle.std.specs.List.{position};
 ghost use Rattle.cave_play.specs.Sources.{IsReading};
-ghost use Rattle.play_command.specs.Found.{named_file};
+ghost use Rattle.play_command.specs.Asked.{named_file};
 ghost use Rattle.play_program.specs.Calls.{and_then, told_by};
 ghost use Rattle.play_program.specs.Files.{files_in, is_same_input};
 ghost use Rattle.play_program.specs.Head.{head_notice};
 ghost use Rattle.play_program.specs.Sources.{known_left, opening_unless, telling_if, AsksFor};
 ghost use Rattle.play_program.specs.Sources.{IsTakenFrom, Opened, ReadsOne, entries_by, entry_of};
-ghost use Rattle.play_program.specs.Sources.{held_in, is_first, is_log, missing_text, typed_text};
+ghost use Rattle.play_program.specs.Sources.{held_in, is_first, missing_text, typed_text};
 ghost use Rattle.play_program.specs.Sources.{waiting_entry};
 
-use crate::files::is_same_input;
 use crate::head::head_notice;
 use crate::message::Message;
 use crate::system::System;
 use cave_play::PlayFault;
-use cave_play::read::read;
-use cave_play::sources::Sources;
+use cave_play::inputs::{Sources, read};
 use play_command::{Input, NamedFile, Request, What};
 use std::alloc::Global;
 use std::io;
@@ -111,9 +109,7 @@ pub(crate) fn open_first<'a, S: System>(
 fn place_of<F>(waiting: &[WaitingFile<'_, F>], input: Input) -> Option<usize>
     ensures { result ≡ position (λ file. is_same_input file.input input) waiting.now }
 {
-    waiting
-        .iter()
-        .position(|file| is_same_input(file.input, input))
+    waiting.iter().position(|file| file.input == input)
 }
 
 /// Takes the first file of an input out of those that wait.
@@ -159,16 +155,6 @@ fn open_now<S: System>(
     }
 }
 
-/// Whether an input is a log.
-fn is_log(input: Input) -> bool
-    ensures { result ≡ is_log input }
-{
-    match input {
-        Input::Log | Input::NewLog => true,
-        _ => false,
-    }
-}
-
 /// Reports what the head of a file says differently from the request, if it is a log and does.
 fn tell_head<S: System>(
     system: &mut S,
@@ -181,7 +167,7 @@ fn tell_head<S: System>(
         (telling_if true request.now (input, name.now) text.now) }
     ensures kept { S.bytes_of system.new ≡ S.bytes_of system.old }
 {
-    if !is_log(input) {
+    if !matches!(input, Input::Log | Input::NewLog) {
         return;
     }
     if let Some(said) = head_notice(request, text) {
@@ -198,10 +184,12 @@ fn read_file<S: System>(
     unopened: &mut Option<io::Error>,
     waiting: WaitingFile<'_, S::File>,
 ) -> Result<Vec<u8>, PlayFault>
-    ensures read { let entry = waiting_entry (S.bytes_of system.old) S.File.remaining waiting.entry in
-        IsReading entry.known waiting.entry.input result }
-    ensures asks { let entry = waiting_entry (S.bytes_of system.old) S.File.remaining waiting.entry in
-        AsksFor request.now (Some entry) (S.calls system.old) (S.calls system.new) }
+    ensures read { IsReading
+        (waiting_entry (S.bytes_of system.old) S.File.remaining waiting.entry).known
+        waiting.entry.input result }
+    ensures asks { AsksFor request.now
+        (Some (waiting_entry (S.bytes_of system.old) S.File.remaining waiting.entry))
+        (S.calls system.old) (S.calls system.new) }
     ensures kept { S.bytes_of system.new ≡ S.bytes_of system.old }
 {
     let WaitingFile { input, name, file } = waiting;

@@ -48,5 +48,6 @@ pub trait System {
     /// Shows the user a message, apart from the output.
     fn tell(&mut self, message: Message<'_>)
         ensures kept { bytes_of self.new ≡ bytes_of self.old }
-        ensures call { calls self.new ≡ and_then (calls self.old) (Tells (told_of message.entry) ∷ []) };
+        ensures call { calls self.new
+            ≡ and_then (calls self.old) (Tells (told_of message.entry) ∷ []) };
 }

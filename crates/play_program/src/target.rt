@@ -1,4 +1,6 @@
-ghost use Rattle.std.specs.Prelude.{◌≡◌, ℕ, List, Option, IfOk, OnErr, OnOk};
+//! A file that is replaced whole or not at all.
+
+ghost use Rattle.std.specs.Prelude.{◌≡◌, ℕ, List, Option, IfOk, OnErr, OnOk, Some};
 ghost use Rattle.play_program.specs.Target.{Becomes, BeginsEmpty};
 
 use std::io;
@@ -27,4 +29,20 @@ pub trait Target {
     /// Removes a draft.
     fn discard(&mut self, draft: Self::Draft)
         ensures kept { shown self.new ≡ shown self.old };
+}
+
+/// Replaces a file by these bytes. If that fails, the file is what it was.
+pub fn replace<T: Target>(target: &mut T, bytes: &[u8]) -> io::Result<()>
+    ensures whole { OnOk result
+        (Becomes (T.shown target.old) (T.shown target.new) (Some bytes.now)) }
+    ensures kept { OnErr result (T.shown target.new ≡ T.shown target.old) }
+{
+    let mut draft = target.begin()?;
+    match draft.write_all(bytes) {
+        Ok(()) => target.publish(draft),
+        Err(reason) => {
+            target.discard(draft);
+            Err(reason)
+        }
+    }
 }

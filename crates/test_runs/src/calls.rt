@@ -4,7 +4,7 @@ ghost use Rattle.std.specs.Prelude.{◌≡◌, IfOk, option_map, string_bytes};
 ghost use Rattle.play_program.specs.Calls.{told_of};
 ghost use Rattle.test_runs.specs.Memory.{file_named, told_by};
 
-use cave_play::{Complaint, PlayFault};
+use cave_play::PlayFault;
 use play_program::Message;
 use std::alloc::{AllocError, Global};
 use std::io;
@@ -70,7 +70,7 @@ impl KeptMessage {
         ensures { IfOk result (λ kept. told_by kept ≡ told_of message.now) }
     {
         match message {
-            Message::Fault(Complaint { fault, file }) => {
+            Message::Fault(fault, file) => {
                 Ok(KeptMessage::Fault(*fault, copy_name(alloc, *file)?))
             }
             Message::Unopened(file, reason) => {

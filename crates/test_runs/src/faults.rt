@@ -1,9 +1,10 @@
 //! What the program prints at each fault, and the status with which it then ends.
 
 use base_lines::LineFault;
-use cave_play::{Complaint, LogFault, PlayFault, ScriptFault, Unopened};
+use cave_play::{LogFault, PlayFault, ScriptFault};
 use data_rows::{Cause, CaveError, FaultSite};
 use play_command::Input;
+use play_program::Message;
 use replay_scripts::ScriptFlaw;
 use std::alloc::{AllocError, Global};
 use std::io;
@@ -20,7 +21,7 @@ fn complaint_of(alloc: Global, fault: PlayFault) -> Result<String, AllocError> {
         Some(Input::Known) => Some("a.known"),
         None => None,
     };
-    format!(in alloc; "{}", Complaint { fault, file })
+    format!(in alloc; "{}", Message::Fault(fault, file))
 }
 
 /// Faults, the status of each, and the line that is printed.
@@ -121,17 +122,17 @@ const FAULTS: [(PlayFault, u8, &str); 18] = [
 fn each_fault_has_a_status_and_a_line(rt: HostRuntime) -> Result<(), Fail> {
     for &(fault, status, line) in &FAULTS {
         assert_eq!(rt; fault.status(), status, "{fault:?}");
-        assert_eq!(rt; complaint_of(rt.alloc(), fault)?.as_str(), line);
+        let complaint = complaint_of(rt.alloc(), fault)?;
+        assert_eq!(rt; complaint.as_str().trim_end(), line);
     }
     Ok(())
 }
 
 #[test]
 fn a_file_that_is_not_opened_is_told_with_the_reason(rt: HostRuntime) -> Result<(), Fail> {
-    let reason = &io::Error::other("no such file");
-    let file = "a.txt";
-    let told = format!(in rt.alloc(); "{}", Unopened { file, reason })?;
-    let want = "cave: a.txt: the file can't be opened: no such file";
+    let reason = io::Error::other("no such file");
+    let told = format!(in rt.alloc(); "{}", Message::Unopened("a.txt", reason))?;
+    let want = "cave: a.txt: the file can't be opened: no such file\n";
     assert_eq!(rt; told.as_str(), want);
     Ok(())
 }

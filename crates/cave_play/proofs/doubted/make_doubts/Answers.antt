@@ -9,7 +9,7 @@ use Rattle.cave_play.proofs.JudgeLemmas.{IsFoundIn-known, first_decided-known}
 use Rattle.cave_play.proofs.StageLemmas.{IsFoundIn-first, IsFoundIn-later, IsFoundIn-memory}
 use Rattle.cave_play.proofs.StageLemmas.{first_decided-later}
 use Rattle.cave_play.proofs.doubted.make_doubts.Goals as goal
-use Rattle.play_command.specs.declared.input.Input.TheVariants.{Known}
+use Rattle.play_command.specs.declared.line.Input.TheVariants.{Known}
 
 pub returns-in_err-read : goal.returns-in_err-read
 returns-in_err-read g c =
@@ -53,7 +53,8 @@ returns-in_err-listed g c =
         IsFoundIn-later (cave_stages database bindings) (known_stage known ∷ []) _ read.0
             (IsFoundIn-known known _ refused),
       );
-      leads = goes_on g.I.Sources.Reads _ _ _ c.in_ok-read.ensures.leads (once g.I.Sources.Reads _ _ _ c.in_err-listed.ensures.reads);
+      leads = goes_on g.I.Sources.Reads _ _ _ c.in_ok-read.ensures.leads
+          (once g.I.Sources.Reads _ _ _ c.in_err-listed.ensures.reads);
     })
 
 pub returns-in_err-found : goal.returns-in_err-found
@@ -70,7 +71,8 @@ returns-in_err-found g c =
         AreHeld-by Known held database bindings one two,
         IsFoundIn-memory (doubts_stages database bindings (some_bytes held.known)),
       );
-      leads = goes_on g.I.Sources.Reads _ _ _ c.in_ok-read.ensures.leads (once g.I.Sources.Reads _ _ _ c.in_ok-listed.ensures.reads);
+      leads = goes_on g.I.Sources.Reads _ _ _ c.in_ok-read.ensures.leads
+          (once g.I.Sources.Reads _ _ _ c.in_ok-listed.ensures.reads);
     })
 
 pub returns : goal.returns
@@ -101,5 +103,6 @@ returns g c =
               c.in_ok-found.found read.1 (c.deref.ensures.value ∙ is.0) c.in_ok-found.ensures.left,
         ),
       );
-      leads = goes_on g.I.Sources.Reads _ _ _ c.in_ok-read.ensures.leads (once g.I.Sources.Reads _ _ _ c.in_ok-listed.ensures.reads);
+      leads = goes_on g.I.Sources.Reads _ _ _ c.in_ok-read.ensures.leads
+          (once g.I.Sources.Reads _ _ _ c.in_ok-listed.ensures.reads);
     }

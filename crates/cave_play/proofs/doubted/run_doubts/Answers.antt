@@ -4,7 +4,7 @@ use Rattle.std.proofs.KnownBytes.{Keeps-refl}
 use Rattle.cave_play.specs.Output.{by_doubt, first_doubt}
 use Rattle.cave_play.specs.Stages.{doubts_stages}
 use Rattle.cave_play.proofs.RunLemmas.{EndsBy-written}
-use Rattle.play_command.specs.declared.input.Input.TheVariants.{Known}
+use Rattle.play_command.specs.declared.line.Input.TheVariants.{Known}
 use Rattle.cave_play.proofs.SourceLemmas.{AreTextsOf-held}
 use Rattle.cave_play.proofs.doubted.run_doubts.Goals as goal
 

@@ -3,7 +3,7 @@ use Rattle.cave_play.proofs.SourceLemmas.{same_bindings, some_bytes}
 use Rattle.std.proofs.Common.{◌≡◌, ◌⊎◌, Some, subst, ◌∙◌}
 use Rattle.std.proofs.lemmas.Result.{err_from_is_err_and}
 use Rattle.cave_data.specs.Reads.{Reads}
-use Rattle.cave_play.specs.Judge.{inputs_fault}
+use Rattle.cave_play.specs.Stages.{inputs_fault}
 use Rattle.cave_play.specs.declared.fault.PlayFault.TheVariants as fault
 use Rattle.cave_play.proofs.JudgeLemmas.{IsFoundIn-bindings, IsFoundIn-database, IsFoundIn-inputs}
 use Rattle.cave_play.proofs.JudgeLemmas.{cave_stages-read}
@@ -45,7 +45,9 @@ returns-in_err-bindings g c =
         IsFoundIn-bindings database bindings _ read.1 refused,
       );
       others = after_bindings _ _ _ taken c.in_err-bindings.ensures.taken;
-      leads = goes_on g.I.Sources.Reads _ _ _ (once g.I.Sources.Reads _ _ _ c.in_ok-database.ensures.reads) (once g.I.Sources.Reads _ _ _ c.in_err-bindings.ensures.reads);
+      leads = goes_on g.I.Sources.Reads _ _ _
+          (once g.I.Sources.Reads _ _ _ c.in_ok-database.ensures.reads)
+          (once g.I.Sources.Reads _ _ _ c.in_err-bindings.ensures.reads);
     })
 
 pub returns-in-Ok : goal.returns-in-Ok
@@ -69,7 +71,9 @@ returns-in-Ok g c =
           record { database_is = read.0; bindings_are = more.0; reads = reads },
         ),
       );
-      leads = goes_on g.I.Sources.Reads _ _ _ (once g.I.Sources.Reads _ _ _ c.in_ok-database.ensures.reads) (once g.I.Sources.Reads _ _ _ c.in_ok-bindings.ensures.reads);
+      leads = goes_on g.I.Sources.Reads _ _ _
+          (once g.I.Sources.Reads _ _ _ c.in_ok-database.ensures.reads)
+          (once g.I.Sources.Reads _ _ _ c.in_ok-bindings.ensures.reads);
       others = after_bindings _ _ _ taken c.in_ok-bindings.ensures.taken;
     }
 
@@ -93,5 +97,7 @@ returns-in-Err g c =
         IsFoundIn-inputs database bindings found read.1 more.1 refused,
       );
       others = after_bindings _ _ _ taken c.in_ok-bindings.ensures.taken;
-      leads = goes_on g.I.Sources.Reads _ _ _ (once g.I.Sources.Reads _ _ _ c.in_ok-database.ensures.reads) (once g.I.Sources.Reads _ _ _ c.in_ok-bindings.ensures.reads);
+      leads = goes_on g.I.Sources.Reads _ _ _
+          (once g.I.Sources.Reads _ _ _ c.in_ok-database.ensures.reads)
+          (once g.I.Sources.Reads _ _ _ c.in_ok-bindings.ensures.reads);
     }

@@ -14,7 +14,10 @@ returns-in_err-text g c =
     let exit = err_from_is_err_and c.from_residual.result c.from_residual.ensures.1 in
     let (bytes, said, refused) = c.in_err-text.ensures.read in
     rw (exit.1, exit.2)
-    (record { judged = (bytes, said, IsFoundIn-script c.args.guarded bytes _ refused); leads = once g.I.Sources.Reads _ _ _ c.in_err-text.ensures.reads })
+    (record {
+      judged = (bytes, said, IsFoundIn-script c.args.guarded bytes _ refused);
+      leads = once g.I.Sources.Reads _ _ _ c.in_err-text.ensures.reads;
+    })
 
 pub returns-in-Ok : goal.returns-in-Ok
 returns-in-Ok g c =

@@ -7,8 +7,7 @@ use Rattle.replay_edits.specs.Edit.{game_of}
 use Rattle.play_machine.specs.Moments.{noted_of}
 use Rattle.play_machine.specs.Watch.{IsEndOf, NotesMore}
 use Rattle.play_machine.specs.declared.course.PlayEnd.{PlayEnd}
-use Rattle.cave_play.specs.Judge.{lines_fault, opening_fault}
-use Rattle.cave_play.specs.Stages.{judging_stage}
+use Rattle.cave_play.specs.Stages.{lines_fault, opening_fault, judging_stage}
 use Rattle.cave_play.proofs.JudgeLemmas.{IsFoundIn-log, IsFoundIn-watched, Judges-log}
 use Rattle.cave_play.proofs.JudgeLemmas.{lines_fault-watched}
 use Rattle.cave_play.proofs.StageLemmas.{first_decided-one}

@@ -3,9 +3,8 @@ use Rattle.std.proofs.Common.{[], inl, refl, ap, subst, ◌∙◌}
 use Rattle.std.proofs.lemmas.Result.{err_from_is_err_and}
 use Rattle.std.specs.List.{AllZip}
 use Rattle.cave_play.specs.Sources.{Says}
-use Rattle.cave_play.specs.Judge.{large_seed}
+use Rattle.cave_play.specs.Stages.{large_seed, cave_stages, first_decided}
 use Rattle.cave_play.specs.Logs.{IsMadeReport, IsReported, first_stages, games_of}
-use Rattle.cave_play.specs.Stages.{cave_stages, first_decided}
 use Rattle.cave_play.proofs.LogLemmas.{AllSay-some, JudgesLogs-also, JudgesLogs-behind}
 use Rattle.cave_play.proofs.StageLemmas.{neither}
 use Rattle.cave_play.proofs.logs.make_report.Goals as goal
@@ -53,5 +52,6 @@ returns g c =
         JudgesLogs-behind (first_stages database bindings c.args.seed) [] moves _ _ read.0 reported,
       );
       all = c.report_in_cave-made.ensures.all;
-      leads = goes_on g.I.Sources.Reads _ _ _ c.in_ok-read.ensures.leads c.report_in_cave-made.ensures.leads;
+      leads = goes_on g.I.Sources.Reads _ _ _ c.in_ok-read.ensures.leads
+          c.report_in_cave-made.ensures.leads;
     }

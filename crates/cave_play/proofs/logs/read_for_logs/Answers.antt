@@ -1,9 +1,8 @@
 use Rattle.cave_play.proofs.SourceLemmas.{stays, said, some_bytes}
 use Rattle.std.proofs.Common.{ap, inl, inr, refl}
 use Rattle.std.proofs.lemmas.Result.{err_from_is_err_and}
-use Rattle.cave_play.specs.Judge.{large_seed}
+use Rattle.cave_play.specs.Stages.{large_seed, cave_stages}
 use Rattle.cave_play.specs.Sources.{Held}
-use Rattle.cave_play.specs.Stages.{cave_stages}
 use Rattle.cave_play.proofs.StageLemmas.{Judges-after}
 use Rattle.cave_play.proofs.logs.read_for_logs.Goals as goal
 

@@ -58,4 +58,8 @@ returns g c =
     ∙ ap (λ t. t ++ report_on c.deref.result.now read.cave view played) c.new-text.ensures.items
     ∙ ap (λ d. report_on d read.cave view played) c.deref.ensures.value in
     let found = pushed.1 ∙ ap (λ d. found_on d read.cave view played) c.deref.ensures.value in
-    record { judged = (moves, said, (noted.0, noted.1, (text, found))); all = c.in_ok-note_logs.ensures.all; leads = c.in_ok-note_logs.ensures.leads }
+    record {
+      judged = (moves, said, (noted.0, noted.1, (text, found)));
+      all = c.in_ok-note_logs.ensures.all;
+      leads = c.in_ok-note_logs.ensures.leads;
+    }

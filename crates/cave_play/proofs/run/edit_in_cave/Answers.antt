@@ -4,7 +4,8 @@ use Rattle.std.proofs.Common.{◌∙◌}
 use Rattle.std.specs.Prelude.{⊤}
 use Rattle.base_lines.specs.Limits.{MAX_INPUT_BYTES}
 use Rattle.play_machine.specs.HeldGame.{HoldsGame}
-use Rattle.cave_play.specs.Judge.{lines_fault}
+use Rattle.cave_play.specs.Stages.{lines_fault, IsFoundIn, Judges, Stage, first_decided}
+use Rattle.cave_play.specs.Stages.{judging_stage, log_stage, script_stage, strict_stage}
 use Rattle.cave_play.specs.declared.fault.PlayFault.{PlayFault}
 use Rattle.cave_play.proofs.JudgeLemmas.{IsFoundIn-log, Judges-log}
 use Rattle.std.specs.Str.Lines.{lines}
@@ -16,10 +17,7 @@ use Rattle.play_edits.specs.Views.{IsMadeOf}
 use Rattle.play_command.specs.declared.views.ReportView.{ReportView}
 use Rattle.play_edits.specs.Ends.{log_ends}
 use Rattle.play_edits.specs.declared.items.MadeEdit.{MadeEdit}
-use Rattle.cave_play.specs.Run.{IsFoundIn, Judges}
 use Rattle.cave_play.specs.Sources.{next_log}
-use Rattle.cave_play.specs.Stages.{Stage, first_decided, judging_stage, log_stage, script_stage}
-use Rattle.cave_play.specs.Stages.{strict_stage}
 use Rattle.cave_play.proofs.InputLemmas.{Says-some}
 use Rattle.cave_play.proofs.AcceptedLogs.{IsGame-accepted}
 use Rattle.cave_play.proofs.StageLemmas.{IsFoundIn-first, IsFoundIn-memory, Judges-later}
@@ -163,4 +161,9 @@ returns g c =
     λ (cave : CaveView). Judges (log_stage moves ∷ script_stage guarded edits ∷ strict ∷ [])
     (right cave)
     c.edit_session-made.result in
-    record { judged = (moves, edits, said, others, subst here c.new-machine.ensures judged); leads = goes_on g.I.Sources.Reads _ _ _ (once g.I.Sources.Reads _ _ _ c.in_ok-bytes.ensures.reads) c.edit_session-made.ensures.leads }
+    record {
+      judged = (moves, edits, said, others, subst here c.new-machine.ensures judged);
+      leads = goes_on g.I.Sources.Reads _ _ _
+          (once g.I.Sources.Reads _ _ _ c.in_ok-bytes.ensures.reads)
+          c.edit_session-made.ensures.leads;
+    }

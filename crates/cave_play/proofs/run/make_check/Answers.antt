@@ -3,7 +3,7 @@ use Rattle.cave_play.specs.Stages.{cave_stages}
 use Rattle.cave_play.proofs.SourceLemmas.{AreHeld-by, texts_by}
 use Rattle.cave_play.proofs.StageLemmas.{Judges-made}
 use Rattle.cave_play.proofs.run.make_check.Goals as goal
-use Rattle.play_command.specs.declared.input.Input.TheVariants.{Script}
+use Rattle.play_command.specs.declared.line.Input.TheVariants.{Script}
 
 pub returns-in_err-read : goal.returns-in_err-read
 returns-in_err-read g c =

@@ -2,13 +2,12 @@ use Rattle.cave_play.proofs.SourceLemmas.{goes_on, stays, AreHeld-by, AreHeld-so
 use Rattle.cave_play.proofs.SourceLemmas.{some_texts, texts_by}
 use Rattle.std.proofs.Common.{◌∷◌, ◌++◌, inl, inr, ap}
 use Rattle.std.proofs.lemmas.Result.{err_from_is_err_and}
-use Rattle.cave_play.specs.Judge.{every_fault, large_seed}
-use Rattle.cave_play.specs.Stages.{cave_stages, judging_stage}
+use Rattle.cave_play.specs.Stages.{every_fault, large_seed, cave_stages, judging_stage}
 use Rattle.cave_play.proofs.FinishLemmas.{Judges-finished, after_cave}
 use Rattle.cave_play.specs.Sources.{Held, next_log}
 use Rattle.cave_play.proofs.StageLemmas.{IsFoundIn-first, Judges-after, Judges-later}
 use Rattle.cave_play.proofs.run.make_edit.Goals as goal
-use Rattle.play_command.specs.declared.input.Input.TheVariants.{Script}
+use Rattle.play_command.specs.declared.line.Input.TheVariants.{Script}
 
 pub returns-in_err-check_seed : goal.returns-in_err-check_seed
 returns-in_err-check_seed g c =
@@ -88,5 +87,6 @@ returns g c =
             c.in_ok-check_every.ensures
             (Judges-later cave later _ _ _ read.0 (λ text is. is) finished)),
       );
-      leads = goes_on g.I.Sources.Reads _ _ _ c.in_ok-read.ensures.leads c.edit_in_cave-made.ensures.leads;
+      leads = goes_on g.I.Sources.Reads _ _ _ c.in_ok-read.ensures.leads
+          c.edit_in_cave-made.ensures.leads;
     }

@@ -2,12 +2,11 @@ use Rattle.cave_play.proofs.SourceLemmas.{goes_on, stays, AreHeld-by, AreHeld-so
 use Rattle.cave_play.proofs.SourceLemmas.{some_bytes, some_texts, texts_by}
 use Rattle.std.proofs.Common.{[], ◌∷◌, ◌++◌, inl, inr, ap}
 use Rattle.std.proofs.lemmas.Result.{err_from_is_err_and}
-use Rattle.cave_play.specs.Judge.{large_seed}
+use Rattle.cave_play.specs.Stages.{large_seed, cave_stages, log_stage}
 use Rattle.cave_play.specs.Sources.{Held, next_log}
-use Rattle.cave_play.specs.Stages.{cave_stages, log_stage}
 use Rattle.cave_play.proofs.StageLemmas.{IsFoundIn-first, Judges-after, Judges-later}
 use Rattle.cave_play.proofs.run.make_play.Goals as goal
-use Rattle.play_command.specs.declared.input.Input.TheVariants.{Script}
+use Rattle.play_command.specs.declared.line.Input.TheVariants.{Script}
 
 pub returns-in_err-check_seed : goal.returns-in_err-check_seed
 returns-in_err-check_seed g c =
@@ -62,12 +61,14 @@ returns g c =
         record {
           database = one;
           bindings = two;
-          log = same_said _ _ moves (ap (λ (h : Held). next_log h.logs) c.in_ok-read.ensures.others) three;
+          log = same_said _ _ moves
+              (ap (λ (h : Held). next_log h.logs) c.in_ok-read.ensures.others) three;
           script = said held.script;
         },
         Judges-after (large_seed c.args.seed) (cave ++ log) _ _ c.in_ok-check_seed.ensures
             (Judges-later cave log _ _ _ read.0
             (λ text is. (c.in_ok-read.read.cave, read.1.reads, is)) played),
       );
-      leads = goes_on g.I.Sources.Reads _ _ _ c.in_ok-read.ensures.leads c.play_in_cave-made.ensures.leads;
+      leads = goes_on g.I.Sources.Reads _ _ _ c.in_ok-read.ensures.leads
+          c.play_in_cave-made.ensures.leads;
     }

@@ -11,4 +11,8 @@ pub returns-in_err-lexicon : goal.returns-in_err-lexicon
 returns-in_err-lexicon g c =
     let exit = err_from_is_err_and c.from_residual.result c.from_residual.ensures.1 in
     let (bytes, said) = Says-some (next_log (g.I.Sources.held c.args.inputs.now).logs) in
-    rw (exit.1, exit.2) (record { judged = (bytes, said, IsFoundIn-memory (log_stage bytes ∷ [])); leads = stays g.I.Sources.Reads _ })
+    rw (exit.1, exit.2)
+    (record {
+      judged = (bytes, said, IsFoundIn-memory (log_stage bytes ∷ []));
+      leads = stays g.I.Sources.Reads _;
+    })

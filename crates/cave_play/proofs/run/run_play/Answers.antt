@@ -2,7 +2,7 @@ use Rattle.std.proofs.Common.{refl}
 use Rattle.cave_play.specs.Output.{IsPlayed}
 use Rattle.cave_play.specs.Stages.{play_stages}
 use Rattle.cave_play.proofs.RunLemmas.{Runs-made}
-use Rattle.play_command.specs.declared.input.Input.TheVariants.{Script}
+use Rattle.play_command.specs.declared.line.Input.TheVariants.{Script}
 use Rattle.cave_play.proofs.SourceLemmas.{AreTextsOf-held}
 use Rattle.cave_play.proofs.run.run_play.Goals as goal
 

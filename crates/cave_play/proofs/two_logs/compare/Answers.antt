@@ -3,7 +3,7 @@ use Rattle.std.proofs.Common.{[], ◌∷◌, ap, ◌∙◌}
 use Rattle.std.proofs.lemmas.Result.{err_from_is_err_and}
 use Rattle.replay_edits.specs.Edit.{log_of}
 use Rattle.cave_play.specs.Stages.{log_stage}
-use Rattle.cave_play.specs.TwoLogs.{new_log_stage, two_logs_stages}
+use Rattle.cave_play.specs.Output.{new_log_stage, two_logs_stages}
 use Rattle.cave_play.proofs.InputLemmas.{Says-some}
 use Rattle.cave_play.proofs.StageLemmas.{IsFoundIn-first, IsFoundIn-later, IsFoundIn-memory}
 use Rattle.cave_play.proofs.StageLemmas.{first_decided-later}

@@ -1,7 +1,6 @@
 use Rattle.std.proofs.Common.{refl}
 use Rattle.std.specs.Str.Lines.{lines}
-use Rattle.cave_play.specs.Judge.{lines_fault}
-use Rattle.cave_play.specs.Stages.{judging_stage}
+use Rattle.cave_play.specs.Stages.{lines_fault, judging_stage}
 use Rattle.cave_play.proofs.JudgeLemmas.{lines_fault-opened, IsFoundIn-opened}
 use Rattle.cave_play.proofs.StageLemmas.{first_decided-one}
 use Rattle.cave_play.proofs.two_logs.log_lines.Goals as goal

@@ -2,11 +2,9 @@ use Rattle.cave_play.proofs.TwoLogLemmas.{leads_within}
 use Rattle.cave_play.proofs.SourceLemmas.{goes_on, said, some_bytes}
 use Rattle.std.proofs.Common.{ℕ, List, inl, inr, refl, rules, subst, sym, ◌∙◌}
 use Rattle.std.proofs.lemmas.Result.{err_from_is_err_and}
-use Rattle.cave_play.specs.Output.{IsMadeEdit}
+use Rattle.cave_play.specs.Output.{IsMadeEdit, IsDifferenceOf, form_of}
 use Rattle.cave_play.specs.Sources.{Says}
-use Rattle.cave_play.specs.Run.{Judges}
-use Rattle.cave_play.specs.Stages.{edit_stages}
-use Rattle.cave_play.specs.TwoLogs.{IsDifferenceOf, form_of}
+use Rattle.cave_play.specs.Stages.{Judges, edit_stages}
 use Rattle.cave_play.proofs.two_logs.make_edit_to.Goals as goal
 
 pub returns-in_err-compared : goal.returns-in_err-compared

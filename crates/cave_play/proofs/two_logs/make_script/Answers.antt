@@ -3,7 +3,7 @@ use Rattle.std.specs.Prelude.{if◌then◌else◌, ◌∷◌, []}
 use Rattle.std.proofs.lemmas.Result.{err_from_is_err_and}
 use Rattle.base_lines.specs.Limits.{MAX_INPUT_BYTES}
 use Rattle.cave_play.specs.Sources.{Held, InputTexts}
-use Rattle.cave_play.specs.TwoLogs.{script_size_stage, two_logs_stages}
+use Rattle.cave_play.specs.Output.{script_size_stage, two_logs_stages}
 use Rattle.cave_play.specs.declared.fault.PlayFault.TheVariants.{LargeScript}
 use Rattle.cave_play.proofs.SourceLemmas.{said, some_bytes}
 use Rattle.cave_play.proofs.StageLemmas.{IsFoundIn-later, first_decided-later, first_decided-one}

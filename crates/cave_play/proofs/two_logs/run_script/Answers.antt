@@ -1,5 +1,5 @@
 use Rattle.std.proofs.Common.{refl}
-use Rattle.play_command.specs.declared.input.Input.TheVariants.{NewLog}
+use Rattle.play_command.specs.declared.line.Input.TheVariants.{NewLog}
 use Rattle.cave_play.proofs.SourceLemmas.{AreTextsOf-held}
 use Rattle.cave_play.proofs.TwoLogLemmas.{RunsScript-made}
 use Rattle.cave_play.proofs.two_logs.run_script.Goals as goal

@@ -1,5 +1,5 @@
 use Rattle.std.proofs.Common.{◌≡◌, drop, map}
-use Rattle.play_command.specs.Found.{named, with_text}
+use Rattle.play_command.specs.Asked.{named, with_text}
 use Rattle.play_command.proofs.views.named.Given as goal
 
 abbrev pub invariant-loop-known : goal.invariant-loop-known

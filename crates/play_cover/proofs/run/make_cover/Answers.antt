@@ -72,7 +72,8 @@ returns-in-Said g c =
         JudgesLogs-behind (known_stage list ∷ []) stages moves _ _ known.0 also,
       );
       all = c.make_report.ensures.all;
-      leads = goes_on g.I.Sources.Reads _ _ _ c.in_ok-known.ensures.leads c.make_report.ensures.leads;
+      leads = goes_on g.I.Sources.Reads _ _ _ c.in_ok-known.ensures.leads
+          c.make_report.ensures.leads;
     }
 
 pub returns-in-Rules : goal.returns-in-Rules
@@ -101,5 +102,6 @@ returns-in-Rules g c =
         JudgesLogs-behind (known_stage list ∷ []) stages moves _ _ known.0 also,
       );
       all = c.make_report-in-Rules.ensures.all;
-      leads = goes_on g.I.Sources.Reads _ _ _ c.in_ok-known.ensures.leads c.make_report-in-Rules.ensures.leads;
+      leads = goes_on g.I.Sources.Reads _ _ _ c.in_ok-known.ensures.leads
+          c.make_report-in-Rules.ensures.leads;
     }

@@ -11,7 +11,12 @@ pub returns-in_err-list : goal.returns-in_err-list
 returns-in_err-list g c =
     let exit = err_from_is_err_and c.from_residual.result c.from_residual.ensures.1 in
     let (list, said, refused) = c.in_err-list.ensures.read in
-    rw (exit.1, exit.2) (record { judged = (list, said, IsFoundIn-known list _ refused); taken = c.in_err-list.ensures.taken; leads = once g.I.Sources.Reads _ _ _ c.in_err-list.ensures.reads })
+    rw (exit.1, exit.2)
+    (record {
+      judged = (list, said, IsFoundIn-known list _ refused);
+      taken = c.in_err-list.ensures.taken;
+      leads = once g.I.Sources.Reads _ _ _ c.in_err-list.ensures.reads;
+    })
 
 pub returns-in_err-known : goal.returns-in_err-known
 returns-in_err-known g c =
@@ -20,7 +25,11 @@ returns-in_err-known g c =
     c.from_residual-in_err-known.ensures.1 in
     let (list, said, is) = c.in_ok-list.ensures.read in
     rw (exit.1, exit.2)
-    (record { judged = (list, said, IsFoundIn-memory (known_stage list ∷ [])); taken = c.in_ok-list.ensures.taken; leads = once g.I.Sources.Reads _ _ _ c.in_ok-list.ensures.reads })
+    (record {
+      judged = (list, said, IsFoundIn-memory (known_stage list ∷ []));
+      taken = c.in_ok-list.ensures.taken;
+      leads = once g.I.Sources.Reads _ _ _ c.in_ok-list.ensures.reads;
+    })
 
 pub returns : goal.returns
 returns g c =

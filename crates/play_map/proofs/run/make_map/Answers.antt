@@ -3,9 +3,8 @@ use Rattle.std.proofs.Common.{◌≡◌, List, [], ◌∷◌, ◌++◌, Result, 
 use Rattle.std.proofs.lemmas.Result.{err_from_is_err_and}
 use Rattle.std.specs.List.{AllZip}
 use Rattle.cave_play.specs.Sources.{Says}
-use Rattle.cave_play.specs.Judge.{large_seed}
+use Rattle.cave_play.specs.Stages.{large_seed, Stage, cave_stages, first_decided}
 use Rattle.cave_play.specs.Logs.{IsMadeReport, JudgesLogs, first_stages}
-use Rattle.cave_play.specs.Stages.{Stage, cave_stages, first_decided}
 use Rattle.cave_play.specs.declared.logs.LogsFault.{LogsFault}
 use Rattle.cave_play.proofs.LogLemmas.{AllSay-some, JudgesLogs-also, JudgesLogs-behind}
 use Rattle.cave_play.proofs.StageLemmas.{IsFoundIn-first, neither}
@@ -72,5 +71,6 @@ returns g c =
         λ judges is. at_stage first judges stage moves _ _ (is there.cave read.1.reads) all,
       );
       all = c.map_games_in_cave-made.ensures.all;
-      leads = goes_on g.I.Sources.Reads _ _ _ c.in_ok-read.ensures.leads c.map_games_in_cave-made.ensures.leads;
+      leads = goes_on g.I.Sources.Reads _ _ _ c.in_ok-read.ensures.leads
+          c.map_games_in_cave-made.ensures.leads;
     }

@@ -1,7 +1,7 @@
 use Rattle.play_program.specs.Calls.Told.{clashing}
 use Rattle.std.proofs.Common.{ap, All, get_or, inl, inr, subst, take_all}
 use Rattle.std.proofs.lemmas.List.Elements.{All-map, All-more}
-use Rattle.play_command.specs.Found.{named_file}
+use Rattle.play_command.specs.Asked.{named_file}
 use Rattle.play_program.specs.Files.{IsApart, IsKnownAs, no_file}
 use Rattle.play_program.proofs.CallLemmas.{Contains-named}
 use Rattle.play_program.proofs.clash.check_files.Goals as goal
@@ -17,7 +17,7 @@ returns-in-Ok-true g c =
       Contains-named files i no_file c.loop-file-test.true,
       (λ may. let no = c.if-may_replace.ensures.1 may in cc),
       subst (λ same. IsKnownAs same known) c.in-Ok-true.field-0-test c.in-Ok-true.ensures,
-      ap (clashing file.1) c.name_over.ensures,
+      ap (clashing file.1) c.view_over.ensures,
     )
 
 pub loop-file-preserved : goal.loop-file-preserved

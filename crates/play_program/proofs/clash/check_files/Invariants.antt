@@ -1,6 +1,6 @@
 -- The output goes over none of the files so far.
 use Rattle.std.proofs.Common.{All, take}
-use Rattle.play_command.specs.Found.{named_file}
+use Rattle.play_command.specs.Asked.{named_file}
 use Rattle.play_program.specs.Files.{IsApart}
 use Rattle.play_program.proofs.clash.check_files.Given as goal
 

@@ -1,6 +1,6 @@
 use Rattle.std.proofs.Common.{Some, map, subst}
 use Rattle.std.specs.Prelude.{MatchResult}
-use Rattle.play_command.specs.Found.{named_file}
+use Rattle.play_command.specs.Asked.{named_file}
 use Rattle.play_program.specs.Calls.{told_by}
 use Rattle.play_program.specs.Files.{AreApart, IsClash}
 use Rattle.play_program.proofs.clash.check_output.Goals as goal

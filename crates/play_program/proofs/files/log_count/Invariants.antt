@@ -1,6 +1,6 @@
 -- The logs so far are counted.
 use Rattle.std.proofs.Common.{◌≡◌, ◌+◌, ◌≤◌, drop, map}
-use Rattle.play_command.specs.Found.{named_file}
+use Rattle.play_command.specs.Asked.{named_file}
 use Rattle.play_program.specs.Files.{log_count}
 use Rattle.play_program.proofs.files.log_count.Given as goal
 

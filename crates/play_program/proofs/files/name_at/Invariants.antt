@@ -1,6 +1,6 @@
 -- The file is among those that are left.
 use Rattle.std.proofs.Common.{◌≡◌, drop, map}
-use Rattle.play_command.specs.Found.{named_file}
+use Rattle.play_command.specs.Asked.{named_file}
 use Rattle.play_program.specs.Files.{name_at}
 use Rattle.play_program.proofs.files.name_at.Given as goal
 

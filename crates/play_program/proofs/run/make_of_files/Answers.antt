@@ -1,6 +1,6 @@
 use Rattle.std.proofs.Common.{Err, None, Ok, ap, inl, inr, length, map, refl, rules, sym, ◌∙◌}
 use Rattle.std.proofs.lemmas.Result.{err_from_is_err_and}
-use Rattle.play_command.specs.declared.input.Input.TheVariants.{Log}
+use Rattle.play_command.specs.declared.line.Input.TheVariants.{Log}
 use Rattle.play_program.specs.Sources.{Entry, of_input, waiting_entry}
 use Rattle.play_program.proofs.MakeLemmas.{MakesOpened-made, held_logs, reads}
 use Rattle.play_program.proofs.run.make_of_files.Goals as goal

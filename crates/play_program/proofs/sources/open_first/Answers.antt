@@ -2,7 +2,7 @@ use Rattle.std.proofs.Common.{◌<◌, ◌++◌, [], ◌∷◌, ap, ap₂, get_o
 use Rattle.std.proofs.Common.{sym, take, ◌∙◌}
 use Rattle.std.proofs.lemmas.List.{map-append, take_more}
 use Rattle.std.proofs.lemmas.Result.{err_from_is_err_and}
-use Rattle.play_command.specs.Found.{named_file}
+use Rattle.play_command.specs.Asked.{named_file}
 use Rattle.play_program.specs.Calls.{and_then, told_of}
 use Rattle.play_program.specs.Files.{no_file}
 use Rattle.play_program.specs.Sources.{Stops, entry_of, opening, waiting_entry}

@@ -1,6 +1,6 @@
 -- The files so far are open, in their order.
 use Rattle.std.proofs.Common.{◌≡◌, map, take}
-use Rattle.play_command.specs.Found.{named_file}
+use Rattle.play_command.specs.Asked.{named_file}
 use Rattle.play_program.specs.Calls.{and_then}
 use Rattle.play_program.specs.Sources.{entry_of, opening, waiting_entry}
 use Rattle.play_program.proofs.sources.open_first.Given as goal

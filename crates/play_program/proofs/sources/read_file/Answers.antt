@@ -2,12 +2,12 @@ use Rattle.play_program.specs.Files.{FileName}
 use Rattle.std.proofs.Common.{◌≡◌, ◌⊎◌, append-nil, false, refl, true, ap, inl, inr, subst, sym}
 use Rattle.std.proofs.Common.{◌∙◌}
 use Rattle.std.proofs.lemmas.Result.{err_from_is_err_and}
-use Rattle.cave_play.specs.Run.{IsOutsideOf}
+use Rattle.cave_play.specs.Stages.{IsOutsideOf}
 use Rattle.cave_play.specs.Sources.{Says}
 use Rattle.cave_play.specs.declared.fault.PlayFault.{PlayFault}
 use Rattle.cave_play.specs.declared.fault.PlayFault.TheVariants as fault
 use Rattle.cave_play.proofs.SourceLemmas.{said, some_bytes}
-use Rattle.play_command.specs.declared.input.Input.{Input}
+use Rattle.play_command.specs.declared.line.Input.{Input}
 use Rattle.std.specs.Prelude.{Some, is_some}
 use Rattle.play_program.specs.Calls.{and_then}
 use Rattle.play_program.specs.Sources.{opening_unless, telling_if, waiting_entry}

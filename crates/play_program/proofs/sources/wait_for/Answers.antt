@@ -1,5 +1,5 @@
 use Rattle.std.proofs.Common.{sym, inl, inr, refl}
-use Rattle.play_command.specs.Found.{named_file}
+use Rattle.play_command.specs.Asked.{named_file}
 use Rattle.play_program.proofs.CallLemmas.{same_entry, stopped-at}
 use Rattle.play_program.proofs.sources.wait_for.Goals as goal
 

@@ -2,7 +2,7 @@
 use Rattle.std.proofs.Common.{◌<◌, ◌≤◌, ◌-◌, vec_len}
 use Rattle.std.specs.Io.KnownBytes.{Consumes}
 use Rattle.base_lines.specs.Limits.{MAX_INPUT_BYTES}
-use Rattle.cave_play.proofs.read.read.Given as goal
+use Rattle.cave_play.proofs.inputs.read.Given as goal
 
 abbrev pub invariant-pieces : goal.invariant-pieces
 invariant-pieces g l = record {

@@ -1,7 +1,7 @@
 use Rattle.cave_play.proofs.InputLemmas.{Says-some, IsUnread-from}
 use Rattle.std.proofs.Common.{inl}
 use Rattle.std.proofs.lemmas.Result.{err_from_is_err_and}
-use Rattle.cave_play.proofs.read.read.Goals as goal
+use Rattle.cave_play.proofs.inputs.read.Goals as goal
 
 pub returns-in_err-piece : goal.returns-in_err-piece
 returns-in_err-piece g c =

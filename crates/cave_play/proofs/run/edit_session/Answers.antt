@@ -7,7 +7,7 @@ use Rattle.cave_play.specs.Stages.{script_stage, strict_stage}
 use Rattle.play_edits.proofs.ViewLemmas.{log_made}
 use Rattle.cave_play.proofs.StageLemmas.{IsFoundIn-first, IsFoundIn-memory, first_decided-later}
 use Rattle.cave_play.proofs.FinishLemmas.{first_decided-strict}
-use Rattle.cave_play.proofs.edits.edit_session.Goals as goal
+use Rattle.cave_play.proofs.run.edit_session.Goals as goal
 
 pub returns-in_err-read : goal.returns-in_err-read
 returns-in_err-read g c =

@@ -1,7 +1,7 @@
 use Rattle.std.proofs.Common.{◌≡◌, ◌++◌, drop, map, take}
 use Rattle.std.specs.List.{flat_map}
-use Rattle.play_command.specs.Found.{files_at, named_file, rows_in, with_text}
-use Rattle.play_command.proofs.input.files_in.Given as goal
+use Rattle.play_command.specs.Asked.{files_at, named_file, rows_in, with_text}
+use Rattle.play_command.proofs.found.files_in.Given as goal
 
 -- the files so far and those of the arguments that are left are all
 abbrev pub invariant-loop-id : goal.invariant-loop-id
