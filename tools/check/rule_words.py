@@ -1,7 +1,7 @@
 """The files that say when each noted row of the rules applies, and that count the rows: a module.
 
-`play_cover` declares the tables in the order of the pages, each with its name and the words of its
-rows. `turn_laws` counts the rows of each table in the definitions, and a proof of `play_cover`
+The code of `play_cover` has a list of the tables in the order of the pages, each with its name and
+the words of its rows, and its definitions read it. `turn_laws` counts the rows of each table in the definitions, and a proof of `play_cover`
 shows that the pages have as many. A table has the rows of the list that its definition notes, and
 one more row if a last row stands beside the list. One that notes the cases of a question has the
 rows of the questions. Parts of these files are made here, and aren't edited by hand.
@@ -23,7 +23,7 @@ COVER, COUNTS = "crates/play_cover", "crates/turn_laws"
 # What a proof of the counts cites in addition to them, with its module, and what of this it opens.
 OPENED = ("declared", "row_numbers")
 DEFINED = "Rattle.turn_laws.specs.DefinedRows"
-OWN = {"EachNumberIsARow": DEFINED, "declared": "Rattle.play_cover.specs.EachTable",
+OWN = {"EachNumberIsARow": DEFINED, "declared": "Rattle.play_cover.specs.RuleTables",
        "row_count": "Rattle.play_cover.specs.RuleTables", "row_numbers": DEFINED,
        "rows_in": DEFINED}
 # The proofs, each with what it shows and what it cites of these.
@@ -72,21 +72,11 @@ def in_code(table: str, name: str, words: Sequence[str]) -> str:
     return entry(f"{table} {quoted(name)}", f"[{', '.join(map(quoted, words))}]", " " * 12)
 
 
-def in_definitions(table: str, name: str, words: Sequence[str]) -> str:
-    # no line begins with the sign
-    items = "".join(f"{quoted(it)}\xa0∷ " for it in words)
-    return entry(f"declared table.{table} = rule_table {quoted(name)}", f"({items}[])", "")
-
-
 def declared(tables: Tables) -> Iterator[tuple[str, str]]:
-    """The text of each file with the tables, by its path."""
-    code, specs = f"{COVER}/src/each_table.rt", f"{COVER}/specs/EachTable.antt"
+    """The text of the file with the tables, and its path."""
+    path = f"{COVER}/src/each_table.rt"
     each = "\n".join(in_code(table, *it) for table, it in tables.items())
-    yield code, filled_in(code, {"            $($asked)?": each}, "\n        }\n")
-    yield specs, filled_in(specs, {
-        "tables =": filled("".join(f"table.{it}\xa0∷ " for it in tables) + "[]", "    "),
-        "unfoldable pub declared : Table → RuleTable":
-            "\n".join(in_definitions(table, *it) for table, it in tables.items())})
+    yield path, filled_in(path, {"            $($asked)?": each}, "\n        }\n")
 
 
 # ---- the counts

@@ -86,8 +86,10 @@ def words_of(file: Source) -> dict[str, Counter[str]]:
 
 
 def unnamed_items() -> Iterator[str]:
-    """Items of the code that nothing else names that can mean them."""
+    """Items of the code that nothing else names that can mean them, and no definition reads."""
     code = sources("src")
+    read = {name for file in sources("specs") for it in file.cited
+            if it.module.endswith("TheConstants") for name in it.names}
     items = {file.path: declared_items(file) for file in code}
     for file in code:
         bodies = Counter(name for name, body in TYPE.findall(file.code)
@@ -96,7 +98,7 @@ def unnamed_items() -> Iterator[str]:
         for name, own in items[file.path].items():
             others = sum(words[name] for it in above if it == file or name not in items[it.path]
                          for owner, words in words_of(it).items() if owner != name)
-            if others <= own + bodies[name]:
+            if others <= own + bodies[name] and name not in read:
                 yield f"{file.path}: nothing names {name}"
 
 

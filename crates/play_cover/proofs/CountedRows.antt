@@ -21,8 +21,7 @@ use Rattle.cave_verbs.specs.Reading.{bare_read_rows, read_rows}
 use Rattle.cave_verbs.specs.Taking.{bare_take_rows, take_rows}
 use Rattle.cave_verbs.specs.Throwing.{throw_rows}
 use Rattle.cave_verbs.specs.Waving.{rub_rows, wave_rows}
-use Rattle.play_cover.specs.EachTable.{declared}
-use Rattle.play_cover.specs.RuleTables.{row_count}
+use Rattle.play_cover.specs.RuleTables.{declared, row_count}
 use Rattle.turn_clocks.specs.Clocks.{clock_rows}
 use Rattle.turn_clocks.specs.FirstClock.{closing_bear_rows}
 use Rattle.turn_clocks.specs.Hints.{give_rows, guard_rows, hint_rows, offer_rows}

@@ -1,5 +1,4 @@
 pub mod Coverage
-pub mod EachTable
 pub mod Known
 pub mod Marks
 pub mod MoreLogs

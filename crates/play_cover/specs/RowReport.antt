@@ -7,9 +7,8 @@ use Rattle.cave_data.specs.CaveView.{CaveView}
 use Rattle.cave_world.specs.declared.tables.Table.{Table}
 use Rattle.play_cover.specs.Coverage.{Catalogue, all_entries, covered_count, groups_text, in_logs}
 use Rattle.play_cover.specs.Coverage.{left_count, present_count}
-use Rattle.play_cover.specs.EachTable.{tables}
 use Rattle.play_cover.specs.Known.{KnownEntries, unmet_text}
-use Rattle.play_cover.specs.RuleTables.{row_count, table_name, table_number, words_of_row}
+use Rattle.play_cover.specs.RuleTables.{row_count, table_name, table_number, tables, words_of_row}
 use Rattle.check_tables.specs.TravelWords.{way_entries}
 use Rattle.play_cover.specs.TravelRows.{left_ways, missing_ways, travel_text, ways_noted}
 use Rattle.play_cover.specs.declared.coverage.Detail.TheVariants.{Both}

@@ -4,7 +4,7 @@ use Rattle.std.specs.List.{range_with_len}
 use denote.Enum.Declared.{tag_of}
 use Rattle.cave_world.specs.contracts.tables.Table.{the_type}
 use Rattle.cave_world.specs.declared.tables.Table.{Table}
-use Rattle.play_cover.specs.EachTable.{declared, tables}
+use Rattle.play_cover.specs.declared.each_table.TheConstants.{EACH_TABLE}
 
 -- there are as many as variants that declare them
 abbrev pub TABLE_COUNT : ℕ
@@ -18,13 +18,24 @@ ROW_END = 32
 abbrev pub table_number : Table → ℕ
 table_number t = tag_of the_type t
 
+-- the tables of the rules as the pages have them, in their order: the code's list, which
+-- `tools/check/rule-words` makes of the pages
+abbrev pub tables : List Table
+tables = map (λ row. row.0) EACH_TABLE.now
+
+-- what is declared of a table: what it is called, and when each of its rows applies, in words
+unfoldable pub declared : Table → List ℕ × List (List ℕ)
+declared t = slice_index_or
+    (map (λ row. (row.1.now, map (λ words. words.now) row.2.now)) EACH_TABLE.now)
+    (table_number t) ([], [])
+
 -- the name of a table
 abbrev pub table_name : Table → List ℕ
-table_name t = (declared t).name
+table_name t = (declared t).0
 
 -- when each row of a table applies, in words
 abbrev pub row_words : Table → List (List ℕ)
-row_words t = (declared t).words
+row_words t = (declared t).1
 
 -- how many rows a table has
 abbrev pub row_count : Table → ℕ

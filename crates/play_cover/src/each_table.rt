@@ -1,8 +1,7 @@
 //! The tables of the rules, as the pages have them, made by `tools/check/rule-words --write`.
 
 ghost use Rattle.std.specs.Prelude.{◌≡◌, ◌<◌, length, map};
-ghost use Rattle.play_cover.specs.EachTable.{tables};
-ghost use Rattle.play_cover.specs.RuleTables.{row_words, table_name};
+ghost use Rattle.play_cover.specs.RuleTables.{row_words, table_name, tables};
 ghost use Rattle.play_cover.specs.RuleTables as defined;
 
 use cave_world::Table;
@@ -297,6 +296,16 @@ macro_rules! all_tables {
     };
 }
 
+macro_rules! entries {
+    ($($table:ident $name:literal [$($words:literal),+])*) => {
+        &[$((Table::$table, $name, &[$($words),+])),*]
+    };
+}
+
+/// Each table, in the order of the pages, with what it is called, and when each of its rows applies,
+/// in words. The definitions read it, too.
+pub const EACH_TABLE: &[(Table, &str, &[&str])] = all_tables!(entries);
+
 macro_rules! variants {
     ($($table:ident $name:literal [$($words:literal),+])*) => {
         [$(Table::$table),*]
@@ -319,7 +328,7 @@ pub fn each_table() -> &'static [Table]
 }
 
 /// What a table is called, and when each of its rows applies, in words.
-#[tactic(auto, unfolding(crate::specs::EachTable::declared))]
+#[tactic(auto, unfolding(crate::specs::RuleTables::declared))]
 pub fn table_name_and_words(table: Table) -> (&'static str, &'static [&'static str])
     ensures name { result.0.now ≡ table_name table }
     ensures words { map (λ words. words.now) result.1.now ≡ row_words table }
