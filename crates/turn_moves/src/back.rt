@@ -9,7 +9,7 @@ ghost use Rattle.turn_moves.specs.Journeys.{parts_of_own_motion};
 
 use cave_world::{RowNotes, Table, forced};
 use data_rows::{Destination, Role, Row};
-use turn_scene::{Rules, Scene};
+use turn_scene::{Rules, Scene, rows};
 use world_objects::Place;
 
 /// Where a player who goes back wants to go.
@@ -17,12 +17,10 @@ use world_objects::Place;
 fn place_back<N: RowNotes>(rules: &Rules<'_>, scene: &mut Scene<'_, N>) -> Place
     ensures row { PlaysBy N.rows place_back 0 rules.now tt scene.old scene.new result }
 {
-    if forced(rules.cave, scene.state.trail.last) {
-        scene.note(Table::BackFrom, 1);
-        return scene.state.trail.older;
+    rows! { scene, Table::BackFrom;
+        forced(rules.cave, scene.state.trail.last) => {} -> scene.state.trail.older;
+        otherwise => {} -> scene.state.trail.last;
     }
-    scene.note(Table::BackFrom, 2);
-    scene.state.trail.last
 }
 
 /// Whether a row leads to a place whose forced motion leads to the place sought.
