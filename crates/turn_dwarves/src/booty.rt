@@ -111,4 +111,3 @@ pub fn take_booty<N: RowNotes>(rules: &Rules<'_>, scene: &mut Scene<'_, N>)
     steal_all(rules, scene);
     send_pirate_home(rules, scene.state);
 }
-
