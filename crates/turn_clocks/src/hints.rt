@@ -226,9 +226,9 @@ fn offer_by_guard<N: RowNotes>(rules: &Rules<'_>, number: HintNumber, scene: &mu
         h == SNAKE_HINT && is_near(rules, scene.state, rules.thing(Named::Snake))
             && !is_near(rules, scene.state, rules.thing(Named::Bird))
             => { offer(rules, number, scene); };
-        h == MAZE_HINT && scene.state.is_bare(scene.state.trail.here)
-            && scene.state.is_bare(scene.state.trail.last)
-            && scene.state.is_bare(scene.state.trail.older) && 1 < scene.state.holding()
+        let trail = scene.state.trail;
+        h == MAZE_HINT && scene.state.is_bare(trail.here) && scene.state.is_bare(trail.last)
+            && scene.state.is_bare(trail.older) && 1 < scene.state.holding()
             => { offer(rules, number, scene); };
         h == PYRAMID_HINT && has_other_prop(scene.state, rules.thing(Named::Emerald), UNSEEN)
             && has_prop(scene.state, rules.thing(Named::Pyramid), UNSEEN)
