@@ -54,12 +54,7 @@ fn tell_object_text<N: RowNotes>(rules: &Rules<'_>, object: Object, scene: &mut 
 
 /// A treasure is seen for the first time.
 #[tactic(auto, unfolding(crate::specs::Objects::find_treasure, crate::specs::Objects::last_treasure_rows))]
-fn find_treasure<N: RowNotes>(
-    rules: &Rules<'_>,
-    object: Object,
-    prop: i8,
-    scene: &mut Scene<'_, N>,
-)
+fn find_treasure<N: RowNotes>(rules: &Rules<'_>, object: Object, prop: i8, scene: &mut Scene<'_, N>)
     requires low { LOWEST_PROP ≤ℤ prop }
     requires high { prop ≤ℤ HIGHEST_PROP }
     requires room { HasRoom 1 scene.old }
