@@ -94,9 +94,8 @@ fn meet<N: RowNotes>(rules: &Rules<'_>, scene: &mut Scene<'_, N>) -> bool
         scene.new result }
     ensures still { result ≡ false }
 {
-    let here = scene.state.trail.here;
     rows! { scene, Table::Hits, false;
-        encounter_dwarves(rules, scene) => { die_at(rules, here, scene); };
+        encounter_dwarves(rules, scene) => { die_at(rules, scene.state.trail.here, scene); };
         otherwise => { describe(rules, scene); };
     }
 }
@@ -111,10 +110,11 @@ fn come_to<N: RowNotes>(rules: &Rules<'_>, place: Place, scene: &mut Scene<'_, N
     ensures few_on { IsTrue result → SaysUpTo parts_of_text scene.old scene.new }
 {
     scene.put_player_at(place);
+    let here = scene.state.trail.here;
     rows! { scene, Table::Arrival, false;
-        place.number() == 0 => { die(rules, scene); };
-        forced(rules.cave, place) => { tell_place(rules, scene); } -> true;
-        has_condition_of(rules, place, PlaceCondition::NoPirate) => { describe(rules, scene); };
+        here.number() == 0 => { die(rules, scene); };
+        forced(rules.cave, here) => { tell_place(rules, scene); } -> true;
+        has_condition_of(rules, here, PlaceCondition::NoPirate) => { describe(rules, scene); };
         in meet(rules, scene);
     }
 }
