@@ -89,4 +89,3 @@ pub fn is_verb_of(verb: Verb, number: Option<u16>) -> bool
         None => false,
     }
 }
-
