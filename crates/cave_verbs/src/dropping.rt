@@ -27,15 +27,14 @@ fn drop_held<N: RowNotes>(rules: &Rules<'_>, task: Task, scene: &mut Scene<'_, N
         scene.old scene.new result }
 {
     let x = task.object;
-    let snake = rules.thing(Named::Snake);
     let is_bird = rules.is(x, Named::Bird);
-    let is_bird_by_snake = is_bird && is_near(rules, scene.state, snake);
+    let is_bird_by_snake = is_bird && is_near(rules, scene.state, rules.thing(Named::Snake));
     rows! { scene, Table::Drop, Next::Stay;
         from 3;
         is_bird_by_snake && scene.state.closing.is_closed
             => say(Role::BirdSnake), say(Role::Disturbed) -> Next::End(Ending::Killed);
-        is_bird_by_snake
-            => say(Role::BirdSnake), destroy(snake), set_prop(snake, SNAKE_GONE), put(rules, x);
+        is_bird_by_snake => say(Role::BirdSnake), destroy(rules.thing(Named::Snake)),
+            set_prop(rules.thing(Named::Snake), SNAKE_GONE), put(rules, x);
         rules.is(x, Named::Coins) && is_near(rules, scene.state, rules.thing(Named::Vending)) => {
             let batteries = rules.thing(Named::Batteries);
             scene.destroy(x);

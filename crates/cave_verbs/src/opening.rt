@@ -81,16 +81,14 @@ fn open_shell<N: RowNotes>(rules: &Rules<'_>, task: Task, scene: &mut Scene<'_, 
     let x = task.object;
     let is_clam = rules.is(x, Named::Clam);
     let has_trident = is_carried(rules, scene.state, rules.thing(Named::Trident));
-    let oyster = rules.thing(Named::Oyster);
-    let pearl = rules.thing(Named::Pearl);
     rows! { scene, Table::Open, Next::Stay;
         task.verb.is(Verb::Lock) => say(Role::LockWhat);
         is_clam && !has_trident => say(Role::ClamTool);
         !has_trident => say(Role::OysterTool);
         is_clam && is_carried(rules, scene.state, x) => say(Role::ClamHeld);
         is_carried(rules, scene.state, x) => say(Role::OysterHeld);
-        is_clam
-            => destroy(x), bring(oyster), send(rules, pearl, PlaceRole::Culdesac), say(Role::Pearl);
+        is_clam => destroy(x), bring(rules.thing(Named::Oyster)),
+            send(rules, rules.thing(Named::Pearl), PlaceRole::Culdesac), say(Role::Pearl);
         otherwise => say(Role::OysterOpen);
     }
 }

@@ -96,16 +96,17 @@ fn take_freely<N: RowNotes>(rules: &Rules<'_>, task: Task, scene: &mut Scene<'_,
 {
     let x = task.object;
     let bird = rules.thing(Named::Bird);
-    let cage = rules.thing(Named::Cage);
     let is_bird = rules.is(x, Named::Bird);
     let is_bird_free = is_bird && has_prop(scene.state, x, BIRD_FREE);
     rows! { scene, Table::Take, Next::Stay;
         from 11;
         is_bird_free && is_carried(rules, scene.state, rules.thing(Named::Rod))
             => say(Role::BirdRod);
-        is_bird_free && !is_carried(rules, scene.state, cage) => say(Role::NoCage);
-        is_bird_free => set_prop(x, BIRD_CAGED), carry(cage), carry(x), say(Role::Ok);
-        is_bird => carry(cage), carry(x), say(Role::Ok);
+        is_bird_free && !is_carried(rules, scene.state, rules.thing(Named::Cage))
+            => say(Role::NoCage);
+        is_bird_free => set_prop(x, BIRD_CAGED), carry(rules.thing(Named::Cage)), carry(x),
+            say(Role::Ok);
+        is_bird => carry(rules.thing(Named::Cage)), carry(x), say(Role::Ok);
         rules.is(x, Named::Cage) && has_other_prop(scene.state, bird, BIRD_FREE)
             => carry(bird), carry(x), say(Role::Ok);
         otherwise => carry(x), say(Role::Ok);

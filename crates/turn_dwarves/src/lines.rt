@@ -34,11 +34,11 @@ fn tell_knife_lines<N: RowNotes>(rules: &Rules<'_>, attack: Attack, scene: &mut 
     ensures rows { Does N.rows (by_table table.Knives knife_rows ∷ []) parts_of_throws
         rules.now attack scene.old scene.new }
 {
-    let thrown = Part::Number(NumberLine::KnivesThrown, attack.knives, 0);
     rows! { scene, Table::Knives;
         attack.knives == 0 => {};
         attack.knives == 1 && attack.hits != 0 => say(Role::KnifeOne), say(Role::HitOne);
         attack.knives == 1 => say(Role::KnifeOne), say(Role::MissOne);
+        let thrown = Part::Number(NumberLine::KnivesThrown, attack.knives, 0);
         attack.hits == 0 => tell(thrown), say(Role::MissAll);
         attack.hits == 1 => tell(thrown), say(Role::HitMany);
         otherwise => tell(thrown), tell(Part::Number(NumberLine::KnivesHit, attack.hits, 0));

@@ -70,13 +70,11 @@ fn meet_pirate<N: RowNotes>(rules: &Rules<'_>, scene: &mut Scene<'_, N>)
     ensures rows { Does N.rows (by_table table.Pirate pirate_rows ∷ []) 1 rules.now tt
         scene.old scene.new }
 {
-    let chest = rules.thing(Named::Chest);
-    let message = rules.thing(Named::Message);
     rows! { scene, Table::Pirate;
         let is_rich = carries_booty(rules, scene);
-        is_rich && scene.state.is_gone(message) => {
+        is_rich && scene.state.is_gone(rules.thing(Named::Message)) => {
             scene.say(Role::Booty);
-            scene.send(rules, chest, PlaceRole::Chest);
+            scene.send(rules, rules.thing(Named::Chest), PlaceRole::Chest);
             take_booty(rules, scene);
         };
         is_rich => {
@@ -85,8 +83,8 @@ fn meet_pirate<N: RowNotes>(rules: &Rules<'_>, scene: &mut Scene<'_, N>)
         };
         hides_chest(rules, scene) => {
             scene.say(Role::ChestHid);
-            scene.send(rules, chest, PlaceRole::Chest);
-            scene.send(rules, message, PlaceRole::Message);
+            scene.send(rules, rules.thing(Named::Chest), PlaceRole::Chest);
+            scene.send(rules, rules.thing(Named::Message), PlaceRole::Message);
             send_pirate_home(rules, scene.state);
         };
         is_pirate_new(scene.state) && scene.happens(20) => say(Role::Rustle);

@@ -37,7 +37,8 @@ fn put_caged_bird<N: RowNotes>(rules: &Rules<'_>, object: Object, scene: &mut Sc
 {
     let bird = rules.thing(Named::Bird);
     rows! { scene, Table::CagedBird;
-        rules.is(object, Named::Cage) && has_other_prop(scene.state, bird, BIRD_FREE) => bring(bird);
+        rules.is(object, Named::Cage) && has_other_prop(scene.state, bird, BIRD_FREE)
+            => bring(bird);
     }
 }
 

@@ -16,7 +16,7 @@
 #[macro_export]
 macro_rules! rows {
     (@effect $scene:ident $word:ident ($($arg:expr),*)) => { $scene.$word($($arg),*) };
-    (@effect $scene:ident $of:ident.$word:ident ($($arg:expr),*)) => { $of.$word($($arg,)* $scene) };
+    (@effect $scene:ident $of:ident.$word:ident($($arg:expr),*)) => { $of.$word($($arg,)* $scene) };
     (@follows $then:expr) => { $then };
     (@follows $then:expr, $own:expr) => { $own };
     (@row ($scene:ident $table:expr, $then:expr) $number:literal
@@ -62,10 +62,7 @@ macro_rules! rows {
             $crate::rows!(@rows $head [$($numbers)*] $($rows)*)
         }
     };
-    (@from 1 $head:tt $($rows:tt)*) => {
-        $crate::rows!(@rows $head
-            [1 2 3 4 5 6 7 8 9 10 11 12 13 14 15 16 17 18 19 20 21 22 23 24 25] $($rows)*)
-    };
+    (@from 1 $($rest:tt)*) => { $crate::rows!(@on [1 2 3 4 5 6 7 8 9 10 11 12 13 14] $($rest)*) };
     (@from 2 $($rest:tt)*) => { $crate::rows!(@on [2 3 4] $($rest)*) };
     (@from 3 $($rest:tt)*) => { $crate::rows!(@on [3 4 5 6 7 8 9 10] $($rest)*) };
     (@from 6 $($rest:tt)*) => { $crate::rows!(@on [6 7 8] $($rest)*) };
