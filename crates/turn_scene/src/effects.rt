@@ -1,7 +1,6 @@
 //! What rows do to a scene, by the words of the definitions.
 
-ghost use Rattle.cave_world.specs.State.{with_hint_taken, with_player_from};
-ghost use Rattle.turn_scene.specs.Effects.{Changes, after_sending, with_charge};
+ghost use Rattle.turn_scene.specs.Effects.{Changes, after_sending};
 ghost use Rattle.turn_scene.specs.Parts.{with_objects, with_one_more_lost};
 ghost use Rattle.turn_scene.specs.Places.{place_named};
 ghost use Rattle.turn_scene.specs.Scene.{cave_of};
