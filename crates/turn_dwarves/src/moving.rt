@@ -38,17 +38,12 @@ fn choose_way<N: RowNotes>(rules: &Rules<'_>, number: usize, scene: &mut Scene<'
 {
     let dwarf = dwarf_of(scene.state, number);
     let ahead = places_ahead(rules, number == PIRATE, &dwarf);
-    if ahead.is_empty() {
-        scene.note(Table::DwarfWays, 1);
-        scene.state.stream.draw(1);
-        return dwarf.last;
+    rows! { scene, Table::DwarfWays;
+        ahead.is_empty() => { scene.state.stream.draw(1); } -> dwarf.last;
+        MAX_CANDIDATES < ahead.len()
+            => {} -> draw_place(&ahead, MAX_CANDIDATES, &mut scene.state.stream);
+        otherwise => {} -> draw_place(&ahead, ahead.len(), &mut scene.state.stream);
     }
-    if MAX_CANDIDATES < ahead.len() {
-        scene.note(Table::DwarfWays, 2);
-        return draw_place(&ahead, MAX_CANDIDATES, &mut scene.state.stream);
-    }
-    scene.note(Table::DwarfWays, 3);
-    draw_place(&ahead, ahead.len(), &mut scene.state.stream)
 }
 
 /// A dwarf that sees the player comes to the player.

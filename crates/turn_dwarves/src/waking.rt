@@ -94,15 +94,14 @@ fn keep_one_apart<N: RowNotes>(rules: &Rules<'_>, number: usize, scene: &mut Sce
     ensures says { GoesOnSaying 0 scene.old scene.new }
 {
     let place = dwarf_of(scene.state, number).place;
-    if place == scene.state.trail.here {
-        if let Some(elsewhere) = place_named(rules.cave, PlaceRole::Dwarfalt) {
-            scene.note(Table::Apart, 1);
+    rows! { scene, Table::Apart;
+        place == scene.state.trail.here
+            && place_named(rules.cave, PlaceRole::Dwarfalt).is_some() => {
+            let elsewhere = place_named(rules.cave, PlaceRole::Dwarfalt).unwrap_or(place);
             put_dwarf_at(number, elsewhere, scene.state);
-            return;
-        }
+        };
+        otherwise => { put_dwarf_at(number, place, scene.state); };
     }
-    scene.note(Table::Apart, 2);
-    put_dwarf_at(number, place, scene.state);
 }
 
 /// Keeps the dwarves before the pirate apart from the player, and makes them forget where they came
