@@ -26,7 +26,7 @@ use data_rows::Role;
 use turn_clocks::{Clocks, run_clocks};
 use turn_ends::{ask, end};
 use turn_moves::{arrive, describe_here, journey_by_request};
-use turn_scene::{Rules, Scene};
+use turn_scene::{Rules, Scene, rows};
 use world_objects::{Object, Place};
 
 /// Does what a command line says.
@@ -78,9 +78,9 @@ fn forget_knife<N: RowNotes>(rules: &Rules<'_>, scene: &mut Scene<'_, N>)
     ensures rows { Does N.rows (by_table table.KnifeForgotten forget_knife_rows ∷ []) 0 rules.now tt
         scene.old scene.new }
 {
-    if is_elsewhere(scene.state.trail.here, scene.state.dwarves.knife) {
-        scene.note(Table::KnifeForgotten, 1);
-        scene.state.dwarves.knife = Knife::Unthrown;
+    rows! { scene, Table::KnifeForgotten;
+        is_elsewhere(scene.state.trail.here, scene.state.dwarves.knife)
+            => { scene.state.dwarves.knife = Knife::Unthrown; };
     }
 }
 
@@ -106,18 +106,11 @@ fn tell_unknown_word<N: RowNotes>(rules: &Rules<'_>, scene: &mut Scene<'_, N>)
 {
     let first = scene.happens(20);
     let second = scene.happens(20);
-    if second {
-        scene.note(Table::UnknownWord, 1);
-        scene.say(Role::NoWord3);
-        return;
+    rows! { scene, Table::UnknownWord;
+        second => say(Role::NoWord3);
+        first => say(Role::NoWord2);
+        otherwise => say(Role::NoWord);
     }
-    if first {
-        scene.note(Table::UnknownWord, 2);
-        scene.say(Role::NoWord2);
-        return;
-    }
-    scene.note(Table::UnknownWord, 3);
-    scene.say(Role::NoWord);
 }
 
 /// Says that the knives vanished.

@@ -13,7 +13,7 @@ use cave_verbs::Verb;
 use cave_words::{Class, Meaning, Named, Word};
 use cave_world::{Motion, Part, RowNotes, Table, Talk, WordLine, or_no_object};
 use data_rows::Role;
-use turn_scene::{Rules, Scene, is_liquid, lake};
+use turn_scene::{Rules, Scene, is_liquid, lake, rows};
 use world_objects::Object;
 
 /// Half a command: what was said of it before its other half.
@@ -359,16 +359,13 @@ fn word_entered<N: RowNotes>(
         (scene_of N.rows scene.old)) }
     ensures says { GoesOnSaying 0 scene.old scene.new }
 {
-    if next.is(b"STREA") || next.is(b"WATER") {
-        if is_liquid(rules.thing(Named::Water), lake(rules, scene.state)) {
-            scene.note(Table::WordEntered, 1);
-            return half.asks(Request::Tell(Part::Role(Role::FeetWet)));
-        }
-        scene.note(Table::WordEntered, 2);
-        return half.asks(Request::Tell(Part::Role(Role::Where)));
+    rows! { scene, Table::WordEntered;
+        let is_water = next.is(b"STREA") || next.is(b"WATER");
+        is_water && is_liquid(rules.thing(Named::Water), lake(rules, scene.state))
+            => {} -> half.asks(Request::Tell(Part::Role(Role::FeetWet)));
+        is_water => {} -> half.asks(Request::Tell(Part::Role(Role::Where)));
+        otherwise => {} -> word_alone(rules, half, said_word(rules, next), scene);
     }
-    scene.note(Table::WordEntered, 3);
-    word_alone(rules, half, said_word(rules, next), scene)
 }
 
 /// What two words say. They are looked up as far as they are read.
@@ -383,15 +380,11 @@ fn two_words<N: RowNotes>(
     ensures row { PlaysBy N.rows two_words 0 rules.now (phrase half (said_word (cave_of rules.now)
         word) (Some (said_word (cave_of rules.now) next))) scene.old scene.new result }
 {
-    if word.is(b"ENTER") {
-        scene.note(Table::TwoWords, 1);
-        return word_entered(rules, half, next, scene);
+    rows! { scene, Table::TwoWords;
+        word.is(b"ENTER") => {} -> word_entered(rules, half, next, scene);
+        let first = said_word(rules, word);
+        pours_over(rules, word, next, scene)
+            => {} -> word_before(rules, half, first, pour_in(rules), scene);
+        otherwise => {} -> word_before(rules, half, first, said_word(rules, next), scene);
     }
-    let first = said_word(rules, word);
-    if pours_over(rules, word, next, scene) {
-        scene.note(Table::TwoWords, 2);
-        return word_before(rules, half, first, pour_in(rules), scene);
-    }
-    scene.note(Table::TwoWords, 3);
-    word_before(rules, half, first, said_word(rules, next), scene)
 }
