@@ -11,7 +11,7 @@ use std::io;
 use std::test::Fail;
 
 /// The line that the program writes to standard error.
-fn complaint_of(alloc: Global, fault: PlayFault) -> Result<String, AllocError> {
+fn message_of(alloc: Global, fault: PlayFault) -> Result<String, AllocError> {
     let file = match fault.input() {
         Some(Input::Cave) => Some("a.txt"),
         Some(Input::Bindings) => Some("a.bind"),
@@ -122,8 +122,8 @@ const FAULTS: [(PlayFault, u8, &str); 18] = [
 fn each_fault_has_a_status_and_a_line(rt: HostRuntime) -> Result<(), Fail> {
     for &(fault, status, line) in &FAULTS {
         assert_eq!(rt; fault.status(), status, "{fault:?}");
-        let complaint = complaint_of(rt.alloc(), fault)?;
-        assert_eq!(rt; complaint.as_str().trim_end(), line);
+        let message = message_of(rt.alloc(), fault)?;
+        assert_eq!(rt; message.as_str().strip_suffix('\n'), Some(line));
     }
     Ok(())
 }
