@@ -1,4 +1,4 @@
-.PHONY: help try play checks test soak suite duel map chart page live picture install package
+.PHONY: help try play checks style test soak suite duel map chart page live picture install package
 
 # The first target, so `make` alone lists them too: each has its sentence after `##`.
 help: ## lists what `make` can do
@@ -49,8 +49,8 @@ $(BUILT): $(SOURCES)
 	@touch $@
 
 # What needs no proof and no program: names what nobody uses, imports from a crate that doesn't have
-# the item, functions without the word of their definition, and what pages name and isn't there:
-# files, names, commands, options, numbers, and what rows of rules do.
+# the item, and what pages name and isn't there: files, names, commands, options, numbers, and what
+# rows of rules do.
 # Checks that the changelog has the version of the code, that the checks of pages and of suites fail
 # when they should, how scripts answer `--help`, and what shells complete. A check that skips
 # something says so in a line, and adds it to the file SKIPPED: `make test` ends with the sum.
@@ -61,11 +61,14 @@ checks: ## checks names, imports, pages and scripts, in a minute or two, without
 	tools/check/wrong-bodies
 	tools/check/rule-words --check
 	tools/check/rooms --check
-	tools/measure/counts --check
 	python3 -B -m unittest discover tools/check/tests
 	logs/tools/check-documents
 	logs/tools/plant --check
 	logs/tools/check-runner
+
+# What is a matter of taste: functions without the word of their definition, phrases, large crates.
+style: ## tells of names, words and sizes for a reader to judge
+	@tools/check/run style
 
 # The gate: those checks, and the lines that must not compile; each proof from nothing, the edits
 # that must fail, each of which has to compile, the tests and the program; then the suite with the

@@ -26,8 +26,6 @@ def meant_by_open(game):
                    ("OYSTER", game.is_at_hand), ("CLAM", game.is_at_hand)), 0][0]
 
 def meant_by_read(game):
-    if game.closed and game.is_carried(game.thing("OYSTER")):
-        return game.thing("OYSTER")
     pages = there(game, *((it, game.is_at_hand) for it in ("MAGAZINE", "TABLET", "MESSAGE")))
     return pages[0] if len(pages) == 1 else 0
 
@@ -56,10 +54,6 @@ Game.letters.update(y=poured, m=meant_by_open, r=meant_by_read, o=only_one_here,
 
 def number_of_magic(game):
     return game.cave.specials.get(game.word, 0)
-
-def eggs_are_home(game):
-    eggs, home = game.thing("EGGS"), game.home(game.thing("EGGS"))[0]
-    return not eggs or game.where[eggs] == home or game.is_carried(eggs) and game.here == home
 
 def eggs_go_home(game):
     eggs, home = game.thing("EGGS"), game.home(game.thing("EGGS"))[0]
@@ -92,6 +86,10 @@ def kill_the_dwarf(game):
 
 phrases({
     "it is meant for {A}": lambda game, x: x != 0,
+    "{A} is absent": lambda game, x: x == 0,
+    "{A} is at home": lambda game, x: game.where[x] == game.home(x)[0],
+    "{A} is carried to their home": lambda game, x:
+        game.is_carried(x) and game.here == game.home(x)[0],
     "two foes or more": lambda game: len(foes(game)) > 1,
     "one foe": lambda game: len(foes(game)) == 1,
     "two preys": lambda game: len(preys(game)) == 2,
@@ -115,7 +113,6 @@ phrases({
     "as ([A-Z]+)": lambda game, verb: perform(game, ACTIONS[verb], 0),
     "as ([A-Z]+) {A}": lambda game, verb, x: perform(game, ACTIONS[verb], x),
     "the same verb with {A}": lambda game, x: perform(game, game.verb, x),
-    "say dark, if it is dark now": lambda game: game.is_dark() and game.say("dark"),
     "come to the word": lambda game: vars(game).update(magic=number_of_magic(game)),
     "anger them": lambda game: vars(game).update(anger=min(game.anger + 1, MOST_ANGER)),
 })
@@ -195,7 +192,9 @@ TABLES = tables("""
         | prop LAMP 1; say lamp-on
     OFF in any case
         LAMP isn't at hand | default
-        | prop LAMP 0; say lamp-off; say dark, if it is dark now
+        | prop LAMP 0; say lamp-off; the rows of darkened
+    darkened
+        it is dark | say dark
     WAVE
         x isn't carried, x isn't ROD with ROD2 carried | say not-held
         x is ROD, FISSURE is here, ROD is carried, the cave isn't closing | turn FISSURE
@@ -311,14 +310,18 @@ TABLES = tables("""
         it isn't the turn of the word, magic is 0 | say magic
         it isn't the turn of the word | say foo-order
         the word isn't the last | come to the word; say ok
-        EGGS are home | magic becomes 0; say magic
+        EGGS are absent | magic becomes 0; say magic
+        EGGS are at home | magic becomes 0; say magic
+        EGGS are carried to their home | magic becomes 0; say magic
         EGGS are nowhere, TROLL is nowhere, TROLL prop is 0 | magic becomes 0; prop TROLL 1; \
             eggs go home
         | magic becomes 0; eggs go home
     BRIEF alone
         | brief becomes 1; details becomes 3; say brief
     READ alone
-        it is meant for r, it isn't dark | as READ r
+        it is dark | ask back
+        the cave is closed, OYSTER is carried | as READ OYSTER
+        it is meant for r | as READ r
         | ask back
     READ
         it is dark | I see no W here

@@ -19,6 +19,9 @@ LAWS = ("turn_laws/", "play_laws/", "laws.rt")
 CALL = re.compile(
     r"(?:(\w+)(?:::<[^>]*>)?::|(\w*\)?\??(?<!\.)\.\s*))?\b([a-z]\w*)(?=\(|::<|\)|,|;)", re.ASCII
 )
+# A table of rows, whose effects are methods of the scene; each follows an arrow or another effect.
+ROWS = re.compile(r"^( *)rows! \{.*?^\1\}", re.MULTILINE | re.DOTALL)
+EFFECT = re.compile(r"(?:=>|\),)\s+([a-z]\w*)(?=\()", re.ASCII)
 ALIASED = re.compile(r"^ *pub type (\w+) = (\w+)", re.MULTILINE)
 # A clause ends at the brace that ends its line; a contract of several lines is indented further.
 CLAUSE = re.compile(r"^ *(?:requires|ensures)\b.*\n(?:^ {8,}[^a-z{].*\n)*", re.MULTILINE)
@@ -95,6 +98,8 @@ def calls(owner: str, text: str, owned: set[Call], aliases: dict[str, str]) -> I
             yield "", f".{name}"
         else:
             yield path if path[:1].isupper() else "", name
+    for rows in ROWS.finditer(executed):
+        yield from (("", f".{name}") for name in EFFECT.findall(rows[0]))
 
 
 def parts_of(file: Source) -> Iterator[tuple[Node, str, str]]:

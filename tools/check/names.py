@@ -6,22 +6,19 @@ a clause cites it and the proof looks into it. The two share a word: one has all
 in some form, such as `noted`; a method has the words of its type, too. A verb of the list below
 before the thing that is shown, pushed or counted doesn't count, nor do words such as `all`, nor
 those that say how a definition is read: `push_all_rows` meets `name_row`, and `try_row` meets
-`after_row`. One of those that such a clause cites is enough. `tools/check/kept-names` lists those
-that may differ, each with the definition that it meets first, below a line of why.
+`after_row`. One of those that such a clause cites is enough.
 
 A public type has a name of its own, too: no struct, enum or trait of the code and no record or data
-of the definitions has the name of one in another crate, except those that the same file lists, as
-`type NAME CRATE CRATE`. The status is 1 if something is named, or if what is listed doesn't differ.
+of the definitions has the name of one in another crate.
 """
 
 import re
 from collections import defaultdict
 from collections.abc import Iterator
 
-from common.files import crates, text_of
+from common.files import crates
 from common.sources import Source, sources
 
-KEPT = "tools/check/kept-names"
 SMALL = set("after with without of rows bare text line scene act at in by first is".split())
 VERBS = set("""add bar break check choose count cross do draw drop find go let lose move note push
 put read remove run seek send set show take tell throw try""".split())
@@ -97,25 +94,13 @@ def unlike(file: Source) -> Iterator[tuple[str, list[str]]]:
             yield function.name, met
 
 
-def namesakes() -> set[str]:
-    """Names that a public type has in more crates than one, each with these crates in one line."""
+def faults() -> Iterator[str]:
     homes = defaultdict[str, set[str]](set)
     for file in sources("src", "specs"):
         for name in TYPE.findall(file.code):
             homes[name].add(file.crate)
-    return {f"type {it} {' '.join(sorted(of))}" for it, of in homes.items() if len(of) > 1}
-
-
-def faults() -> Iterator[str]:
-    rows, differ = [it.strip() for it in text_of(KEPT).splitlines()], namesakes()
-    listed = {it for it in rows if it and it[0] != "#"}
-    yield from (f"{KEPT}: nothing is below {it!r}"
-                for it, below in zip(rows, [*rows[1:], "#"]) if it[:1] == below[:1] == "#")
-    yield from (f"{KEPT}: {it} isn't listed: one name has two meanings"
-                for it in sorted(differ - listed))
+    yield from (f"{name} is a type of {', '.join(sorted(of))}"
+                for name, of in sorted(homes.items()) if len(of) > 1)
     for file in sources("src"):
-        for function, met in unlike(file):
-            differ.add(f"{function} {met[0]}")
-            if f"{function} {met[0]}" not in listed:
-                yield f"{file.path}: {function} meets {', '.join(met)}: no word is shared"
-    yield from (f"{KEPT}: {it}: they share a word" for it in sorted(listed - differ))
+        yield from (f"{file.path}: {function} meets {', '.join(met)}: no word is shared"
+                    for function, met in unlike(file))

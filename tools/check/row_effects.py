@@ -75,12 +75,13 @@ SAID = re.compile(r"`([a-z][a-z0-9-]*)`(?: is said)?")
 
 
 class Effects(NamedTuple):
-    """What a row does, the object that it is about, or x, and whether it does nothing at all; None
-    if it has an answer, too."""
+    """What a row does, the object that it is about, or x, whether it does nothing at all; None
+    if it has an answer, too; and its text without tests, with the effects written out."""
 
     done: list[str]
     about: str
     is_idle: bool | None
+    text: str
 
 
 class Names:
@@ -96,10 +97,13 @@ class Names:
                         for text in texts for name, up, down in NUMBER.findall(text)}
         self.effects = dict(it for text in texts for it in SINGLE.findall(text))
 
+    def written_out(self, row: str) -> str:
+        """A row with its single effects in place of their other names."""
+        return re.sub(r"\w+", lambda it: self.effects.get(it[0], it[0]), row)
+
     def of(self, row: str, about: str) -> Iterator[str]:
         """The effects of a row without its tests, in which x is what it is about."""
-        whole = re.sub(r"\w+", lambda it: self.effects.get(it[0], it[0]), row)
-        for found in DEFINED.finditer(whole):
+        for found in DEFINED.finditer(row):
             kind, word = next((kind, word) for kind, word in found.groupdict().items() if word)
             given = "".join(it for it in found.groups() if it and it != word)
             thing = self.things.get(given, about if given in ("x", "it") else "")
@@ -133,9 +137,9 @@ def effects_in(defined: Mapping[str, Sequence[Table]]) -> dict[str, list[Effects
             if other := re.fullmatch(r"\(no \(is name\.(\w+)\) ∷ \[\]\)", tests):
                 left = object_named(other[1])
             rest = row.partition(tests)[2] if tests else row
-            done = [*names.of(with_effects(rest, lists[path.split("/")[1]]), about)]
+            whole = names.written_out(with_effects(rest, lists[path.split("/")[1]]))
             is_idle = IDLE.search(rest) is not None if PLAIN.match(row) else None
-            found[table.name].append(Effects(done, about, is_idle))
+            found[table.name].append(Effects([*names.of(whole, about)], about, is_idle, whole))
     return found
 
 

@@ -1,4 +1,4 @@
-"""Compares the tables of rules in the pages with those of the definitions.
+"""Compares the tables of rules in the pages with those of the definitions, the code and the model.
 
 Above a table of a page stands `<!-- rows: NAME NAME -->`, with the names of the tables in specs/
 that say the same, one after another, and each side has the same number of rows. The tables of a
@@ -18,9 +18,10 @@ from collections import defaultdict
 from collections.abc import Iterator
 from itertools import combinations
 
+from code_rows import WORDS, Coded, is_part, tables_coded, tables_modelled
 from common.files import text_of
 from row_effects import Effects, effects_in, effects_shown
-from rule_tables import (Noted, Shown, Table, Words, noted_in, parts_of, rows_in_words,
+from rule_tables import (BY_CASES, Noted, Shown, Table, Words, noted_in, parts_of, rows_in_words,
                          tables_defined, tables_shown)
 
 SPAN = re.compile(r"`([a-z][a-z0-9-]*)`")
@@ -28,8 +29,11 @@ NAMES = re.compile(r"\b[A-Z]+2?\b|\b\d+\b|\b[a-z]+\b")
 NUMBERS = {"two": "2", "three": "3", "four": "4", "five": "5", "six": "6"}
 # Rows of which the page says elsewhere what else they do, and in which order.
 ELSEWHERE = {("clocks", "1"): "the cave begins to close", ("waking", "3"): "they wake"}
+# Rows whose code does by itself what a word of the definition says, or did it before the row.
+PLAIN = {("ObjectShown", 1), ("Wave", 2), ("Toll", 1)}
 IDLE = re.compile("nothing(?:[,:]|$)|$")
 ABOVE = {"POUR": "BOTTLE gets prop 1"}  # what the page says above a table of most of its rows
+WORD, SAYS = re.compile(rf"\b({'|'.join(WORDS)})\b"), re.compile(r"\bsay ([a-z][a-z\d-]*)")
 Places = dict[str, int]  # which table of the pages shows the definition of a name
 
 
@@ -80,7 +84,7 @@ def faults_of_rows(shown: Shown, defined: list[Words], roles: set[str]) -> Itera
 def faults_of_effects(shown: Shown, defined: list[Effects], roles: set[str]) -> Iterator[str]:
     """Rows of a page that do something other than those of the definition, or in another order."""
     called, before = ", ".join(shown.labels or shown.names), list[str]()
-    for (number, *cells), (done, about, is_idle) in zip(shown.rows, defined):
+    for (number, *cells), (done, about, is_idle, _) in zip(shown.rows, defined):
         told = [*effects_shown(cells, roles, about, before)]
         due, before = [it for it in done if it != ABOVE.get(called)], done
         words = ELSEWHERE.get((called, number))
@@ -89,6 +93,36 @@ def faults_of_effects(shown: Shown, defined: list[Effects], roles: set[str]) -> 
                    f" and the page: {'; '.join(told) or 'nothing'}")
         if is_idle is not None and is_idle != (IDLE.match(cells[1]) is not None):
             yield f"{called} {number}: the definition does {'nothing' if is_idle else 'something'}"
+
+
+def faults_of_code(label: str, rows: list[Words], done: list[Effects],
+                   coded: dict[str, list[Coded]]) -> Iterator[str]:
+    """Rows of a table that its code doesn't have, or that say or do something else there."""
+    numbers = " ".join(sorted(coded, key=int))
+    if numbers != " ".join(str(it) for it, _ in enumerate(rows, 1)):
+        yield f"{label} has {len(rows)} rows, and in code the rows {numbers or 'none'}"
+    for number, (row, effects) in enumerate(zip(rows, done), 1):
+        due = WORD.findall(effects.text)
+        for it in coded.get(str(number), []):
+            agree = is_part if it.does_more else list.__eq__
+            head = f"{label} {number}: the definition"
+            if not agree(it.roles, row.roles):
+                yield f"{head} says {' '.join(row.roles)}, and the code {' '.join(it.roles)}"
+            if not agree(it.words, due) and (label, number) not in PLAIN:
+                yield f"{head} has {' '.join(due)}, and the code {' '.join(it.words)}"
+
+
+def faults_of_model(shown: Shown, modelled: dict[str, list[str]], roles: set[str]) -> Iterator[str]:
+    """Rows of a page's table that the model doesn't have, or that say something else there."""
+    for label in shown.labels:
+        rows = modelled.get(label, [])
+        if rows and len(rows) != len(shown.rows):
+            yield f"{label} has {len(shown.rows)} rows, and in the model {len(rows)}"
+        for (number, *cells), row in zip(shown.rows, rows):
+            told = [it for it in SPAN.findall("|".join(cells)) if it.replace("-", "") in roles]
+            if not is_part(said := SAYS.findall(row), told):
+                yield (f"{label} {number}: the page says {' '.join(told)},"
+                       f" and the model {' '.join(said)}")
 
 
 def faults_of_notes(noted: Noted, pages: list[Shown], places: Places) -> Iterator[str]:
@@ -109,6 +143,7 @@ def faults_of_notes(noted: Noted, pages: list[Shown], places: Places) -> Iterato
 
 def faults() -> Iterator[str]:
     files, pages = tables_defined(), [*tables_shown()]
+    coded, modelled, noted = tables_coded(), tables_modelled(), noted_in(map(text_of, files))
     defined = {it.name: it for tables in files.values() for it in tables}
     words, effects = rows_in_words(files), effects_in(files)
     places = {name: at for at, shown in enumerate(pages) for name in shown.names}
@@ -121,6 +156,7 @@ def faults() -> Iterator[str]:
         if not are_cases:
             done = [row for name in shown.names for row in effects.get(name, [])]
             told += faults_of_effects(shown, done, roles)
+        told += faults_of_model(shown, modelled, roles)
         yield from (f"{shown.page}: {it}" for it in told)
     for name, table in sorted(defined.items()):
         if table.form == "rows" and len(table.rows) > 1 and name not in places:
@@ -128,5 +164,10 @@ def faults() -> Iterator[str]:
     for path, tables in files.items():
         for one, other in late_tables(places, tables):
             yield f"{path}: {one} and {other} stand in the pages the other way round"
-    yield from faults_of_notes(noted_in(map(text_of, files)), pages, places)
+    for table, names in noted.items():
+        if table not in BY_CASES:
+            rows, done = ([it for name in names for it in found.get(name, [])]
+                          for found in (words, effects))
+            yield from faults_of_code(table, rows, done, coded.get(table, {}))
+    yield from faults_of_notes(noted, pages, places)
     yield from ["no page shows a table of rows"] * (not pages)

@@ -177,10 +177,10 @@ def texts(build: Build, is_debian: bool) -> dict[str, bytes]:
         found = {f"{path}.gz": packed_small(text) for path, text in found.items()}
     else:
         found[f"{DOCS}/{versions.PAGE}"] = bytes_of(versions.PAGE)
-    shells = {"bash": "share/bash-completion/completions/cave",
-              "zsh": f"share/zsh/{'vendor-completions' if is_debian else 'site-functions'}/_cave",
-              "fish": "share/fish/vendor_completions.d/cave.fish"}
-    found |= {path: said_by("tools/install/completions", it) for it, path in shells.items()}
+    shells = {"cave.bash": "share/bash-completion/completions/cave",
+              "_cave": f"share/zsh/{'vendor-completions' if is_debian else 'site-functions'}/_cave",
+              "cave.fish": "share/fish/vendor_completions.d/cave.fish"}
+    found |= {to: bytes_of(f"tools/install/complete/{it}") for it, to in shells.items()}
     return found | {f"{DOCS}/BUILD": build.text().encode(),
                     f"{DOCS}/copyright": filled("copyright", year=build.day.year)}
 

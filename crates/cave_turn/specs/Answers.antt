@@ -33,8 +33,7 @@ answer_of word =
 
 -- only the first word of a line is the answer
 unfoldable pub answer_in : CaveView → List ℕ → Answer
-answer_in cave line =
-    unwrap_or (option_map answer_of (words_of cave.letters line).first) Neither
+answer_in cave line = unwrap_or (option_map answer_of (words_of cave.letters line).first) Neither
 
 -- the question is answered
 abbrev pub without_question : State → State
@@ -87,9 +86,6 @@ pub record Reply : Type 0 where
   pub question : Question
   pub answer : Answer
 
-abbrev pub reply : Question → Answer → Reply
-reply q answer = record { question = q; answer = answer }
-
 abbrev pub says_yes : Test Reply
 says_yes d = is_yes d.about.answer
 
@@ -115,7 +111,8 @@ reply_rows =
 
 abbrev pub after_reply : CaveView → Question → Answer → Scene → Scene
 after_reply cave q answer p =
-    (by_table table.Replies reply_rows (deed cave (reply q answer) p)).scene
+    let given : Reply = record { question = q; answer = answer } in
+    (by_table table.Replies reply_rows (deed cave given p)).scene
 
 -- a hint that is offered, or its price
 abbrev pub is_of_hint : Question → Bool

@@ -71,14 +71,19 @@ next_word_is letters d = is_written letters (unwrap_or d.about.next d.about.word
 abbrev pub has_meaning : Test Phrase
 has_meaning d = is_some d.about.word.meaning
 
+abbrev pub is_of : Class → SaidWord → Bool
+is_of c word = unwrap_or (option_map (λ (m : Meaning). same_class m.class c) word.meaning) false
+
 -- the word is of a class
 abbrev pub means : Class → Test Phrase
-means c d =
-    unwrap_or (option_map (λ (m : Meaning). same_class m.class c) d.about.word.meaning) false
+means c d = is_of c d.about.word
+
+abbrev pub number_of : SaidWord → ℕ
+number_of word = unwrap_or (option_map (λ (m : Meaning). m.number) word.meaning) 0
 
 -- the number of the word in its class
 abbrev pub number : Deed Phrase → ℕ
-number d = unwrap_or (option_map (λ (m : Meaning). m.number) d.about.word.meaning) 0
+number d = number_of d.about.word
 
 abbrev pub of_motion : NamedMotion → Test Phrase
 of_motion m d = number d == motion_number m
@@ -135,17 +140,13 @@ tells_message d = asks_for (request.Tell (part.Message (number d))) d
 abbrev pub echoes : Deed Phrase → Act Understood
 echoes d = asks_for (request.Tell (part.Word line.Okay d.about.word.word)) d
 
--- a verb is done to an object, or to none
-abbrev pub acts : ℕ → ℕ → Deed Phrase → Act Understood
-acts v x d = asks_for (request.Act v x d.about.word.word) d
-
 -- the verb is done to no object
 abbrev pub acts_alone : Deed Phrase → Act Understood
-acts_alone d = acts (number d) 0 d
+acts_alone d = asks_for (request.Act (number d) 0 d.about.word.word) d
 
 -- the verb is done to the object, if there is one; without a verb the player is asked what to do
 abbrev pub acts_by : Option ℕ → Deed Phrase → Act Understood
-acts_by (Some v) d = acts v d.about.half.object d
+acts_by (Some v) d = asks_for (request.Act v d.about.half.object d.about.word.word) d
 acts_by None d = asks_for (request.WhatToDo d.about.word.word) d
 
 abbrev pub acts_by_verb : Deed Phrase → Act Understood

@@ -10,11 +10,12 @@ use Rattle.cave_world.specs.State.{LIVES}
 use Rattle.turn_ends.specs.Endings.{count_death, end_as}
 use Rattle.turn_scene.specs.Rows.{Test, Effect, Row, deed, plain_row, otherwise, by_table}
 use Rattle.turn_scene.specs.Tests.{the, it, is_it, carried, in_hands, deaths, start, older, building}
-use Rattle.turn_scene.specs.Effects.{in_scene, move, put_player, say, set_prop, for_each_down_from}
+use Rattle.turn_scene.specs.Effects.{in_scene, follow, move, put_player, say, set_prop}
+use Rattle.turn_scene.specs.Effects.{for_each_down_from}
 use Rattle.turn_scene.specs.Scene.{Scene}
 use Rattle.turn_scene.specs.Props.{LAMP_OFF}
 use Rattle.cave_world.specs.declared.tables.Table.TheVariants as table
-use Rattle.cave_turn.specs.Effects.{describe}
+use Rattle.turn_moves.specs.Arrival.{after_description}
 
 -- what is said at a first, a second, a third revival
 unfoldable pub reborn_rows : List (Row Question (Unit {0}))
@@ -48,7 +49,7 @@ revive =
     by_table table.LampPutOut put_out_rows
     ∷ leave_belongings
     ∷ put_player building
-    ∷ describe
+    ∷ follow after_description
     ∷ []
 
 abbrev pub dead_for_good : Test Question

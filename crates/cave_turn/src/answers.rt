@@ -25,7 +25,7 @@ use data_rows::Role;
 use turn_clocks::{give_hint, price};
 use turn_ends::{end, question_row, tell_question};
 use turn_moves::arrive;
-use turn_scene::{Rules, Scene, start_place};
+use turn_scene::{Rules, Scene, rows, start_place};
 
 /// What a line answers to a question.
 #[derive(Clone, Copy, Debug, PartialEq, Eq)]
@@ -169,22 +169,19 @@ fn take_reply<N: RowNotes>(
         ≡ after_reply (cave_of rules.now) question.now answer (scene_of N.rows scene.old) }
     ensures says { MovesOnSaying (parts_of_arrival scene.old.left + 1) scene.old scene.new }
 {
-    match answer {
-        Answer::Yes => {
-            scene.note(Table::Replies, 1);
+    rows! { scene, Table::Replies;
+        is_yes(answer) => {
             close_question(scene.state);
-            say_yes(rules, question, scene)
-        }
-        Answer::No => {
-            scene.note(Table::Replies, 2);
+            say_yes(rules, question, scene);
+        };
+        matches!(answer, Answer::No) => {
             close_question(scene.state);
-            say_no(rules, question, scene)
-        }
-        Answer::Neither => {
-            scene.note(Table::Replies, 3);
+            say_no(rules, question, scene);
+        };
+        otherwise => {
             scene.say(Role::Answer);
-            tell_question(rules, question, scene)
-        }
+            tell_question(rules, question, scene);
+        };
     }
 }
 

@@ -11,7 +11,7 @@ ghost use Rattle.cave_turn.specs.Commands.{after_next, followed, keep_half_comma
 ghost use Rattle.cave_turn.specs.Commands.{do_request, after_remembering, after_keeping};
 ghost use Rattle.cave_turn.specs.Commands.{after_understood, after_words, after_unread};
 ghost use Rattle.cave_turn.specs.Commands.{after_clocks, after_timed_words, after_command};
-ghost use Rattle.cave_turn.specs.Commands.{do_action};
+ghost use Rattle.cave_turn.specs.Commands.{do_action, verb_that_asks, is_what_to_do, is_unknown};
 ghost use Rattle.cave_verbs.specs.Verbs.{verb_of};
 ghost use Rattle.turn_scene.specs.Rows.{act_of, deed, Does, by_table};
 ghost use Rattle.cave_world.specs.declared.tables.Table.TheVariants as table;
@@ -26,7 +26,7 @@ use data_rows::Role;
 use turn_clocks::{Clocks, run_clocks};
 use turn_ends::{ask, end};
 use turn_moves::{arrive, describe_here, journey_by_request};
-use turn_scene::{Rules, Scene};
+use turn_scene::{Rules, Scene, rows};
 use world_objects::{Object, Place};
 
 /// Does what a command line says.
@@ -78,9 +78,9 @@ fn forget_knife<N: RowNotes>(rules: &Rules<'_>, scene: &mut Scene<'_, N>)
     ensures rows { Does N.rows (by_table table.KnifeForgotten forget_knife_rows ∷ []) 0 rules.now tt
         scene.old scene.new }
 {
-    if is_elsewhere(scene.state.trail.here, scene.state.dwarves.knife) {
-        scene.note(Table::KnifeForgotten, 1);
-        scene.state.dwarves.knife = Knife::Unthrown;
+    rows! { scene, Table::KnifeForgotten;
+        is_elsewhere(scene.state.trail.here, scene.state.dwarves.knife)
+            => { scene.state.dwarves.knife = Knife::Unthrown; };
     }
 }
 
@@ -106,18 +106,11 @@ fn tell_unknown_word<N: RowNotes>(rules: &Rules<'_>, scene: &mut Scene<'_, N>)
 {
     let first = scene.happens(20);
     let second = scene.happens(20);
-    if second {
-        scene.note(Table::UnknownWord, 1);
-        scene.say(Role::NoWord3);
-        return;
+    rows! { scene, Table::UnknownWord;
+        second => say(Role::NoWord3);
+        first => say(Role::NoWord2);
+        otherwise => say(Role::NoWord);
     }
-    if first {
-        scene.note(Table::UnknownWord, 2);
-        scene.say(Role::NoWord2);
-        return;
-    }
-    scene.note(Table::UnknownWord, 3);
-    scene.say(Role::NoWord);
 }
 
 /// Says that the knives vanished.
@@ -214,6 +207,28 @@ fn do_request<N: RowNotes>(rules: &Rules<'_>, request: &Request, scene: &mut Sce
     }
 }
 
+/// The number of the verb that asks for its object, if one does.
+fn verb_that_asks(request: &Request, next: &Next) -> Option<u16>
+    ensures { result ≡ verb_that_asks request.now next.now }
+{
+    match (request, next) {
+        (Request::Act(number, _, _), Next::Keep) => Some(*number),
+        _ => None,
+    }
+}
+
+fn is_what_to_do(request: &Request) -> bool
+    ensures { result ≡ is_what_to_do request.now }
+{
+    matches!(request, Request::WhatToDo(_))
+}
+
+fn is_unknown(request: &Request) -> bool
+    ensures { result ≡ is_unknown request.now }
+{
+    matches!(request, Request::Unknown)
+}
+
 /// What is kept for the next command: the verb that asks for its object, or what was said so far.
 #[tactic(auto, unfolding(crate::specs::Commands::keep_half_command))]
 fn keep_half_command<N: RowNotes>(
@@ -226,32 +241,16 @@ fn keep_half_command<N: RowNotes>(
         (deed cave (followed understood.now next.now) (scene_of N.rows scene.old)) }
     ensures says { GoesOnSaying 0 scene.old scene.new }
 {
-    match &understood.request {
-        Request::Act(number, _, _) => match next {
-            Next::Keep => {
-                scene.note(Table::HalfCommand, 1);
-                Some(HalfCommand {
-                    verb: Some(*number),
-                    object: Object::none(),
-                })
-            }
-            _ => {
-                scene.note(Table::HalfCommand, 4);
-                None
-            }
-        },
-        Request::WhatToDo(_) => {
-            scene.note(Table::HalfCommand, 2);
-            Some(understood.half)
-        }
-        Request::Unknown => {
-            scene.note(Table::HalfCommand, 3);
-            Some(understood.half)
-        }
-        Request::Motion(_) | Request::Tell(_) | Request::Knives => {
-            scene.note(Table::HalfCommand, 4);
-            None
-        }
+    let verb = verb_that_asks(&understood.request, next);
+    let just_verb = HalfCommand {
+        verb,
+        object: Object::none(),
+    };
+    rows! { scene, Table::HalfCommand, None;
+        verb.is_some() => {} -> Some(just_verb);
+        is_what_to_do(&understood.request) => {} -> Some(understood.half);
+        is_unknown(&understood.request) => {} -> Some(understood.half);
+        otherwise => {};
     }
 }
 

@@ -11,9 +11,9 @@ use cave_words::Named;
 use cave_world::{RowNotes, Table};
 use turn_moves::arrive;
 use turn_scene::props::{DRAGON_DEAD, DRAGON_DYING, RUG_FREE};
-use turn_scene::{Rules, Scene, home, second_home};
+use turn_scene::{Rules, Scene, home, rows, second_home};
 use world_objects::object::OBJECTS;
-use world_objects::{Anchor, Object, Place, Prop};
+use world_objects::{Object, Place};
 
 /// Where the dead dragon is: between its two homes, at its only one, or where the player is.
 #[tactic(auto, unfolding(crate::specs::Dragon::lair))]
@@ -23,20 +23,13 @@ fn lair<N: RowNotes>(rules: &Rules<'_>, scene: &mut Scene<'_, N>) -> Place
     let dragon = rules.thing(Named::Dragon);
     let one = home(rules, dragon);
     let other = second_home(rules, dragon);
-    if one.number() != 0 && other.number() != 0 {
-        scene.note(Table::Lair, 1);
-        return Place::new((one.number() + other.number()) / 2);
+    rows! { scene, Table::Lair, scene.state.trail.here;
+        one.number() != 0 && other.number() != 0
+            => {} -> Place::new((one.number() + other.number()) / 2);
+        one.number() != 0 => {} -> one;
+        other.number() != 0 => {} -> other;
+        otherwise => {};
     }
-    if one.number() != 0 {
-        scene.note(Table::Lair, 2);
-        return one;
-    }
-    if other.number() != 0 {
-        scene.note(Table::Lair, 3);
-        return other;
-    }
-    scene.note(Table::Lair, 4);
-    scene.state.trail.here
 }
 
 /// Whether an object is at a home of the dragon.
@@ -63,9 +56,8 @@ fn gather_object<N: RowNotes>(
         ≡ after_gather (cave_of rules.now) lair object (scene_of N.rows scene.old) }
     ensures says { GoesOnSaying 0 scene.old scene.new }
 {
-    if is_by_dragon(rules, object, scene) {
-        scene.note(Table::Gathering, 1);
-        scene.state.move_to(object, lair);
+    rows! { scene, Table::Gathering;
+        is_by_dragon(rules, object, scene) => move_to(object, lair);
     }
 }
 
@@ -91,10 +83,10 @@ fn settle<N: RowNotes>(rules: &Rules<'_>, lair: Place, scene: &mut Scene<'_, N>)
 {
     let dragon = rules.thing(Named::Dragon);
     let rug = rules.thing(Named::Rug);
-    scene.state.objects.anchor_to(dragon, Anchor::Fixed);
-    scene.state.objects.anchor_to(rug, Anchor::Loose);
-    scene.state.move_to(dragon, lair);
-    scene.state.move_to(rug, lair);
+    scene.fix(dragon);
+    scene.loosen(rug);
+    scene.move_to(dragon, lair);
+    scene.move_to(rug, lair);
     gather(rules, lair, scene);
     scene.put_player_at(lair);
     arrive(rules, lair, scene);
@@ -109,10 +101,9 @@ pub fn fight<N: RowNotes>(rules: &Rules<'_>, scene: &mut Scene<'_, N>)
     ensures says { MovesOnSaying (parts_of_arrival scene.old.left + 1) scene.old scene.new }
 {
     let dragon = rules.thing(Named::Dragon);
-    let rug = rules.thing(Named::Rug);
     scene.look(dragon, DRAGON_DYING);
-    scene.state.objects.set_prop(dragon, Prop::new(DRAGON_DEAD));
-    scene.state.objects.set_prop(rug, Prop::new(RUG_FREE));
+    scene.set_prop(dragon, DRAGON_DEAD);
+    scene.set_prop(rules.thing(Named::Rug), RUG_FREE);
     let lair = lair(rules, scene);
     settle(rules, lair, scene);
 }

@@ -13,9 +13,9 @@ use cave_words::Named;
 use cave_world::{RowNotes, Table};
 use turn_clocks::consider_all;
 use turn_scene::props::{OYSTER_WRITTEN_ON, UNSEEN};
-use turn_scene::{Rules, Scene};
+use turn_scene::{Rules, Scene, rows};
 use world_objects::object::OBJECTS;
-use world_objects::{Object, Objects, Prop};
+use world_objects::{Object, Objects};
 
 /// Ends a turn; after a question or the end of the game it does nothing more.
 #[tactic(auto, unfolding(crate::specs::Finish::after_end_of_turn, crate::specs::Finish::end_rows))]
@@ -46,13 +46,11 @@ fn show_object<N: RowNotes>(rules: &Rules<'_>, object: Object, scene: &mut Scene
         ≡ after_object_shown (cave_of rules.now) object (scene_of N.rows scene.old) }
     ensures says { GoesOnSaying 0 scene.old scene.new }
 {
-    if is_hidden_in_hands(&scene.state.objects, object) {
-        scene.note(Table::ObjectShown, 1);
-        let prop = scene.state.objects.prop(object).value();
-        scene
-            .state
-            .objects
-            .set_prop(object, Prop::new(UNSEEN - prop));
+    rows! { scene, Table::ObjectShown;
+        is_hidden_in_hands(&scene.state.objects, object) => {
+            let prop = scene.state.objects.prop(object).value();
+            scene.set_prop(object, UNSEEN - prop);
+        };
     }
 }
 
@@ -75,16 +73,12 @@ fn show_hands<N: RowNotes>(rules: &Rules<'_>, scene: &mut Scene<'_, N>)
     ensures rows { Does N.rows (by_table table.Hands hands_rows ∷ []) 1 rules.now tt
         scene.old scene.new }
 {
-    if !scene.state.closing.is_closed {
-        return;
+    let is_closed = scene.state.closing.is_closed;
+    rows! { scene, Table::Hands;
+        is_closed && is_hidden_in_hands(&scene.state.objects, rules.thing(Named::Oyster)) => {
+            scene.look(rules.thing(Named::Oyster), OYSTER_WRITTEN_ON);
+            show_all(rules, scene);
+        };
+        is_closed => { show_all(rules, scene); };
     }
-    let oyster = rules.thing(Named::Oyster);
-    if is_hidden_in_hands(&scene.state.objects, oyster) {
-        scene.note(Table::Hands, 1);
-        scene.look(oyster, OYSTER_WRITTEN_ON);
-        show_all(rules, scene);
-        return;
-    }
-    scene.note(Table::Hands, 2);
-    show_all(rules, scene);
 }

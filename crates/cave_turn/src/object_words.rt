@@ -13,7 +13,7 @@ use cave_words::Named;
 use cave_world::{Knife, Motion, RowNotes, Table};
 use turn_scene::props::PLANT_SMALL;
 use turn_scene::{
-    Rules, Scene, has_other_prop, is_carried, is_dwarf_here, is_liquid, is_near, lake, liquid,
+    Rules, Scene, has_other_prop, is_carried, is_dwarf_here, is_liquid, is_near, lake, liquid, rows,
 };
 use world_objects::{Object, Place};
 
@@ -49,44 +49,20 @@ pub fn object_word<N: RowNotes>(
 ) -> ObjectWord
     ensures row { PlaysBy N.rows object_word 0 rules.now about.now scene.old scene.new result }
 {
-    if is_there(rules, about, scene) {
-        scene.note(Table::ObjectWord, 1);
-        return ObjectWord::Is(about.object);
+    rows! { scene, Table::ObjectWord, ObjectWord::Is(about.object);
+        is_there(rules, about, scene) => {};
+        is_above_grate(rules, about, scene)
+            => {} -> ObjectWord::Leads(Motion::Depression.number());
+        is_below_grate(rules, about, scene) => {} -> ObjectWord::Leads(Motion::Entrance.number());
+        is_dwarf(rules, about, scene) => {};
+        is_liquid_here(rules, about, scene) => {};
+        is_grown_plant(rules, about, scene)
+            => {} -> ObjectWord::Is(rules.thing(Named::SecondPlant));
+        is_knife_here(rules, about, scene) => {} -> ObjectWord::Knives;
+        is_second_rod(rules, about, scene) => {} -> ObjectWord::Is(rules.thing(Named::SecondRod));
+        is_sought(rules, about, scene) => {};
+        otherwise => {} -> ObjectWord::Unseen;
     }
-    if is_above_grate(rules, about, scene) {
-        scene.note(Table::ObjectWord, 2);
-        return ObjectWord::Leads(Motion::Depression.number());
-    }
-    if is_below_grate(rules, about, scene) {
-        scene.note(Table::ObjectWord, 3);
-        return ObjectWord::Leads(Motion::Entrance.number());
-    }
-    if is_dwarf(rules, about, scene) {
-        scene.note(Table::ObjectWord, 4);
-        return ObjectWord::Is(about.object);
-    }
-    if is_liquid_here(rules, about, scene) {
-        scene.note(Table::ObjectWord, 5);
-        return ObjectWord::Is(about.object);
-    }
-    if is_grown_plant(rules, about, scene) {
-        scene.note(Table::ObjectWord, 6);
-        return ObjectWord::Is(rules.thing(Named::SecondPlant));
-    }
-    if is_knife_here(rules, about, scene) {
-        scene.note(Table::ObjectWord, 7);
-        return ObjectWord::Knives;
-    }
-    if is_second_rod(rules, about, scene) {
-        scene.note(Table::ObjectWord, 8);
-        return ObjectWord::Is(rules.thing(Named::SecondRod));
-    }
-    if is_sought(rules, about, scene) {
-        scene.note(Table::ObjectWord, 9);
-        return ObjectWord::Is(about.object);
-    }
-    scene.note(Table::ObjectWord, 10);
-    ObjectWord::Unseen
 }
 
 fn is_there<N: RowNotes>(rules: &Rules<'_>, about: &NamedObject, scene: &Scene<'_, N>) -> bool

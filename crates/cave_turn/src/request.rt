@@ -1,4 +1,5 @@
 ghost use Rattle.std.specs.Prelude.{◌≡◌, ◌==◌, ◌||◌, Some, None};
+ghost use Rattle.cave_turn.specs.declared.request.SaidWord.{SaidWord};
 ghost use Rattle.turn_scene.specs.Scene.{cave_of, scene_of};
 ghost use Rattle.turn_scene.specs.Bounds.{GoesOnSaying};
 ghost use Rattle.cave_world.specs.declared.motion.Motion.TheVariants as motion_is;
@@ -6,6 +7,8 @@ ghost use Rattle.cave_world.specs.Motions.{motion_number};
 ghost use Rattle.turn_scene.specs.Rows.{deed, PlaysBy, act_of};
 ghost use Rattle.cave_turn.specs.Request.{half_command_of, phrase, said_word, by_object_alone};
 ghost use Rattle.cave_turn.specs.Request.{word_alone, word_aloud, by_object_before, word_before};
+ghost use Rattle.cave_turn.specs.Request.{object_alone, object_before, is_of, number_of};
+ghost use Rattle.cave_world.specs.Called.{or_no_object};
 ghost use Rattle.cave_turn.specs.Request.{pours_over, pour_in, word_entered, two_words, read_words};
 
 use crate::object_words::{NamedObject, ObjectWord, is_verb_of, object_word};
@@ -13,7 +16,7 @@ use cave_verbs::Verb;
 use cave_words::{Class, Meaning, Named, Word};
 use cave_world::{Motion, Part, RowNotes, Table, Talk, WordLine, or_no_object};
 use data_rows::Role;
-use turn_scene::{Rules, Scene, is_liquid, lake};
+use turn_scene::{Rules, Scene, is_liquid, lake, rows};
 use world_objects::Object;
 
 /// Half a command: what was said of it before its other half.
@@ -95,6 +98,43 @@ impl HalfCommand {
     }
 }
 
+impl SaidWord {
+    /// Whether the word is of a class.
+    fn is_of(&self, class: Class) -> bool
+        ensures { result ≡ is_of class self.now }
+    {
+        match self.meaning {
+            Some(meaning) => meaning.class == class,
+            None => false,
+        }
+    }
+
+    /// The number of the word in its class.
+    fn number(&self) -> u16
+        ensures { result ≡ number_of self.now }
+    {
+        match self.meaning {
+            Some(meaning) => meaning.number,
+            None => 0,
+        }
+    }
+
+    /// The object that the word names, with the verb that was said before.
+    fn object_named(&self, verb: Option<u16>, is_alone: bool) -> NamedObject
+        ensures { result ≡ record {
+          object = or_no_object (Some (number_of self.now));
+          verb = verb;
+          is_alone = is_alone;
+        } }
+    {
+        NamedObject {
+            object: or_no_object(Some(self.number())),
+            verb,
+            is_alone,
+        }
+    }
+}
+
 /// What the words of a line say, with what was said before.
 #[tactic(auto, unfolding(crate::specs::Request::words_of_line))]
 pub fn read_words<N: RowNotes>(
@@ -109,24 +149,13 @@ pub fn read_words<N: RowNotes>(
 {
     let half = HalfCommand::of(scene.state.talk);
     let is_saying = is_verb_of(Verb::Say, half.verb);
-    match next {
-        None => {
-            let said = said_word(rules, word);
-            if is_saying {
-                scene.note(Table::Words, 2);
-                return word_aloud(rules, half, said, scene);
-            }
-            scene.note(Table::Words, 4);
-            word_alone(rules, half, said, scene)
-        }
-        Some(next) => {
-            if is_saying {
-                scene.note(Table::Words, 1);
-                return two_words(rules, half.with_verb(None), word, next, scene);
-            }
-            scene.note(Table::Words, 3);
-            two_words(rules, half, word, next, scene)
-        }
+    let after = next.unwrap_or(word);
+    rows! { scene, Table::Words;
+        is_saying && next.is_some()
+            => {} -> two_words(rules, half.with_verb(None), word, after, scene);
+        is_saying => {} -> word_aloud(rules, half, &said_word(rules, word), scene);
+        next.is_some() => {} -> two_words(rules, half, word, after, scene);
+        otherwise => {} -> word_alone(rules, half, &said_word(rules, word), scene);
     }
 }
 
@@ -140,15 +169,15 @@ fn said_word(rules: &Rules<'_>, word: Word) -> SaidWord
 }
 
 /// What an object asks for if no other word follows.
-fn object_alone<N: RowNotes>(
+fn by_object_alone<N: RowNotes>(
     rules: &Rules<'_>,
     found: ObjectWord,
     half: HalfCommand,
-    word: SaidWord,
+    word: &SaidWord,
     scene: &Scene<'_, N>,
 ) -> Understood
     ensures { act_of (scene_of N.rows scene.now) result ≡ by_object_alone found
-        (deed (cave_of rules.now) (phrase half word None) (scene_of N.rows scene.now)) }
+        (deed (cave_of rules.now) (phrase half word.now None) (scene_of N.rows scene.now)) }
 {
     match found {
         ObjectWord::Is(object) => match half.verb {
@@ -163,52 +192,40 @@ fn object_alone<N: RowNotes>(
     }
 }
 
+fn object_alone<N: RowNotes>(
+    rules: &Rules<'_>,
+    half: HalfCommand,
+    word: &SaidWord,
+    scene: &mut Scene<'_, N>,
+) -> Understood
+    ensures row { PlaysBy N.rows object_alone 0 rules.now (phrase half word.now None) scene.old
+        scene.new result }
+{
+    let found = object_word(rules, &word.object_named(half.verb, true), scene);
+    by_object_alone(rules, found, half, word, scene)
+}
+
 /// What a word says if no other follows.
 #[tactic(auto, unfolding(crate::specs::Request::word_alone))]
 fn word_alone<N: RowNotes>(
     rules: &Rules<'_>,
     half: HalfCommand,
-    word: SaidWord,
+    word: &SaidWord,
     scene: &mut Scene<'_, N>,
 ) -> Understood
-    ensures row { PlaysBy N.rows word_alone 0 rules.now (phrase half word None) scene.old scene.new
-        result }
+    ensures row { PlaysBy N.rows word_alone 0 rules.now (phrase half word.now None) scene.old
+        scene.new result }
 {
-    match word.meaning {
-        None => {
-            scene.note(Table::WordAlone, 1);
-            half.asks(Request::Unknown)
-        }
-        Some(meaning) => match meaning.class {
-            Class::Motion => {
-                scene.note(Table::WordAlone, 2);
-                half.asks(Request::Motion(meaning.number))
-            }
-            Class::Special => {
-                scene.note(Table::WordAlone, 3);
-                half.asks(Request::Tell(Part::Message(meaning.number)))
-            }
-            Class::Object => {
-                scene.note(Table::WordAlone, 4);
-                let named = NamedObject {
-                    object: or_no_object(Some(meaning.number)),
-                    verb: half.verb,
-                    is_alone: true,
-                };
-                let found = object_word(rules, &named, scene);
-                object_alone(rules, found, half, word, scene)
-            }
-            Class::Action => {
-                let object = half.object;
-                if meaning.number == Verb::Say.number() {
-                    scene.note(Table::WordAlone, 5);
-                    return half.asks(Request::Act(meaning.number, Object::none(), word.word));
-                }
-                scene.note(Table::WordAlone, 6);
-                half.with_verb(Some(meaning.number))
-                    .asks(Request::Act(meaning.number, object, word.word))
-            }
-        },
+    let number = word.number();
+    rows! { scene, Table::WordAlone;
+        word.meaning.is_none() => {} -> half.asks(Request::Unknown);
+        word.is_of(Class::Motion) => {} -> half.asks(Request::Motion(number));
+        word.is_of(Class::Special) => {} -> half.asks(Request::Tell(Part::Message(number)));
+        word.is_of(Class::Object) => {} -> object_alone(rules, half, word, scene);
+        word.is_of(Class::Action) && number == Verb::Say.number()
+            => {} -> half.asks(Request::Act(number, Object::none(), word.word));
+        let act = Request::Act(number, half.object, word.word);
+        otherwise => {} -> half.with_verb(Some(number)).asks(act);
     }
 }
 
@@ -226,51 +243,53 @@ fn is_magic_motion(number: u16) -> bool
 fn word_aloud<N: RowNotes>(
     rules: &Rules<'_>,
     half: HalfCommand,
-    word: SaidWord,
+    word: &SaidWord,
     scene: &mut Scene<'_, N>,
 ) -> Understood
-    ensures row { PlaysBy N.rows word_aloud 0 rules.now (phrase half word None) scene.old scene.new
-        result }
+    ensures row { PlaysBy N.rows word_aloud 0 rules.now (phrase half word.now None) scene.old
+        scene.new result }
 {
-    if let Some(meaning) = word.meaning {
-        match meaning.class {
-            Class::Motion => {
-                if is_magic_motion(meaning.number) {
-                    scene.note(Table::WordAloud, 1);
-                    return word_alone(rules, half, word, scene);
-                }
-            }
-            Class::Action => {
-                if meaning.number == Verb::Foo.number() {
-                    scene.note(Table::WordAloud, 2);
-                    return word_alone(rules, half, word, scene);
-                }
-            }
-            Class::Object | Class::Special => {}
-        }
+    rows! { scene, Table::WordAloud;
+        word.is_of(Class::Motion) && is_magic_motion(word.number())
+            => {} -> word_alone(rules, half, word, scene);
+        word.is_of(Class::Action) && word.number() == Verb::Foo.number()
+            => {} -> word_alone(rules, half, word, scene);
+        otherwise => {} -> half.asks(Request::Tell(Part::Word(WordLine::Okay, word.word)));
     }
-    scene.note(Table::WordAloud, 3);
-    half.asks(Request::Tell(Part::Word(WordLine::Okay, word.word)))
 }
 
 /// What an object asks for if another word follows.
-fn object_before<N: RowNotes>(
+fn by_object_before<N: RowNotes>(
     rules: &Rules<'_>,
     found: ObjectWord,
     half: HalfCommand,
-    word: SaidWord,
-    next: SaidWord,
+    word: &SaidWord,
+    next: &SaidWord,
     scene: &mut Scene<'_, N>,
 ) -> Understood
-    ensures row { PlaysBy N.rows (by_object_before found) 0 rules.now (phrase half word (Some next))
-        scene.old scene.new result }
+    ensures row { PlaysBy N.rows (by_object_before found) 0 rules.now
+        (phrase half word.now (Some next.now)) scene.old scene.new result }
 {
     match found {
-        ObjectWord::Is(object) => { word_alone(rules, half.with_object(object), next, scene) }
-        ObjectWord::Leads(motion) => half.asks(Request::Motion(motion)),
-        ObjectWord::Knives => half.asks(Request::Knives),
-        ObjectWord::Unseen => half.asks(Request::Tell(Part::Word(WordLine::NotSeen, word.word))),
+        ObjectWord::Is(object) => word_alone(rules, half.with_object(object), next, scene),
+        ObjectWord::Leads(_) | ObjectWord::Knives | ObjectWord::Unseen => {
+            by_object_alone(rules, found, half, word, scene)
+        }
     }
+}
+
+fn object_before<N: RowNotes>(
+    rules: &Rules<'_>,
+    half: HalfCommand,
+    word: &SaidWord,
+    next: &SaidWord,
+    scene: &mut Scene<'_, N>,
+) -> Understood
+    ensures row { PlaysBy N.rows object_before 0 rules.now (phrase half word.now (Some next.now))
+        scene.old scene.new result }
+{
+    let found = object_word(rules, &word.object_named(half.verb, false), scene);
+    by_object_before(rules, found, half, word, next, scene)
 }
 
 /// What a word says if another follows.
@@ -278,46 +297,22 @@ fn object_before<N: RowNotes>(
 fn word_before<N: RowNotes>(
     rules: &Rules<'_>,
     half: HalfCommand,
-    word: SaidWord,
-    next: SaidWord,
+    word: &SaidWord,
+    next: &SaidWord,
     scene: &mut Scene<'_, N>,
 ) -> Understood
-    ensures row { PlaysBy N.rows word_before 0 rules.now (phrase half word (Some next)) scene.old
-        scene.new result }
+    ensures row { PlaysBy N.rows word_before 0 rules.now (phrase half word.now (Some next.now))
+        scene.old scene.new result }
 {
-    match word.meaning {
-        None => {
-            scene.note(Table::WordBefore, 1);
-            half.asks(Request::Unknown)
-        }
-        Some(meaning) => match meaning.class {
-            Class::Motion => {
-                scene.note(Table::WordBefore, 2);
-                half.asks(Request::Motion(meaning.number))
-            }
-            Class::Special => {
-                scene.note(Table::WordBefore, 3);
-                half.asks(Request::Tell(Part::Message(meaning.number)))
-            }
-            Class::Object => {
-                scene.note(Table::WordBefore, 4);
-                let named = NamedObject {
-                    object: or_no_object(Some(meaning.number)),
-                    verb: half.verb,
-                    is_alone: false,
-                };
-                let found = object_word(rules, &named, scene);
-                object_before(rules, found, half, word, next, scene)
-            }
-            Class::Action => {
-                if meaning.number == Verb::Say.number() {
-                    scene.note(Table::WordBefore, 5);
-                    return word_aloud(rules, half, next, scene);
-                }
-                scene.note(Table::WordBefore, 6);
-                word_alone(rules, half.with_verb(Some(meaning.number)), next, scene)
-            }
-        },
+    let number = word.number();
+    rows! { scene, Table::WordBefore;
+        word.meaning.is_none() => {} -> half.asks(Request::Unknown);
+        word.is_of(Class::Motion) => {} -> half.asks(Request::Motion(number));
+        word.is_of(Class::Special) => {} -> half.asks(Request::Tell(Part::Message(number)));
+        word.is_of(Class::Object) => {} -> object_before(rules, half, word, next, scene);
+        word.is_of(Class::Action) && number == Verb::Say.number()
+            => {} -> word_aloud(rules, half, next, scene);
+        otherwise => {} -> word_alone(rules, half.with_verb(Some(number)), next, scene);
     }
 }
 
@@ -359,16 +354,13 @@ fn word_entered<N: RowNotes>(
         (scene_of N.rows scene.old)) }
     ensures says { GoesOnSaying 0 scene.old scene.new }
 {
-    if next.is(b"STREA") || next.is(b"WATER") {
-        if is_liquid(rules.thing(Named::Water), lake(rules, scene.state)) {
-            scene.note(Table::WordEntered, 1);
-            return half.asks(Request::Tell(Part::Role(Role::FeetWet)));
-        }
-        scene.note(Table::WordEntered, 2);
-        return half.asks(Request::Tell(Part::Role(Role::Where)));
+    rows! { scene, Table::WordEntered;
+        let is_water = next.is(b"STREA") || next.is(b"WATER");
+        is_water && is_liquid(rules.thing(Named::Water), lake(rules, scene.state))
+            => {} -> half.asks(Request::Tell(Part::Role(Role::FeetWet)));
+        is_water => {} -> half.asks(Request::Tell(Part::Role(Role::Where)));
+        otherwise => {} -> word_alone(rules, half, &said_word(rules, next), scene);
     }
-    scene.note(Table::WordEntered, 3);
-    word_alone(rules, half, said_word(rules, next), scene)
 }
 
 /// What two words say. They are looked up as far as they are read.
@@ -383,15 +375,11 @@ fn two_words<N: RowNotes>(
     ensures row { PlaysBy N.rows two_words 0 rules.now (phrase half (said_word (cave_of rules.now)
         word) (Some (said_word (cave_of rules.now) next))) scene.old scene.new result }
 {
-    if word.is(b"ENTER") {
-        scene.note(Table::TwoWords, 1);
-        return word_entered(rules, half, next, scene);
+    rows! { scene, Table::TwoWords;
+        word.is(b"ENTER") => {} -> word_entered(rules, half, next, scene);
+        let first = said_word(rules, word);
+        pours_over(rules, word, next, scene)
+            => {} -> word_before(rules, half, &first, &pour_in(rules), scene);
+        otherwise => {} -> word_before(rules, half, &first, &said_word(rules, next), scene);
     }
-    let first = said_word(rules, word);
-    if pours_over(rules, word, next, scene) {
-        scene.note(Table::TwoWords, 2);
-        return word_before(rules, half, first, pour_in(rules), scene);
-    }
-    scene.note(Table::TwoWords, 3);
-    word_before(rules, half, first, said_word(rules, next), scene)
 }

@@ -15,7 +15,7 @@ use Rattle.world_objects.specs.Objects.{is_in_hands, is_first_at, spot_of}
 use Rattle.cave_verbs.specs.Verbs.{is_verb}
 use Rattle.cave_verbs.specs.declared.verb.Verb.{Verb}
 use Rattle.cave_verbs.specs.declared.verb.Verb.TheVariants as verb
-use Rattle.cave_verbs.specs.Ranks.{take_rank, drop_rank, bare_rank, rank}
+use Rattle.cave_verbs.specs.Ranks.{take_rank, drop_rank, throw_rank, bare_rank, rank}
 
 -- the bottle isn't a liquid
 pub bottle-water : (cave : CaveView) → is_called cave (thing cave name.Bottle) name.Water ≡ false
@@ -40,12 +40,12 @@ unfolding liquid_of
 bottle-there cave s x h = grind arith
 
 -- from a liquid to its bottle the rank of TAKE falls
-pub take-falls : (cave : CaveView) (s : State) (x : ℕ) → is_liquid x (liquid_of cave s) ≡ true
-    → suc (take_rank cave (thing cave name.Bottle)) ≤ take_rank cave x
-take-falls cave s x h =
+pub take_falls : (cave : CaveView) (s : State) (x y : ℕ) → is_liquid x (liquid_of cave s) ≡ true
+    → y ≡ thing cave name.Bottle → suc (take_rank cave y) ≤ take_rank cave x
+take_falls cave s x y h bottle =
     let liquid = liquid-object_called cave s x h in let there = bottle-there cave s x h in
     let water = bottle-water cave in let oil = bottle-oil cave in
-    grind (arith, liquid, there, water, oil)
+    grind (arith, liquid, there, water, oil, bottle)
 
 -- an object is not the one before it
 second_differs : (o : Option ℕ)
@@ -55,7 +55,7 @@ second_differs None = refl
 second_differs (Some n) = grind arith
 
 -- the second rod is not the first
-pub second-rod : (cave : CaveView) → is_called cave (thing cave name.SecondRod) name.Rod ≡ false
+second-rod : (cave : CaveView) → is_called cave (thing cave name.SecondRod) name.Rod ≡ false
 unfolding is_called thing object_called object_named word_of_name
 second-rod cave = second_differs (object_of_word cave (word_of_name name.Rod))
 
@@ -63,6 +63,11 @@ second-rod cave = second_differs (object_of_word cave (word_of_name name.Rod))
 pub drop_falls : (cave : CaveView) (x y : ℕ) → is_called cave x name.Rod ≡ true
     → y ≡ thing cave name.SecondRod → suc (drop_rank cave y) ≤ drop_rank cave x
 drop_falls cave x y rod second = let other = second-rod cave in grind (arith, other)
+
+-- and so does that of THROW
+pub throw_falls : (cave : CaveView) (x y : ℕ) → is_called cave x name.Rod ≡ true
+    → y ≡ thing cave name.SecondRod → suc (throw_rank cave y) ≤ throw_rank cave x
+throw_falls cave x y rod second = let other = second-rod cave in grind (arith, other)
 
 -- nothing that isn't there is near
 nothing-near : (cave : CaveView) (s : State) → is_near cave s 0 ≡ false

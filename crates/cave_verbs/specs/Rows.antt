@@ -4,7 +4,7 @@ use Rattle.cave_world.specs.declared.ending.Ending.{Ending}
 use Rattle.cave_world.specs.declared.ending.Question.{Question}
 use Rattle.turn_scene.specs.declared.scene.Scene.{Scene as OpenScene}
 use Rattle.turn_scene.specs.declared.rules.Rules.{Rules}
-use Rattle.turn_scene.specs.Rows.{Deed, Act, Test, Effect, Thing, Row, row_then, act_of_row}
+use Rattle.turn_scene.specs.Rows.{Deed, Act, Test, Effect, Thing, Row, row_then}
 use Rattle.turn_scene.specs.Rows.{first_fitting_or, nothing_but, noted_from, PlaysBy}
 use Rattle.cave_world.specs.declared.tables.RuleRow.{RuleRow}
 use Rattle.cave_world.specs.declared.tables.Table.{Table}
@@ -77,11 +77,6 @@ ByRows noted_rows rows rules task old new step =
     ActsBy noted_rows (first_fitting rows) rules task old new step
 
 -- nothing is gone on with
-abbrev pub DoneByRow : {N : Type 0} → (N → List RuleRow) → VerbRow → Rules → Task
-    → OpenScene N → OpenScene N → Next → Type 0
-DoneByRow noted_rows r rules task old new next =
-    ActsBy noted_rows (act_of_row r) rules task old new (Done next)
-
 abbrev pub DoneByRows : {N : Type 0} → (N → List RuleRow) → List VerbRow → Rules → Task
     → OpenScene N → OpenScene N → Next → Type 0
 DoneByRows noted_rows rows rules task old new next =

@@ -55,7 +55,10 @@ fn act_bare<N: RowNotes>(rules: &Rules<'_>, task: Task, scene: &mut Scene<'_, N>
     match task.verb {
         Verb::Take => take_what_is_here(rules, task, scene),
         Verb::Open | Verb::Lock => open_what_is_here(rules, task, scene),
-        Verb::Nothing => VerbStep::Done(Next::say(Role::Ok, scene)),
+        Verb::Nothing => {
+            scene.say(Role::Ok);
+            VerbStep::Done(Next::Stay)
+        }
         Verb::On => VerbStep::Done(turn_on(rules, task, scene)),
         Verb::Off => VerbStep::Done(turn_off(rules, task, scene)),
         Verb::Kill => kill_what_is_here(rules, task, scene),
@@ -79,7 +82,10 @@ fn act_bare<N: RowNotes>(rules: &Rules<'_>, task: Task, scene: &mut Scene<'_, N>
         | Verb::Find
         | Verb::Feed
         | Verb::Break
-        | Verb::Wake => VerbStep::Done(task.ask_what(rules, scene)),
+        | Verb::Wake => {
+            task.ask_what(rules, scene);
+            VerbStep::Done(Next::Keep)
+        }
     }
 }
 
@@ -96,7 +102,10 @@ fn act_on<N: RowNotes>(rules: &Rules<'_>, task: Task, scene: &mut Scene<'_, N>) 
         Verb::Take => take(rules, task, scene),
         Verb::Drop => drop_object(rules, task, scene),
         Verb::Open | Verb::Lock => VerbStep::Done(open(rules, task, scene)),
-        Verb::Nothing => VerbStep::Done(Next::say(Role::Ok, scene)),
+        Verb::Nothing => {
+            scene.say(Role::Ok);
+            VerbStep::Done(Next::Stay)
+        }
         Verb::On => VerbStep::Done(turn_on(rules, task, scene)),
         Verb::Off => VerbStep::Done(turn_off(rules, task, scene)),
         Verb::Wave => VerbStep::Done(wave(rules, task, scene)),
@@ -114,7 +123,8 @@ fn act_on<N: RowNotes>(rules: &Rules<'_>, task: Task, scene: &mut Scene<'_, N>) 
         Verb::Break => VerbStep::Done(break_object(rules, task, scene)),
         Verb::Wake => VerbStep::Done(wake(rules, task, scene)),
         Verb::Say | Verb::Calm | Verb::Quit | Verb::Score | Verb::Foo | Verb::Brief => {
-            VerbStep::Done(task.say_default(rules, scene))
+            task.default(rules, scene);
+            VerbStep::Done(Next::Stay)
         }
     }
 }

@@ -10,7 +10,7 @@ use cave_words::Named;
 use cave_world::{Ending, RowNotes, Table};
 use data_rows::{PlaceRole, Role};
 use turn_scene::props::UNSEEN;
-use turn_scene::{Rules, Scene, has_prop_up_to, is_near, is_place, place_named};
+use turn_scene::{Rules, Scene, has_prop_up_to, is_near, is_place, place_named, rows};
 
 /// BLAST, with an object or without one.
 #[tactic(auto, unfolding(crate::specs::Blasting::blast_rows))]
@@ -20,26 +20,13 @@ pub fn blast<N: RowNotes>(rules: &Rules<'_>, task: Task, scene: &mut Scene<'_, N
         scene.new result }
 {
     let rod = rules.thing(Named::SecondRod);
-    if !scene.state.closing.is_closed {
-        scene.note(Table::Blast, 1);
-        return task.say_default(rules, scene);
+    rows! { scene, Table::Blast, Next::Stay;
+        !scene.state.closing.is_closed => task.default(rules);
+        has_prop_up_to(scene.state, rod, UNSEEN) => task.default(rules);
+        is_near(rules, scene.state, rod) => say(Role::Klutz) -> Next::End(Ending::Klutz);
+        let northeast = place_named(rules.cave, PlaceRole::Ne);
+        is_place(scene.state.trail.here, northeast)
+            => say(Role::WrongWay) -> Next::End(Ending::WrongWay);
+        otherwise => say(Role::Success) -> Next::End(Ending::Success);
     }
-    if has_prop_up_to(scene.state, rod, UNSEEN) {
-        scene.note(Table::Blast, 2);
-        return task.say_default(rules, scene);
-    }
-    if is_near(rules, scene.state, rod) {
-        scene.note(Table::Blast, 3);
-        scene.say(Role::Klutz);
-        return Next::End(Ending::Klutz);
-    }
-    let northeast = place_named(rules.cave, PlaceRole::Ne);
-    if is_place(scene.state.trail.here, northeast) {
-        scene.note(Table::Blast, 4);
-        scene.say(Role::WrongWay);
-        return Next::End(Ending::WrongWay);
-    }
-    scene.note(Table::Blast, 5);
-    scene.say(Role::Success);
-    Next::End(Ending::Success)
 }

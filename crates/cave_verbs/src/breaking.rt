@@ -7,11 +7,10 @@ ghost use Rattle.cave_verbs.specs.Breaking.{break_rows, wake_rows};
 use crate::next::Next;
 use crate::task::Task;
 use cave_words::Named;
-use cave_world::{RowNotes, Table};
+use cave_world::{Ending, RowNotes, Table};
 use data_rows::Role;
 use turn_scene::props::{VASE_BROKEN, VASE_WHOLE};
-use turn_scene::{Rules, Scene, has_prop, lay_down};
-use world_objects::{Anchor, Prop};
+use turn_scene::{Rules, Scene, has_prop, rows};
 
 /// BREAK an object.
 #[tactic(auto, unfolding(crate::specs::Breaking::break_rows))]
@@ -21,24 +20,15 @@ pub fn break_object<N: RowNotes>(rules: &Rules<'_>, task: Task, scene: &mut Scen
         scene.new result }
 {
     let x = task.object;
-    if rules.is(x, Named::Vase) && has_prop(scene.state, x, VASE_WHOLE) {
-        scene.note(Table::Break, 1);
-        lay_down(rules, x, scene);
-        scene.state.objects.set_prop(x, Prop::new(VASE_BROKEN));
-        scene.state.objects.anchor_to(x, Anchor::Fixed);
-        return Next::say(Role::VaseSmash, scene);
+    rows! { scene, Table::Break, Next::Stay;
+        rules.is(x, Named::Vase) && has_prop(scene.state, x, VASE_WHOLE)
+            => lay_down(rules, x), set_prop(x, VASE_BROKEN), fix(x), say(Role::VaseSmash);
+        let is_mirror = rules.is(x, Named::Mirror);
+        is_mirror && scene.state.closing.is_closed
+            => say(Role::MirrorBreak), say(Role::Disturbed) -> Next::End(Ending::Killed);
+        is_mirror => say(Role::MirrorNo);
+        otherwise => task.default(rules);
     }
-    if !rules.is(x, Named::Mirror) {
-        scene.note(Table::Break, 4);
-        return task.say_default(rules, scene);
-    }
-    if scene.state.closing.is_closed {
-        scene.note(Table::Break, 2);
-        scene.say(Role::MirrorBreak);
-        return Next::disturb(scene);
-    }
-    scene.note(Table::Break, 3);
-    Next::say(Role::MirrorNo, scene)
 }
 
 /// WAKE an object.
@@ -48,11 +38,9 @@ pub fn wake<N: RowNotes>(rules: &Rules<'_>, task: Task, scene: &mut Scene<'_, N>
     ensures row { DoneByRows N.rows (noted table.Wake wake_rows) rules.now task scene.old
         scene.new result }
 {
-    if rules.is(task.object, Named::Dwarf) && scene.state.closing.is_closed {
-        scene.note(Table::Wake, 1);
-        scene.say(Role::WakeDwarf);
-        return Next::disturb(scene);
+    rows! { scene, Table::Wake, Next::Stay;
+        rules.is(task.object, Named::Dwarf) && scene.state.closing.is_closed
+            => say(Role::WakeDwarf), say(Role::Disturbed) -> Next::End(Ending::Killed);
+        otherwise => task.default(rules);
     }
-    scene.note(Table::Wake, 2);
-    task.say_default(rules, scene)
 }

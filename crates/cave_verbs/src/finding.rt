@@ -2,8 +2,8 @@ ghost use Rattle.std.specs.Prelude.{◌≡◌, ◌+◌, [], ◌∷◌, length};
 ghost use Rattle.base_lines.specs.Numbers.{LAST_OBJECT};
 ghost use Rattle.turn_scene.specs.Bounds.{GoesOnSaying, HasRoom, parts_of_inventory};
 ghost use Rattle.turn_scene.specs.Scene.{scene_of, cave_of};
-ghost use Rattle.cave_verbs.specs.Rows.{DoneByRow, DoneByRows, row};
-ghost use Rattle.turn_scene.specs.Rows.{noted};
+ghost use Rattle.cave_verbs.specs.Rows.{DoneByRows};
+ghost use Rattle.turn_scene.specs.Rows.{Does, noted};
 ghost use Rattle.cave_world.specs.declared.tables.Table.TheVariants as table;
 ghost use Rattle.cave_verbs.specs.Finding.{find_rows, bare_inventory_rows, is_in_inventory};
 ghost use Rattle.cave_verbs.specs.Finding.{listed_up_to, after_naming, tell_bear};
@@ -14,7 +14,7 @@ use arrayvec::ArrayVec;
 use cave_words::Named;
 use cave_world::{Part, RowNotes, State, Table};
 use data_rows::Role;
-use turn_scene::{Rules, Scene, is_carried, is_dwarf_here, is_liquid, lake, liquid};
+use turn_scene::{Rules, Scene, is_carried, is_dwarf_here, is_liquid, lake, liquid, rows};
 use world_objects::Object;
 use world_objects::object::OBJECTS;
 
@@ -26,26 +26,16 @@ pub fn find<N: RowNotes>(rules: &Rules<'_>, task: Task, scene: &mut Scene<'_, N>
         scene.new result }
 {
     let x = task.object;
-    let (row, role) = if is_carried(rules, scene.state, x) {
-        (1, Role::HeldIt)
-    } else if scene.state.closing.is_closed {
-        (2, Role::Around)
-    } else if scene.state.at(x) {
-        (3, Role::HereIt)
-    } else if is_liquid(x, liquid(rules, scene.state))
-        && scene.state.at(rules.thing(Named::Bottle))
-    {
-        (4, Role::HereIt)
-    } else if is_liquid(x, lake(rules, scene.state)) {
-        (5, Role::HereIt)
-    } else if rules.is(x, Named::Dwarf) && is_dwarf_here(scene.state) {
-        (6, Role::HereIt)
-    } else {
-        scene.note(Table::Find, 7);
-        return task.say_default(rules, scene);
-    };
-    scene.note(Table::Find, row);
-    Next::say(role, scene)
+    rows! { scene, Table::Find, Next::Stay;
+        is_carried(rules, scene.state, x) => say(Role::HeldIt);
+        scene.state.closing.is_closed => say(Role::Around);
+        scene.state.at(x) => say(Role::HereIt);
+        is_liquid(x, liquid(rules, scene.state)) && scene.state.at(rules.thing(Named::Bottle))
+            => say(Role::HereIt);
+        is_liquid(x, lake(rules, scene.state)) => say(Role::HereIt);
+        rules.is(x, Named::Dwarf) && is_dwarf_here(scene.state) => say(Role::HereIt);
+        otherwise => task.default(rules);
+    }
 }
 
 fn is_in_inventory(rules: &Rules<'_>, state: &State, object: Object) -> bool
@@ -80,18 +70,17 @@ fn name_all<N: RowNotes>(objects: &[Object], scene: &mut Scene<'_, N>)
     }
 }
 
-/// Says that the bear follows, if it does, and does nothing more.
-#[tactic(auto, unfolding(crate::specs::Finding::bear_along_rows))]
-fn tell_bear<N: RowNotes>(rules: &Rules<'_>, task: Task, scene: &mut Scene<'_, N>) -> Next
-    requires { HasRoom 1 scene.old }
-    ensures row { DoneByRow N.rows (row [] (tell_bear ∷ [])) rules.now task scene.old scene.new
-        result }
-{
-    if is_carried(rules, scene.state, rules.thing(Named::Bear)) {
-        scene.note(Table::BearAlong, 1);
-        scene.say(Role::BearFollows);
+impl Task {
+    /// Says that the bear follows, if it does.
+    #[tactic(auto, unfolding(crate::specs::Finding::bear_along_rows))]
+    fn tell_bear<N: RowNotes>(self, rules: &Rules<'_>, scene: &mut Scene<'_, N>)
+        requires { HasRoom 1 scene.old }
+        ensures rows { Does N.rows (tell_bear ∷ []) 1 rules.now self scene.old scene.new }
+    {
+        rows! { scene, Table::BearAlong;
+            is_carried(rules, scene.state, rules.thing(Named::Bear)) => say(Role::BearFollows);
+        }
     }
-    Next::Stay
 }
 
 /// INVENTORY without an object.
@@ -102,13 +91,12 @@ pub fn inventory<N: RowNotes>(rules: &Rules<'_>, task: Task, scene: &mut Scene<'
         task scene.old scene.new result }
 {
     let listed = listed(rules, scene.state);
-    if listed.is_empty() {
-        scene.note(Table::BareInventory, 1);
-        scene.say(Role::Empty);
-        return tell_bear(rules, task, scene);
+    rows! { scene, Table::BareInventory, Next::Stay;
+        listed.is_empty() => say(Role::Empty), task.tell_bear(rules);
+        otherwise => {
+            scene.say(Role::Holding);
+            name_all(listed.as_slice(), scene);
+            task.tell_bear(rules, scene);
+        };
     }
-    scene.note(Table::BareInventory, 2);
-    scene.say(Role::Holding);
-    name_all(listed.as_slice(), scene);
-    tell_bear(rules, task, scene)
 }

@@ -13,11 +13,10 @@ use crate::task::Task;
 use crate::verb::Verb;
 use arrayvec::ArrayVec;
 use cave_words::Named;
-use cave_world::{Question, RowNotes, Table};
+use cave_world::{Ending, Question, RowNotes, Table};
 use data_rows::Role;
 use turn_scene::props::{BEAR_DEAD, BEAR_WILD, BIRD_FREE, DRAGON_ALIVE};
-use turn_scene::{Rules, Scene, has_prop, is_dwarf_here, is_near, lose_to_snake};
-use world_objects::Prop;
+use turn_scene::{Rules, Scene, has_prop, is_dwarf_here, is_near, rows};
 
 /// The foes that the player could mean.
 fn foes<N: RowNotes>(rules: &Rules<'_>, task: &Task, scene: &Scene<'_, N>) -> Meant
@@ -69,27 +68,16 @@ pub fn kill_what_is_here<N: RowNotes>(
     ensures ranks { rank_of (cave_of rules.now) result ≤ 1 }
 {
     let foes = foes(rules, &task, scene);
-    if several(foes.as_slice()) {
-        scene.note(Table::BareKill, 1);
-        return VerbStep::Done(task.ask_what(rules, scene));
+    rows! { scene, Table::BareKill, VerbStep::Done(Next::Stay);
+        several(foes.as_slice()) => task.ask_what(rules) -> VerbStep::Done(Next::Keep);
+        let foe = first(foes.as_slice());
+        !foe.is_none() => {} -> VerbStep::GoOn(Verb::Kill, foe);
+        let prey = prey(rules, &task, scene);
+        several(prey.as_slice()) => task.ask_what(rules) -> VerbStep::Done(Next::Keep);
+        let game = first(prey.as_slice());
+        !game.is_none() => {} -> VerbStep::GoOn(Verb::Kill, game);
+        otherwise => say(Role::NoneToKill);
     }
-    let foe = first(foes.as_slice());
-    if !foe.is_none() {
-        scene.note(Table::BareKill, 2);
-        return VerbStep::GoOn(Verb::Kill, foe);
-    }
-    let prey = prey(rules, &task, scene);
-    if several(prey.as_slice()) {
-        scene.note(Table::BareKill, 3);
-        return VerbStep::Done(task.ask_what(rules, scene));
-    }
-    let game = first(prey.as_slice());
-    if !game.is_none() {
-        scene.note(Table::BareKill, 4);
-        return VerbStep::GoOn(Verb::Kill, game);
-    }
-    scene.note(Table::BareKill, 5);
-    VerbStep::Done(Next::say(Role::NoneToKill, scene))
 }
 
 /// KILL an object.
@@ -101,40 +89,22 @@ pub fn kill<N: RowNotes>(rules: &Rules<'_>, task: Task, scene: &mut Scene<'_, N>
 {
     let x = task.object;
     let is_closed = scene.state.closing.is_closed;
-    let (row, role) = if rules.is(x, Named::Bird) && is_closed {
-        (1, Role::BirdNo)
-    } else if rules.is(x, Named::Bird) {
-        scene.note(Table::Kill, 2);
-        scene.state.destroy(x);
-        scene.state.objects.set_prop(x, Prop::new(BIRD_FREE));
-        lose_to_snake(rules, scene);
-        return Next::say(Role::BirdDead, scene);
-    } else if rules.is(x, Named::Clam) || rules.is(x, Named::Oyster) {
-        (3, Role::Shell)
-    } else if rules.is(x, Named::Snake) {
-        (4, Role::SnakeNo)
-    } else if rules.is(x, Named::Dwarf) && is_closed {
-        scene.note(Table::Kill, 5);
-        return Next::disturb(scene);
-    } else if rules.is(x, Named::Dwarf) {
-        (6, Role::WithWhat)
-    } else if rules.is(x, Named::Dragon) && has_prop(scene.state, x, DRAGON_ALIVE) {
-        scene.note(Table::Kill, 7);
-        return Next::Ask(Question::Dragon);
-    } else if rules.is(x, Named::Dragon) {
-        (8, Role::DeadAlready)
-    } else if rules.is(x, Named::Troll) {
-        (9, Role::TrollNo)
-    } else if rules.is(x, Named::Bear) && has_prop(scene.state, x, BEAR_WILD) {
-        (10, Role::BearFight)
-    } else if rules.is(x, Named::Bear) && has_prop(scene.state, x, BEAR_DEAD) {
-        (11, Role::DeadAlready)
-    } else if rules.is(x, Named::Bear) {
-        (12, Role::BearFriend)
-    } else {
-        scene.note(Table::Kill, 13);
-        return task.say_default(rules, scene);
-    };
-    scene.note(Table::Kill, row);
-    Next::say(role, scene)
+    rows! { scene, Table::Kill, Next::Stay;
+        rules.is(x, Named::Bird) && is_closed => say(Role::BirdNo);
+        rules.is(x, Named::Bird)
+            => destroy(x), set_prop(x, BIRD_FREE), lose_to_snake(rules), say(Role::BirdDead);
+        rules.is(x, Named::Clam) || rules.is(x, Named::Oyster) => say(Role::Shell);
+        rules.is(x, Named::Snake) => say(Role::SnakeNo);
+        rules.is(x, Named::Dwarf) && is_closed
+            => say(Role::Disturbed) -> Next::End(Ending::Killed);
+        rules.is(x, Named::Dwarf) => say(Role::WithWhat);
+        rules.is(x, Named::Dragon) && has_prop(scene.state, x, DRAGON_ALIVE)
+            => {} -> Next::Ask(Question::Dragon);
+        rules.is(x, Named::Dragon) => say(Role::DeadAlready);
+        rules.is(x, Named::Troll) => say(Role::TrollNo);
+        rules.is(x, Named::Bear) && has_prop(scene.state, x, BEAR_WILD) => say(Role::BearFight);
+        rules.is(x, Named::Bear) && has_prop(scene.state, x, BEAR_DEAD) => say(Role::DeadAlready);
+        rules.is(x, Named::Bear) => say(Role::BearFriend);
+        otherwise => task.default(rules);
+    }
 }

@@ -10,8 +10,7 @@ use cave_words::Named;
 use cave_world::{LAMP_ON, RowNotes, Table};
 use data_rows::Role;
 use turn_scene::props::LAMP_OFF;
-use turn_scene::{Rules, Scene, is_near};
-use world_objects::Prop;
+use turn_scene::{Rules, Scene, is_near, rows};
 
 /// ON, with any object.
 #[tactic(auto, unfolding(crate::specs::Light::on_rows))]
@@ -21,22 +20,12 @@ pub fn turn_on<N: RowNotes>(rules: &Rules<'_>, task: Task, scene: &mut Scene<'_,
         result }
 {
     let lamp = rules.thing(Named::Lamp);
-    if !is_near(rules, scene.state, lamp) {
-        scene.note(Table::On, 1);
-        return task.say_default(rules, scene);
+    rows! { scene, Table::On, Next::Stay;
+        !is_near(rules, scene.state, lamp) => task.default(rules);
+        scene.state.lamp.charge.turns() < 0 => say(Role::LampDead);
+        scene.was_dark => set_prop(lamp, LAMP_ON), say(Role::LampOn) -> Next::Describe;
+        otherwise => set_prop(lamp, LAMP_ON), say(Role::LampOn);
     }
-    if scene.state.lamp.charge.turns() < 0 {
-        scene.note(Table::On, 2);
-        return Next::say(Role::LampDead, scene);
-    }
-    scene.state.objects.set_prop(lamp, Prop::new(LAMP_ON));
-    scene.say(Role::LampOn);
-    if scene.was_dark {
-        scene.note(Table::On, 3);
-        return Next::Describe;
-    }
-    scene.note(Table::On, 4);
-    Next::Stay
 }
 
 /// OFF, with any object.
@@ -47,16 +36,14 @@ pub fn turn_off<N: RowNotes>(rules: &Rules<'_>, task: Task, scene: &mut Scene<'_
         result }
 {
     let lamp = rules.thing(Named::Lamp);
-    if !is_near(rules, scene.state, lamp) {
-        scene.note(Table::Off, 1);
-        return task.say_default(rules, scene);
+    rows! { scene, Table::Off, Next::Stay;
+        !is_near(rules, scene.state, lamp) => task.default(rules);
+        otherwise => {
+            scene.set_prop(lamp, LAMP_OFF);
+            scene.say(Role::LampOff);
+            rows! { scene, Table::Darkened;
+                scene.state.dark(rules.cave, lamp) => say(Role::Dark);
+            }
+        };
     }
-    scene.note(Table::Off, 2);
-    scene.state.objects.set_prop(lamp, Prop::new(LAMP_OFF));
-    scene.say(Role::LampOff);
-    if scene.state.dark(rules.cave, lamp) {
-        scene.note(Table::Darkened, 1);
-        return Next::say(Role::Dark, scene);
-    }
-    Next::Stay
 }

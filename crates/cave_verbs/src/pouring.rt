@@ -1,12 +1,12 @@
-ghost use Rattle.std.specs.Prelude.{◌≡◌, ◌+◌, ◌≤◌, ◌+ℤ◌, pos, int_div, []};
+ghost use Rattle.std.specs.Prelude.{◌≡◌, ◌≤◌, ◌+ℤ◌, pos, int_div};
 ghost use Rattle.std.specs.Int.{int_rem_euclid};
 ghost use Rattle.turn_scene.specs.Bounds.{HasRoom, parts_of_row};
-ghost use Rattle.cave_verbs.specs.Rows.{ByRows, DoneByRow, DoneByRows, again};
-ghost use Rattle.turn_scene.specs.Rows.{row_then, noted};
+ghost use Rattle.cave_verbs.specs.Rows.{ByRows, DoneByRows};
+ghost use Rattle.turn_scene.specs.Rows.{Does, noted};
 ghost use Rattle.turn_scene.specs.Scene.{cave_of};
 ghost use Rattle.cave_world.specs.declared.tables.Table.TheVariants as table;
 ghost use Rattle.cave_verbs.specs.Ranks.{rank_of};
-ghost use Rattle.cave_verbs.specs.Pouring.{poured_of, plant_watered, pour_rows, drink_rows};
+ghost use Rattle.cave_verbs.specs.Pouring.{plant_watered, poured_of, pour_rows, drink_rows};
 ghost use Rattle.cave_verbs.specs.Pouring.{bare_fill_rows, fill_rows};
 
 use crate::next::{Next, VerbStep};
@@ -18,8 +18,8 @@ use data_rows::Role;
 use turn_scene::props::{
     BOTTLE_EMPTY, BOTTLE_OF_OIL, BOTTLE_OF_WATER, DOOR_OILED, DOOR_RUSTY, VASE_BROKEN,
 };
-use turn_scene::{Rules, Scene, is_carried, is_liquid, is_near, lake, liquid};
-use world_objects::{Anchor, Object, Prop};
+use turn_scene::{Rules, Scene, is_carried, is_liquid, is_near, lake, liquid, rows};
+use world_objects::{Object, Prop};
 
 /// What is poured: if the player names the bottle or nothing, it is what is in the bottle.
 fn poured(rules: &Rules<'_>, state: &State, object: Object) -> Object
@@ -52,20 +52,20 @@ fn half(prop: Prop) -> Prop
     Prop::new(prop.value() / 2)
 }
 
-/// The plant is watered, and the player arrives again where the player is.
-fn water_plant<N: RowNotes>(rules: &Rules<'_>, task: Task, scene: &mut Scene<'_, N>) -> Next
-    requires { HasRoom 1 scene.old }
-    ensures row { DoneByRow N.rows (row_then [] plant_watered again) rules.now task scene.old
-        scene.new result }
-{
-    let plant = rules.thing(Named::Plant);
-    let prop = scene.state.objects.prop(plant);
-    scene.look(plant, above(prop));
-    scene.state.objects.set_prop(plant, grown(prop));
-    let second_plant = rules.thing(Named::SecondPlant);
-    let half = half(scene.state.objects.prop(plant));
-    scene.state.objects.set_prop(second_plant, half);
-    Next::Arrive(scene.state.trail.here)
+impl Task {
+    /// The plant and its upper part grow with the water.
+    fn water_plant<N: RowNotes>(&self, rules: &Rules<'_>, scene: &mut Scene<'_, N>)
+        requires { HasRoom 1 scene.old }
+        ensures { Does N.rows plant_watered 1 rules.now self.now scene.old scene.new }
+    {
+        let plant = rules.thing(Named::Plant);
+        let prop = scene.state.objects.prop(plant);
+        scene.look(plant, above(prop));
+        scene.state.objects.set_prop(plant, grown(prop));
+        let second_plant = rules.thing(Named::SecondPlant);
+        let half = half(scene.state.objects.prop(plant));
+        scene.state.objects.set_prop(second_plant, half);
+    }
 }
 
 /// POUR, with an object or without one.
@@ -75,47 +75,28 @@ pub fn pour<N: RowNotes>(rules: &Rules<'_>, task: Task, scene: &mut Scene<'_, N>
     ensures row { DoneByRows N.rows (noted table.Pour pour_rows) rules.now task scene.old
         scene.new result }
 {
-    if (task.object.is_none() || rules.is(task.object, Named::Bottle))
-        && liquid(rules, scene.state).is_none()
-    {
-        scene.note(Table::Pour, 1);
-        return task.ask_what(rules, scene);
+    rows! { scene, Table::Pour, Next::Stay;
+        (task.object.is_none() || rules.is(task.object, Named::Bottle))
+            && liquid(rules, scene.state).is_none() => task.ask_what(rules) -> Next::Keep;
+        let x = poured(rules, scene.state, task.object);
+        !is_carried(rules, scene.state, x) => task.default(rules);
+        let is_water = rules.is(x, Named::Water);
+        let is_oil = rules.is(x, Named::Oil);
+        !is_water && !is_oil => say(Role::CantPour);
+        let bottle = rules.thing(Named::Bottle);
+        let door = rules.thing(Named::Door);
+        let is_at_door = scene.state.at(door);
+        is_at_door && is_oil
+            => set_prop(bottle, BOTTLE_EMPTY), set_prop(door, DOOR_OILED), say(Role::DoorOiled);
+        is_at_door
+            => set_prop(bottle, BOTTLE_EMPTY), set_prop(door, DOOR_RUSTY), say(Role::DoorWet);
+        let plant = rules.thing(Named::Plant);
+        let is_at_plant = scene.state.at(plant);
+        is_at_plant && is_water => set_prop(bottle, BOTTLE_EMPTY), task.water_plant(rules)
+            -> Next::Arrive(scene.state.trail.here);
+        is_at_plant => set_prop(bottle, BOTTLE_EMPTY), say(Role::PlantOil);
+        otherwise => set_prop(bottle, BOTTLE_EMPTY), say(Role::PourGround);
     }
-    let x = poured(rules, scene.state, task.object);
-    if !is_carried(rules, scene.state, x) {
-        scene.note(Table::Pour, 2);
-        return task.say_default(rules, scene);
-    }
-    let is_water = rules.is(x, Named::Water);
-    let is_oil = rules.is(x, Named::Oil);
-    if !is_water && !is_oil {
-        scene.note(Table::Pour, 3);
-        return Next::say(Role::CantPour, scene);
-    }
-    let door = rules.thing(Named::Door);
-    let is_at_door = scene.state.at(door);
-    let is_at_plant = scene.state.at(rules.thing(Named::Plant));
-    let bottle = rules.thing(Named::Bottle);
-    scene
-        .state
-        .objects
-        .set_prop(bottle, Prop::new(BOTTLE_EMPTY));
-    let (row, role) = if is_at_door && is_oil {
-        scene.state.objects.set_prop(door, Prop::new(DOOR_OILED));
-        (4, Role::DoorOiled)
-    } else if is_at_door {
-        scene.state.objects.set_prop(door, Prop::new(DOOR_RUSTY));
-        (5, Role::DoorWet)
-    } else if is_at_plant && is_water {
-        scene.note(Table::Pour, 6);
-        return water_plant(rules, task, scene);
-    } else if is_at_plant {
-        (7, Role::PlantOil)
-    } else {
-        (8, Role::PourGround)
-    };
-    scene.note(Table::Pour, row);
-    Next::say(role, scene)
 }
 
 /// DRINK, with an object or without one.
@@ -130,24 +111,13 @@ pub fn drink<N: RowNotes>(rules: &Rules<'_>, task: Task, scene: &mut Scene<'_, N
     let bottle = rules.thing(Named::Bottle);
     let has_water = is_liquid(water, liquid(rules, scene.state))
         && is_near(rules, scene.state, bottle);
-    if x.is_none() && !is_liquid(water, lake(rules, scene.state)) && !has_water {
-        scene.note(Table::Drink, 1);
-        return task.ask_what(rules, scene);
+    rows! { scene, Table::Drink, Next::Stay;
+        x.is_none() && !is_liquid(water, lake(rules, scene.state)) && !has_water
+            => task.ask_what(rules) -> Next::Keep;
+        !x.is_none() && !rules.is(x, Named::Water) => say(Role::Ridiculous);
+        has_water => set_prop(bottle, BOTTLE_EMPTY), say(Role::Drunk);
+        otherwise => task.default(rules);
     }
-    if !x.is_none() && !rules.is(x, Named::Water) {
-        scene.note(Table::Drink, 2);
-        return Next::say(Role::Ridiculous, scene);
-    }
-    if has_water {
-        scene
-            .state
-            .objects
-            .set_prop(bottle, Prop::new(BOTTLE_EMPTY));
-        scene.note(Table::Drink, 3);
-        return Next::say(Role::Drunk, scene);
-    }
-    scene.note(Table::Drink, 4);
-    task.say_default(rules, scene)
 }
 
 /// FILL without an object.
@@ -159,12 +129,10 @@ pub fn fill_what<N: RowNotes>(rules: &Rules<'_>, task: Task, scene: &mut Scene<'
     ensures ranks { rank_of (cave_of rules.now) result ≤ 1 }
 {
     let bottle = rules.thing(Named::Bottle);
-    if is_near(rules, scene.state, bottle) {
-        scene.note(Table::BareFill, 1);
-        return VerbStep::GoOn(Verb::Fill, bottle);
+    rows! { scene, Table::BareFill, VerbStep::Done(Next::Keep);
+        is_near(rules, scene.state, bottle) => {} -> VerbStep::GoOn(Verb::Fill, bottle);
+        otherwise => task.ask_what(rules);
     }
-    scene.note(Table::BareFill, 2);
-    VerbStep::Done(task.ask_what(rules, scene))
 }
 
 /// FILL an object.
@@ -177,30 +145,15 @@ pub fn fill<N: RowNotes>(rules: &Rules<'_>, task: Task, scene: &mut Scene<'_, N>
     let x = task.object;
     let is_vase = rules.is(x, Named::Vase);
     let lake_here = lake(rules, scene.state);
-    let (row, role) = if is_vase && lake_here.is_none() {
-        (1, Role::VaseDry)
-    } else if is_vase && !is_carried(rules, scene.state, x) {
-        (2, Role::NotHeld)
-    } else if is_vase {
-        scene.state.objects.set_prop(x, Prop::new(VASE_BROKEN));
-        scene.state.objects.anchor_to(x, Anchor::Fixed);
-        let here = scene.state.trail.here;
-        scene.state.move_to(x, here);
-        (3, Role::VaseBreak)
-    } else if !rules.is(x, Named::Bottle) {
-        scene.note(Table::Fill, 4);
-        return task.say_default(rules, scene);
-    } else if liquid(rules, scene.state).is_some() {
-        (5, Role::BottleFull)
-    } else if lake_here.is_none() {
-        (6, Role::NoLake)
-    } else if is_liquid(rules.thing(Named::Oil), lake_here) {
-        scene.state.objects.set_prop(x, Prop::new(BOTTLE_OF_OIL));
-        (7, Role::FilledOil)
-    } else {
-        scene.state.objects.set_prop(x, Prop::new(BOTTLE_OF_WATER));
-        (8, Role::FilledWater)
-    };
-    scene.note(Table::Fill, row);
-    Next::say(role, scene)
+    rows! { scene, Table::Fill, Next::Stay;
+        is_vase && lake_here.is_none() => say(Role::VaseDry);
+        is_vase && !is_carried(rules, scene.state, x) => say(Role::NotHeld);
+        is_vase => say(Role::VaseBreak), set_prop(x, VASE_BROKEN), fix(x), bring(x);
+        !rules.is(x, Named::Bottle) => task.default(rules);
+        liquid(rules, scene.state).is_some() => say(Role::BottleFull);
+        lake_here.is_none() => say(Role::NoLake);
+        is_liquid(rules.thing(Named::Oil), lake_here)
+            => set_prop(x, BOTTLE_OF_OIL), say(Role::FilledOil);
+        otherwise => set_prop(x, BOTTLE_OF_WATER), say(Role::FilledWater);
+    }
 }

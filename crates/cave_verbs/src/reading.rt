@@ -15,7 +15,7 @@ use arrayvec::ArrayVec;
 use cave_words::Named;
 use cave_world::{CLUE_HINT, HintNumber, Part, Question, RowNotes, Table, WordLine};
 use data_rows::Role;
-use turn_scene::{Rules, Scene, is_carried, is_near};
+use turn_scene::{Rules, Scene, is_carried, is_near, rows};
 
 /// The papers that the player could mean.
 fn papers<N: RowNotes>(rules: &Rules<'_>, task: &Task, scene: &Scene<'_, N>) -> Meant
@@ -44,22 +44,15 @@ pub fn read_what_is_here<N: RowNotes>(
         scene.new result }
     ensures ranks { rank_of (cave_of rules.now) result ≤ 1 }
 {
-    if scene.state.dark(rules.cave, rules.thing(Named::Lamp)) {
-        scene.note(Table::BareRead, 1);
-        return VerbStep::Done(task.ask_what(rules, scene));
+    rows! { scene, Table::BareRead, VerbStep::Done(Next::Keep);
+        scene.state.dark(rules.cave, rules.thing(Named::Lamp)) => task.ask_what(rules);
+        let oyster = rules.thing(Named::Oyster);
+        scene.state.closing.is_closed && is_carried(rules, scene.state, oyster)
+            => {} -> VerbStep::GoOn(Verb::Read, oyster);
+        let paper = only(papers(rules, &task, scene).as_slice());
+        !paper.is_none() => {} -> VerbStep::GoOn(Verb::Read, paper);
+        otherwise => task.ask_what(rules);
     }
-    let oyster = rules.thing(Named::Oyster);
-    if scene.state.closing.is_closed && is_carried(rules, scene.state, oyster) {
-        scene.note(Table::BareRead, 2);
-        return VerbStep::GoOn(Verb::Read, oyster);
-    }
-    let paper = only(papers(rules, &task, scene).as_slice());
-    if !paper.is_none() {
-        scene.note(Table::BareRead, 3);
-        return VerbStep::GoOn(Verb::Read, paper);
-    }
-    scene.note(Table::BareRead, 4);
-    VerbStep::Done(task.ask_what(rules, scene))
 }
 
 /// READ an object.
@@ -70,27 +63,16 @@ pub fn read<N: RowNotes>(rules: &Rules<'_>, task: Task, scene: &mut Scene<'_, N>
         scene.new result }
 {
     let x = task.object;
-    if scene.state.dark(rules.cave, rules.thing(Named::Lamp)) {
-        scene.note(Table::Read, 1);
-        scene.tell(Part::Word(WordLine::NotSeen, task.word));
-        return Next::Stay;
+    rows! { scene, Table::Read, Next::Stay;
+        scene.state.dark(rules.cave, rules.thing(Named::Lamp))
+            => tell(Part::Word(WordLine::NotSeen, task.word));
+        rules.is(x, Named::Magazine) => say(Role::ReadMagazine);
+        rules.is(x, Named::Tablet) => say(Role::ReadTablet);
+        rules.is(x, Named::Message) => say(Role::ReadMessage);
+        let is_oyster_held = rules.is(x, Named::Oyster) && is_carried(rules, scene.state, x);
+        is_oyster_held && scene.state.is_hint_taken(HintNumber::new(CLUE_HINT))
+            => say(Role::ReadOyster);
+        is_oyster_held && scene.state.closing.is_closed => {} -> Next::Ask(Question::Oyster);
+        otherwise => task.default(rules);
     }
-    let is_oyster_held = rules.is(x, Named::Oyster) && is_carried(rules, scene.state, x);
-    let (row, role) = if rules.is(x, Named::Magazine) {
-        (2, Role::ReadMagazine)
-    } else if rules.is(x, Named::Tablet) {
-        (3, Role::ReadTablet)
-    } else if rules.is(x, Named::Message) {
-        (4, Role::ReadMessage)
-    } else if is_oyster_held && scene.state.is_hint_taken(HintNumber::new(CLUE_HINT)) {
-        (5, Role::ReadOyster)
-    } else if is_oyster_held && scene.state.closing.is_closed {
-        scene.note(Table::Read, 6);
-        return Next::Ask(Question::Oyster);
-    } else {
-        scene.note(Table::Read, 7);
-        return task.say_default(rules, scene);
-    };
-    scene.note(Table::Read, row);
-    Next::say(role, scene)
 }

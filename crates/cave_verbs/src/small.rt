@@ -16,5 +16,6 @@ pub fn brief<N: RowNotes>(rules: &Rules<'_>, task: Task, scene: &mut Scene<'_, N
 {
     scene.state.talk.is_brief = true;
     scene.state.talk.details = Count::new(MAX_DETAILS);
-    Next::say(Role::Brief, scene)
+    scene.say(Role::Brief);
+    Next::Stay
 }

@@ -16,9 +16,9 @@ use data_rows::Role;
 use turn_scene::props::{BEAR_FED, BEAR_WILD, BIRD_CAGED, BIRD_FREE, BOTTLE_EMPTY, PLANT_SMALL};
 use turn_scene::{
     Rules, Scene, has_other_prop, has_prop, has_prop_up_to, is_carried, is_dwarf_here, is_fixed,
-    is_liquid, is_near, liquid,
+    is_liquid, is_near, liquid, rows,
 };
-use world_objects::{Half, Object, Prop};
+use world_objects::{Half, Object};
 
 /// A player with this many objects in the hands can't take another.
 const MAX_TAKEN: usize = 7;
@@ -46,16 +46,14 @@ pub fn take_what_is_here<N: RowNotes>(
 {
     let here = scene.state.trail.here;
     let lone = lone_object(scene.state.objects_at(here).as_slice());
-    if !lone.is_none() && !is_dwarf_here(scene.state) {
-        scene.note(Table::BareTake, 1);
-        return VerbStep::GoOn(Verb::Take, lone);
+    rows! { scene, Table::BareTake, VerbStep::Done(Next::Keep);
+        !lone.is_none() && !is_dwarf_here(scene.state) => {} -> VerbStep::GoOn(Verb::Take, lone);
+        otherwise => task.ask_what(rules);
     }
-    scene.note(Table::BareTake, 2);
-    VerbStep::Done(task.ask_what(rules, scene))
 }
 
 /// TAKE an object.
-#[tactic(auto, unfolding(crate::specs::Taking::take_rows))]
+#[tactic(auto, unfolding(crate::specs::Taking::take_rows), using(crate::proofs::Falls::take_falls))]
 pub fn take<N: RowNotes>(rules: &Rules<'_>, task: Task, scene: &mut Scene<'_, N>) -> VerbStep
     requires { HasRoom 1 scene.old }
     ensures row { ByRows N.rows (noted table.Take take_rows) rules.now task scene.old scene.new
@@ -65,39 +63,28 @@ pub fn take<N: RowNotes>(rules: &Rules<'_>, task: Task, scene: &mut Scene<'_, N>
 {
     let x = task.object;
     let bottle = rules.thing(Named::Bottle);
-    let (row, role) = if is_carried(rules, scene.state, x) {
-        scene.note(Table::Take, 1);
-        return VerbStep::Done(task.say_default(rules, scene));
-    } else if is_fixed(scene.state, x) {
-        let bear = rules.thing(Named::Bear);
-        if rules.is(x, Named::Plant) && has_prop_up_to(scene.state, x, PLANT_SMALL) {
-            (2, Role::PlantRoots)
-        } else if rules.is(x, Named::Bear) && has_prop(scene.state, x, BEAR_FED) {
-            (3, Role::BearChained)
-        } else if rules.is(x, Named::Chain) && has_other_prop(scene.state, bear, BEAR_WILD) {
-            (4, Role::ChainLocked)
-        } else {
-            (5, Role::Immovable)
-        }
-    } else if is_liquid(x, liquid(rules, scene.state)) && is_near(rules, scene.state, bottle) {
-        scene.note(Table::Take, 6);
-        return VerbStep::GoOn(Verb::Take, bottle);
-    } else if rules.is(x, Named::Water) || rules.is(x, Named::Oil) {
-        if !is_carried(rules, scene.state, bottle) {
-            (9, Role::NoBottle)
-        } else if has_prop(scene.state, bottle, BOTTLE_EMPTY) {
-            scene.note(Table::Take, 7);
-            return VerbStep::GoOn(Verb::Fill, bottle);
-        } else {
-            (8, Role::BottleFull)
-        }
-    } else if scene.state.holding() >= MAX_TAKEN {
-        (10, Role::TooMuch)
-    } else {
-        return VerbStep::Done(take_freely(rules, task, scene));
-    };
-    scene.note(Table::Take, row);
-    VerbStep::Done(Next::say(role, scene))
+    rows! { scene, Table::Take, VerbStep::Done(Next::Stay);
+        is_carried(rules, scene.state, x) => task.default(rules);
+        let is_fixed = is_fixed(scene.state, x);
+        is_fixed && rules.is(x, Named::Plant) && has_prop_up_to(scene.state, x, PLANT_SMALL)
+            => say(Role::PlantRoots);
+        is_fixed && rules.is(x, Named::Bear) && has_prop(scene.state, x, BEAR_FED)
+            => say(Role::BearChained);
+        is_fixed && rules.is(x, Named::Chain)
+            && has_other_prop(scene.state, rules.thing(Named::Bear), BEAR_WILD)
+            => say(Role::ChainLocked);
+        is_fixed => say(Role::Immovable);
+        is_liquid(x, liquid(rules, scene.state)) && is_near(rules, scene.state, bottle)
+            => {} -> VerbStep::GoOn(Verb::Take, bottle);
+        let is_liquid = rules.is(x, Named::Water) || rules.is(x, Named::Oil);
+        let has_bottle = is_liquid && is_carried(rules, scene.state, bottle);
+        has_bottle && has_prop(scene.state, bottle, BOTTLE_EMPTY)
+            => {} -> VerbStep::GoOn(Verb::Fill, bottle);
+        has_bottle => say(Role::BottleFull);
+        is_liquid => say(Role::NoBottle);
+        scene.state.holding() >= MAX_TAKEN => say(Role::TooMuch);
+        in VerbStep::Done(take_freely(rules, task, scene));
+    }
 }
 
 /// TAKE an object that isn't fixed, with hands that aren't full.
@@ -109,29 +96,19 @@ fn take_freely<N: RowNotes>(rules: &Rules<'_>, task: Task, scene: &mut Scene<'_,
 {
     let x = task.object;
     let bird = rules.thing(Named::Bird);
-    if rules.is(x, Named::Bird) {
-        let cage = rules.thing(Named::Cage);
-        if has_prop(scene.state, x, BIRD_FREE) {
-            if is_carried(rules, scene.state, rules.thing(Named::Rod)) {
-                scene.note(Table::Take, 11);
-                return Next::say(Role::BirdRod, scene);
-            }
-            if !is_carried(rules, scene.state, cage) {
-                scene.note(Table::Take, 12);
-                return Next::say(Role::NoCage, scene);
-            }
-            scene.note(Table::Take, 13);
-            scene.state.objects.set_prop(x, Prop::new(BIRD_CAGED));
-        } else {
-            scene.note(Table::Take, 14);
-        }
-        scene.state.carry(cage);
-    } else if rules.is(x, Named::Cage) && has_other_prop(scene.state, bird, BIRD_FREE) {
-        scene.note(Table::Take, 15);
-        scene.state.carry(bird);
-    } else {
-        scene.note(Table::Take, 16);
+    let is_bird = rules.is(x, Named::Bird);
+    let is_bird_free = is_bird && has_prop(scene.state, x, BIRD_FREE);
+    rows! { scene, Table::Take, Next::Stay;
+        from 11;
+        is_bird_free && is_carried(rules, scene.state, rules.thing(Named::Rod))
+            => say(Role::BirdRod);
+        is_bird_free && !is_carried(rules, scene.state, rules.thing(Named::Cage))
+            => say(Role::NoCage);
+        is_bird_free => set_prop(x, BIRD_CAGED), carry(rules.thing(Named::Cage)), carry(x),
+            say(Role::Ok);
+        is_bird => carry(rules.thing(Named::Cage)), carry(x), say(Role::Ok);
+        rules.is(x, Named::Cage) && has_other_prop(scene.state, bird, BIRD_FREE)
+            => carry(bird), carry(x), say(Role::Ok);
+        otherwise => carry(x), say(Role::Ok);
     }
-    scene.state.carry(x);
-    Next::say(Role::Ok, scene)
 }

@@ -1,11 +1,9 @@
 ghost use Rattle.std.specs.Prelude.{◌≡◌, [], ◌∷◌};
 ghost use Rattle.turn_scene.specs.Bounds.{GoesOnSaying, HasRoom};
 ghost use Rattle.turn_scene.specs.Scene.{scene_of, cave_of};
-ghost use Rattle.turn_scene.specs.Rows.{row_then};
+ghost use Rattle.turn_scene.specs.Rows.{Does};
 ghost use Rattle.cave_verbs.specs.Effects.{after_default, default, ask_what};
-ghost use Rattle.cave_verbs.specs.Rows.{DoneByRow, keeps, row};
 
-use crate::next::Next;
 use crate::verb::Verb;
 use cave_words::Word;
 use cave_world::{Part, RowNotes, WordLine};
@@ -53,22 +51,18 @@ impl Task {
     }
 
     /// Says the message that the cave gives the verb, if there is one.
-    pub fn say_default<N: RowNotes>(self, rules: &Rules<'_>, scene: &mut Scene<'_, N>) -> Next
+    pub fn default<N: RowNotes>(self, rules: &Rules<'_>, scene: &mut Scene<'_, N>)
         requires { HasRoom 1 scene.old }
-        ensures row { DoneByRow N.rows (row [] (default ∷ [])) rules.now self scene.old scene.new
-            result }
+        ensures { Does N.rows (default ∷ []) 1 rules.now self scene.old scene.new }
     {
         tell_default(rules, self.verb.number(), scene);
-        Next::Stay
     }
 
-    /// The word that was just read is asked back, and the verb is kept for the next line.
-    pub fn ask_what<N: RowNotes>(self, rules: &Rules<'_>, scene: &mut Scene<'_, N>) -> Next
+    /// The word that was just read is asked back.
+    pub fn ask_what<N: RowNotes>(self, rules: &Rules<'_>, scene: &mut Scene<'_, N>)
         requires { HasRoom 1 scene.old }
-        ensures row { DoneByRow N.rows (row_then [] (ask_what ∷ []) keeps) rules.now self scene.old
-            scene.new result }
+        ensures { Does N.rows (ask_what ∷ []) 1 rules.now self scene.old scene.new }
     {
         scene.tell(Part::Word(WordLine::What, self.word));
-        Next::Keep
     }
 }

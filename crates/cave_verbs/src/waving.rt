@@ -10,7 +10,7 @@ use crate::task::Task;
 use cave_words::Named;
 use cave_world::{RowNotes, Table};
 use data_rows::Role;
-use turn_scene::{Rules, Scene, is_carried};
+use turn_scene::{Rules, Scene, is_carried, rows};
 use world_objects::Prop;
 
 fn flipped(prop: Prop) -> Prop
@@ -34,27 +34,21 @@ pub fn wave<N: RowNotes>(rules: &Rules<'_>, task: Task, scene: &mut Scene<'_, N>
 {
     let x = task.object;
     let is_rod = rules.is(x, Named::Rod);
-    if !is_carried(rules, scene.state, x)
-        && !(is_rod && is_carried(rules, scene.state, rules.thing(Named::SecondRod)))
-    {
-        scene.note(Table::Wave, 1);
-        return Next::say(Role::NotHeld, scene);
+    rows! { scene, Table::Wave, Next::Stay;
+        !is_carried(rules, scene.state, x)
+            && !(is_rod && is_carried(rules, scene.state, rules.thing(Named::SecondRod)))
+            => say(Role::NotHeld);
+        let fissure = rules.thing(Named::Fissure);
+        is_rod && scene.state.at(fissure)
+            && is_carried(rules, scene.state, rules.thing(Named::Rod))
+            && !scene.state.closing.is_closing => {
+            let was = scene.state.objects.prop(fissure);
+            scene.state.objects.set_prop(fissure, flipped(was));
+            let prop = scene.state.objects.prop(fissure);
+            scene.look(fissure, text_of_flipped(prop));
+        };
+        otherwise => task.default(rules);
     }
-    let fissure = rules.thing(Named::Fissure);
-    if is_rod
-        && scene.state.at(fissure)
-        && is_carried(rules, scene.state, rules.thing(Named::Rod))
-        && !scene.state.closing.is_closing
-    {
-        scene.note(Table::Wave, 2);
-        let was = scene.state.objects.prop(fissure);
-        scene.state.objects.set_prop(fissure, flipped(was));
-        let prop = scene.state.objects.prop(fissure);
-        scene.look(fissure, text_of_flipped(prop));
-        return Next::Stay;
-    }
-    scene.note(Table::Wave, 3);
-    task.say_default(rules, scene)
 }
 
 /// RUB an object.
@@ -64,10 +58,8 @@ pub fn rub<N: RowNotes>(rules: &Rules<'_>, task: Task, scene: &mut Scene<'_, N>)
     ensures row { DoneByRows N.rows (noted table.Rub rub_rows) rules.now task scene.old scene.new
         result }
 {
-    if rules.is(task.object, Named::Lamp) {
-        scene.note(Table::Rub, 1);
-        return task.say_default(rules, scene);
+    rows! { scene, Table::Rub, Next::Stay;
+        rules.is(task.object, Named::Lamp) => task.default(rules);
+        otherwise => say(Role::RubOdd);
     }
-    scene.note(Table::Rub, 2);
-    Next::say(Role::RubOdd, scene)
 }

@@ -6,7 +6,8 @@ use Rattle.std.proofs.lemmas.List.{take-map}
 use Rattle.std.proofs.lemmas.Option.{slice_get-map, slice_get-get_or, slice_get_past}
 use Rattle.data_rows.specs.RowViews.{going}
 use Rattle.data_rows.specs.declared.rows.Row.{Row}
-use Rattle.check_doubts.specs.Ways.{is_never_taken_at, may_be_taken}
+use Rattle.check_doubts.specs.Ways.{is_never_taken_at}
+use Rattle.check_tables.specs.Reach.{may_be_taken}
 
 pub never_within : (rows : List Row) (index : ℕ) (row : Row) → index < length rows
     → row ≡ get_or rows index row

@@ -1,109 +1,16 @@
 //! Ways that no player can take, and ways that lead to nothing.
 
-ghost use Rattle.std.specs.Prelude.{◌≡◌, [], None, map, option_map};
-ghost use Rattle.std.specs.List.{list_any};
+ghost use Rattle.std.specs.Prelude.{◌≡◌, map, option_map};
 ghost use Rattle.data_rows.specs.RowViews.{going};
-ghost use Rattle.cave_world.specs.Travel.{lists_motion};
-ghost use Rattle.check_doubts.specs.Ways.{begins_journey, comes_to, end_flaw, ends_journey};
-ghost use Rattle.check_doubts.specs.Ways.{ends_there, failed_after, failed_from, is_certain};
-ghost use Rattle.check_doubts.specs.Ways.{is_never_taken, is_never_taken_at, is_other};
-ghost use Rattle.check_doubts.specs.Ways.{is_textless_end, may_be_taken, way_flaw, way_of_row};
+ghost use Rattle.check_doubts.specs.Ways.{end_flaw, is_never_taken, is_never_taken_at};
+ghost use Rattle.check_doubts.specs.Ways.{is_textless_end, way_flaw, way_of_row};
 
 use crate::flaw::CaveFlaw;
 use crate::messages::{lacks_text, place_has_text};
 use cave_data::Cave;
-use cave_world::travel_rows::lists_motion;
+use check_tables::reach::may_be_taken;
 use data_bindings::{MarkedRow, way_index};
-use data_rows::{Condition, Destination, Row};
-
-/// Whether one of these ways lists a motion.
-fn any_lists_motion(rows: &[Row], motion: u16) -> bool
-    ensures { result ≡ list_any (lists_motion motion) (map going rows.now) }
-{
-    rows.iter().any(|row| lists_motion(row, motion))
-}
-
-/// Whether a motion begins with a way, after others.
-fn begins_journey(before: &[Row], row: &Row) -> bool
-    ensures { result ≡ begins_journey (map going before.now) (going row.now) }
-{
-    row.motions
-        .iter()
-        .any(|&motion| !any_lists_motion(before, motion))
-}
-
-fn is_certain(condition: Condition) -> bool
-    ensures { result ≡ is_certain condition }
-{
-    match condition {
-        Condition::Always | Condition::NotForDwarves => true,
-        _ => false,
-    }
-}
-
-fn ends_there(destination: Destination) -> bool
-    ensures { result ≡ ends_there destination }
-{
-    match destination {
-        Destination::PutsEmeraldDown => false,
-        _ => true,
-    }
-}
-
-/// Whether each journey that reaches a way ends with it.
-fn ends_journey(row: &Row) -> bool
-    ensures { result ≡ ends_journey (going row.now) }
-{
-    is_certain(row.condition()) && ends_there(row.destination())
-}
-
-fn is_other(target: u32, failed: Option<u32>) -> bool
-    ensures { result ≡ is_other target failed }
-{
-    match failed {
-        Some(failed) => failed != target,
-        None => false,
-    }
-}
-
-/// Whether a journey reaches a way, after others.
-fn comes_to(before: &[Row], failed: Option<u32>, row: &Row) -> bool
-    ensures { result ≡ comes_to (map going before.now) failed (going row.now) }
-{
-    begins_journey(before, row) || is_other(row.target, failed)
-}
-
-/// The target at which a journey that goes on after a way may have failed.
-fn failed_after(before: &[Row], failed: Option<u32>, row: &Row) -> Option<u32>
-    ensures { result ≡ failed_after (map going before.now) failed (going row.now) }
-{
-    if !comes_to(before, failed, row) {
-        return failed;
-    }
-    if ends_journey(row) {
-        None
-    } else {
-        Some(row.target)
-    }
-}
-
-/// The target at which a journey that goes on after all these ways may have failed.
-fn failed_at_end(rows: &[Row]) -> Option<u32>
-    ensures { result ≡ failed_from [] None (map going rows.now) }
-{
-    let mut failed = None;
-    for index in 0..rows.len() {
-        failed = failed_after(&rows[..index], failed, &rows[index]);
-    }
-    failed
-}
-
-/// Whether a motion leads a player to a way, after others.
-fn may_be_taken(before: &[Row], row: &Row) -> bool
-    ensures { result ≡ may_be_taken (map going before.now) (going row.now) }
-{
-    comes_to(before, failed_at_end(before), row)
-}
+use data_rows::{Destination, Row};
 
 /// Which way of its place a row is, by the rows before it.
 pub(crate) fn way_of_row<'a>(cave: &'a Cave, place: u16, before: &[MarkedRow]) -> Option<&'a Row>

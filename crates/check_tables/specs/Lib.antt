@@ -8,3 +8,4 @@ pub mod WayWords
 pub mod TravelWords
 pub mod WaysByPlace
 pub mod Words
+pub mod Reach

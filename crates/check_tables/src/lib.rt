@@ -6,6 +6,7 @@ pub mod clue;
 pub mod known_lines;
 pub mod names;
 mod near_key;
+pub mod reach;
 pub mod text_kinds;
 pub mod travel_words;
 pub mod unused;

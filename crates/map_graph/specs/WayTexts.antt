@@ -7,8 +7,7 @@ use Rattle.cave_data.specs.CaveView.{CaveView, ways_from}
 use Rattle.cave_world.specs.Sight.{forced}
 use Rattle.cave_world.specs.Travel.{row_condition}
 use Rattle.check_tables.specs.WayWords.{condition_mark, motion_name}
-use Rattle.map_ways.specs.Falls.{motions_taking}
-use Rattle.map_ways.specs.Leads.{emerald_of}
+use Rattle.check_tables.specs.Reach.{goes_on_to, motions_again, motions_begun}
 use Rattle.map_ways.specs.Ways.{ends_at}
 
 -- the most motions on a line
@@ -43,16 +42,13 @@ abbrev pub two_texts : List ℕ → List ℕ → List ℕ
 two_texts first second =
     first ++ ((if length first == 0 || length second == 0 then [] else codes ",") ++ second)
 
-abbrev pub motions_of_row : CaveView → ℕ → Bool → List Going → Going → List ℕ
-motions_of_row cave from later before row =
-    taking_text cave from later (motions_taking (emerald_of cave) later [] before row)
-    (row_condition row)
-
--- the motions that can take a row after others: those that reach it first, and then those for which
--- others have to fail
+-- the motions that begin with a row after others, and after rows that can fail those that they list,
+-- each with the condition of the row
 unfoldable pub row_motions : CaveView → ℕ → List Going → Going → List ℕ
 row_motions cave from before row =
-    two_texts (motions_of_row cave from false before row) (motions_of_row cave from true before row)
+    two_texts (taking_text cave from false (motions_begun before row) (row_condition row))
+    (if goes_on_to before row
+    then taking_text cave from true (motions_again before row) (row_condition row) else [])
 
 -- a text that isn't empty, on its own line
 abbrev pub line_of_text : List ℕ → List ℕ → List ℕ

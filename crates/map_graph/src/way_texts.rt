@@ -4,14 +4,15 @@ ghost use Rattle.std.specs.Prelude.{◌≡◌, ◌≤◌, ◌++◌, IfOk, OnOk, 
 ghost use Rattle.base_lines.specs.Numbers.{LAST_PLACE};
 ghost use Rattle.data_rows.specs.RowViews.{going};
 ghost use Rattle.map_graph.specs.WayTexts.{line_of_text, motion_start, motions_after};
-ghost use Rattle.map_graph.specs.WayTexts.{motions_of_row, motions_text, row_lines, row_motions};
+ghost use Rattle.map_graph.specs.WayTexts.{motions_text, row_lines, row_motions};
 ghost use Rattle.map_graph.specs.WayTexts.{text_to, taking_text, two_texts, way_text};
 
 use cave_data::Cave;
 use cave_world::forced;
+use check_tables::reach::{goes_on_to, motions_again, motions_begun};
 use check_tables::way_words::{push_condition_mark, push_motion};
 use data_rows::{Condition, Row};
-use map_ways::{ends_at, motions_taking};
+use map_ways::ends_at;
 use std::alloc::{AllocError, Global};
 use world_objects::Place;
 
@@ -86,23 +87,6 @@ fn taking_text(
     Ok(text)
 }
 
-/// The motions that can take a row after others, with its condition.
-fn motions_of_row(
-    alloc: Global,
-    cave: &Cave,
-    from: u16,
-    later: bool,
-    before: &[Row],
-    row: &Row,
-) -> Result<Vec<u8>, AllocError>
-    requires { from ≤ LAST_PLACE }
-    ensures { IfOk result (λ text. text.items
-        ≡ motions_of_row cave.now from later (map going before.now) (going row.now)) }
-{
-    let motions = motions_taking(alloc, cave, later, before, row)?;
-    taking_text(alloc, cave, from, later, &motions, row.condition())
-}
-
 /// Appends a second text to the first, with a comma if there are both.
 fn push_second_text(second: &[u8], text: &mut Vec<u8>) -> Result<(), AllocError>
     ensures { OnOk result (text.new.items ≡ two_texts text.old.items second.now) }
@@ -113,8 +97,8 @@ fn push_second_text(second: &[u8], text: &mut Vec<u8>) -> Result<(), AllocError>
     text.extend_from_slice(second)
 }
 
-/// The motions that can take a row after others: those that reach it first, and then those for
-/// which others have to fail.
+/// The motions that begin with a row after others, and after rows that can fail those that they
+/// list, each with the condition of the row.
 #[tactic(auto, unfolding(crate::specs::WayTexts::row_motions))]
 fn row_motions(
     alloc: Global,
@@ -127,9 +111,13 @@ fn row_motions(
     ensures { IfOk result
         (λ text. text.items ≡ row_motions cave.now from (map going before.now) (going row.now)) }
 {
-    let mut text = motions_of_row(alloc, cave, from, false, before, row)?;
-    let second = motions_of_row(alloc, cave, from, true, before, row)?;
-    push_second_text(&second, &mut text)?;
+    let begun = motions_begun(alloc, before, row)?;
+    let mut text = taking_text(alloc, cave, from, false, &begun, row.condition())?;
+    if goes_on_to(before, row) {
+        let again = motions_again(alloc, before, row)?;
+        let second = taking_text(alloc, cave, from, true, &again, row.condition())?;
+        push_second_text(&second, &mut text)?;
+    }
     Ok(text)
 }
 

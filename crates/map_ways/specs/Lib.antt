@@ -1,6 +1,3 @@
-pub mod Conditions
-pub mod Leads
-pub mod Falls
 pub mod Ways
 pub mod Regions
 pub mod Laws

@@ -10,8 +10,7 @@ use Rattle.data_rows.specs.declared.targets.Destination.TheVariants.{Place}
 use Rattle.cave_data.specs.CaveView.{CaveView, ways_from}
 use Rattle.base_lines.specs.Numbers.{LAST_PLACE}
 use Rattle.cave_world.specs.Travel.{row_destination}
-use Rattle.map_ways.specs.Falls.{is_reached}
-use Rattle.map_ways.specs.Leads.{emerald_of}
+use Rattle.check_tables.specs.Reach.{may_be_taken}
 
 -- the numbers that a place may have, in ascending order
 unfoldable pub place_numbers : List ℕ
@@ -20,17 +19,15 @@ place_numbers = range_with_len 1 LAST_PLACE
 abbrev pub ends_at : ℕ → Going → Bool
 ends_at place row = leads_to_place place (row_destination row)
 
--- some motion takes one of the rows after others to the place
-abbrev pub lead_to : ℕ → ℕ → List Going → List Going → Bool
-lead_to emerald place before [] = false
-lead_to emerald place before (row ∷ rows) =
-    (ends_at place row && is_reached emerald [] before row)
-    || lead_to emerald place (before ++ row ∷ []) rows
+-- one of the rows after others leads to the place, and may be taken
+abbrev pub lead_to : ℕ → List Going → List Going → Bool
+lead_to place before [] = false
+lead_to place before (row ∷ rows) =
+    (ends_at place row && may_be_taken before row) || lead_to place (before ++ row ∷ []) rows
 
--- a way leads from one place to the other: some motion can reach a row that leads there, and take
--- it
+-- a way leads from one place to the other: a row that some motion may take leads there
 abbrev pub is_way : CaveView → ℕ → ℕ → Bool
-is_way cave from to = lead_to (emerald_of cave) to [] (ways_from cave from)
+is_way cave from to = lead_to to [] (ways_from cave from)
 
 abbrev pub is_row_to : ℕ → Option Going → Bool
 is_row_to place None = false

@@ -2,7 +2,6 @@
 
 ghost use Rattle.map_ways.specs.Laws.{AppliedRowsAreWays, EachPlaceHasOneNode};
 ghost use Rattle.map_ways.specs.Laws.{EachWayHasOneEdge, EndsAreNodes};
-ghost use Rattle.map_ways.specs.Laws.{LabelsNameWhatLeads, WaysAreWhatLeads, WhatLeadsIsNamed};
 ghost use Rattle.map_ways.specs.Regions.{RegionIsWalked};
 
 /// Each place that has a text, or a way, is exactly once among the places of the map, and no other
@@ -21,24 +20,8 @@ pub fn ends_are_nodes()
     ensures { EndsAreNodes }
 {}
 
-/// A label names a motion exactly if it leads there in some state, with some draws.
-pub fn labels_name_what_leads()
-    ensures { LabelsNameWhatLeads }
-{}
-
-/// If a motion leads to a place by the stream, the label of the edge there names it.
-pub fn what_leads_is_named()
-    ensures { WhatLeadsIsNamed }
-{}
-
-/// A way leads from one place to another exactly if some motion leads there in some state, with
-/// some draws.
-pub fn ways_are_what_leads()
-    ensures { WaysAreWhatLeads }
-{}
-
-/// A row of a place that a motion tries there in a state with all objects, and that applies, is one
-/// of a way if it leads to a place.
+/// A row of a place that a motion tries there, from any state, and that applies, is one of a way if
+/// it leads to a place.
 pub fn applied_rows_are_ways()
     ensures { AppliedRowsAreWays }
 {}

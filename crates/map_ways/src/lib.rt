@@ -1,16 +1,12 @@
 //! The ways between the places of a cave: which places and edges a map has, and their labels.
 #![tactic(auto)]
 
-mod conditions;
-pub mod falls;
 pub mod label_laws;
 pub mod labels;
 pub mod laws;
-mod leads;
 pub mod regions;
 pub mod ways;
 
-pub use falls::motions_taking;
 pub use labels::push_label;
 pub use regions::{Region, count_ends_among, is_one_of, places_around};
 pub use ways::{

@@ -4,14 +4,13 @@ ghost use Rattle.std.specs.Prelude.{◌≡◌, ◌≤◌, All, IfOk, [], length,
 ghost use Rattle.std.specs.List.{filter};
 ghost use Rattle.base_lines.specs.Numbers as defined;
 ghost use Rattle.data_rows.specs.RowViews.{going};
-ghost use Rattle.map_ways.specs.Leads.{emerald_of};
 ghost use Rattle.map_ways.specs.Ways.{are_joined, begins_edge, count_nowhere, ends_at};
 ghost use Rattle.map_ways.specs.Ways.{ends_of_edges, has_way, is_mapped, is_row_to};
 ghost use Rattle.map_ways.specs.Ways.{is_way, lead_to, leads_by, leads_nowhere, mapped_places};
 
-use crate::falls::is_reached;
 use base_lines::numbers::LAST_PLACE;
 use cave_data::Cave;
+use check_tables::reach::may_be_taken;
 use data_rows::{Destination, Row};
 use std::alloc::{AllocError, Global};
 
@@ -26,15 +25,15 @@ pub fn ends_at(row: &Row, place: u16) -> bool
 pub fn is_way(cave: &Cave, from: u16, to: u16) -> bool
     ensures { result ≡ is_way cave.now from to }
 {
-    lead_to(cave, cave.travel(from), to)
+    lead_to(cave.travel(from), to)
 }
 
-/// Whether some motion takes one of these rows to a place.
-fn lead_to(cave: &Cave, rows: &[Row], place: u16) -> bool
-    ensures { result ≡ lead_to (emerald_of cave.now) place [] (map going rows.now) }
+/// Whether one of these rows leads to a place, and may be taken.
+fn lead_to(rows: &[Row], place: u16) -> bool
+    ensures { result ≡ lead_to place [] (map going rows.now) }
 {
     for (count, row) in rows.iter().enumerate() {
-        if ends_at(row, place) && is_reached(cave, &rows[..count], row) {
+        if ends_at(row, place) && may_be_taken(&rows[..count], row) {
             return true;
         }
     }

@@ -11,7 +11,6 @@ use Rattle.base_lines.specs.Limits.{MAX_DIGITS, MAX_EVERY, MAX_SEED}
 use Rattle.clap.specs.Words.{Row, all_of, first_of, found_of, rows_of}
 use Rattle.clap.specs.declared.parser.matches.ArgMatches.{ArgMatches}
 use Rattle.play_command.specs.declared.fault.Misuse.{Misuse}
-use Rattle.play_command.specs.declared.fault.Misuse.TheVariants.{BadNumber}
 use Rattle.play_command.specs.declared.found.NumberOption.{NumberOption}
 use Rattle.play_command.specs.declared.found.NumberOption.TheVariants.{Every, From, Seed, Within}
 use Rattle.play_command.specs.declared.line.Input.{Input}
@@ -40,6 +39,8 @@ use Rattle.play_command.specs.declared.views.PlayView.TheVariants as played
 use Rattle.play_command.specs.declared.views.ReportView.{ReportView}
 use Rattle.play_command.specs.declared.views.ReportView.TheVariants as report
 use Rattle.play_command.specs.declared.views.TextView.TheVariants.{Counts, Texts}
+
+-- ---- what was found
 
 -- what was found for the arguments of a command
 abbrev pub rows_in : ArgMatches → List Row
@@ -88,7 +89,7 @@ number_in_range least most text =
 -- the number that the text writes, if the option may have it
 abbrev pub number_said : NumberOption → List ℕ → Result ℕ Misuse
 number_said option text =
-    ok_or (number_in_range (number_row option).1 (number_row option).2 text) (BadNumber option)
+    ok_or (number_in_range (number_row option).1 (number_row option).2 text) (misuse.BadNumber option)
 
 -- the number that was found for an option, or the usual one
 unfoldable pub number_of : NumberOption → ℕ → List Row → Result ℕ Misuse

@@ -16,7 +16,6 @@ use Rattle.play_command.specs.Commands.{ForCave, commands, has_files, meant_in}
 use Rattle.play_command.specs.declared.fault.CommandFault.{CommandFault}
 use Rattle.play_command.specs.declared.fault.CommandFault.TheVariants as fault_is
 use Rattle.play_command.specs.declared.fault.Misuse.{Misuse}
-use Rattle.play_command.specs.declared.fault.Misuse.TheVariants.{BadNumber, Incomplete}
 use Rattle.play_command.specs.declared.line.Input.{Input}
 use Rattle.play_command.specs.declared.line.Line.{Line}
 use Rattle.play_command.specs.declared.line.Line.TheVariants.{Run, Text}
@@ -49,15 +48,16 @@ run_in request = record {
 -- what the command of a name asks with all the files that it needs
 abbrev pub asked_by : List ℕ → List Row → Result What Misuse
 asked_by name rows =
-    option_map_or (λ needs. if has_files needs.1 rows then what_of needs.0 rows else Err Incomplete)
-    (named commands name) (Err Incomplete)
+    option_map_or (λ needs. if has_files needs.1 rows then what_of needs.0 rows
+    else Err misuse.Incomplete)
+    (named commands name) (Err misuse.Incomplete)
 
 -- a command that was met, with what was found for its arguments
 abbrev pub MetCommand : Type 0
 MetCommand = Option (List ℕ × List Row)
 
 abbrev pub run_of : MetCommand → Result Asked Misuse
-run_of None = Err Incomplete
+run_of None = Err misuse.Incomplete
 run_of (Some (name, rows)) = asked_by name rows >>= (λ what. Ok (record {
   files = files_of rows;
   typed = option_map text_of_lines (all_of (codes "edit") rows);
@@ -68,7 +68,7 @@ run_of (Some (name, rows)) = asked_by name rows >>= (λ what. Ok (record {
 
 -- what was given for the option of a number, if the misuse is of one
 abbrev pub given_for : Misuse → List Row → List ℕ
-given_for (BadNumber option) rows = unwrap_or (first_of (number_row option).0 rows) []
+given_for (misuse.BadNumber option) rows = unwrap_or (first_of (number_row option).0 rows) []
 given_for _ rows = []
 
 -- ---- the answer to words

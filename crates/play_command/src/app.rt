@@ -59,7 +59,7 @@ fn plain_argument<'a>(alloc: Global, argument: &Argument) -> Arg<'a>
 }
 
 /// Adds arguments to a command.
-pub(crate) fn with_arguments<'a>(
+fn with_arguments<'a>(
     alloc: Global,
     command: Command<'a>,
     arguments: &[Argument],

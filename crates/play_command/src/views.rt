@@ -202,6 +202,7 @@ pub(crate) const EDIT_PRINT: Argument = views!(edit print_option);
 
 pub(crate) const COVER_PRINT: Argument = views!(cover print_option);
 
+/// What each command prints, by the names of its views, of which the first is the usual one.
 pub(crate) const CHECK_VIEWS: &[(&str, Option<CheckView>)] = views!(check by_name);
 
 pub(crate) const PLAY_VIEWS: &[(&str, PlayView)] = views!(play by_name);

@@ -5,7 +5,7 @@ use Rattle.std.specs.Prelude.{All}
 use Rattle.std.specs.List.{AllByRecursion}
 use Rattle.std.proofs.lemmas.List.Elements.{All-weaker, recursion_from_All}
 use Rattle.base_lines.specs.Limits.{MAX_LOG_LINES}
-use Rattle.replay_difference.specs.Difference.{PlacesRise, PlacesRiseTwice, place_changed}
+use Rattle.replay_difference.specs.Difference.{PlacesRise, place_changed}
 use Rattle.replay_difference.specs.ScriptTo.{IsAccepted, LeadTo, MeetsGuard, changes_of_items}
 use Rattle.replay_edits.specs.Edit.{Change, Game, IsGame, apply, apply_all, deletes, game_of}
 use Rattle.replay_edits.specs.Edit.{inserts, replaces, reseeds, seed_after}
@@ -77,13 +77,6 @@ keeps_seed (change ∷ changes) game from to (place, there, after, rise) =
     by_change (replaces at line) there = refl
     by_change (reseeds seed) there = cc
 
-seed_kept : (changes : List Change) (game : Game) (between to : ℕ)
-    → PlacesRiseTwice changes between to → (apply_all changes game).seed ≡ game.seed
-seed_kept changes game between to (first, rest, parts, rise, rise') =
-    ap (λ all. (apply_all all game).seed) parts
-    ∙ ap (λ (g : Game). g.seed) (in_turn first rest game)
-    ∙ keeps_seed rest (apply_all first game) 0 to rise' ∙ keeps_seed first game 0 between rise
-
 -- what a script spells is what is read of it
 read_once : (guarded : Bool) (script : List ℕ) (items other : List Applied)
     → script_by guarded script ≡ Ok other → IsScriptBy guarded script items → other ≡ items
@@ -96,7 +89,7 @@ differences_make_the_log form script game new items good is spelled =
     let made : game_after_items is.items game ≡ game_of game.seed new =
     ap₂ game_of
     (ap (λ (g : Game). g.seed) there.0
-    ∙ seed_kept (changes_of_items is.items) game (length game.log) (length new) is.rising)
+    ∙ keeps_seed (changes_of_items is.items) game 0 (length new) is.rising)
     there.1 in
     subst (λ some. game_after_items some game ≡ game_of game.seed new)
     (read_once form.guarded script items is.items is.reads spelled) made

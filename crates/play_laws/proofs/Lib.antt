@@ -20,4 +20,3 @@ pub mod Period
 pub mod Redo
 pub mod UndoLines
 pub mod UnusedMessages
-pub mod WaySteps

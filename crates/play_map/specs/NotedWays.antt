@@ -2,25 +2,17 @@
 use Rattle.std.specs.Prelude.{◌≡◌, ℕ, true, List, Some, Contains}
 use Rattle.std.specs.List.{slice_get}
 use Rattle.cave_data.specs.CaveView.{CaveView, ways_from}
-use Rattle.cave_data.specs.Reads.{Reads}
 use Rattle.data_rows.specs.Rows.{Going}
 use Rattle.cave_world.specs.declared.state.State.{State}
 use Rattle.cave_world.specs.declared.tables.RuleRow.TheVariants.{OfPlace}
 use Rattle.cave_turn.specs.Turns.{rows_on_line}
-use Rattle.turn_laws.specs.OneList.{AreInOneList}
-use Rattle.map_ways.specs.Laws.{IsPlaceNumber}
 use Rattle.map_ways.specs.Ways.{ends_at, is_way}
 
--- in a cave that was read, and from a state in which each half of an object is in one list, as in
--- each state of a game: a travel row that a line notes as one that applied, and that leads to a
--- place, is one of a way there
+-- a travel row that a line notes, from any state, as one that applied, and that leads to a place, is
+-- one of a way there
 abbrev pub NotedRowsAreWays : Type 0
 NotedRowsAreWays =
-    (database bindings : List ℕ) (cave : CaveView) (s : State) (line : List ℕ)
-    (from to index : ℕ) (row : Going)
-    → Reads database bindings cave
-    → IsPlaceNumber from
-    → AreInOneList s.objects
+    (cave : CaveView) (s : State) (line : List ℕ) (from to index : ℕ) (row : Going)
     → Contains (rows_on_line cave s line) (OfPlace from index true)
     → slice_get (ways_from cave from) index ≡ Some row
     → ends_at to row ≡ true

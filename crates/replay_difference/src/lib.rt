@@ -3,14 +3,8 @@
 
 mod anchors;
 pub mod difference;
-mod ends;
-mod frontier;
-mod kept;
-mod numbers;
+mod meeting;
 pub mod open;
-mod region;
 mod same;
 pub mod script;
-mod search;
-mod stretch;
 mod walk;

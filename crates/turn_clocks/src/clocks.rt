@@ -9,7 +9,7 @@ use crate::lamp::run_lamp;
 use crate::repository::close_cave;
 use cave_world::{RowNotes, Table};
 use data_rows::PlaceRole;
-use turn_scene::{Rules, Scene, place_named};
+use turn_scene::{Rules, Scene, place_named, rows};
 use world_objects::Place;
 
 /// What follows after the clocks and the lamp have gone on by a turn.
@@ -43,33 +43,18 @@ fn tick_clocks<N: RowNotes>(rules: &Rules<'_>, scene: &mut Scene<'_, N>) -> bool
     requires { HasRoom 1 scene.old }
     ensures clock { PlaysBy N.rows tick_clocks 1 rules.now tt scene.old scene.new result }
 {
-    if first_clock_goes(rules, scene) {
-        if scene.state.closing.first_clock - 1 == 0 {
-            scene.note(Table::Clocks, 1);
-            begin_closing(rules, scene);
-            return false;
-        }
-        scene.note(Table::Clocks, 2);
-        scene.state.closing.first_clock -= 1;
-        return false;
+    rows! { scene, Table::Clocks, false;
+        let is_first = first_clock_goes(rules, scene);
+        is_first && scene.state.closing.first_clock == 1 => { begin_closing(rules, scene); };
+        is_first => { scene.state.closing.first_clock -= 1; };
+        let is_second = scene.state.closing.first_clock == -1;
+        is_second && scene.state.closing.second_clock == 1 && !scene.state.closing.is_closed
+            && place_named(rules.cave, PlaceRole::Ne).is_some()
+            && place_named(rules.cave, PlaceRole::Sw).is_some() => {
+            scene.state.closing.second_clock -= 1;
+            close_cave(rules, scene);
+        } -> true;
+        is_second && 0 <= scene.state.closing.second_clock
+            => { scene.state.closing.second_clock -= 1; };
     }
-    if scene.state.closing.first_clock != -1 || scene.state.closing.second_clock < 0 {
-        return false;
-    }
-    scene.state.closing.second_clock -= 1;
-    if scene.state.closing.second_clock != 0 || scene.state.closing.is_closed {
-        scene.note(Table::Clocks, 4);
-        return false;
-    }
-    let Some(northeast) = place_named(rules.cave, PlaceRole::Ne) else {
-        scene.note(Table::Clocks, 4);
-        return false;
-    };
-    let Some(southwest) = place_named(rules.cave, PlaceRole::Sw) else {
-        scene.note(Table::Clocks, 4);
-        return false;
-    };
-    scene.note(Table::Clocks, 3);
-    close_cave(rules, northeast, southwest, scene);
-    true
 }

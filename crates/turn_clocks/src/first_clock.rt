@@ -2,18 +2,17 @@ ghost use Rattle.std.specs.Prelude.{◌≡◌, ◌≤ℤ◌, pos, IsTrue, map, [
 ghost use Rattle.data_rows.specs.declared.place_role.PlaceRole.TheVariants as place;
 ghost use Rattle.turn_scene.specs.Scene.{cave_of, scene_of};
 ghost use Rattle.turn_scene.specs.Bounds.{HasRoom};
-ghost use Rattle.cave_world.specs.declared.tables.Table.TheVariants as table;
-ghost use Rattle.turn_scene.specs.Rows.{all_hold, deed, by_table, Does};
+ghost use Rattle.turn_scene.specs.Rows.{all_hold, deed, Does};
 ghost use Rattle.turn_scene.specs.Tests.{no, player_at, in_the_depths};
 ghost use Rattle.turn_clocks.specs.FirstClock.{all_seen, some_turns_left, dismissed_dwarf};
-ghost use Rattle.turn_clocks.specs.FirstClock.{closing_bear_rows, begin_closing};
+ghost use Rattle.turn_clocks.specs.FirstClock.{begin_closing};
 
 use cave_words::Named;
 use cave_world::{Dwarf, RowNotes, Table};
 use data_rows::{PlaceRole, Role};
 use turn_scene::props::{AXE_FREE, BEAR_DEAD, CHAIN_UNLOCKED, FISSURE_OPEN, GRATE_LOCKED};
-use turn_scene::{Rules, Scene, deep_place, has_prop, is_place, place_named, remove_troll};
-use world_objects::{Anchor, Place, Prop};
+use turn_scene::{Rules, Scene, deep_place, has_prop, is_place, place_named, rows};
+use world_objects::Place;
 
 /// Whether the first clock runs. It doesn't run at y2.
 pub fn first_clock_goes<N: RowNotes>(rules: &Rules<'_>, scene: &Scene<'_, N>) -> bool
@@ -45,47 +44,27 @@ fn dismiss_all(dwarves: &mut [Dwarf])
     }
 }
 
-/// The bear vanishes, but a dead one stays.
-#[tactic(auto, unfolding(crate::specs::FirstClock::closing_bear_rows))]
-fn remove_bear<N: RowNotes>(rules: &Rules<'_>, scene: &mut Scene<'_, N>)
-    ensures rows { Does N.rows (by_table table.ClosingBear closing_bear_rows ∷ []) 0
-        rules.now tt scene.old scene.new }
-{
-    let bear = rules.thing(Named::Bear);
-    if has_prop(scene.state, bear, BEAR_DEAD) {
-        scene.note(Table::ClosingBear, 1);
-        return;
-    }
-    scene.note(Table::ClosingBear, 2);
-    scene.state.destroy(bear);
-}
-
 /// The ways are barred, dwarves, troll and bear are gone, and nothing holds the chain and the axe.
-#[tactic(auto, unfolding(crate::specs::FirstClock::begin_closing))]
+#[tactic(auto, unfolding(crate::specs::FirstClock::begin_closing, crate::specs::FirstClock::closing_bear_rows))]
 pub fn begin_closing<N: RowNotes>(rules: &Rules<'_>, scene: &mut Scene<'_, N>)
     requires { HasRoom 1 scene.old }
     ensures scene { Does N.rows begin_closing 1 rules.now tt scene.old scene.new }
 {
     let chain = rules.thing(Named::Chain);
     let axe = rules.thing(Named::Axe);
-    scene
-        .state
-        .objects
-        .set_prop(rules.thing(Named::Grate), Prop::new(GRATE_LOCKED));
-    scene
-        .state
-        .objects
-        .set_prop(rules.thing(Named::Fissure), Prop::new(FISSURE_OPEN));
+    let bear = rules.thing(Named::Bear);
+    scene.set_prop(rules.thing(Named::Grate), GRATE_LOCKED);
+    scene.set_prop(rules.thing(Named::Fissure), FISSURE_OPEN);
     dismiss_all(&mut scene.state.dwarves.each);
-    remove_troll(rules, scene);
-    remove_bear(rules, scene);
-    scene
-        .state
-        .objects
-        .set_prop(chain, Prop::new(CHAIN_UNLOCKED));
-    scene.state.objects.anchor_to(chain, Anchor::Loose);
-    scene.state.objects.set_prop(axe, Prop::new(AXE_FREE));
-    scene.state.objects.anchor_to(axe, Anchor::Loose);
+    scene.troll_goes(rules);
+    rows! { scene, Table::ClosingBear;
+        has_prop(scene.state, bear, BEAR_DEAD) => {};
+        otherwise => destroy(bear);
+    }
+    scene.set_prop(chain, CHAIN_UNLOCKED);
+    scene.loosen(chain);
+    scene.set_prop(axe, AXE_FREE);
+    scene.loosen(axe);
     scene.say(Role::Closing);
     scene.state.closing.first_clock = -1;
     scene.state.closing.is_closing = true;

@@ -8,17 +8,13 @@ ghost use Rattle.cave_data.specs.Tables.{IsAbove};
 ghost use Rattle.cave_world.specs.Sight.{has_condition};
 ghost use Rattle.cave_world.specs.State as defined_state;
 ghost use Rattle.cave_world.specs.State.{takes_no_command, turns_in_area};
-ghost use Rattle.cave_words.specs.declared.named.Named.TheVariants as name;
 ghost use Rattle.turn_scene.specs.Bounds.{GoesOnSaying, HasRoom, SaysUpTo, parts_of_question};
 ghost use Rattle.turn_scene.specs.Scene.{scene_of, cave_of};
-ghost use Rattle.turn_scene.specs.Props as defined_props;
-ghost use Rattle.turn_scene.specs.Rows.{Does, all_hold, deed, by_rows, by_table, note_row};
-ghost use Rattle.turn_scene.specs.Tests.{the, no, carried, near, prop, other_prop, last_object};
-ghost use Rattle.turn_scene.specs.Tests.{here, old, older};
+ghost use Rattle.turn_scene.specs.Rows.{Does, by_rows, by_table};
 ghost use Rattle.turn_scene.specs.Effects.{with_charge};
 ghost use Rattle.cave_world.specs.declared.tables.Table.TheVariants as table;
 ghost use Rattle.turn_clocks.specs.Hints as defined;
-ghost use Rattle.turn_clocks.specs.Hints.{nothing_at, two_in_hands, offer, guard_rows};
+ghost use Rattle.turn_clocks.specs.Hints.{offer, guard_rows};
 ghost use Rattle.turn_clocks.specs.Hints.{longer_charge, with_turns_in_area, offer_rows};
 ghost use Rattle.turn_clocks.specs.Hints.{after_consider, after_hints, price_rows, give_rows};
 
@@ -31,7 +27,7 @@ use cave_world::{
 use data_rows::Hint;
 use turn_ends::ask;
 use turn_scene::props::{GRATE_LOCKED, UNSEEN};
-use turn_scene::{Rules, Scene, has_other_prop, has_prop, is_carried, is_near};
+use turn_scene::{Rules, Scene, has_other_prop, has_prop, is_carried, is_near, rows};
 
 /// The first hint that is offered.
 const FIRST_HINT: u8 = 4;
@@ -139,16 +135,17 @@ pub fn give_hint<N: RowNotes>(rules: &Rules<'_>, number: HintNumber, scene: &mut
         scene.old scene.new }
 {
     if let Some(hint) = rules.cave.hint(u16::from(number.number())) {
-        if LOW_CHARGE < scene.state.lamp.charge.turns() {
-            scene.note(Table::HintGiven, 1);
-            scene.tell(Part::Message(hint.text));
-            scene.state.take_hint(number);
-            prolong(hint.points, scene.state);
-            return;
+        rows! { scene, Table::HintGiven;
+            LOW_CHARGE < scene.state.lamp.charge.turns() => {
+                scene.tell(Part::Message(hint.text));
+                scene.state.take_hint(number);
+                prolong(hint.points, scene.state);
+            };
+            otherwise => {
+                scene.tell(Part::Message(hint.text));
+                scene.state.take_hint(number);
+            };
         }
-        scene.note(Table::HintGiven, 2);
-        scene.tell(Part::Message(hint.text));
-        scene.state.take_hint(number);
     }
 }
 
@@ -196,78 +193,14 @@ fn restart(hint: HintNumber, state: &mut State)
     set_turns_in_area(hint, Count::new(0), state);
 }
 
-/// The grate is locked, and the keys aren't at hand.
-fn is_locked_out<N: RowNotes>(rules: &Rules<'_>, number: HintNumber, scene: &Scene<'_, N>) -> bool
-    ensures { result ≡ all_hold
-        (prop (the name.Grate) defined_props.GRATE_LOCKED ∷ no (near (the name.Keys)) ∷ [])
-        (deed (cave_of rules.now) number (scene_of N.rows scene.now)) }
-{
-    has_prop(scene.state, rules.thing(Named::Grate), GRATE_LOCKED)
-        && !is_near(rules, scene.state, rules.thing(Named::Keys))
-}
-
-/// The bird is at hand, which flees from the rod that the player carries, and it was the last
-/// object.
-fn is_after_bird<N: RowNotes>(rules: &Rules<'_>, number: HintNumber, scene: &Scene<'_, N>) -> bool
-    ensures { result ≡ all_hold
-        (near (the name.Bird) ∷ carried (the name.Rod) ∷ last_object name.Bird ∷ [])
-        (deed (cave_of rules.now) number (scene_of N.rows scene.now)) }
-{
-    is_near(rules, scene.state, rules.thing(Named::Bird))
-        && is_carried(rules, scene.state, rules.thing(Named::Rod))
-        && rules.is(scene.state.talk.last, Named::Bird)
-}
-
-fn is_held_by_snake<N: RowNotes>(
-    rules: &Rules<'_>,
-    number: HintNumber,
-    scene: &Scene<'_, N>,
-) -> bool
-    ensures { result ≡ all_hold (near (the name.Snake) ∷ no (near (the name.Bird)) ∷ [])
-        (deed (cave_of rules.now) number (scene_of N.rows scene.now)) }
-{
-    is_near(rules, scene.state, rules.thing(Named::Snake))
-        && !is_near(rules, scene.state, rules.thing(Named::Bird))
-}
-
-/// Nothing marks the last three places, and the player has what could mark them.
-fn is_lost_in_maze<N: RowNotes>(rules: &Rules<'_>, number: HintNumber, scene: &Scene<'_, N>) -> bool
-    ensures { result ≡ all_hold
-        (nothing_at here ∷ nothing_at old ∷ nothing_at older ∷ two_in_hands ∷ [])
-        (deed (cave_of rules.now) number (scene_of N.rows scene.now)) }
-{
-    let state = &*scene.state;
-    state.is_bare(state.trail.here)
-        && state.is_bare(state.trail.last)
-        && state.is_bare(state.trail.older)
-        && 1 < state.holding()
-}
-
-/// The emerald was found, and the pyramid wasn't.
-fn is_short_of_pyramid<N: RowNotes>(
-    rules: &Rules<'_>,
-    number: HintNumber,
-    scene: &Scene<'_, N>,
-) -> bool
-    ensures { result ≡ all_hold
-        (other_prop (the name.Emerald) defined_props.UNSEEN
-        ∷ prop (the name.Pyramid) defined_props.UNSEEN ∷ [])
-        (deed (cave_of rules.now) number (scene_of N.rows scene.now)) }
-{
-    has_other_prop(scene.state, rules.thing(Named::Emerald), UNSEEN)
-        && has_prop(scene.state, rules.thing(Named::Pyramid), UNSEEN)
-}
-
-/// Offers a hint, by a row of the guards, and counts its turns from 0 again.
+/// Offers a hint, and counts its turns from 0 again.
 #[tactic(auto, using(crate::proofs::Trails::trail_asked))]
-fn offer<N: RowNotes>(rules: &Rules<'_>, number: HintNumber, row: u8, scene: &mut Scene<'_, N>)
+fn offer<N: RowNotes>(rules: &Rules<'_>, number: HintNumber, scene: &mut Scene<'_, N>)
     requires { HasRoom parts_of_question scene.old }
-    ensures rows { Does N.rows (note_row table.HintGuards row ∷ offer) parts_of_question
-        rules.now number scene.old scene.new }
+    ensures rows { Does N.rows offer parts_of_question rules.now number scene.old scene.new }
     ensures here { scene.new.state.now.trail ≡ scene.old.state.now.trail }
     ensures over { IsTrue (takes_no_command scene.new.state.now) }
 {
-    scene.note(Table::HintGuards, row);
     restart(number, scene.state);
     ask(rules, &Question::Hint(number), scene);
 }
@@ -281,20 +214,28 @@ fn offer_by_guard<N: RowNotes>(rules: &Rules<'_>, number: HintNumber, scene: &mu
     ensures here { scene.new.state.now.trail ≡ scene.old.state.now.trail }
     ensures few_on { takes_no_command scene.new.state.now ≡ false → SaysUpTo 0 scene.old scene.new }
 {
-    match number.number() {
-        GRATE_HINT if is_locked_out(rules, number, scene) => offer(rules, number, 1, scene),
-        BIRD_HINT if is_after_bird(rules, number, scene) => offer(rules, number, 2, scene),
-        SNAKE_HINT if is_held_by_snake(rules, number, scene) => offer(rules, number, 3, scene),
-        MAZE_HINT if is_lost_in_maze(rules, number, scene) => offer(rules, number, 4, scene),
-        PYRAMID_HINT if is_short_of_pyramid(rules, number, scene) => {
-            offer(rules, number, 5, scene)
-        }
-        FIRST_UNGUARDED_HINT.. => offer(rules, number, 6, scene),
-        BIRD_HINT => scene.note(Table::HintGuards, 7),
-        _ => {
-            scene.note(Table::HintGuards, 8);
-            restart(number, scene.state);
-        }
+    let h = number.number();
+    rows! { scene, Table::HintGuards;
+        h == GRATE_HINT && has_prop(scene.state, rules.thing(Named::Grate), GRATE_LOCKED)
+            && !is_near(rules, scene.state, rules.thing(Named::Keys))
+            => { offer(rules, number, scene); };
+        h == BIRD_HINT && is_near(rules, scene.state, rules.thing(Named::Bird))
+            && is_carried(rules, scene.state, rules.thing(Named::Rod))
+            && rules.is(scene.state.talk.last, Named::Bird)
+            => { offer(rules, number, scene); };
+        h == SNAKE_HINT && is_near(rules, scene.state, rules.thing(Named::Snake))
+            && !is_near(rules, scene.state, rules.thing(Named::Bird))
+            => { offer(rules, number, scene); };
+        let trail = scene.state.trail;
+        h == MAZE_HINT && scene.state.is_bare(trail.here) && scene.state.is_bare(trail.last)
+            && scene.state.is_bare(trail.older) && 1 < scene.state.holding()
+            => { offer(rules, number, scene); };
+        h == PYRAMID_HINT && has_other_prop(scene.state, rules.thing(Named::Emerald), UNSEEN)
+            && has_prop(scene.state, rules.thing(Named::Pyramid), UNSEEN)
+            => { offer(rules, number, scene); };
+        FIRST_UNGUARDED_HINT <= h => { offer(rules, number, scene); };
+        h == BIRD_HINT => {};
+        otherwise => { restart(number, scene.state); };
     }
 }
 
@@ -318,15 +259,11 @@ fn consider_offer<N: RowNotes>(
     ensures stays { takes_no_command scene.new.state.now ≡ false
         → takes_no_command scene.old.state.now ≡ false }
 {
-    if turns_in_area(number, scene.state).number() < hint.turns {
-        return;
+    let has_stayed = hint.turns <= turns_in_area(number, scene.state).number();
+    rows! { scene, Table::Offers;
+        has_stayed && scene.state.takes_no_command() => {};
+        has_stayed => { offer_by_guard(rules, number, scene); };
     }
-    if scene.state.takes_no_command() {
-        scene.note(Table::Offers, 1);
-        return;
-    }
-    scene.note(Table::Offers, 2);
-    offer_by_guard(rules, number, scene);
 }
 
 /// A hint that the cave has, and that wasn't taken, counts its turns and is offered.
@@ -354,17 +291,14 @@ fn consider<N: RowNotes>(
         return;
     }
     if let Some(hint) = rules.cave.hint(u16::from(number.number())) {
-        if scene.state.is_hint_taken(number) {
-            return;
+        let is_offered = !scene.state.is_hint_taken(number);
+        rows! { scene, Table::HintTurns;
+            is_offered && !is_in_area => { restart(number, scene.state); };
+            is_offered => {
+                count_turn(number, scene.state);
+                consider_offer(rules, number, &hint, scene);
+            };
         }
-        if !is_in_area {
-            scene.note(Table::HintTurns, 1);
-            restart(number, scene.state);
-            return;
-        }
-        scene.note(Table::HintTurns, 2);
-        count_turn(number, scene.state);
-        consider_offer(rules, number, &hint, scene);
     }
 }
 

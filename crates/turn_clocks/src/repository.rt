@@ -1,4 +1,4 @@
-ghost use Rattle.std.specs.Prelude.{◌≡◌, [], ◌∷◌, Some};
+ghost use Rattle.std.specs.Prelude.{◌≡◌, [], ◌∷◌, IsTrue, Some, is_some};
 ghost use Rattle.data_rows.specs.declared.place_role.PlaceRole.TheVariants as role;
 ghost use Rattle.world_objects.specs.Objects.{after_move_to, with_prop};
 ghost use Rattle.turn_scene.specs.Scene.{cave_of, thing};
@@ -10,9 +10,9 @@ ghost use Rattle.turn_clocks.specs.Repository.{without_all, with_empty_hands, cl
 
 use cave_words::Named;
 use cave_world::{RowNotes, State};
-use data_rows::Role;
+use data_rows::{PlaceRole, Role};
 use turn_scene::props::{BIRD_CAGED, BOTTLE_EMPTY, SNAKE_GONE, UNSEEN};
-use turn_scene::{Rules, Scene};
+use turn_scene::{Rules, Scene, place_named};
 use world_objects::{Anchor, Object, Objects, Place, Prop};
 
 /// Puts a thing at a place, with its prop.
@@ -102,21 +102,20 @@ fn empty_hands(state: &mut State)
 
 /// Closes the cave, and puts the player at the northeast end of the repository.
 #[tactic(auto, unfolding(crate::specs::Repository::close_cave))]
-pub fn close_cave<N: RowNotes>(
-    rules: &Rules<'_>,
-    northeast: Place,
-    southwest: Place,
-    scene: &mut Scene<'_, N>,
-)
+pub fn close_cave<N: RowNotes>(rules: &Rules<'_>, scene: &mut Scene<'_, N>)
     requires room { HasRoom 1 scene.old }
-    requires northeast { place_named (cave_of rules.now) role.Ne ≡ Some northeast }
-    requires southwest { place_named (cave_of rules.now) role.Sw ≡ Some southwest }
+    requires northeast { IsTrue (is_some (place_named (cave_of rules.now) role.Ne)) }
+    requires southwest { IsTrue (is_some (place_named (cave_of rules.now) role.Sw)) }
     ensures scene { Does N.rows close_cave 1 rules.now tt scene.old scene.new }
 {
-    put_northeast_things(rules, northeast, scene);
-    scene.state.put_player_from(northeast);
-    put_southwest_things(rules, northeast, southwest, scene);
-    empty_hands(scene.state);
-    scene.say(Role::Repository);
-    scene.state.closing.is_closed = true;
+    if let Some(northeast) = place_named(rules.cave, PlaceRole::Ne) {
+        if let Some(southwest) = place_named(rules.cave, PlaceRole::Sw) {
+            put_northeast_things(rules, northeast, scene);
+            scene.state.put_player_from(northeast);
+            put_southwest_things(rules, northeast, southwest, scene);
+            empty_hands(scene.state);
+            scene.say(Role::Repository);
+            scene.state.closing.is_closed = true;
+        }
+    }
 }

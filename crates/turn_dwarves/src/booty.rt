@@ -1,35 +1,21 @@
 //! What the pirate does to the treasures.
 
 ghost use Rattle.std.specs.Prelude.{◌≡◌};
-ghost use Rattle.turn_scene.specs.Bounds.{GoesOnSaying, HasRoom};
-ghost use Rattle.turn_scene.specs.Scene.{cave_of, scene_of, thing};
-ghost use Rattle.turn_scene.specs.Places.{place_named};
-ghost use Rattle.cave_words.specs.declared.named.Named.TheVariants as name;
-ghost use Rattle.data_rows.specs.declared.place_role.PlaceRole.TheVariants as role;
+ghost use Rattle.turn_scene.specs.Bounds.{GoesOnSaying};
+ghost use Rattle.turn_scene.specs.Scene.{cave_of, scene_of};
 ghost use Rattle.turn_scene.specs.Treasures.{treasures};
-ghost use Rattle.turn_scene.specs.Effects.{after_sending};
 ghost use Rattle.turn_scene.specs.Rows.{Does, deed};
 ghost use Rattle.turn_dwarves.specs.Booty.{fair, is_carried_booty, carries_booty, treasure_near};
 ghost use Rattle.turn_dwarves.specs.Booty.{after_stealing, after_stealing_all, take_booty};
 ghost use Rattle.turn_dwarves.specs.Booty.{with_pirate_home};
-ghost use Rattle.turn_dwarves.specs.Booty.{hide_chest};
 
 use crate::band::{dwarf_of, set_dwarf};
 use cave_words::Named;
 use cave_world::{Dwarf, PIRATE, RowNotes, State, Table};
-use data_rows::{PlaceRole, Role};
+use data_rows::PlaceRole;
 use turn_scene::treasures::{FIRST_TREASURE, LAST_TREASURE};
-use turn_scene::{Rules, Scene, is_carried, is_fixed, is_home_here, is_near, place_named};
-use world_objects::{Object, Place};
-
-/// Moves an object to a place, if the place exists.
-fn send(object: Object, place: Option<Place>, state: &mut State)
-    ensures { state.new ≡ after_sending object place state.old }
-{
-    if let Some(place) = place {
-        state.move_to(object, place);
-    }
-}
+use turn_scene::{Rules, Scene, is_carried, is_fixed, is_home_here, is_near, place_named, rows};
+use world_objects::Object;
 
 /// Whether a treasure is fair game: any is, except the pyramid at its own home or at the emerald's.
 #[tactic(auto, unfolding(crate::specs::Booty::fair))]
@@ -75,15 +61,6 @@ pub fn is_treasure_near<N: RowNotes>(rules: &Rules<'_>, scene: &Scene<'_, N>) ->
     false
 }
 
-/// Brings a treasure to the pirate's chest.
-fn bring_to_chest(rules: &Rules<'_>, object: Object, state: &mut State)
-    ensures { state.new
-        ≡ after_sending object (place_named (cave_of rules.now) role.Chest) state.old }
-{
-    let chest = place_named(rules.cave, PlaceRole::Chest);
-    send(object, chest, state);
-}
-
 /// Brings a treasure that is fair game to the pirate's chest, if it is carried, or here and loose.
 #[tactic(auto, unfolding(crate::specs::Booty::after_stealing, crate::specs::Booty::theft_rows))]
 fn steal<N: RowNotes>(rules: &Rules<'_>, object: Object, scene: &mut Scene<'_, N>)
@@ -91,18 +68,11 @@ fn steal<N: RowNotes>(rules: &Rules<'_>, object: Object, scene: &mut Scene<'_, N
         ≡ after_stealing (cave_of rules.now) object (scene_of N.rows scene.old) }
     ensures says { GoesOnSaying 0 scene.old scene.new }
 {
-    if !is_fair(rules, object, scene) {
-        scene.note(Table::Theft, 1);
-        return;
-    }
-    if is_carried(rules, scene.state, object) {
-        scene.note(Table::Theft, 2);
-        bring_to_chest(rules, object, scene.state);
-        return;
-    }
-    if scene.state.at(object) && !is_fixed(scene.state, object) {
-        scene.note(Table::Theft, 3);
-        bring_to_chest(rules, object, scene.state);
+    rows! { scene, Table::Theft;
+        !is_fair(rules, object, scene) => {};
+        is_carried(rules, scene.state, object) => send(rules, object, PlaceRole::Chest);
+        scene.state.at(object) && !is_fixed(scene.state, object)
+            => send(rules, object, PlaceRole::Chest);
     }
 }
 
@@ -118,26 +88,9 @@ fn steal_all<N: RowNotes>(rules: &Rules<'_>, scene: &mut Scene<'_, N>)
     }
 }
 
-/// Puts the pirate's chest in its place.
-pub fn put_chest(rules: &Rules<'_>, state: &mut State)
-    ensures { state.new ≡ after_sending (thing (cave_of rules.now) name.Chest)
-        (place_named (cave_of rules.now) role.Chest) state.old }
-{
-    bring_to_chest(rules, rules.thing(Named::Chest), state);
-}
-
-/// Puts the pirate's message in its place.
-fn leave_message(rules: &Rules<'_>, state: &mut State)
-    ensures { state.new ≡ after_sending (thing (cave_of rules.now) name.Message)
-        (place_named (cave_of rules.now) role.Message) state.old }
-{
-    let place = place_named(rules.cave, PlaceRole::Message);
-    send(rules.thing(Named::Message), place, state);
-}
-
 /// The pirate goes home to its chest, and no longer sees the player.
 #[tactic(auto, unfolding(crate::specs::Booty::with_pirate_home))]
-fn send_pirate_home(rules: &Rules<'_>, state: &mut State)
+pub fn send_pirate_home(rules: &Rules<'_>, state: &mut State)
     ensures { state.new ≡ with_pirate_home (cave_of rules.now) state.old }
 {
     let pirate = dwarf_of(state, PIRATE);
@@ -154,19 +107,7 @@ fn send_pirate_home(rules: &Rules<'_>, state: &mut State)
 pub fn take_booty<N: RowNotes>(rules: &Rules<'_>, scene: &mut Scene<'_, N>)
     ensures effects { Does N.rows take_booty 0 rules.now tt scene.old scene.new }
 {
-    leave_message(rules, scene.state);
+    scene.send(rules, rules.thing(Named::Message), PlaceRole::Message);
     steal_all(rules, scene);
-    send_pirate_home(rules, scene.state);
-}
-
-/// The pirate hides its chest, and goes home.
-#[tactic(auto, unfolding(crate::specs::Booty::hide_chest))]
-pub fn hide_chest<N: RowNotes>(rules: &Rules<'_>, scene: &mut Scene<'_, N>)
-    requires { HasRoom 1 scene.old }
-    ensures effects { Does N.rows hide_chest 1 rules.now tt scene.old scene.new }
-{
-    scene.say(Role::ChestHid);
-    put_chest(rules, scene.state);
-    leave_message(rules, scene.state);
     send_pirate_home(rules, scene.state);
 }

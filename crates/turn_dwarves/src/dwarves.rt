@@ -10,7 +10,7 @@ use crate::lines::tell_attack;
 use crate::pirate::send_pirate;
 use crate::waking::{ASLEEP, STIRRING, is_in_depths, set_anger, try_waking};
 use cave_world::{RowNotes, Table};
-use turn_scene::{Rules, Scene};
+use turn_scene::{Rules, Scene, rows};
 
 /// The dwarves sleep, stir, or are awake as the player arrives. Returns whether a knife hit the
 /// player.
@@ -21,25 +21,13 @@ pub fn encounter_dwarves<N: RowNotes>(rules: &Rules<'_>, scene: &mut Scene<'_, N
         ≡ encounter_dwarves (cave_of rules.now) (scene_of N.rows scene.old) }
     ensures says { GoesOnSaying parts_of_dwarves scene.old scene.new }
 {
-    match scene.state.dwarves.anger.number() {
-        ASLEEP if is_in_depths(rules, scene.state) => {
-            scene.note(Table::Anger, 1);
-            set_anger(STIRRING, scene.state);
-            false
-        }
-        ASLEEP => {
-            scene.note(Table::Anger, 2);
-            false
-        }
-        STIRRING => {
-            scene.note(Table::Anger, 3);
-            try_waking(rules, scene);
-            false
-        }
-        _ => {
-            scene.note(Table::Anger, 4);
-            encounter_awake(rules, scene)
-        }
+    let anger = scene.state.dwarves.anger.number();
+    rows! { scene, Table::Anger, false;
+        anger == ASLEEP && is_in_depths(rules, scene.state)
+            => { set_anger(STIRRING, scene.state); };
+        anger == ASLEEP => {};
+        anger == STIRRING => { try_waking(rules, scene); };
+        otherwise => {} -> encounter_awake(rules, scene);
     }
 }
 

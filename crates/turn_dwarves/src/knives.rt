@@ -10,7 +10,7 @@ use crate::band::dwarf_of;
 use crate::moving::move_dwarf;
 use crate::waking::AWAKE;
 use cave_world::{Knife, PIRATE, RowNotes, Table};
-use turn_scene::{Rules, Scene};
+use turn_scene::{Rules, Scene, rows};
 
 /// The number of cases in the draw of whether a knife hits.
 const KNIFE_CASES: u32 = 1000;
@@ -90,12 +90,9 @@ fn throw_knife<N: RowNotes>(
     ensures rows { Does N.rows (throw_knife ∷ []) 0 rules.now (raider number attack)
         scene.old scene.new }
 {
-    match scene.state.dwarves.knife {
-        Knife::Vanished => scene.note(Table::KnifeThrown, 1),
-        Knife::Unthrown | Knife::At(_) => {
-            scene.note(Table::KnifeThrown, 2);
-            scene.state.dwarves.knife = Knife::At(scene.state.trail.here);
-        }
+    rows! { scene, Table::KnifeThrown;
+        matches!(scene.state.dwarves.knife, Knife::Vanished) => {};
+        otherwise => { scene.state.dwarves.knife = Knife::At(scene.state.trail.here); };
     }
 }
 
@@ -115,24 +112,16 @@ fn threaten<N: RowNotes>(
     ensures one_more { IsByUpTo (number + 1) result }
 {
     let dwarf = dwarf_of(scene.state, number);
-    if !dwarf.has_seen {
-        scene.note(Table::Threats, 1);
-        return attack;
+    rows! { scene, Table::Threats;
+        !dwarf.has_seen => {} -> attack;
+        dwarf.last != scene.state.trail.here => {} -> attack.count_dwarf();
+        let degree = scene.state.dwarves.anger.number().saturating_sub(AWAKE);
+        scene.state.stream.draw(KNIFE_CASES) < HITS_A_DEGREE * u32::from(degree)
+            => { throw_knife(rules, number, attack, scene); }
+            -> attack.count_dwarf().count_knife().count_hit();
+        otherwise => { throw_knife(rules, number, attack, scene); }
+            -> attack.count_dwarf().count_knife();
     }
-    if dwarf.last != scene.state.trail.here {
-        scene.note(Table::Threats, 2);
-        return attack.count_dwarf();
-    }
-    let chances = HITS_A_DEGREE
-        * u32::from(scene.state.dwarves.anger.number().saturating_sub(AWAKE));
-    if scene.state.stream.draw(KNIFE_CASES) < chances {
-        scene.note(Table::Threats, 3);
-        throw_knife(rules, number, attack, scene);
-        return attack.count_dwarf().count_knife().count_hit();
-    }
-    scene.note(Table::Threats, 4);
-    throw_knife(rules, number, attack, scene);
-    attack.count_dwarf().count_knife()
 }
 
 /// A dwarf moves and then may threaten the player. One that is gone does nothing.
@@ -149,13 +138,11 @@ fn take_dwarf_turn<N: RowNotes>(
         scene.old scene.new result }
     ensures one_more { IsByUpTo (number + 1) result }
 {
-    if dwarf_of(scene.state, number).place.number() == 0 {
-        scene.note(Table::DwarfTurn, 1);
-        return attack;
+    rows! { scene, Table::DwarfTurn;
+        dwarf_of(scene.state, number).place.number() == 0 => {} -> attack;
+        otherwise => { move_dwarf(rules, number, scene); }
+            -> threaten(rules, number, attack, scene);
     }
-    scene.note(Table::DwarfTurn, 2);
-    move_dwarf(rules, number, scene);
-    threaten(rules, number, attack, scene)
 }
 
 /// The dwarves before the pirate act, one after another.

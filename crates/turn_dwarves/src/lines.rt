@@ -1,7 +1,5 @@
-ghost use Rattle.std.specs.Prelude.{◌≡◌, [], ◌∷◌};
-ghost use Rattle.turn_scene.specs.Bounds.{GoesOnSaying, HasRoom, parts_of_attack, parts_of_throws};
-ghost use Rattle.turn_scene.specs.Scene.{after_telling, scene_of};
-ghost use Rattle.cave_world.specs.declared.part.Part.TheVariants as part;
+ghost use Rattle.std.specs.Prelude.{[], ◌∷◌};
+ghost use Rattle.turn_scene.specs.Bounds.{HasRoom, parts_of_attack, parts_of_throws};
 ghost use Rattle.turn_scene.specs.Rows.{Does, by_table};
 ghost use Rattle.cave_world.specs.declared.tables.Table.TheVariants as table;
 ghost use Rattle.turn_dwarves.specs.Lines.{dwarf_rows, provoked_rows, knife_rows, tell_attack};
@@ -10,20 +8,10 @@ use crate::knives::Attack;
 use crate::waking::{AWAKE, set_anger};
 use cave_world::{NumberLine, Part, RowNotes, Table};
 use data_rows::Role;
-use turn_scene::{Rules, Scene};
+use turn_scene::{Rules, Scene, rows};
 
 /// How angry dwarves are after they threw knives for the first time.
 const PROVOKED: u16 = 3;
-
-/// Prints a line of the game's own with a number.
-fn tell_number<N: RowNotes>(line: NumberLine, number: u32, scene: &mut Scene<'_, N>)
-    requires { HasRoom 1 scene.old }
-    ensures scene { scene_of N.rows scene.new
-        ≡ after_telling (part.Number line number 0) (scene_of N.rows scene.old) }
-    ensures says { GoesOnSaying 1 scene.old scene.new }
-{
-    scene.tell(Part::Number(line, number, 0));
-}
 
 /// Prints how many dwarves are here.
 #[tactic(auto, unfolding(crate::specs::Lines::dwarf_rows))]
@@ -32,16 +20,10 @@ fn tell_dwarf_lines<N: RowNotes>(rules: &Rules<'_>, attack: Attack, scene: &mut 
     ensures rows { Does N.rows (by_table table.DwarvesHere dwarf_rows ∷ []) 1 rules.now
         attack scene.old scene.new }
 {
-    match attack.dwarves {
-        0 => scene.note(Table::DwarvesHere, 1),
-        1 => {
-            scene.note(Table::DwarvesHere, 2);
-            scene.say(Role::DwarfOne);
-        }
-        dwarves => {
-            scene.note(Table::DwarvesHere, 3);
-            tell_number(NumberLine::DwarvesHere, dwarves, scene);
-        }
+    rows! { scene, Table::DwarvesHere;
+        attack.dwarves == 0 => {};
+        attack.dwarves == 1 => say(Role::DwarfOne);
+        otherwise => tell(Part::Number(NumberLine::DwarvesHere, attack.dwarves, 0));
     }
 }
 
@@ -52,36 +34,14 @@ fn tell_knife_lines<N: RowNotes>(rules: &Rules<'_>, attack: Attack, scene: &mut 
     ensures rows { Does N.rows (by_table table.Knives knife_rows ∷ []) parts_of_throws
         rules.now attack scene.old scene.new }
 {
-    if attack.knives == 0 {
-        scene.note(Table::Knives, 1);
-        return;
-    }
-    if attack.knives == 1 {
-        if attack.hits == 0 {
-            scene.note(Table::Knives, 3);
-            scene.say(Role::KnifeOne);
-            scene.say(Role::MissOne);
-            return;
-        }
-        scene.note(Table::Knives, 2);
-        scene.say(Role::KnifeOne);
-        scene.say(Role::HitOne);
-        return;
-    }
-    tell_number(NumberLine::KnivesThrown, attack.knives, scene);
-    match attack.hits {
-        0 => {
-            scene.note(Table::Knives, 4);
-            scene.say(Role::MissAll);
-        }
-        1 => {
-            scene.note(Table::Knives, 5);
-            scene.say(Role::HitMany);
-        }
-        hits => {
-            scene.note(Table::Knives, 6);
-            tell_number(NumberLine::KnivesHit, hits, scene);
-        }
+    rows! { scene, Table::Knives;
+        attack.knives == 0 => {};
+        attack.knives == 1 && attack.hits != 0 => say(Role::KnifeOne), say(Role::HitOne);
+        attack.knives == 1 => say(Role::KnifeOne), say(Role::MissOne);
+        let thrown = Part::Number(NumberLine::KnivesThrown, attack.knives, 0);
+        attack.hits == 0 => tell(thrown), say(Role::MissAll);
+        attack.hits == 1 => tell(thrown), say(Role::HitMany);
+        otherwise => tell(thrown), tell(Part::Number(NumberLine::KnivesHit, attack.hits, 0));
     }
 }
 
@@ -91,9 +51,9 @@ fn set_provoked<N: RowNotes>(rules: &Rules<'_>, attack: Attack, scene: &mut Scen
     ensures rows { Does N.rows (by_table table.Provoked provoked_rows ∷ []) 0 rules.now
         attack scene.old scene.new }
 {
-    if attack.knives != 0 && scene.state.dwarves.anger.number() == AWAKE {
-        scene.note(Table::Provoked, 1);
-        set_anger(PROVOKED, scene.state);
+    rows! { scene, Table::Provoked;
+        attack.knives != 0 && scene.state.dwarves.anger.number() == AWAKE
+            => { set_anger(PROVOKED, scene.state); };
     }
 }
 

@@ -14,7 +14,7 @@ use crate::waking::is_in_depths;
 use arrayvec::ArrayVec;
 use cave_words::Stream;
 use cave_world::{Dwarf, PIRATE, RowNotes, Table};
-use turn_scene::{Rules, Scene};
+use turn_scene::{Rules, Scene, rows};
 use world_objects::Place;
 
 /// Draws one of the first of some places.
@@ -38,17 +38,12 @@ fn choose_way<N: RowNotes>(rules: &Rules<'_>, number: usize, scene: &mut Scene<'
 {
     let dwarf = dwarf_of(scene.state, number);
     let ahead = places_ahead(rules, number == PIRATE, &dwarf);
-    if ahead.is_empty() {
-        scene.note(Table::DwarfWays, 1);
-        scene.state.stream.draw(1);
-        return dwarf.last;
+    rows! { scene, Table::DwarfWays;
+        ahead.is_empty() => { scene.state.stream.draw(1); } -> dwarf.last;
+        MAX_CANDIDATES < ahead.len()
+            => {} -> draw_place(&ahead, MAX_CANDIDATES, &mut scene.state.stream);
+        otherwise => {} -> draw_place(&ahead, ahead.len(), &mut scene.state.stream);
     }
-    if MAX_CANDIDATES < ahead.len() {
-        scene.note(Table::DwarfWays, 2);
-        return draw_place(&ahead, MAX_CANDIDATES, &mut scene.state.stream);
-    }
-    scene.note(Table::DwarfWays, 3);
-    draw_place(&ahead, ahead.len(), &mut scene.state.stream)
 }
 
 /// A dwarf that sees the player comes to the player.
@@ -68,23 +63,11 @@ fn dwarf_in_sight<N: RowNotes>(rules: &Rules<'_>, dwarf: Dwarf, scene: &mut Scen
     ensures row { PlaysBy N.rows dwarf_in_sight 0 rules.now dwarf scene.old scene.new result }
 {
     let here = scene.state.trail.here;
-    if dwarf.has_seen && is_in_depths(rules, scene.state) {
-        scene.note(Table::DwarfSight, 1);
-        return come(dwarf, here);
-    }
-    if dwarf.place == here {
-        scene.note(Table::DwarfSight, 2);
-        return come(dwarf, here);
-    }
-    if dwarf.last == here {
-        scene.note(Table::DwarfSight, 3);
-        return come(dwarf, here);
-    }
-    scene.note(Table::DwarfSight, 4);
-    Dwarf {
-        place: dwarf.place,
-        last: dwarf.last,
-        has_seen: false,
+    rows! { scene, Table::DwarfSight, come(dwarf, here);
+        dwarf.has_seen && is_in_depths(rules, scene.state) => {};
+        dwarf.place == here => {};
+        dwarf.last == here => {};
+        otherwise => {} -> Dwarf { place: dwarf.place, last: dwarf.last, has_seen: false };
     }
 }
 

@@ -15,12 +15,12 @@ ghost use Rattle.turn_dwarves.specs.Booty.{treasure_near, chest};
 ghost use Rattle.turn_dwarves.specs.Pirate.{one_left, pirate_rows, chase_rows, after_pirate};
 
 use crate::band::dwarf_of;
-use crate::booty::{carries_booty, hide_chest, is_treasure_near, put_chest, take_booty};
+use crate::booty::{carries_booty, is_treasure_near, send_pirate_home, take_booty};
 use crate::moving::move_dwarf;
 use cave_words::Named;
 use cave_world::{LAMP_ON, PIRATE, RowNotes, State, Table};
 use data_rows::{PlaceRole, Role};
-use turn_scene::{Rules, Scene, has_prop, is_near, is_place, place_named};
+use turn_scene::{Rules, Scene, has_prop, is_near, is_place, place_named, rows};
 
 /// Whether the chest has been seen.
 fn is_chest_seen(rules: &Rules<'_>, state: &State) -> bool
@@ -64,33 +64,30 @@ fn is_pirate_new(state: &State) -> bool
 }
 
 /// The pirate who is after the player robs, or hides its chest, or may be heard.
-#[tactic(auto, unfolding(crate::specs::Pirate::pirate_rows))]
+#[tactic(auto, unfolding(crate::specs::Pirate::pirate_rows, crate::specs::Booty::hide_chest))]
 fn meet_pirate<N: RowNotes>(rules: &Rules<'_>, scene: &mut Scene<'_, N>)
     requires { HasRoom 1 scene.old }
     ensures rows { Does N.rows (by_table table.Pirate pirate_rows ∷ []) 1 rules.now tt
         scene.old scene.new }
 {
-    if carries_booty(rules, scene) {
-        if scene.state.is_gone(rules.thing(Named::Message)) {
-            scene.note(Table::Pirate, 1);
+    rows! { scene, Table::Pirate;
+        let is_rich = carries_booty(rules, scene);
+        is_rich && scene.state.is_gone(rules.thing(Named::Message)) => {
             scene.say(Role::Booty);
-            put_chest(rules, scene.state);
+            scene.send(rules, rules.thing(Named::Chest), PlaceRole::Chest);
             take_booty(rules, scene);
-            return;
-        }
-        scene.note(Table::Pirate, 2);
-        scene.say(Role::Booty);
-        take_booty(rules, scene);
-        return;
-    }
-    if hides_chest(rules, scene) {
-        scene.note(Table::Pirate, 3);
-        hide_chest(rules, scene);
-        return;
-    }
-    if is_pirate_new(scene.state) && scene.happens(20) {
-        scene.note(Table::Pirate, 4);
-        scene.say(Role::Rustle);
+        };
+        is_rich => {
+            scene.say(Role::Booty);
+            take_booty(rules, scene);
+        };
+        hides_chest(rules, scene) => {
+            scene.say(Role::ChestHid);
+            scene.send(rules, rules.thing(Named::Chest), PlaceRole::Chest);
+            scene.send(rules, rules.thing(Named::Message), PlaceRole::Message);
+            send_pirate_home(rules, scene.state);
+        };
+        is_pirate_new(scene.state) && scene.happens(20) => say(Role::Rustle);
     }
 }
 
@@ -101,19 +98,12 @@ fn chase<N: RowNotes>(rules: &Rules<'_>, scene: &mut Scene<'_, N>)
     ensures rows { Does N.rows (by_table table.Chase chase_rows ∷ []) 1 rules.now tt
         scene.old scene.new }
 {
-    if !dwarf_of(scene.state, PIRATE).has_seen {
-        return;
+    let sees = dwarf_of(scene.state, PIRATE).has_seen;
+    rows! { scene, Table::Chase;
+        sees && is_player_at_chest(rules, scene.state) => {};
+        sees && is_chest_seen(rules, scene.state) => {};
+        sees => { meet_pirate(rules, scene); };
     }
-    if is_player_at_chest(rules, scene.state) {
-        scene.note(Table::Chase, 1);
-        return;
-    }
-    if is_chest_seen(rules, scene.state) {
-        scene.note(Table::Chase, 2);
-        return;
-    }
-    scene.note(Table::Chase, 3);
-    meet_pirate(rules, scene);
 }
 
 /// The pirate moves like a dwarf, and then may be after the player. One that is gone does nothing.
@@ -124,11 +114,11 @@ pub fn send_pirate<N: RowNotes>(rules: &Rules<'_>, scene: &mut Scene<'_, N>)
         ≡ after_pirate (cave_of rules.now) (scene_of N.rows scene.old) }
     ensures says { GoesOnSaying 1 scene.old scene.new }
 {
-    if dwarf_of(scene.state, PIRATE).place.number() == 0 {
-        scene.note(Table::PirateTurn, 1);
-        return;
+    rows! { scene, Table::PirateTurn;
+        dwarf_of(scene.state, PIRATE).place.number() == 0 => {};
+        otherwise => {
+            move_dwarf(rules, PIRATE, scene);
+            chase(rules, scene);
+        };
     }
-    scene.note(Table::PirateTurn, 2);
-    move_dwarf(rules, PIRATE, scene);
-    chase(rules, scene);
 }

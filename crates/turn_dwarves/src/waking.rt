@@ -9,14 +9,14 @@ ghost use Rattle.cave_world.specs.declared.tables.Table.TheVariants as table;
 ghost use Rattle.turn_dwarves.specs.Band.{with_anger};
 ghost use Rattle.turn_dwarves.specs.Knives.{no_attack};
 ghost use Rattle.turn_dwarves.specs.Waking.{without_dwarf, let_one_leave, with_dwarf_at};
-ghost use Rattle.turn_dwarves.specs.Waking.{after_keeping_one_apart, wake, waking_rows};
+ghost use Rattle.turn_dwarves.specs.Waking.{after_keeping_one_apart, waking_rows};
 ghost use Rattle.turn_scene.specs.Effects.{for_each_from};
 
 use crate::band::{dwarf_of, set_dwarf};
 use cave_words::Named;
 use cave_world::{Count, Dwarf, PIRATE, RowNotes, State, Table};
 use data_rows::{PlaceRole, Role};
-use turn_scene::{Rules, Scene, deep_place, place_named};
+use turn_scene::{Rules, Scene, deep_place, place_named, rows};
 use world_objects::Place;
 
 /// How angry sleeping dwarves are.
@@ -64,9 +64,8 @@ fn let_one_leave<N: RowNotes>(rules: &Rules<'_>, scene: &mut Scene<'_, N>)
     ensures rows { Does N.rows (let_one_leave ∷ []) 0 rules.now no_attack scene.old scene.new }
 {
     let number = scene.state.stream.draw(PIRATE as u32);
-    if scene.happens(50) {
-        scene.note(Table::Leaving, 1);
-        remove_dwarf(number as usize, scene.state);
+    rows! { scene, Table::Leaving;
+        scene.happens(50) => { remove_dwarf(number as usize, scene.state); };
     }
 }
 
@@ -95,15 +94,14 @@ fn keep_one_apart<N: RowNotes>(rules: &Rules<'_>, number: usize, scene: &mut Sce
     ensures says { GoesOnSaying 0 scene.old scene.new }
 {
     let place = dwarf_of(scene.state, number).place;
-    if place == scene.state.trail.here {
-        if let Some(elsewhere) = place_named(rules.cave, PlaceRole::Dwarfalt) {
-            scene.note(Table::Apart, 1);
+    rows! { scene, Table::Apart;
+        place == scene.state.trail.here
+            && place_named(rules.cave, PlaceRole::Dwarfalt).is_some() => {
+            let elsewhere = place_named(rules.cave, PlaceRole::Dwarfalt).unwrap_or(place);
             put_dwarf_at(number, elsewhere, scene.state);
-            return;
-        }
+        };
+        otherwise => { put_dwarf_at(number, place, scene.state); };
     }
-    scene.note(Table::Apart, 2);
-    put_dwarf_at(number, place, scene.state);
 }
 
 /// Keeps the dwarves before the pirate apart from the player, and makes them forget where they came
@@ -119,36 +117,23 @@ fn keep_apart<N: RowNotes>(rules: &Rules<'_>, scene: &mut Scene<'_, N>)
     }
 }
 
-/// The dwarves wake, and one throws its axe, which stays at the player's place.
-#[tactic(auto, unfolding(crate::specs::Waking::wake))]
-fn wake<N: RowNotes>(rules: &Rules<'_>, scene: &mut Scene<'_, N>)
-    requires { HasRoom 1 scene.old }
-    ensures scene { Does N.rows wake 1 rules.now no_attack scene.old scene.new }
-{
-    set_anger(AWAKE, scene.state);
-    let_one_leave(rules, scene);
-    let_one_leave(rules, scene);
-    keep_apart(rules, scene);
-    scene.say(Role::AxeThrown);
-    let here = scene.state.trail.here;
-    scene.state.move_to(rules.thing(Named::Axe), here);
-}
-
 /// In the depths, dwarves that stir may wake.
-#[tactic(auto, unfolding(crate::specs::Waking::waking_rows))]
+#[tactic(auto, unfolding(crate::specs::Waking::waking_rows, crate::specs::Waking::wake))]
 pub fn try_waking<N: RowNotes>(rules: &Rules<'_>, scene: &mut Scene<'_, N>)
     requires { HasRoom 1 scene.old }
     ensures rows { Does N.rows (by_table table.Waking waking_rows ∷ []) 1 rules.now
         no_attack scene.old scene.new }
 {
-    if !is_in_depths(rules, scene.state) {
-        scene.note(Table::Waking, 1);
-        return;
+    rows! { scene, Table::Waking;
+        !is_in_depths(rules, scene.state) => {};
+        scene.happens(95) => {};
+        otherwise => {
+            set_anger(AWAKE, scene.state);
+            let_one_leave(rules, scene);
+            let_one_leave(rules, scene);
+            keep_apart(rules, scene);
+            scene.say(Role::AxeThrown);
+            scene.bring(rules.thing(Named::Axe));
+        };
     }
-    if scene.happens(95) {
-        scene.note(Table::Waking, 2);
-        return;
-    }
-    scene.note(Table::Waking, 3);
-    wake(rules, scene);
 }

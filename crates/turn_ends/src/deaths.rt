@@ -8,7 +8,7 @@ use crate::endings::end;
 use crate::questions::ask;
 use cave_world::{Ending, Question, RowNotes, State, Table};
 use data_rows::Role;
-use turn_scene::{Rules, Scene};
+use turn_scene::{Rules, Scene, rows};
 
 /// Counts one more death.
 pub fn count_death(state: &mut State)
@@ -26,13 +26,12 @@ pub fn die<N: RowNotes>(rules: &Rules<'_>, scene: &mut Scene<'_, N>)
     ensures says { GoesOnSaying parts_of_death scene.old scene.new }
     ensures over { IsTrue (takes_no_command scene.new.state.now) }
 {
-    if scene.state.closing.is_closing {
-        scene.note(Table::Death, 1);
-        scene.say(Role::KilledClosing);
-        count_death(scene.state);
-        end(rules, Ending::Killed, scene);
-        return;
+    rows! { scene, Table::Death;
+        scene.state.closing.is_closing => {
+            scene.say(Role::KilledClosing);
+            count_death(scene.state);
+            end(rules, Ending::Killed, scene);
+        };
+        otherwise => { ask(rules, &Question::Die, scene); };
     }
-    scene.note(Table::Death, 2);
-    ask(rules, &Question::Die, scene);
 }

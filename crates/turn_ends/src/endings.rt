@@ -14,7 +14,7 @@ use crate::scores::{max_score_by, score_by};
 use cave_data::Rating;
 use cave_world::{Ending, NumberLine, Part, RowNotes, State, Table};
 use data_rows::Role;
-use turn_scene::{Rules, Scene};
+use turn_scene::{Rules, Scene, rows};
 
 /// The game ends, and its score is printed.
 #[tactic(auto, unfolding(crate::specs::Endings::after_end))]
@@ -52,22 +52,15 @@ fn tell_class<N: RowNotes>(rules: &Rules<'_>, score: u32, scene: &mut Scene<'_, 
     ensures state { scene.new.state.now ≡ scene.old.state.now }
 {
     match rules.cave.class_of(score) {
-        Some(class) => {
-            if class.is_followed {
-                scene.note(Table::Classes, 1);
-                scene.tell(Part::Class(score));
-                let wanted = points_wanted(score, &class);
-                scene.tell(Part::Number(NumberLine::PointsWanted, wanted, 0));
-                return;
-            }
-            scene.note(Table::Classes, 2);
-            scene.tell(Part::Class(score));
-            scene.say(Role::TopClass);
-        }
-        None => {
-            scene.note(Table::Classes, 3);
-            scene.say(Role::OffScale);
-        }
+        Some(class) => rows! { scene, Table::Classes;
+            class.is_followed => tell(Part::Class(score)),
+                tell(Part::Number(NumberLine::PointsWanted, points_wanted(score, &class), 0));
+            otherwise => tell(Part::Class(score)), say(Role::TopClass);
+        },
+        None => rows! { scene, Table::Classes;
+            from 3;
+            otherwise => say(Role::OffScale);
+        },
     }
 }
 

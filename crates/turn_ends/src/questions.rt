@@ -14,7 +14,7 @@ use crate::scores::{max_score_by, score_by};
 use cave_data::Cave;
 use cave_world::{HintNumber, NumberLine, Part, Question, RowNotes, State, Table};
 use data_rows::Role;
-use turn_scene::{Rules, Scene};
+use turn_scene::{Rules, Scene, rows};
 
 /// Asks a question, which the next line answers.
 #[tactic(auto, unfolding(crate::specs::Questions::after_ask, crate::specs::Questions::ask_question, cave_world::specs::State::takes_no_command))]
@@ -36,19 +36,11 @@ fn tell_die<N: RowNotes>(rules: &Rules<'_>, scene: &mut Scene<'_, N>)
     ensures rows { Does N.rows (by_table table.Die die_rows ∷ []) 1
         rules.now question_is.Die scene.old scene.new }
 {
-    match scene.state.tallies.deaths.number() {
-        0 => {
-            scene.note(Table::Die, 1);
-            scene.say(Role::Die1);
-        }
-        1 => {
-            scene.note(Table::Die, 2);
-            scene.say(Role::Die2);
-        }
-        _ => {
-            scene.note(Table::Die, 3);
-            scene.say(Role::Die3);
-        }
+    let deaths = scene.state.tallies.deaths.number();
+    rows! { scene, Table::Die;
+        deaths == 0 => say(Role::Die1);
+        deaths == 1 => say(Role::Die2);
+        otherwise => say(Role::Die3);
     }
 }
 
@@ -106,16 +98,15 @@ fn begin_asking<N: RowNotes>(rules: &Rules<'_>, question: &Question, scene: &mut
     ensures rows { Does N.rows (by_table table.Asking asking_rows ∷ []) parts_of_question
         rules.now question.now scene.old scene.new }
 {
-    if let Question::ScoreQuit = question {
-        scene.note(Table::Asking, 1);
-        let scorer = Scorer::of(rules);
-        let score = score_by(&scorer, scene.state);
-        scene.tell(Part::Number(NumberLine::ScoreNow, score, max_score_by(&scorer)));
-        tell_question(rules, question, scene);
-        return;
+    rows! { scene, Table::Asking;
+        matches!(question, Question::ScoreQuit) => {
+            let scorer = Scorer::of(rules);
+            let score = score_by(&scorer, scene.state);
+            scene.tell(Part::Number(NumberLine::ScoreNow, score, max_score_by(&scorer)));
+            tell_question(rules, question, scene);
+        };
+        otherwise => { tell_question(rules, question, scene); };
     }
-    scene.note(Table::Asking, 2);
-    tell_question(rules, question, scene);
 }
 
 fn set_question(question: &Question, state: &mut State)

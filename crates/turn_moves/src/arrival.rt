@@ -17,12 +17,11 @@ ghost use Rattle.turn_moves.specs.Arrival.{after_description};
 use crate::description::{describe, stop_here, tell_place};
 use crate::dying::die_at;
 use crate::journeys::set_forth;
-use crate::ways::stay;
 use cave_world::{Dwarf, Motion, PIRATE, RowNotes, Table, forced};
 use data_rows::Role;
 use turn_dwarves::encounter_dwarves;
 use turn_ends::die;
-use turn_scene::{PlaceCondition, Rules, Scene, has_condition_of, outside_place, start_panic};
+use turn_scene::{PlaceCondition, Rules, Scene, has_condition_of, outside_place, rows};
 use world_objects::Place;
 
 /// The player arrives at a place, and moves on from there while forced motions are left.
@@ -80,17 +79,11 @@ fn block<N: RowNotes>(rules: &Rules<'_>, place: Place, scene: &mut Scene<'_, N>)
     requires { HasRoom 1 scene.old }
     ensures row { PlaysBy N.rows block 1 rules.now place scene.old scene.new result }
 {
-    if is_shut(rules, place, scene) {
-        scene.note(Table::Blocking, 1);
-        scene.say(Role::ClosingExit);
-        start_panic(rules, scene);
-        return scene.state.trail.here;
+    rows! { scene, Table::Blocking, place;
+        is_shut(rules, place, scene)
+            => say(Role::ClosingExit), panic(rules) -> scene.state.trail.here;
+        is_barred(rules, place, scene) => say(Role::Blocked) -> scene.state.trail.here;
     }
-    if is_barred(rules, place, scene) {
-        scene.note(Table::Blocking, 2);
-        return stay(scene, Role::Blocked);
-    }
-    place
 }
 
 /// The dwarves move, and a player who survives them sees the place.
@@ -101,15 +94,10 @@ fn meet<N: RowNotes>(rules: &Rules<'_>, scene: &mut Scene<'_, N>) -> bool
         scene.new result }
     ensures still { result ≡ false }
 {
-    if encounter_dwarves(rules, scene) {
-        scene.note(Table::Hits, 1);
-        let here = scene.state.trail.here;
-        die_at(rules, here, scene);
-        return false;
+    rows! { scene, Table::Hits, false;
+        encounter_dwarves(rules, scene) => { die_at(rules, scene.state.trail.here, scene); };
+        otherwise => { describe(rules, scene); };
     }
-    scene.note(Table::Hits, 2);
-    describe(rules, scene);
-    false
 }
 
 /// The player comes to a place. Returns whether a forced motion moves the player on from there.
@@ -123,22 +111,12 @@ fn come_to<N: RowNotes>(rules: &Rules<'_>, place: Place, scene: &mut Scene<'_, N
 {
     scene.put_player_at(place);
     let here = scene.state.trail.here;
-    if here.number() == 0 {
-        scene.note(Table::Arrival, 1);
-        die(rules, scene);
-        return false;
+    rows! { scene, Table::Arrival, false;
+        here.number() == 0 => { die(rules, scene); };
+        forced(rules.cave, here) => { tell_place(rules, scene); } -> true;
+        has_condition_of(rules, here, PlaceCondition::NoPirate) => { describe(rules, scene); };
+        in meet(rules, scene);
     }
-    if forced(rules.cave, here) {
-        scene.note(Table::Arrival, 2);
-        tell_place(rules, scene);
-        return true;
-    }
-    if has_condition_of(rules, here, PlaceCondition::NoPirate) {
-        scene.note(Table::Arrival, 3);
-        describe(rules, scene);
-        return false;
-    }
-    meet(rules, scene)
 }
 
 /// The player arrives at a place, if nothing is in the way. Returns whether a forced motion moves

@@ -1,4 +1,4 @@
-ghost use Rattle.std.specs.Prelude.{◌≡◌, Some, map, option_map};
+ghost use Rattle.std.specs.Prelude.{◌≡◌, map, option_map};
 ghost use Rattle.data_rows.specs.RowViews.{going};
 ghost use Rattle.turn_scene.specs.Scene.{cave_of};
 ghost use Rattle.turn_scene.specs.Bounds.{HasRoom};
@@ -9,7 +9,7 @@ ghost use Rattle.turn_moves.specs.Journeys.{parts_of_own_motion};
 
 use cave_world::{RowNotes, Table, forced};
 use data_rows::{Destination, Role, Row};
-use turn_scene::{Rules, Scene};
+use turn_scene::{Rules, Scene, rows};
 use world_objects::Place;
 
 /// Where a player who goes back wants to go.
@@ -17,12 +17,10 @@ use world_objects::Place;
 fn place_back<N: RowNotes>(rules: &Rules<'_>, scene: &mut Scene<'_, N>) -> Place
     ensures row { PlaysBy N.rows place_back 0 rules.now tt scene.old scene.new result }
 {
-    if forced(rules.cave, scene.state.trail.last) {
-        scene.note(Table::BackFrom, 1);
-        return scene.state.trail.older;
+    rows! { scene, Table::BackFrom;
+        forced(rules.cave, scene.state.trail.last) => {} -> scene.state.trail.older;
+        otherwise => {} -> scene.state.trail.last;
     }
-    scene.note(Table::BackFrom, 2);
-    scene.state.trail.last
 }
 
 /// Whether a row leads to a place whose forced motion leads to the place sought.
@@ -73,11 +71,14 @@ fn indirect_row<'a>(rules: &Rules<'_>, sought: Place, rows: &'a [Row]) -> Option
     last
 }
 
-/// The first motion of a row.
-fn first_motion(row: &Row) -> u16
-    ensures { Some result ≡ first_motion (Some (going row.now)) }
+/// The first motion of a row, if there is the row.
+fn first_motion(found: Option<&Row>) -> Option<u16>
+    ensures { result ≡ first_motion (option_map (λ row. going row.now) found.entry) }
 {
-    row.motions.first().copied().unwrap_or(0)
+    match found {
+        Some(row) => Some(row.motions.first().copied().unwrap_or(0)),
+        None => None,
+    }
 }
 
 /// The motion by which a player goes back, if there is one.
@@ -89,23 +90,13 @@ pub fn go_back<N: RowNotes>(rules: &Rules<'_>, scene: &mut Scene<'_, N>) -> Opti
 {
     let sought = place_back(rules, scene);
     let here = scene.state.trail.here;
-    if sought == here {
-        scene.note(Table::Back, 1);
-        scene.set_out();
-        scene.say(Role::BackNone);
-        return None;
+    rows! { scene, Table::Back, None;
+        sought == here => set_out(), say(Role::BackNone);
+        let ways = rules.cave.travel(here.number());
+        let at_once = first_motion(direct_row(sought, ways));
+        at_once.is_some() => {} -> at_once;
+        let in_passing = first_motion(indirect_row(rules, sought, ways));
+        in_passing.is_some() => {} -> in_passing;
+        otherwise => set_out(), say(Role::BackNo);
     }
-    let ways = rules.cave.travel(here.number());
-    if let Some(row) = direct_row(sought, ways) {
-        scene.note(Table::Back, 2);
-        return Some(first_motion(row));
-    }
-    if let Some(row) = indirect_row(rules, sought, ways) {
-        scene.note(Table::Back, 3);
-        return Some(first_motion(row));
-    }
-    scene.note(Table::Back, 4);
-    scene.set_out();
-    scene.say(Role::BackNo);
-    None
 }

@@ -1,9 +1,9 @@
 //! The bridge that a troll guards.
 
-ghost use Rattle.std.specs.Prelude.{◌≡◌, false, [], ◌∷◌, Some, IsTrue, if◌then◌else◌};
-ghost use Rattle.turn_moves.specs.Bridge.{bridgehead, bridge, demand_toll, spices_rows};
+ghost use Rattle.std.specs.Prelude.{◌≡◌, false, Some, IsTrue, if◌then◌else◌};
+ghost use Rattle.turn_moves.specs.Bridge.{bridgehead, bridge, demand_toll};
 ghost use Rattle.turn_moves.specs.Bridge.{break_bridge, cross_bridge};
-ghost use Rattle.turn_scene.specs.Rows.{Does, PlaysBy, by_table, deed};
+ghost use Rattle.turn_scene.specs.Rows.{Does, PlaysBy, deed};
 ghost use Rattle.cave_world.specs.declared.tables.Table.TheVariants as table;
 ghost use Rattle.cave_words.specs.declared.named.Named.TheVariants as name;
 ghost use Rattle.world_objects.specs.Objects.{with_prop};
@@ -15,7 +15,7 @@ ghost use Rattle.turn_scene.specs.Scene.{after_row, cave_of, scene_of, thing};
 ghost use Rattle.cave_world.specs.State.{takes_no_command};
 
 use crate::dying::die_at;
-use crate::ways::{other_end, stay};
+use crate::ways::other_end;
 use cave_words::Named;
 use cave_world::{RowNotes, State, Table};
 use data_rows::Role;
@@ -23,9 +23,9 @@ use turn_scene::props::{
     BEAR_DEAD, CHASM_UNBRIDGED, TROLL_CALM, TROLL_FLED, TROLL_RETURNING, UNSEEN,
 };
 use turn_scene::{
-    Rules, Scene, has_prop, has_prop_up_to, hold, home, is_carried, lose_one, second_home,
+    Rules, Scene, has_prop, has_prop_up_to, hold, home, is_carried, rows, second_home,
 };
-use world_objects::{Anchor, Place, Prop};
+use world_objects::{Place, Prop};
 
 /// Where the bridge leads a player at one of its ends.
 #[tactic(auto, unfolding(crate::specs::Bridge::cross_bridge, crate::specs::Bridge::bridge_rows, crate::specs::Bridge::toll_rows, crate::specs::Bridge::bridge))]
@@ -35,25 +35,23 @@ pub fn cross_bridge<N: RowNotes>(rules: &Rules<'_>, scene: &mut Scene<'_, N>) ->
         result }
     ensures few_on { takes_no_command scene.new.state.now ≡ false → SaysUpTo 1 scene.old scene.new }
 {
-    let Some(end) = bridge(rules, scene) else {
-        scene.note(Table::Bridge, 1);
-        return stay(scene, Role::NoWay);
-    };
-    if has_prop(scene.state, rules.thing(Named::Troll), TROLL_RETURNING) {
-        scene.note(Table::Bridge, 2);
-        demand_toll(rules, scene);
-        return scene.state.trail.here;
+    match bridge(rules, scene) {
+        None => rows! { scene, Table::Bridge;
+            otherwise => say(Role::NoWay) -> scene.state.trail.here;
+        },
+        Some(end) => rows! { scene, Table::Bridge;
+            from 2;
+            has_prop(scene.state, rules.thing(Named::Troll), TROLL_RETURNING)
+                => { demand_toll(rules, scene); } -> scene.state.trail.here;
+            let was_calm = pass_troll(rules, scene.state);
+            !is_carried(rules, scene.state, rules.thing(Named::Bear))
+                => { note_toll(was_calm, scene); } -> end;
+            otherwise => {
+                note_toll(was_calm, scene);
+                break_bridge(rules, end, scene);
+            } -> scene.state.trail.here;
+        },
     }
-    let was_calm = pass_troll(rules, scene.state);
-    if is_carried(rules, scene.state, rules.thing(Named::Bear)) {
-        scene.note(Table::Bridge, 4);
-        note_toll(was_calm, scene);
-        break_bridge(rules, end, scene);
-        return scene.state.trail.here;
-    }
-    scene.note(Table::Bridge, 3);
-    note_toll(was_calm, scene);
-    end
 }
 
 /// A place as an end of a bridge: place 0 is none.
@@ -88,12 +86,12 @@ fn demand_toll<N: RowNotes>(rules: &Rules<'_>, scene: &mut Scene<'_, N>)
     let troll = rules.thing(Named::Troll);
     let second = rules.thing(Named::SecondTroll);
     scene.look(troll, TROLL_RETURNING);
-    scene.state.objects.set_prop(troll, Prop::new(TROLL_CALM));
-    scene.state.objects.move_to(second, Place::new(0));
-    scene.state.objects.anchor_to(second, Anchor::Loose);
-    scene.state.objects.move_to(troll, home(rules, troll));
+    scene.set_prop(troll, TROLL_CALM);
+    scene.destroy(second);
+    scene.loosen(second);
+    scene.move_to(troll, home(rules, troll));
     scene.state.objects.anchor_to(troll, hold(rules, troll));
-    scene.state.objects.juggle(rules.thing(Named::Chasm));
+    scene.juggle(rules.thing(Named::Chasm));
 }
 
 /// A player whom the troll lets pass is stopped the next time. Returns whether the troll was calm.
@@ -118,20 +116,8 @@ fn note_toll<N: RowNotes>(was_calm: bool, scene: &mut Scene<'_, N>)
         scene_of N.rows scene.new ≡ (if was_calm then after_row table.Toll 1 before else before) }
     ensures says { GoesOnSaying 0 scene.old scene.new }
 {
-    if was_calm {
-        scene.note(Table::Toll, 1);
-    }
-}
-
-/// Spices that haven't been seen yet are lost.
-#[tactic(auto, unfolding(crate::specs::Bridge::spices_rows))]
-fn lose_spices<N: RowNotes>(rules: &Rules<'_>, scene: &mut Scene<'_, N>)
-    ensures rows { Does N.rows (by_table table.SpicesLost spices_rows ∷ []) 0 rules.now tt scene.old
-        scene.new }
-{
-    if has_prop_up_to(scene.state, rules.thing(Named::Spices), UNSEEN) {
-        scene.note(Table::SpicesLost, 1);
-        lose_one(scene.state);
+    rows! { scene, Table::Toll;
+        was_calm => {};
     }
 }
 
@@ -145,17 +131,13 @@ fn break_bridge<N: RowNotes>(rules: &Rules<'_>, end: Place, scene: &mut Scene<'_
 {
     let bear = rules.thing(Named::Bear);
     scene.say(Role::BridgeFalls);
-    scene
-        .state
-        .objects
-        .set_prop(rules.thing(Named::Chasm), Prop::new(CHASM_UNBRIDGED));
-    scene
-        .state
-        .objects
-        .set_prop(rules.thing(Named::Troll), Prop::new(TROLL_FLED));
-    scene.state.objects.move_to(bear, end);
-    scene.state.objects.anchor_to(bear, Anchor::Fixed);
-    scene.state.objects.set_prop(bear, Prop::new(BEAR_DEAD));
-    lose_spices(rules, scene);
+    scene.set_prop(rules.thing(Named::Chasm), CHASM_UNBRIDGED);
+    scene.set_prop(rules.thing(Named::Troll), TROLL_FLED);
+    scene.move_to(bear, end);
+    scene.fix(bear);
+    scene.set_prop(bear, BEAR_DEAD);
+    rows! { scene, Table::SpicesLost;
+        has_prop_up_to(scene.state, rules.thing(Named::Spices), UNSEEN) => lose_one();
+    }
     die_at(rules, end, scene);
 }

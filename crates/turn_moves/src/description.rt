@@ -2,10 +2,8 @@ ghost use Rattle.std.specs.Prelude.{◌≡◌, [], ◌∷◌, IsTrue};
 ghost use Rattle.turn_scene.specs.Scene.{cave_of, scene_of};
 ghost use Rattle.turn_scene.specs.Bounds.{GoesOnSaying, HasRoom, SaysUpTo, parts_of_place};
 ghost use Rattle.turn_scene.specs.Bounds.{parts_of_text, parts_of_darkness};
-ghost use Rattle.data_rows.specs.declared.place_role.PlaceRole.TheVariants as role_place;
 ghost use Rattle.cave_world.specs.declared.tables.Table.TheVariants as table;
-ghost use Rattle.turn_scene.specs.Rows.{Does, PlaysBy, all_hold, deed, by_table};
-ghost use Rattle.turn_scene.specs.Tests.{player_at, no, cave_closing};
+ghost use Rattle.turn_scene.specs.Rows.{Does, PlaysBy, by_table};
 ghost use Rattle.turn_moves.specs.Description.{bear_rows, text_rows, hollow_rows, tell_place};
 ghost use Rattle.turn_moves.specs.Description.{see_place, feel_place, after_describe, stop_here};
 
@@ -14,7 +12,7 @@ use crate::objects::tell_objects;
 use cave_words::Named;
 use cave_world::{Part, RowNotes, Table, forced};
 use data_rows::{PlaceRole, Role};
-use turn_scene::{Rules, Scene, is_place, place_named};
+use turn_scene::{Rules, Scene, is_place, place_named, rows};
 
 #[tactic(auto, unfolding(crate::specs::Description::bear_rows))]
 fn tell_bear<N: RowNotes>(rules: &Rules<'_>, scene: &mut Scene<'_, N>)
@@ -22,9 +20,8 @@ fn tell_bear<N: RowNotes>(rules: &Rules<'_>, scene: &mut Scene<'_, N>)
     ensures rows { Does N.rows (by_table table.BearFollows bear_rows ∷ []) 1 rules.now tt scene.old
         scene.new }
 {
-    if scene.state.toting(rules.thing(Named::Bear)) {
-        scene.note(Table::BearFollows, 1);
-        scene.say(Role::BearFollows);
+    rows! { scene, Table::BearFollows;
+        scene.state.toting(rules.thing(Named::Bear)) => say(Role::BearFollows);
     }
 }
 
@@ -38,33 +35,12 @@ fn tell_text<N: RowNotes>(rules: &Rules<'_>, scene: &mut Scene<'_, N>)
     let here = scene.state.trail.here;
     let visits = scene.state.visits(here).number();
     let is_brief = scene.state.talk.is_brief;
-    if is_brief && visits == 0 {
-        scene.note(Table::PlaceText, 1);
-        scene.tell(Part::Long(here.number()));
-        return;
+    rows! { scene, Table::PlaceText;
+        is_brief && visits == 0 => tell(Part::Long(here.number()));
+        !is_brief && visits % 5 == 0 => tell(Part::Long(here.number()));
+        rules.cave.short(here.number()).is_none() => tell(Part::Long(here.number()));
+        otherwise => tell(Part::Short(here.number()));
     }
-    if !is_brief && visits % 5 == 0 {
-        scene.note(Table::PlaceText, 2);
-        scene.tell(Part::Long(here.number()));
-        return;
-    }
-    if rules.cave.short(here.number()).is_none() {
-        scene.note(Table::PlaceText, 3);
-        scene.tell(Part::Long(here.number()));
-        return;
-    }
-    scene.note(Table::PlaceText, 4);
-    scene.tell(Part::Short(here.number()));
-}
-
-fn is_hollow<N: RowNotes>(rules: &Rules<'_>, scene: &Scene<'_, N>) -> bool
-    ensures { result ≡ all_hold (player_at role_place.Y2 ∷ no cave_closing ∷ [])
-        (deed (cave_of rules.now) (tt {0}) (scene_of N.rows scene.now)) }
-{
-    is_place(
-        scene.state.trail.here,
-        place_named(rules.cave, PlaceRole::Y2),
-    ) && !scene.state.closing.is_closing
 }
 
 /// Something hollow may be heard.
@@ -74,12 +50,9 @@ fn tell_hollow<N: RowNotes>(rules: &Rules<'_>, scene: &mut Scene<'_, N>)
     ensures rows { Does N.rows (by_table table.Hollow hollow_rows ∷ []) 1 rules.now tt scene.old
         scene.new }
 {
-    if !is_hollow(rules, scene) {
-        return;
-    }
-    if scene.happens(25) {
-        scene.note(Table::Hollow, 1);
-        scene.say(Role::Hollow);
+    rows! { scene, Table::Hollow;
+        is_place(scene.state.trail.here, place_named(rules.cave, PlaceRole::Y2))
+            && !scene.state.closing.is_closing && scene.happens(25) => say(Role::Hollow);
     }
 }
 
@@ -127,25 +100,14 @@ pub fn describe<N: RowNotes>(rules: &Rules<'_>, scene: &mut Scene<'_, N>)
         ≡ after_describe (cave_of rules.now) (scene_of N.rows scene.old) }
     ensures says { GoesOnSaying parts_of_place scene.old scene.new }
 {
-    if !scene.state.dark(rules.cave, rules.thing(Named::Lamp)) {
-        scene.note(Table::Description, 1);
-        see_place(rules, scene);
-        return;
+    rows! { scene, Table::Description;
+        !scene.state.dark(rules.cave, rules.thing(Named::Lamp)) => { see_place(rules, scene); };
+        scene.was_dark && scene.happens(35) => {
+            scene.say(Role::Pit);
+            die_at(rules, scene.state.trail.here, scene);
+        };
+        otherwise => { feel_place(rules, scene); };
     }
-    if !scene.was_dark {
-        scene.note(Table::Description, 3);
-        feel_place(rules, scene);
-        return;
-    }
-    if scene.happens(35) {
-        scene.note(Table::Description, 2);
-        scene.say(Role::Pit);
-        let here = scene.state.trail.here;
-        die_at(rules, here, scene);
-        return;
-    }
-    scene.note(Table::Description, 3);
-    feel_place(rules, scene);
 }
 
 /// Prints what is seen at the player's place. Returns whether a forced motion moves the player on
@@ -156,12 +118,8 @@ pub fn stop_here<N: RowNotes>(rules: &Rules<'_>, scene: &mut Scene<'_, N>) -> bo
     ensures row { PlaysBy N.rows stop_here parts_of_place rules.now tt scene.old scene.new result }
     ensures few_on { IsTrue result → SaysUpTo parts_of_text scene.old scene.new }
 {
-    if forced(rules.cave, scene.state.trail.here) {
-        scene.note(Table::Stops, 1);
-        tell_place(rules, scene);
-        return true;
+    rows! { scene, Table::Stops, false;
+        forced(rules.cave, scene.state.trail.here) => { tell_place(rules, scene); } -> true;
+        otherwise => { describe(rules, scene); };
     }
-    scene.note(Table::Stops, 2);
-    describe(rules, scene);
-    false
 }

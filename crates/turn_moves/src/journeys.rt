@@ -1,13 +1,12 @@
 ghost use Rattle.std.specs.List.{list_any};
-ghost use Rattle.std.specs.Prelude.{◌≡◌, ◌==◌, [], ◌∷◌, false};
+ghost use Rattle.std.specs.Prelude.{◌≡◌, ◌==◌, false};
 ghost use Rattle.turn_scene.specs.Scene.{cave_of, scene_of};
 ghost use Rattle.cave_world.specs.Motions.{motion_number};
 ghost use Rattle.cave_world.specs.State.{takes_no_command};
 ghost use Rattle.turn_scene.specs.Bounds.{GoesOnSaying, HasRoom, SaysUpTo, parts_of_journey};
-ghost use Rattle.cave_world.specs.declared.tables.Table.TheVariants as table;
-ghost use Rattle.turn_scene.specs.Rows.{Does, PlaysBy, act_of, by_table};
+ghost use Rattle.turn_scene.specs.Rows.{PlaysBy, act_of};
 ghost use Rattle.turn_moves.specs.Journeys.{after_refusal, journey_of_outcome, journey_by_rows};
-ghost use Rattle.turn_moves.specs.Journeys.{set_forth, enough_rows, look_round, own_motion};
+ghost use Rattle.turn_moves.specs.Journeys.{set_forth, own_motion};
 ghost use Rattle.turn_moves.specs.Journeys.{parts_of_own_motion, journey_by_request};
 
 use crate::back::go_back;
@@ -17,7 +16,7 @@ use crate::ways::stay;
 use cave_words::Named;
 use cave_world::{MAX_DETAILS, Motion, Outcome, Part, RowNotes, Table, note_travel};
 use data_rows::{Role, Special};
-use turn_scene::{Rules, Scene, outside_place};
+use turn_scene::{Rules, Scene, outside_place, rows};
 use world_objects::Place;
 
 /// Where a motion that the player asks for leads.
@@ -42,62 +41,32 @@ pub fn journey_by_request<N: RowNotes>(
 
 /// What a motion that the player asks for does. Returns the motion by which the player travels, if
 /// by any.
-#[tactic(auto, unfolding(crate::specs::Journeys::own_motion))]
+#[tactic(auto, unfolding(crate::specs::Journeys::own_motion, crate::specs::Journeys::look_round, crate::specs::Journeys::enough_rows))]
 fn own_motion<N: RowNotes>(rules: &Rules<'_>, motion: u16, scene: &mut Scene<'_, N>) -> Option<u16>
     requires { HasRoom 1 scene.old }
     ensures row { PlaysBy N.rows own_motion (parts_of_own_motion result) rules.now motion scene.old
         scene.new result }
 {
-    if motion == Motion::Nowhere.number() {
-        scene.note(Table::OwnMotions, 1);
-        return None;
+    rows! { scene, Table::OwnMotions, None;
+        motion == Motion::Nowhere.number() => {};
+        motion == Motion::Look.number() => {
+            rows! { scene, Table::Enough;
+                scene.state.talk.details.number() < MAX_DETAILS => {
+                    scene.say(Role::Enough);
+                    scene.state.talk.details = scene.state.talk.details.up();
+                };
+            }
+            scene.was_dark = false;
+            let here = scene.state.trail.here;
+            scene.state.forget_visits(here);
+        };
+        let is_cave = motion == Motion::Cave.number();
+        is_cave && scene.state.trail.here.number() < outside_place(rules.cave).number()
+            => say(Role::CaveOut);
+        is_cave => say(Role::CaveIn);
+        motion == Motion::Back.number() => {} -> go_back(rules, scene);
+        otherwise => {} -> Some(motion);
     }
-    if motion == Motion::Look.number() {
-        scene.note(Table::OwnMotions, 2);
-        look_round(rules, motion, scene);
-        return None;
-    }
-    if motion == Motion::Cave.number() {
-        if scene.state.trail.here.number() < outside_place(rules.cave).number() {
-            scene.note(Table::OwnMotions, 3);
-            scene.say(Role::CaveOut);
-            return None;
-        }
-        scene.note(Table::OwnMotions, 4);
-        scene.say(Role::CaveIn);
-        return None;
-    }
-    if motion == Motion::Back.number() {
-        scene.note(Table::OwnMotions, 5);
-        return go_back(rules, scene);
-    }
-    scene.note(Table::OwnMotions, 6);
-    Some(motion)
-}
-
-#[tactic(auto, unfolding(crate::specs::Journeys::enough_rows))]
-fn say_enough<N: RowNotes>(rules: &Rules<'_>, motion: u16, scene: &mut Scene<'_, N>)
-    requires { HasRoom 1 scene.old }
-    ensures rows { Does N.rows (by_table table.Enough enough_rows ∷ []) 1 rules.now motion scene.old
-        scene.new }
-{
-    if scene.state.talk.details.number() < MAX_DETAILS {
-        scene.note(Table::Enough, 1);
-        scene.say(Role::Enough);
-        scene.state.talk.details = scene.state.talk.details.up();
-    }
-}
-
-/// The player looks around, and the place will be described at length.
-#[tactic(auto, unfolding(crate::specs::Journeys::look_round))]
-fn look_round<N: RowNotes>(rules: &Rules<'_>, motion: u16, scene: &mut Scene<'_, N>)
-    requires { HasRoom 1 scene.old }
-    ensures does { Does N.rows look_round 1 rules.now motion scene.old scene.new }
-{
-    say_enough(rules, motion, scene);
-    scene.was_dark = false;
-    let here = scene.state.trail.here;
-    scene.state.forget_visits(here);
 }
 
 /// Whether a motion is one of those.
@@ -127,33 +96,14 @@ fn refuse<N: RowNotes>(rules: &Rules<'_>, motion: u16, scene: &mut Scene<'_, N>)
         Motion::Southwest,
         Motion::Northwest,
     ];
-    if is_among(&directions, motion) {
-        scene.note(Table::NoMotion, 1);
-        scene.say(Role::NoDir);
-        return;
+    rows! { scene, Table::NoMotion;
+        is_among(&directions, motion) => say(Role::NoDir);
+        is_among(&[Motion::Forward, Motion::Left, Motion::Right], motion) => say(Role::Facing);
+        is_among(&[Motion::Out, Motion::Inside], motion) => say(Role::Inout);
+        is_among(&[Motion::Xyzzy, Motion::Plugh], motion) => say(Role::Magic);
+        motion == Motion::Crawl.number() => say(Role::Crawl);
+        otherwise => say(Role::NoMotion);
     }
-    if is_among(&[Motion::Forward, Motion::Left, Motion::Right], motion) {
-        scene.note(Table::NoMotion, 2);
-        scene.say(Role::Facing);
-        return;
-    }
-    if is_among(&[Motion::Out, Motion::Inside], motion) {
-        scene.note(Table::NoMotion, 3);
-        scene.say(Role::Inout);
-        return;
-    }
-    if is_among(&[Motion::Xyzzy, Motion::Plugh], motion) {
-        scene.note(Table::NoMotion, 4);
-        scene.say(Role::Magic);
-        return;
-    }
-    if motion == Motion::Crawl.number() {
-        scene.note(Table::NoMotion, 5);
-        scene.say(Role::Crawl);
-        return;
-    }
-    scene.note(Table::NoMotion, 6);
-    scene.say(Role::NoMotion);
 }
 
 /// Where the outcome of a motion leads.

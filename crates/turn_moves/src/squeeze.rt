@@ -6,11 +6,11 @@ ghost use Rattle.turn_scene.specs.Rows.{PlaysBy, all_hold, deed};
 ghost use Rattle.turn_scene.specs.Bounds.{HasRoom};
 ghost use Rattle.turn_scene.specs.Scene.{scene_of, cave_of};
 
-use crate::ways::{other_end, stay};
+use crate::ways::other_end;
 use cave_words::Named;
 use cave_world::{RowNotes, Table};
 use data_rows::{PlaceRole, Role};
-use turn_scene::{Rules, Scene, place_named};
+use turn_scene::{Rules, Scene, place_named, rows};
 use world_objects::Place;
 
 /// The other end of the narrow passage, if the player is at one end.
@@ -39,17 +39,13 @@ pub fn squeeze_through<N: RowNotes>(rules: &Rules<'_>, scene: &mut Scene<'_, N>)
     ensures row { PlaysBy N.rows squeeze_through 1 rules.now tt scene.old scene.new result }
 {
     match squeeze(rules, scene) {
-        None => {
-            scene.note(Table::Squeeze, 1);
-            stay(scene, Role::NoWay)
-        }
-        Some(end) => {
-            if is_slim(rules, scene) {
-                scene.note(Table::Squeeze, 2);
-                return end;
-            }
-            scene.note(Table::Squeeze, 3);
-            stay(scene, Role::TooTight)
-        }
+        None => rows! { scene, Table::Squeeze;
+            otherwise => say(Role::NoWay) -> scene.state.trail.here;
+        },
+        Some(end) => rows! { scene, Table::Squeeze;
+            from 2;
+            is_slim(rules, scene) => {} -> end;
+            otherwise => say(Role::TooTight) -> scene.state.trail.here;
+        },
     }
 }

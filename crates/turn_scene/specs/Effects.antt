@@ -1,5 +1,5 @@
 -- What rows do to the scene that they are played in.
-use Rattle.std.specs.Prelude.{ℕ, zero, suc, ◌+◌, ℤ, Option, Some, None, List, fold}
+use Rattle.std.specs.Prelude.{◌≡◌, ℕ, zero, suc, ◌+◌, ℤ, Option, Some, None, List, fold}
 use Rattle.data_rows.specs.declared.place_role.PlaceRole.{PlaceRole}
 use Rattle.data_rows.specs.declared.role.Role.{Role}
 use Rattle.cave_data.specs.CaveView.{CaveView}
@@ -11,8 +11,11 @@ use Rattle.cave_world.specs.State.{with_player_from, with_hint_taken}
 use Rattle.cave_world.specs.declared.part.Part.{Part}
 use Rattle.cave_world.specs.declared.part.Part.TheVariants as part
 use Rattle.cave_world.specs.declared.state.State.{State}
+use Rattle.cave_world.specs.declared.tables.RuleRow.{RuleRow}
+use Rattle.turn_scene.specs.declared.scene.Scene.{Scene as OpenScene}
+use Rattle.turn_scene.specs.Bounds.{GoesOnSaying}
 use Rattle.turn_scene.specs.Scene.{Scene, with_state, after_telling, after_saying, after_look_at}
-use Rattle.turn_scene.specs.Scene.{after_setting_out}
+use Rattle.turn_scene.specs.Scene.{after_setting_out, scene_of}
 use Rattle.turn_scene.specs.Parts.{with_one_more_lost, with_objects, with_lamp}
 use Rattle.turn_scene.specs.Places.{place_named}
 use Rattle.turn_scene.specs.Rows.{Deed, Effect, Thing, always}
@@ -38,6 +41,13 @@ for_each_down_from (suc n) what s = for_each_down_from n what (what (suc n) s)
 -- what is done for each of a list, one after another
 abbrev pub for_each : {X S : Type 0} → List X → (X → S → S) → S → S
 for_each xs what s = fold (λ t x. what x t) s xs
+
+-- the code has changed the state of a scene, and said nothing
+abbrev pub Changes : {N : Type 0} → (N → List RuleRow) → (State → State) → OpenScene N
+    → OpenScene N → Type 0
+Changes noted_rows change old new =
+    (scene_of noted_rows new ≡ with_state (change old.state.now) (scene_of noted_rows old))
+    × GoesOnSaying 0 old new
 
 -- what rows about anything do
 module _ {C : Type 0} where

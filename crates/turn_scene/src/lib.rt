@@ -3,6 +3,7 @@
 #![tactic(auto)]
 
 pub mod conditions;
+pub mod effects;
 pub mod homes;
 pub mod liquids;
 pub mod losses;
@@ -12,6 +13,7 @@ pub mod props;
 pub mod putting;
 pub mod reach;
 pub mod row_laws;
+pub mod rows;
 pub mod rules;
 pub mod scene;
 pub mod special_words;
@@ -21,10 +23,7 @@ pub mod troll;
 pub use conditions::{PlaceCondition, has_condition_of};
 pub use homes::{hold, home, is_at_home, is_home_elsewhere, is_home_here, second_home};
 pub use liquids::{is_liquid, lake, liquid};
-pub use losses::{lose_one, lose_to_snake};
-pub use panicking::start_panic;
 pub use places::{building_place, deep_place, is_place, outside_place, place_named, start_place};
-pub use putting::{lay_down, put_down};
 pub use reach::{
     has_other_prop, has_prop, has_prop_up_to, is_carried, is_dwarf_here, is_fixed, is_near,
 };
@@ -32,4 +31,3 @@ pub use rules::Rules;
 pub use scene::Scene;
 pub use special_words::special;
 pub use treasures::{is_known, is_treasure};
-pub use troll::remove_troll;

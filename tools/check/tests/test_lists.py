@@ -1,15 +1,12 @@
-"""What checks of words, of versions, of rooms and of `--help` have to refuse: words that are never
-right, a changelog that lacks the version of the code, other lists on the page than the code has,
-scripts that don't answer `--help`, and targets of make that nothing is said of."""
+"""What checks of versions, of rooms and of `--help` have to refuse: a changelog that lacks the version
+of the code, other lists on the page than the code has, scripts that don't answer `--help`, and
+targets of make that nothing is said of."""
 
 from small import Files, changed, edited, tests_of, written_out  # first: it finds the scripts
 
 from common.files import cases_in
 
 TABLE = "tools/check/tests/lists.md"
-
-Words = tests_of("tools/check/run words", changed({}, {
-    (path, text): said for path, text, said in cases_in(TABLE, "Words")}))
 
 CHANGES, CODE = "CHANGELOG.md", "crates/play_command/src/app.rt"
 NEWEST = "## [1.1] - 2026-12-01\n\n### Added\n\n- A lamp.\n\n"

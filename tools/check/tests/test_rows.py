@@ -1,5 +1,5 @@
 """What `tools/check/run rows` and `tools/check/rule-words --check` refuse: rows of rules that a
-page shows or counts differently from the definitions."""
+page, the code or the model has differently from the definitions."""
 
 from collections.abc import Iterable
 
@@ -61,8 +61,26 @@ BEAR = f"""<!-- rows: bear_rows -->
 | 6 | OIL is old | nothing, and OIL stays |
 | 7 | | OIL gets prop -2 and vanishes, and BEAR is brought here; as DROP OIL |
 """
+CODED = """    rows! { scene, Table::Lamp;
+        is_low => say(Role::LampLow), say(Role::LampDead);
+        let oil = rules.thing(Named::Oil);
+        is_wet(oil) => say(Role::LampLow);
+        otherwise => { glow(35, scene); };
+    }
+    rows! { scene, Table::Oil; otherwise => fill(); }
+"""
+MODELLED = '''TABLES = tables("""
+    the lamp in any case
+        LAMP is low | say lamp-low; say lamp-dead
+        OIL is low | \\
+            say lamp-low
+        | glow
+""")
+'''
 PAGE, SPECS = "docs/VERBS.md", "crates/lamps/specs/Lamp.antt"
-RIGHT: Files = {SPECS: TABLES_OF_ROWS, PAGE: f"# Verbs\n\n{LAMP}{FILLING}{BEAR}"}
+CODE, MODEL = "crates/lamps/src/lamp.rt", "model/verbs.py"
+RIGHT: Files = {SPECS: TABLES_OF_ROWS, PAGE: f"# Verbs\n\n{LAMP}{FILLING}{BEAR}",
+                CODE: CODED, MODEL: MODELLED}
 PARTS = {"TABLE": LAMP, "FILLING": FILLING, "LOW": LOW, "NO_OIL": NO_OIL, "GLOW": GLOW}
 WORDS: Tables = {"Lamp": ("the lamp", ("LAMP is low", "OIL is low", "otherwise")),
                  "Oil": ("the oil", ("otherwise",))}
@@ -70,12 +88,13 @@ MADE = [*rule_words.declared(WORDS), *rule_words.counted(
     [*WORDS], noted_in([TABLES_OF_ROWS]), {SPECS: tables_of(TABLES_OF_ROWS)})]
 
 
-
-def pages(right: Files, heading: str) -> Iterable[Case]:
-    """The cases of a table: what is replaced by what on the page, and what is then said."""
-    return edited(right, ((PAGE, *(written_out(it, PARTS) for it in (old, new)), said)
+def changed_rows(right: Files, heading: str, path: str = PAGE) -> Iterable[Case]:
+    """The cases of a table: what is replaced by what in a file, and what is then said."""
+    return edited(right, ((path, *(written_out(it, PARTS) for it in (old, new)), said)
                           for old, new, said in cases_in("tools/check/tests/rows.md", heading)))
 
 
-Rows = tests_of("tools/check/run rows", pages(RIGHT, "Shown"))
-Declared = tests_of("tools/check/rule-words --check", pages(RIGHT | dict(MADE), "Declared"))
+Rows = tests_of("tools/check/run rows", changed_rows(RIGHT, "Shown"))
+Coded = tests_of("tools/check/run rows", changed_rows(RIGHT, "Coded", CODE))
+Modelled = tests_of("tools/check/run rows", changed_rows(RIGHT, "Modelled", MODEL))
+Declared = tests_of("tools/check/rule-words --check", changed_rows(RIGHT | dict(MADE), "Declared"))

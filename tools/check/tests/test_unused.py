@@ -1,8 +1,7 @@
 """What checks of crates and scripts have to refuse: imports from a crate that hands the item on;
-what has no caller, name or import, and lost tests; stale counts, too many lines of scripts or
-functions of a crate."""
+what has no caller, name or import, and lost tests."""
 
-from small import Case, Files, changed, edited, tests_of  # first: it finds the scripts
+from small import Case, changed, edited, tests_of  # first: it finds the scripts
 
 from common import command_line
 from common.files import cases_in
@@ -45,22 +44,6 @@ USED = {
 
 Unused = tests_of("tools/check/run unused", edited(USED, cases_in(
     "tools/check/tests/unused.md", "Changes")))
-
-MEASURED = "docs/MEASURED.md"
-COUNTED: Files = {
-    "crates.txt": "# NAME: DEP DEP ..\n\n# Base: all.\noil:\n", MEASURED: "# Measured\n",
-    "logs/walk.log": "# run: play\nno\n", "logs/walk.out": "",
-} | {f"model/{it}": "" for it in """program.py cover.py cave generate.py errands.py players.py
-scripts.py worlds.py directed.py seldom.py seeds.py cases.py shrink.py counts.py duel suite
-check-duel change-rows prove-rows laws.py""".split()}
-LONG = "tools/page/long.py"
-FILL = {"crates/oil/src/a.rt": "pub const fn a()\n{\n}\n    pub(crate) fn b();\n fn c() {}\n" * 37}
-
-Counts = tests_of("tools/measure/counts --check", [
-    ("stale", COUNTED, f"{MEASURED}: the counts are stale"),
-    ("too many lines", COUNTED | {LONG: "\n" * 20_000}, "lines, and may have"),
-    ("too many functions", COUNTED | FILL, "oil has 111 functions, and may have 110"),
-])
 
 CLEAN = "import os\n\nprint(os.sep)\n"
 LAMPS: list[Case] = [

@@ -6,9 +6,9 @@ use Rattle.turn_dwarves.specs.Moving.{chosen_way}
 use Rattle.turn_dwarves.proofs.Firsts.{many, few}
 use Rattle.turn_dwarves.proofs.moving.choose_way.Goals as goal
 
-pub returns-then-len-gt-MAX_CANDIDATES : goal.returns-then-len-gt-MAX_CANDIDATES
+pub returns-2 : goal.returns-2
 unfolding chosen_way ways_of_dwarf
-returns-then-len-gt-MAX_CANDIDATES g c =
+returns-2 g c =
     let cave = cave_of c.args.rules.now in
     let all = places_ahead cave (c.args.number == 5) c.dwarf_of-dwarf.result in
     let found = c.places_ahead-ahead.result.items in
@@ -16,9 +16,9 @@ returns-then-len-gt-MAX_CANDIDATES g c =
     let some = h.some in let more = h.more in let long = h.long in let same = h.same in
     search rules
 
-pub returns : goal.returns
+pub returns-3 : goal.returns-3
 unfolding chosen_way ways_of_dwarf
-returns g c =
+returns-3 g c =
     let cave = cave_of c.args.rules.now in
     let all = places_ahead cave (c.args.number == 5) c.dwarf_of-dwarf.result in
     let found = c.places_ahead-ahead.result.items in

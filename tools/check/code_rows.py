@@ -1,0 +1,119 @@
+"""The tables of rules as code and the model have them: a module.
+
+    tables_coded()["Open"]["14"]    what the code of a row does: once, unless functions share it
+    tables_modelled()["OPEN/LOCK"]  the rows of a table of the model, by its name on the page
+
+In code a table is what `rows!` has, in several parts where a rule has several functions: a part
+begins with the number of its first row, after `from`. In the model it is a text.
+"""
+
+import re
+from collections import defaultdict
+from collections.abc import Iterator
+from typing import NamedTuple
+
+from common.files import files, text_of
+from common.sources import sources
+
+BEGIN = re.compile(r"^(?! *//).*\brows! \{ (?:scene|self), Table::(\w+)[^;{]*;", re.MULTILINE)
+INNER = re.compile(r"\brows! (?=\{)")
+CLOSING = {"(": ")", "{": "}", "[": "]"}
+MODELLED = re.compile(r'\btables\("""(.*?)"""', re.DOTALL)
+# Tables of the model whose rows are those of several tables of the pages, or the other way round.
+OWN = {"anger", "pirate", "bridge", "arrival", "lamp"}
+# The words of effects that code and definitions share.
+WORDS = """say set_prop destroy bring fix loosen juggle send move carry put lay_down panic lose_one
+troll_goes lose_to_snake look""".split()
+EFFECT = re.compile(rf"(?:(?:scene|self)\.)?({'|'.join(WORDS)})(?:_to)?\(")
+ROLE = re.compile(r"(?<!Place)Role::(\w+)")
+IDLE = re.compile(r"let \w+ = |$")  # a statement that does nothing by itself
+
+
+class Coded(NamedTuple):
+    """What a row of code does: the roles that it says, and its effects by the words of the
+    definitions. Other functions that it calls, and what it changes by itself, may be more."""
+
+    roles: list[str]
+    words: list[str]
+    does_more: bool
+
+
+def coded(row: str) -> Coded:
+    """What a row does without the rows of other tables in it."""
+    while inner := INNER.search(row):
+        end = next(at for at in range(inner.end(), len(row)) if is_closed(row[inner.end() : at]))
+        row = row[: inner.start()] + "more()" + row[end:]
+    done = row.partition("=>")[2].partition("->")[0].strip()
+    parts = statements(f"{done[1:-1]};}}") if done[:1] == "{" else items(done)
+    effects = [EFFECT.match(it) for it in parts if not IDLE.match(it)]
+    return Coded([it.lower() for it in ROLE.findall(row)], [it[1] for it in effects if it],
+                 None in effects)
+
+
+def items(text: str) -> list[str]:
+    """The parts of a text between commas that are in no bracket."""
+    marks = [at for at, letter in enumerate(text)
+             if letter == "," and not is_open(text[:at])] + [len(text)]
+    return [text[one:other].strip() for one, other in zip([0, *(it + 1 for it in marks)], marks)]
+
+
+def is_open(text: str) -> bool:
+    return any(text.count(one) != text.count(other) for one, other in CLOSING.items())
+
+
+def is_closed(text: str) -> bool:
+    return 0 < text.count("{") == text.count("}")
+
+
+def is_part(said: list[str], due: list[str]) -> bool:
+    """Whether one list is a part of another, in its order."""
+    left = iter(due)
+    return all(it in left for it in said)
+
+
+def statements(text: str) -> Iterator[str]:
+    """The statements of a block, from the first letter after its brace to the brace that ends it."""
+    due, begin = list[str](), 0
+    for at, letter in enumerate(text):
+        if due and letter == due[-1]:
+            due.pop()
+        elif letter in CLOSING:
+            due.append(CLOSING[letter])
+        elif letter == "}":
+            return
+        elif letter == ";" and not due:
+            yield " ".join(text[begin:at].split())
+            begin = at + 1
+
+
+def rows_after(text: str) -> Iterator[tuple[str, str]]:
+    """The rows of a table by their numbers, from the first letter after its head."""
+    number = 1
+    for statement in statements(text):
+        word, _, rest = statement.partition(" ")
+        if word == "from":
+            number = int(rest)
+        elif word not in ("let", "in") and " => in " not in statement:
+            yield str(number), statement
+            number += 1
+
+
+def tables_coded() -> dict[str, dict[str, list[Coded]]]:
+    found = defaultdict[str, dict[str, list[Coded]]](lambda: defaultdict(list))
+    for file in sources("src"):
+        for head in BEGIN.finditer(file.text):
+            for number, row in rows_after(file.text[head.end() :]):
+                found[head[1]][number].append(coded(row))
+    return found
+
+
+def tables_modelled() -> dict[str, list[str]]:
+    found, name = dict[str, list[str]](), ""
+    for text in [it for path in files("model/*.py") for it in MODELLED.findall(text_of(path))]:
+        for line in filter(str.strip, text.replace("\\\n", " ").split("\n")):
+            if "|" in line:
+                found[name].append(" ".join(line.split()))
+            else:
+                name = re.sub(r"\b (?=[A-Z])", "/", line.strip().removesuffix(" in any case"))
+                found[name] = []
+    return {name: rows for name, rows in found.items() if name not in OWN}
