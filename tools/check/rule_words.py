@@ -1,10 +1,11 @@
 """The files that say when each noted row of the rules applies, and that count the rows: a module.
 
 The code of `play_cover` has a list of the tables in the order of the pages, each with its name and
-the words of its rows, and its definitions read it. `turn_laws` counts the rows of each table in the definitions, and a proof of `play_cover`
-shows that the pages have as many. A table has the rows of the list that its definition notes, and
-one more row if a last row stands beside the list. One that notes the cases of a question has the
-rows of the questions. Parts of these files are made here, and aren't edited by hand.
+the words of its rows, and its definitions read it. `turn_laws` counts the rows of each table in the
+definitions, and a proof of `play_cover` shows that the pages have as many. A table has the rows of
+the list that its definition notes, and one more row if a last row stands beside the list. One that
+notes the cases of a question has the rows of the questions. Parts of these files are made here, and
+aren't edited by hand.
 """
 
 import json

@@ -1,8 +1,8 @@
 //! Tables of rows in code, as they stand on their pages and in their definitions.
 
-/// A table of rows: the first whose test holds notes its number, has its effects one after another,
-/// and says what follows, if that isn't what is said above the rows. If none fits, nothing is done.
-/// Rows are numbered by where they stand.
+/// A table of rows: the first whose test holds notes its number, does its effects in order, and
+/// returns what stands after its `->`, or else what stands above the rows. If none fits, nothing is
+/// done, and that is returned. A row's number is its place.
 ///
 ///     rows! { scene, Table::Wake, Next::Stay;
 ///         is_dwarf && is_closed => say(Role::WakeDwarf) -> Next::End(Ending::Killed);
@@ -12,7 +12,8 @@
 /// An effect is a method of the scene, or a method of something else that takes the scene last. A
 /// block in place of effects is plain code: `{}` does nothing. Between rows, `let` names what those
 /// below it ask, `from 8` gives the next row its number, and what stands after `in` has rows of its
-/// own.
+/// own, and takes no number. Each list of numbers below is for a part of a table that begins with
+/// its first number: such a part has at most as many rows as the list has numbers.
 #[macro_export]
 macro_rules! rows {
     (@effect $scene:ident $word:ident ($($arg:expr),*)) => { $scene.$word($($arg),*) };
