@@ -1,5 +1,6 @@
-//! Tables of the names, messages and words of a cave, what its texts are called, what is said about
-//! its ways, what is known of a fault beyond its cause, and lists of what is known.
+//! Tables of the names, messages and words of a cave, what its texts are called, which of its ways
+//! motions can reach and what is said about them, what is known of a fault beyond its cause, and
+//! lists of what is known.
 #![tactic(auto)]
 
 pub mod clue;

@@ -1,7 +1,7 @@
 //! Tables of rows in code, as they stand on their pages and in their definitions.
 
 /// A table of rows: the first whose test holds notes its number, does its effects in order, and
-/// returns what stands after its `->`, or else what stands above the rows. If none fits, nothing is
+/// returns what stands after its `->`, or, without one, what the head has. If none fits, nothing is
 /// done, and that is returned. A row's number is its place.
 ///
 ///     rows! { scene, Table::Wake, Next::Stay;
