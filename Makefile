@@ -58,7 +58,6 @@ checks test: export SKIPPED = $(CURDIR)/out/skipped
 checks: ## checks names, imports, pages and scripts, in a minute or two, without any proof
 	@rm -f out/skipped
 	tools/check/run
-	tools/check/wrong-bodies
 	tools/check/rule-words --check
 	tools/check/rooms --check
 	python3 -B -m unittest discover tools/check/tests
@@ -81,7 +80,6 @@ test: has-rt has-cc checks ## runs the gate: proofs from nothing, wrong bodies, 
 	tools/measure/progress all out/test.log rt ci
 	@tail -n 1 out/test.log
 	@! grep 'BAD EDIT' out/test.log
-	tools/check/wrong-bodies out/test.log
 	logs/run '$(PROGRAM)'
 	logs/tools/check-large-cave '$(PROGRAM)'
 	logs/tools/check-coverage '$(PROGRAM)'
@@ -92,7 +90,6 @@ test: has-rt has-cc checks ## runs the gate: proofs from nothing, wrong bodies, 
 	logs/tools/check-drafts '$(PROGRAM)'
 	tools/page/test server '$(PROGRAM)'
 	logs/tools/check-script '$(PROGRAM)'
-	tools/check/prefixes --lines '$(PROGRAM)'
 	tools/check/prefixes '$(PROGRAM)'
 	tools/check/memory
 	model/suite

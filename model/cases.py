@@ -9,6 +9,7 @@ import directed
 import generate
 from database import Cave, bindings_of, sections_of
 from errands import stage_of
+from known import KnownList
 from lines import Fault
 from players import Player
 from scripts import known_list, mutated, script_for, script_words
@@ -72,7 +73,8 @@ def game_cases(rng, seed, number, counts):
         options += ["--guarded"] * guarded
     call, other = calls_of(rng, call + options, options, is_edited)
     if KNOWN[0] in other:
-        texts["known.txt"] = known_list(rng, cover.report(cave, set(), 1, "texts")[0])
+        report = cover.report(cave, set(), 1, "texts", KnownList(None, ""))
+        texts["known.txt"] = known_list(rng, report[0])
     return [Case(f"game-{number}", texts, it) for it in (call, [*call, *STATE], other)]
 
 
@@ -88,9 +90,9 @@ def directed_cases(number):
 
 def doubts_of(texts):
     """The doubts about a cave as lists of what is known have them; none if it is refused."""
-    names = ["cave.txt", texts["cave.txt"], "bindings.txt", texts["bindings.txt"]]
     try:
-        return [checks.entry_of(it) for it in checks.doubts(cave_of(texts), *names)]
+        found = checks.doubts(cave_of(texts), texts["cave.txt"], texts["bindings.txt"])
+        return [*map(checks.entry_of, found)]
     except Fault:
         return []
 
@@ -103,7 +105,7 @@ def database_cases(rng, number, kept):
     texts = dict(zip(FILES, kept))
     name = "bindings.txt" if rng.random() < 0.2 else "cave.txt"
     texts[name] = mutated(rng, texts[name])
-    prints = ["bindings", "names", "unused", "words", "doubts"]
+    prints = ["bindings", "names", "unused", "words", "doubts", "known"]
     what = ["--print", rng.choice(prints)] if rng.random() < 0.3 else []
     what += ["--strict"] * (rng.random() < 0.1)
     if what[1:2] in ([], ["doubts"]) and rng.random() < 0.2:

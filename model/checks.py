@@ -230,36 +230,31 @@ def binding_doubts(cave, key, number):
     elif key.startswith("place.") and not has_text(cave, number):
         yield f"{key} is place {number}, which has no text"
 
-def doubts(cave, database_name, database, bindings_name, bindings):
-    """Each doubt: the name of its file, its line, and what it says."""
+def doubts(cave, database, bindings):
+    """Each doubt: which input it is about, its line, and what it says."""
     listed, before = [], {it: [] for it in SECTIONS}
     for at, section, row in numbered_rows(database):
-        listed += [(database_name, at, it) for it in row_doubts(cave, section, row, before[section])]
+        listed += [("cave", at, it) for it in row_doubts(cave, section, row, before[section])]
         before[section].append(row)
     lines = lines_of(database)
     for at, section, row in numbered_rows(database):
         line = lines[at - 1]
-        listed += [(database_name, at, it) for it in line_doubts(cave, section, line, row)]
+        listed += [("cave", at, it) for it in line_doubts(cave, section, line, row)]
     for at, line in enumerate(lines_of(bindings), 1):
         if says_something(line):
             key, number = fields_of(line)
-            listed += [(bindings_name, at, it) for it in binding_doubts(cave, key, int(number))]
+            listed += [("bindings", at, it) for it in binding_doubts(cave, key, int(number))]
     return listed
 
 def says_something(line):
     return fields_of(line) and not line.startswith("#")
 
-def doubt_line(doubt):
-    file, at, words = doubt
-    return f"{file}:{at}: {words}"
+def doubt_line(doubt, files):
+    """The line of a doubt: `files` has the name of each input's file."""
+    source, at, words = doubt
+    return f"{files[source]}:{at}: {words}"
 
 def entry_of(doubt):
     """What a list of known doubts has for a doubt."""
-    file, _, words = doubt
-    return f"{file}: {words}"
-
-def unmet_lines(name, lines, entries, words):
-    """A line with these words for each line of a list that is none of the entries."""
-    for at, line in enumerate(lines, 1):
-        if says_something(line) and line not in entries:
-            yield f"{name}:{at}: {words}"
+    source, _, words = doubt
+    return f"{source}: {words}"

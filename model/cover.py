@@ -30,11 +30,7 @@ def first_line(text):
     """What follows the name of a text: its first line, which a role doesn't have."""
     return "" if text is None else ": " + ("" if text == [">$<"] else text[0])
 
-def known_of(lines):
-    """The entries of a list of what is known, by lines: blanks that begin them don't count."""
-    return [it.lstrip(" \t") for it in lines]
-
-def report(cave, said, count, view, known=()):
+def report(cave, said, count, view, known):
     """The entries of all texts that the logs didn't say, the report on the logs, as lines, and how
     many texts are left that the list doesn't know."""
     shown, all_texts, met, lines, left = 0, 0, [], [], 0
@@ -42,7 +38,7 @@ def report(cave, said, count, view, known=()):
         never = [it for it in sorted(texts) if (kind, it) not in said]
         shown, all_texts = shown + len(texts) - len(never), all_texts + len(texts)
         entries = [f"{kind} {name_of(it)}{first_line(texts[it])}" for it in never]
-        unknown = [it for it in entries if it not in known]
+        unknown = known.unknown(entries)
         met, left = [*met, *entries], left + len(unknown)
         if view == "texts":
             lines += unknown

@@ -16,6 +16,7 @@ import ends
 import scores
 import walk
 from database import KEYS, PLACES, ROLES, Cave, bindings_of, sections_of, with_mark
+from known import KnownList
 from lines import GREATEST_SEED, MOST_BYTES, Fault, flaw_of, lines_of, log_of, near_name
 
 # The commands, each with what other programs call it.
@@ -23,11 +24,11 @@ COMMANDS = {"check": ["test", "verify"], "play": ["run"], "edit": ["replay", "pa
             "script": ["diff"], "cover": ["coverage"], "map": ["graph"]}
 FILES = {"check": ["<CAVE>"], "play": ["<CAVE>", "<LOG>"], "edit": ["<CAVE>", "<LOG>", "[SCRIPT]"],
          "cover": ["<CAVE>", "<LOG>..."]}
-PRINTS = {"check": ["maximum", "bindings", "names", "unused", "words", "doubts"],
+PRINTS = {"check": ["maximum", "bindings", "names", "unused", "words", "doubts", "known"],
           "play": ["transcript", "steps", "walk", "score", "state"],
           "edit": ["transcript", "play", "log", "undo", "guarded", "reports", "table", "steps",
                    "walk", "score", "state"],
-          "cover": ["counts", "texts", "rules"]}
+          "cover": ["counts", "texts", "rules", "known"]}
 OPTIONS = {"--bind": "FILE", "--seed": "N", "--every": "K", "--print": "WHAT", "--strict": None,
            "--guarded": None, "--edit": "EDIT", "--quiet": None, "--known": "FILE",
            "--report": "WHAT"}
@@ -132,6 +133,8 @@ def judged_options(command, files, options):
     prints = options.get("--print", usual or PRINTS[command][0])
     if command == "check" and asks_left and prints != "doubts":
         raise wrong("'--strict' and '--known <FILE>' are for '--print doubts'")
+    if command == "cover" and asks_left and prints == "known":
+        raise wrong("'--strict' and '--known <FILE>' are not for '--print known'")
     if command == "edit" and len(files) == 3 and "--edit" in options:
         raise wrong("only one of SCRIPT, '--edit <EDIT>' and '--to <FILE>' can be used")
     if command == "edit" and len(files) == 2 and "--edit" not in options:
@@ -246,13 +249,15 @@ def bindings_lines(cave):
 
 def doubts_lines(cave, options, name, database, bindings, known):
     """The doubts that a list doesn't know, after the entries of the list that no doubt is."""
-    found = checks.doubts(cave, name, database, options["bind"], bindings)
-    left = [it for it in found if checks.entry_of(it) not in lines_of(known)]
-    entries = {*map(checks.entry_of, found)}
-    unmet = checks.unmet_lines(options["known"], lines_of(known), entries, "no doubt says this")
-    lines = [*unmet, *map(checks.doubt_line, left), f"-- {len(left)} doubt{'s' * (len(left) != 1)}"]
+    found = checks.doubts(cave, database, bindings)
+    files = {"cave": name, "bindings": options["bind"]}
+    entries = [*map(checks.entry_of, found)]
+    unknown = {*known.unknown(entries)}
+    left = [checks.doubt_line(it, files) for it in found if checks.entry_of(it) in unknown]
+    unmet = known.unmet(entries, "no doubt says this")
+    lines = [*unmet, *left, f"-- {len(left)} doubt{'s' * (len(left) != 1)}"]
     if left and options["strict"]:
-        raise Stop(1, f"cave: {checks.doubt_line(left[0])}\n", lines)
+        raise Stop(1, f"cave: {left[0]}\n", lines)
     return lines
 
 def check_lines(cave, options, name, database, bindings, known):
@@ -260,6 +265,8 @@ def check_lines(cave, options, name, database, bindings, known):
     what = options["print"]
     if what == "doubts":
         return doubts_lines(cave, options, name, database, bindings, known)
+    if what == "known":
+        return [*map(checks.entry_of, checks.doubts(cave, database, bindings))]
     views = {"bindings": bindings_lines, "names": checks.names_lines,
              "unused": checks.unused_lines, "words": checks.words_lines}
     return views[what](cave) if what in views else [f"cave ok, maximum {cave.greatest_score()}"]
@@ -353,13 +360,12 @@ def run_edit(cave, file, log, script, log_ends, options, told):
 def run_cover(cave, database, names, options, known, told):
     """Plays logs, each of which is opened when its turn comes, and returns what is printed about
     the texts that none of them says, as lines."""
-    said, known = set(), cover.known_of(lines_of(known))
+    said = set()
     for name in names:
         log = judged_as(3, name, log_of, read_log(name, opened(name), database, options, told))
         said |= edits.play(cave, options["seed"], log).game.said
     entries, lines, left = cover.report(cave, said, len(names), options["print"], known)
-    words = "nothing that is never shown says this"
-    lines = [*checks.unmet_lines(options["known"], known, entries, words), *lines]
+    lines = [*known.unmet(entries, "nothing that is never shown says this"), *lines]
     if left and options["strict"]:
         what = "left that no log shows: add logs, or list them for --known"
         raise Stop(1, f"cave: {left} {what}\n", lines)
@@ -380,6 +386,7 @@ def run_words(words, told):
     in_order = [names[0], bind, *others, *([known] if known is not None else [])]
     files = [None if it is None else opened(it) for it in in_order]
     listed = text_of(files.pop()) if known is not None else ""
+    known_list = KnownList(known, listed)
     if command == "cover":
         check_known(known, listed)
     database, bindings = text_of(files[0]), text_of(files[1]) if files[1] else ""
@@ -391,9 +398,9 @@ def run_words(words, told):
     cave = cave_of(names[0], database, bind, bindings)
     if command == "check":
         check_known(known, listed)
-        return check_lines(cave, options, names[0], database, bindings, listed)
+        return check_lines(cave, options, names[0], database, bindings, known_list)
     if command == "cover":
-        return run_cover(cave, names[0], names[1:], options, listed, told)
+        return run_cover(cave, names[0], names[1:], options, known_list, told)
     moves = read_log(names[1], files[2], names[0], options, told)
     log = judged_as(3, names[1], log_of, moves)
     if command == "edit":

@@ -76,6 +76,6 @@ phrases({
     "a treasure is lost to the snake": lose_to_snake,
     "disturb the dwarves": lambda game: (game.say("disturbed"), game.end("killed")),
     "die here": lambda game: game.die(game.here),
-    "the rows of ([a-z ]+)": lambda game, name: TABLES[name].apply(game),
+    "the rows of ([\\w ,]+)": lambda game, name: TABLES[name].apply(game),
     "nothing": lambda game: None,
 })

@@ -33,7 +33,7 @@ def go_back(game):
     game.straight = [motions[0] for target, motions in rows if target % 1000 == to]
     game.roundabout = [motions[0] for target, motions in rows if cave.is_forced(target % 1000)
                        and cave.travel[target % 1000][0][0] % 1000 == to]
-    TABLES["back"].apply(game)
+    TABLES["BACK"].apply(game)
 
 # ---- The travel table
 
@@ -43,7 +43,7 @@ def follow_rows(game, motion):
     first = next((it for it, row in enumerate(rows) if motion in row[1] or 1 in row[1]), None)
     if first is None:
         game.motion = motion
-        TABLES["no row"].apply(game)
+        TABLES["motions without a row"].apply(game)
         return
     for target, _ in rows[first:]:
         if target == failed:
@@ -186,12 +186,12 @@ tables("""
         motion is 67 | say cave-in; arrive
         motion is 8 | go back
         | set out; follow the rows
-    back
+    BACK
         that is this place | say back-none; arrive
         a row leads there | follow the first
         a row leads there by a place of forced motion | follow the last
         | say back-no; arrive
-    no row
+    motions without a row
         motion is one of 29 30 43 44 45 46 47 48 49 50 | say no-dir; arrive
         motion is one of 7 36 37 | say facing; arrive
         motion is one of 11 19 | say inout; arrive
@@ -235,11 +235,13 @@ tables("""
         the place has bit 3 | describe
         | the rows of anger; describe
     place
-        motion is forced | the rows of bear; the text of the place; the rows of forced motion
-        it isn't dark | the rows of bear; the text of the place; the rows of hollow; the objects
+        motion is forced | \
+            the rows of bear follows; the text of the place; the rows of forced motion
+        it isn't dark | \
+            the rows of bear follows; the text of the place; the rows of hollow; the objects
         it was dark, draw 35 of 100 | say pit; die here
-        | the rows of bear; say dark; the rows of hollow
-    bear
+        | the rows of bear follows; say dark; the rows of hollow
+    bear follows
         BEAR is in the hands | say bear-follows
     hollow
         the player is at y2, the cave isn't closing, draw 25 of 100 | say hollow

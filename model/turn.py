@@ -91,7 +91,7 @@ def pour_the_first_word(game):
 def no_such_word(game):
     game.kept = game.verb_so_far, game.x_so_far
     game.drawn = [game.happens(20), game.happens(20)]
-    TABLES["no word"].apply(game)
+    TABLES["unknown word"].apply(game)
 
 def ask_for_a_verb(game):
     game.out.append(f"What do you want to do with the {game.word}?")
@@ -310,7 +310,7 @@ tables("""
         it means motion 62 or 65 or 71 | travel by it
         it means FOO | it is the verb; do the verb
         | say that it is okay
-    no word
+    unknown word
         the second happens | say no-word-3
         the first happens | say no-word-2
         | say no-word
@@ -335,9 +335,9 @@ tables("""
             all meet half way; arrive
     closing
         | prop GRATE 0; prop FISSURE 0; closing becomes 1; the dwarves are gone; \
-            the troll leaves; the rows of bear in a closing cave; prop CHAIN 0; loosen CHAIN; \
+            the troll leaves; the rows of bear at the closing; prop CHAIN 0; loosen CHAIN; \
             prop AXE 0; loosen AXE; say closing
-    bear in a closing cave
+    bear at the closing
         BEAR prop is 3 | nothing
         | BEAR vanishes
     lamp

@@ -192,8 +192,8 @@ TABLES = tables("""
         | prop LAMP 1; say lamp-on
     OFF in any case
         LAMP isn't at hand | default
-        | prop LAMP 0; say lamp-off; the rows of darkened
-    darkened
+        | prop LAMP 0; say lamp-off; the rows of OFF, dark
+    OFF, dark
         it is dark | say dark
     WAVE
         x isn't carried, x isn't ROD with ROD2 carried | say not-held
@@ -269,9 +269,9 @@ TABLES = tables("""
         x is DWARF, a dwarf is here | say here-it
         | default
     INVENTORY alone
-        the list is empty | say empty; the rows of bear that is carried
-        | say holding; list what is carried; the rows of bear that is carried
-    bear that is carried
+        the list is empty | say empty; the rows of INVENTORY, bear
+        | say holding; list what is carried; the rows of INVENTORY, bear
+    INVENTORY, bear
         BEAR is carried | say bear-follows
     FEED
         x is BIRD | say bird-feed

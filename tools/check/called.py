@@ -91,6 +91,7 @@ def calls(owner: str, text: str, owned: set[Call], aliases: dict[str, str]) -> I
     """What a part of a file may call: without its imports, its contracts, and the names of its
     functions themselves."""
     executed = re.sub(r"\bfn \w+", "fn", CLAUSE.sub("", USES.sub("", text)))
+    executed = executed.replace("write!(", "it.write_fmt(")  # as the macro does
     for path, dotted, name in CALL.findall(executed):
         path = owner if path == "Self" or dotted == "self." else aliases.get(path, path)
         path = PARAMETER if re.fullmatch("[A-Z]", path) else path

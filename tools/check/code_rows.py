@@ -107,6 +107,16 @@ def tables_coded() -> dict[str, dict[str, list[Coded]]]:
     return found
 
 
+def parts_coded() -> dict[str, list[tuple[str, int]]]:
+    """The tables of each file of code in their order, each with the number of its first row."""
+    found = defaultdict[str, list[tuple[str, int]]](list)
+    for file in sources("src"):
+        for head in BEGIN.finditer(file.text):
+            if number := next((it for it, _ in rows_after(file.text[head.end() :])), None):
+                found[file.path].append((head[1], int(number)))
+    return found
+
+
 def tables_modelled() -> dict[str, list[str]]:
     found, name = dict[str, list[str]](), ""
     for text in [it for path in files("model/*.py") for it in MODELLED.findall(text_of(path))]:

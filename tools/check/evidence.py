@@ -1,9 +1,9 @@
 """Names parts of make soak that have no row for all that they try now, and of which none says so.
 
-Each part of tools/soak/parts has to have a row in docs/MEASURED.md or tools/soak/of-crates, which
-soak writes, and in which it passed on no less than what there is now: wrong bodies of a crate, bugs
-of model/check-duel, changed rows, games and databases of the duel. Otherwise docs/PROVED.md has to
-name the part, or its kind, in the sentence that begins with "**Without a row**", and no other one.
+Each part of tools/soak/parts has to have a row in docs/MEASURED.md, which soak writes, and in which
+it passed on no less than what there is now: wrong bodies of a crate, bugs of model/check-duel,
+changed rows, games and databases of the duel. Otherwise docs/PROVED.md has to name the part, or its
+kind, in the sentence that begins with "**Without a row**", and no other one.
 """
 
 import os
@@ -13,9 +13,9 @@ from collections import defaultdict
 from collections.abc import Iterator
 
 from common import measured
-from common.files import TOP, files, tables_in, text_of
+from common.files import TOP, files, text_of
 
-PAGE, OF_CRATES = "docs/PROVED.md", "tools/soak/of-crates"
+PAGE = "docs/PROVED.md"
 SAYS = re.compile(r"\*\*Without a row\*\*(.*?)[.;]\s", re.S)
 SOAK = runpy.run_path(f"{os.path.dirname(__file__)}/../soak/soak")
 
@@ -36,10 +36,8 @@ def tried_now(name: str, command: list[str]) -> list[int]:
 
 def counted() -> dict[str, list[int]]:
     """The numbers that each part counted when it passed."""
-    _, *of_crates = next(tables_in(text_of(OF_CRATES)))
-    rows = [*measured.rows_of(SOAK["SECTION"]).values(), *of_crates]
     return {row[0].strip("`"): [int(it.replace(",", "")) for it in re.findall(r"\d[\d,]*", row[1])]
-            for row in rows if SOAK["FAILED"] not in row[1]}
+            for row in measured.rows_of(SOAK["SECTION"]).values() if SOAK["FAILED"] not in row[1]}
 
 
 def faults() -> Iterator[str]:

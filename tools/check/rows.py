@@ -2,8 +2,9 @@
 
 Above a table of a page stands `<!-- rows: NAME NAME -->`, with the names of the tables in specs/
 that say the same, one after another, and each side has the same number of rows. The tables of a
-file stand in the pages in the order of the file, unless one is a part of another. Each table of
-more than one row is on a page, and those whose rows are noted have a name there, and no others.
+file stand in the pages in the order of the file, unless one is a part of another, and so do those
+of a file of code, and the parts of one. Each table of more than one row is on a page, and those
+whose rows are noted have a name there, and no others.
 
 On the pages all rows have numbers, from 1 on, and each but the last says in its first cell when it
 applies. A row says the messages of its definition, in their order, and names the objects of its
@@ -16,9 +17,9 @@ isn't compared.
 import re
 from collections import defaultdict
 from collections.abc import Iterator
-from itertools import combinations
+from itertools import combinations, pairwise
 
-from code_rows import WORDS, Coded, is_part, tables_coded, tables_modelled
+from code_rows import WORDS, Coded, is_part, parts_coded, tables_coded, tables_modelled
 from common.files import text_of
 from row_effects import Effects, effects_in, effects_shown
 from rule_tables import (BY_CASES, Noted, Shown, Table, Words, noted_in, parts_of, rows_in_words,
@@ -141,6 +142,14 @@ def faults_of_notes(noted: Noted, pages: list[Shown], places: Places) -> Iterato
             yield f"noted are {', '.join(tables) or 'no rows'} of {', '.join(labels) or 'no name'}"
 
 
+def late_in_code(at: dict[str, int]) -> Iterator[str]:
+    """Tables, and parts of one, that stand in a file of code the other way round than on the pages."""
+    for path, parts in parts_coded().items():
+        places = [(at[table], first, table) for table, first in parts if table in at]
+        yield from (f"{path}: {one[2]} {one[1]} and {other[2]} {other[1]} stand in the pages the"
+                    " other way round" for one, other in pairwise(places) if one > other)
+
+
 def faults() -> Iterator[str]:
     files, pages = tables_defined(), [*tables_shown()]
     coded, modelled, noted = tables_coded(), tables_modelled(), noted_in(map(text_of, files))
@@ -169,5 +178,7 @@ def faults() -> Iterator[str]:
             rows, done = ([it for name in names for it in found.get(name, [])]
                           for found in (words, effects))
             yield from faults_of_code(table, rows, done, coded.get(table, {}))
+    yield from late_in_code({table: places[it] for table, names in noted.items() for it in names
+                             if it in places})
     yield from faults_of_notes(noted, pages, places)
     yield from ["no page shows a table of rows"] * (not pages)

@@ -2,6 +2,7 @@
 
     for it in sources("src", "specs"): it.path, it.crate, it.code, it.uses, it.functions
     functions_named("burn")     all functions of that name, each with its contract
+    changes(text_of(path))      what a wrong body changes
 """
 
 import re
@@ -136,3 +137,11 @@ def sources(*folders: str, crate: str = "*") -> list[Source]:
 def functions_named(name: str, crate: str = "*") -> list[Function]:
     """The functions of that name, of a crate or of all."""
     return [it for file in sources("src", crate=crate) for it in file.functions if it.name == name]
+
+
+def changes(edit: str) -> Iterator[tuple[str, str, str]]:
+    """Each file that a wrong body names, with each text that it changes there, and what into."""
+    _, *parts = re.split(r"^file: (.*)$", edit, flags=re.M)
+    for file, part in zip(parts[::2], parts[1::2]):
+        for old, new in re.findall(r"^old: (.*)\nnew: (.*)$", part, re.M):
+            yield file, old, new

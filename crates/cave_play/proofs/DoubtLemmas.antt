@@ -1,10 +1,11 @@
--- What a run that lists doubts finds.
-use Rattle.std.proofs.Common.{List, ℕ, ◌≡◌, subst}
+-- What runs find in a cave that is read.
+use Rattle.std.proofs.Common.{List, ℕ, ◌≡◌, ◌∙◌, subst}
 use Rattle.check_doubts.specs.Doubts.{doubts}
 use Rattle.check_doubts.specs.declared.listing.DoubtFiles.{DoubtFiles}
-use Rattle.cave_play.specs.Output.{AreLeft, AreLeftIn, IsReadOf}
+use Rattle.cave_play.specs.Output.{AreLeft, AreLeftIn, IsChecked, IsReadOf, check_text}
 use Rattle.cave_play.specs.declared.doubted.LeftDoubts.{LeftDoubts}
 use Rattle.cave_play.specs.declared.judge.ReadCave.{ReadCave}
+use Rattle.play_command.specs.declared.views.CheckView.{CheckView}
 
 -- what is left of the doubts of a cave that was read from these texts
 pub AreLeftIn-read : (files : DoubtFiles) (database bindings known text : List ℕ) (read : ReadCave)
@@ -22,3 +23,14 @@ AreLeftIn-read files database bindings known text read found are same left =
       are.reads,
       subst (λ t. AreLeft files t (doubts cave database bindings) found) same of_both,
     )
+
+-- what is said about a cave that was read from these texts
+pub IsChecked-read : (view : CheckView) (database bindings output : List ℕ) (read : ReadCave)
+    → IsReadOf database bindings read
+    → output ≡ check_text view read.cave read.database.items read.bindings.items
+    → IsChecked view database bindings output
+IsChecked-read view database bindings output read are told = (
+  read.cave,
+  are.reads,
+  told ∙ (λ i. check_text view read.cave (are.database_is i) (are.bindings_are i)),
+)

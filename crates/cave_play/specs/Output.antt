@@ -7,12 +7,13 @@ use Rattle.std.specs.Str.Lines.{lines}
 use Rattle.cave_data.specs.CaveView.{CaveView}
 use Rattle.cave_data.specs.Reads.{Reads}
 use Rattle.data_bindings.specs.Listing.{bindings_text}
+use Rattle.check_tables.specs.Known.{entry_lines, known_entries, unknown, unmet_text}
 use Rattle.check_tables.specs.Names.{names_table}
 use Rattle.check_tables.specs.Unused.{unused_table}
 use Rattle.check_tables.specs.Words.{words_table}
 use Rattle.play_command.specs.declared.views.CheckView.{CheckView}
 use Rattle.play_command.specs.declared.views.CheckView.TheVariants.{Maximum, Bindings, Names}
-use Rattle.play_command.specs.declared.views.CheckView.TheVariants.{Unused, Words}
+use Rattle.play_command.specs.declared.views.CheckView.TheVariants.{Known, Unused, Words}
 use Rattle.play_command.specs.declared.views.PlayView.{PlayView}
 use Rattle.play_command.specs.declared.views.PlayView.TheVariants as play
 use Rattle.replay_edits.specs.Edit.{Game, game_of, log_of}
@@ -24,7 +25,7 @@ use Rattle.play_machine.specs.Transcript.{play_text}
 use Rattle.play_machine.specs.Walk.{walk_text}
 use Rattle.std.specs.Io.KnownBytes.{Appends, Keeps}
 use Rattle.check_doubts.specs.Doubts.{doubts}
-use Rattle.check_doubts.specs.Known.{left_doubts, unmet_text}
+use Rattle.check_doubts.specs.Known.{doubt_entry}
 use Rattle.check_doubts.specs.Listing.{doubts_text}
 use Rattle.check_doubts.specs.declared.flaw.Doubt.{Doubt}
 use Rattle.check_doubts.specs.declared.listing.DoubtFiles.{DoubtFiles}
@@ -59,18 +60,20 @@ use Rattle.cave_play.specs.declared.two_logs.WithCompared.{WithCompared}
 abbrev pub cave_line : ℕ → List ℕ
 cave_line most = codes "cave ok, maximum " ++ (decimal most ++ codes "\n")
 
--- what is said about a cave, by the view
-abbrev pub check_text : CheckView → CaveView → List ℕ
-check_text Maximum cave = cave_line (max_score_of cave)
-check_text Bindings cave = bindings_text cave
-check_text Names cave = names_table cave
-check_text Unused cave = unused_table cave
-check_text Words cave = words_table cave
+-- what is said about the cave of a database and its bindings, by the view
+abbrev pub check_text : CheckView → CaveView → List ℕ → List ℕ → List ℕ
+check_text Maximum cave database bindings = cave_line (max_score_of cave)
+check_text Bindings cave database bindings = bindings_text cave
+check_text Names cave database bindings = names_table cave
+check_text Unused cave database bindings = unused_table cave
+check_text Words cave database bindings = words_table cave
+check_text Known cave database bindings =
+    entry_lines doubt_entry [] (doubts cave database bindings)
 
 -- the output of a check of a database that is a cave
 abbrev pub IsChecked : CheckView → List ℕ → List ℕ → List ℕ → Type 0
 IsChecked view database bindings output = (cave : CaveView) × Reads database bindings cave
-    × (output ≡ check_text view cave)
+    × (output ≡ check_text view cave database bindings)
 
 -- ---- what is played
 
@@ -102,13 +105,14 @@ abbrev pub first_doubt : Bool → List Doubt → Option PlayFault
 first_doubt true (first ∷ others) = Some (fault.Doubt first)
 first_doubt _ _ = None
 
--- these are the doubts that the list doesn't know, and what is said: which entries of the list of
--- known ones no doubt meets, and then these doubts
-pub record AreLeft (files : DoubtFiles) (known : List ℕ) (all : List Doubt) (found : LeftDoubts)
+-- these are the doubts that the list doesn't know, and what is said: which lines of the list no
+-- doubt says, and then these doubts
+pub record AreLeft (files : DoubtFiles) (list : List ℕ) (all : List Doubt) (found : LeftDoubts)
     : Type 0 where
-  pub left : found.left.items ≡ left_doubts files known all
+  pub left : found.left.items ≡ unknown doubt_entry (known_entries files.known.now list) all
   pub text : found.text.items
-      ≡ unmet_text files known all ++ doubts_text files (left_doubts files known all)
+      ≡ unmet_text (known_entries files.known.now list) (codes "no doubt says this")
+      (entry_lines doubt_entry [] all) ++ doubts_text files found.left.items
 
 -- the same for the doubts of the cave of a database and its bindings
 abbrev pub AreLeftIn : DoubtFiles → List ℕ → List ℕ → List ℕ → LeftDoubts → Type 0

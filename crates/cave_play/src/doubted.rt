@@ -10,7 +10,8 @@ use crate::fault::PlayFault;
 use crate::inputs::{Inputs, OneLog, Sources};
 use crate::judge::{ReadCave, read_cave};
 use crate::output::write_output;
-use check_doubts::{Doubt, DoubtFiles, doubts, left_doubts, push_doubts, push_unmet};
+use check_doubts::{Doubt, DoubtEntries, DoubtFiles, doubts, push_doubts};
+use check_tables::known::{KnownList, push_entries};
 use play_command::Input;
 use std::alloc::{AllocError, Global};
 use std::io::{Read, Write};
@@ -37,15 +38,18 @@ fn left_in(
     alloc: Global,
     read: &ReadCave,
     files: &DoubtFiles<'_>,
-    known: &[u8],
+    list: Vec<u8>,
 ) -> Result<LeftDoubts, AllocError>
     ensures left { let all = doubts read.now.cave read.now.database.items read.now.bindings.items in
-        IfOk result (AreLeft files.now known.now all) }
+        IfOk result (AreLeft files.now list.items all) }
 {
     let found = doubts(alloc, &read.cave, &read.database, &read.bindings)?;
-    let left = left_doubts(alloc, files, known, &found)?;
+    let known = KnownList::of(alloc, files.known, list)?;
+    let left = known.unknown(alloc, &DoubtEntries, &found)?;
+    let mut entries = Vec::new(alloc);
+    push_entries(alloc, &DoubtEntries, "", &found, &mut entries)?;
     let mut text = Vec::new(alloc);
-    push_unmet(alloc, files, known, &found, &mut text)?;
+    known.push_unmet(alloc, "no doubt says this", &entries, &mut text)?;
     push_doubts(alloc, files, &left, &mut text)?;
     Ok(LeftDoubts { left, text })
 }
@@ -64,7 +68,7 @@ pub fn make_doubts<I: Sources>(
 {
     let read = read_cave(alloc, inputs)?;
     let listed = inputs.read(alloc, Input::Known)?;
-    let found = left_in(alloc, &read, files, &listed)?;
+    let found = left_in(alloc, &read, files, listed)?;
     Ok(found)
 }
 

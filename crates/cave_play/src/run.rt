@@ -45,7 +45,7 @@ pub fn make_check<I: Sources>(
     ensures leads { Leads I.Reads inputs.old inputs.new }
 {
     let read = read_cave(alloc, inputs)?;
-    let made = check_text(alloc, &read.cave, view);
+    let made = check_text(alloc, &read, view);
     drop(read);
     made
 }

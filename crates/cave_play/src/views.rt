@@ -2,6 +2,9 @@
 
 ghost use Rattle.std.specs.Prelude.{◌≡◌, ℕ, List, [], ◌∷◌, None, ◌++◌, MatchResult, OnOk};
 ghost use Rattle.std.specs.Str.Lines.{lines};
+ghost use Rattle.check_doubts.specs.Doubts.{doubts};
+ghost use Rattle.check_doubts.specs.Known.{doubt_entry};
+ghost use Rattle.check_tables.specs.Known.{entry_lines};
 ghost use Rattle.replay_edits.specs.Edit.{game_of};
 ghost use Rattle.cave_play.specs.Sources.{Says, next_log, Leads};
 ghost use Rattle.cave_play.specs.Stages.{large_seed, Judges, log_stage};
@@ -10,8 +13,10 @@ ghost use Rattle.turn_ends.specs.Score.{max_score_of};
 
 use crate::fault::PlayFault;
 use crate::inputs::Sources;
-use crate::judge::watch_play;
+use crate::judge::{ReadCave, watch_play};
 use cave_data::Cave;
+use check_doubts::{DoubtEntries, doubts};
+use check_tables::known::push_entries;
 use check_tables::{push_names, push_unused, push_words};
 use data_bindings::push_bindings;
 use play_command::{CheckView, PlayView};
@@ -22,10 +27,16 @@ use play_tables::push_score_table;
 use std::alloc::{AllocError, Global};
 use turn_ends::max_score;
 
-pub(crate) fn check_text(alloc: Global, cave: &Cave, view: CheckView) -> Result<Vec<u8>, PlayFault>
-    ensures told { MatchResult result (λ text. text.items ≡ check_text view cave.now)
+pub(crate) fn check_text(
+    alloc: Global,
+    read: &ReadCave,
+    view: CheckView,
+) -> Result<Vec<u8>, PlayFault>
+    ensures told { MatchResult result (λ text. text.items
+        ≡ check_text view read.now.cave read.now.database.items read.now.bindings.items)
         (λ fault. fault ≡ PlayFault.Memory) }
 {
+    let cave = &read.cave;
     let mut text = Vec::new(alloc);
     match view {
         CheckView::Maximum => push_maximum(alloc, cave, &mut text)?,
@@ -33,6 +44,7 @@ pub(crate) fn check_text(alloc: Global, cave: &Cave, view: CheckView) -> Result<
         CheckView::Names => push_names(alloc, cave, &mut text)?,
         CheckView::Unused => push_unused(alloc, cave, &mut text)?,
         CheckView::Words => push_words(alloc, cave, &mut text)?,
+        CheckView::Known => push_known(alloc, read, &mut text)?,
     }
     Ok(text)
 }
@@ -45,6 +57,15 @@ fn push_maximum(alloc: Global, cave: &Cave, text: &mut Vec<u8>) -> Result<(), Al
     let most = max_score(cave);
     let line = format!(in alloc; "cave ok, maximum {most}\n")?;
     text.extend_from_slice(line.as_bytes())
+}
+
+/// Appends all that is doubtful about a cave, as a list of what is known has it.
+fn push_known(alloc: Global, read: &ReadCave, text: &mut Vec<u8>) -> Result<(), AllocError>
+    ensures { let all = doubts read.now.cave read.now.database.items read.now.bindings.items in
+        OnOk result (text.new.items ≡ text.old.items ++ entry_lines doubt_entry [] all) }
+{
+    let found = doubts(alloc, &read.cave, &read.database, &read.bindings)?;
+    push_entries(alloc, &DoubtEntries, "", &found, text)
 }
 
 /// What a view asks for of the play of a log that is read.

@@ -17,6 +17,35 @@ use turn_scene::{Rules, Scene, rows};
 use world_objects::object::OBJECTS;
 use world_objects::{Object, Objects};
 
+/// All that is in the hands shows itself.
+fn show_all<N: RowNotes>(rules: &Rules<'_>, scene: &mut Scene<'_, N>)
+    ensures scene { scene_of N.rows scene.new
+        ≡ after_all_shown (cave_of rules.now) (scene_of N.rows scene.old) }
+    ensures says { GoesOnSaying 0 scene.old scene.new }
+{
+    for before in 0..OBJECTS as u8 {
+        show_object(rules, Object::new(before + 1), scene);
+    }
+}
+
+/// In a closed cave all that is in the hands shows itself, the oyster first what is written under
+/// it.
+#[tactic(auto, unfolding(crate::specs::Finish::hands_rows))]
+fn show_hands<N: RowNotes>(rules: &Rules<'_>, scene: &mut Scene<'_, N>)
+    requires { HasRoom 1 scene.old }
+    ensures rows { Does N.rows (by_table table.Hands hands_rows ∷ []) 1 rules.now tt
+        scene.old scene.new }
+{
+    let is_closed = scene.state.closing.is_closed;
+    rows! { scene, Table::Hands;
+        is_closed && is_hidden_in_hands(&scene.state.objects, rules.thing(Named::Oyster)) => {
+            scene.look(rules.thing(Named::Oyster), OYSTER_WRITTEN_ON);
+            show_all(rules, scene);
+        };
+        is_closed => { show_all(rules, scene); };
+    }
+}
+
 /// Ends a turn; after a question or the end of the game it does nothing more.
 #[tactic(auto, unfolding(crate::specs::Finish::after_end_of_turn, crate::specs::Finish::end_rows))]
 pub fn end_turn<N: RowNotes>(rules: &Rules<'_>, scene: &mut Scene<'_, N>)
@@ -51,34 +80,5 @@ fn show_object<N: RowNotes>(rules: &Rules<'_>, object: Object, scene: &mut Scene
             let prop = scene.state.objects.prop(object).value();
             scene.set_prop(object, UNSEEN - prop);
         };
-    }
-}
-
-/// All that is in the hands shows itself.
-fn show_all<N: RowNotes>(rules: &Rules<'_>, scene: &mut Scene<'_, N>)
-    ensures scene { scene_of N.rows scene.new
-        ≡ after_all_shown (cave_of rules.now) (scene_of N.rows scene.old) }
-    ensures says { GoesOnSaying 0 scene.old scene.new }
-{
-    for before in 0..OBJECTS as u8 {
-        show_object(rules, Object::new(before + 1), scene);
-    }
-}
-
-/// In a closed cave all that is in the hands shows itself, the oyster first what is written under
-/// it.
-#[tactic(auto, unfolding(crate::specs::Finish::hands_rows))]
-fn show_hands<N: RowNotes>(rules: &Rules<'_>, scene: &mut Scene<'_, N>)
-    requires { HasRoom 1 scene.old }
-    ensures rows { Does N.rows (by_table table.Hands hands_rows ∷ []) 1 rules.now tt
-        scene.old scene.new }
-{
-    let is_closed = scene.state.closing.is_closed;
-    rows! { scene, Table::Hands;
-        is_closed && is_hidden_in_hands(&scene.state.objects, rules.thing(Named::Oyster)) => {
-            scene.look(rules.thing(Named::Oyster), OYSTER_WRITTEN_ON);
-            show_all(rules, scene);
-        };
-        is_closed => { show_all(rules, scene); };
     }
 }

@@ -149,13 +149,80 @@ pub fn read_words<N: RowNotes>(
 {
     let half = HalfCommand::of(scene.state.talk);
     let is_saying = is_verb_of(Verb::Say, half.verb);
-    let after = next.unwrap_or(word);
     rows! { scene, Table::Words;
         is_saying && next.is_some()
-            => {} -> two_words(rules, half.with_verb(None), word, after, scene);
+            => {} -> two_words(rules, half.with_verb(None), word, next.unwrap_or(word), scene);
         is_saying => {} -> word_aloud(rules, half, &said_word(rules, word), scene);
-        next.is_some() => {} -> two_words(rules, half, word, after, scene);
+        next.is_some() => {} -> two_words(rules, half, word, next.unwrap_or(word), scene);
         otherwise => {} -> word_alone(rules, half, &said_word(rules, word), scene);
+    }
+}
+
+/// What two words say. They are looked up as far as they are read.
+#[tactic(auto, unfolding(crate::specs::Request::two_words))]
+fn two_words<N: RowNotes>(
+    rules: &Rules<'_>,
+    half: HalfCommand,
+    word: Word,
+    next: Word,
+    scene: &mut Scene<'_, N>,
+) -> Understood
+    ensures row { PlaysBy N.rows two_words 0 rules.now (phrase half (said_word (cave_of rules.now)
+        word) (Some (said_word (cave_of rules.now) next))) scene.old scene.new result }
+{
+    rows! { scene, Table::TwoWords;
+        word.is(b"ENTER") => {} -> word_entered(rules, half, next, scene);
+        let first = said_word(rules, word);
+        pours_over(rules, word, next, scene)
+            => {} -> word_before(rules, half, &first, &pour_in(rules), scene);
+        otherwise => {} -> word_before(rules, half, &first, &said_word(rules, next), scene);
+    }
+}
+
+/// Whether two words pour a liquid over what is where the player is.
+#[tactic(auto, unfolding(crate::specs::Request::pours_over))]
+fn pours_over<N: RowNotes>(rules: &Rules<'_>, word: Word, next: Word, scene: &Scene<'_, N>) -> bool
+    ensures { (half : HalfCommand) → result ≡ pours_over (deed (cave_of rules.now)
+        (phrase half (said_word (cave_of rules.now) word)
+        (Some (said_word (cave_of rules.now) next))) (scene_of N.rows scene.now)) }
+{
+    (word.is(b"WATER") || word.is(b"OIL"))
+        && ((next.is(b"PLANT") && scene.state.at(rules.thing(Named::Plant)))
+            || (next.is(b"DOOR") && scene.state.at(rules.thing(Named::Door))))
+}
+
+fn pour_in(rules: &Rules<'_>) -> SaidWord
+    ensures { result ≡ pour_in (cave_of rules.now) }
+{
+    SaidWord {
+        word: Word::of(b"POUR", rules.lexicon.letters()),
+        meaning: Some(Meaning {
+            class: Class::Action,
+            number: Verb::Pour.number(),
+        }),
+    }
+}
+
+/// What a word after ENTER says.
+#[tactic(auto, unfolding(crate::specs::Request::word_entered))]
+fn word_entered<N: RowNotes>(
+    rules: &Rules<'_>,
+    half: HalfCommand,
+    next: Word,
+    scene: &mut Scene<'_, N>,
+) -> Understood
+    ensures row { (word : SaidWord) → act_of (scene_of N.rows scene.new) result
+        ≡ word_entered (deed (cave_of rules.now)
+        (phrase half word (Some (said_word (cave_of rules.now) next)))
+        (scene_of N.rows scene.old)) }
+    ensures says { GoesOnSaying 0 scene.old scene.new }
+{
+    rows! { scene, Table::WordEntered;
+        let is_water = next.is(b"STREA") || next.is(b"WATER");
+        is_water && is_liquid(rules.thing(Named::Water), lake(rules, scene.state))
+            => {} -> half.asks(Request::Tell(Part::Role(Role::FeetWet)));
+        is_water => {} -> half.asks(Request::Tell(Part::Role(Role::Where)));
+        otherwise => {} -> word_alone(rules, half, &said_word(rules, next), scene);
     }
 }
 
@@ -229,35 +296,6 @@ fn word_alone<N: RowNotes>(
     }
 }
 
-/// Whether a motion is done if it is said aloud.
-fn is_magic_motion(number: u16) -> bool
-    ensures { result ≡ (number == motion_number motion_is.Xyzzy
-        || (number == motion_number motion_is.Plugh || number == motion_number motion_is.Plover)) }
-{
-    number == Motion::Xyzzy.number()
-        || (number == Motion::Plugh.number() || number == Motion::Plover.number())
-}
-
-/// What is done if a word is said aloud.
-#[tactic(auto, unfolding(crate::specs::Request::word_aloud))]
-fn word_aloud<N: RowNotes>(
-    rules: &Rules<'_>,
-    half: HalfCommand,
-    word: &SaidWord,
-    scene: &mut Scene<'_, N>,
-) -> Understood
-    ensures row { PlaysBy N.rows word_aloud 0 rules.now (phrase half word.now None) scene.old
-        scene.new result }
-{
-    rows! { scene, Table::WordAloud;
-        word.is_of(Class::Motion) && is_magic_motion(word.number())
-            => {} -> word_alone(rules, half, word, scene);
-        word.is_of(Class::Action) && word.number() == Verb::Foo.number()
-            => {} -> word_alone(rules, half, word, scene);
-        otherwise => {} -> half.asks(Request::Tell(Part::Word(WordLine::Okay, word.word)));
-    }
-}
-
 /// What an object asks for if another word follows.
 fn by_object_before<N: RowNotes>(
     rules: &Rules<'_>,
@@ -316,70 +354,31 @@ fn word_before<N: RowNotes>(
     }
 }
 
-/// Whether two words pour a liquid over what is where the player is.
-#[tactic(auto, unfolding(crate::specs::Request::pours_over))]
-fn pours_over<N: RowNotes>(rules: &Rules<'_>, word: Word, next: Word, scene: &Scene<'_, N>) -> bool
-    ensures { (half : HalfCommand) → result ≡ pours_over (deed (cave_of rules.now)
-        (phrase half (said_word (cave_of rules.now) word)
-        (Some (said_word (cave_of rules.now) next))) (scene_of N.rows scene.now)) }
+/// Whether a motion is done if it is said aloud.
+fn is_magic_motion(number: u16) -> bool
+    ensures { result ≡ (number == motion_number motion_is.Xyzzy
+        || (number == motion_number motion_is.Plugh || number == motion_number motion_is.Plover)) }
 {
-    (word.is(b"WATER") || word.is(b"OIL"))
-        && ((next.is(b"PLANT") && scene.state.at(rules.thing(Named::Plant)))
-            || (next.is(b"DOOR") && scene.state.at(rules.thing(Named::Door))))
+    number == Motion::Xyzzy.number()
+        || (number == Motion::Plugh.number() || number == Motion::Plover.number())
 }
 
-fn pour_in(rules: &Rules<'_>) -> SaidWord
-    ensures { result ≡ pour_in (cave_of rules.now) }
-{
-    SaidWord {
-        word: Word::of(b"POUR", rules.lexicon.letters()),
-        meaning: Some(Meaning {
-            class: Class::Action,
-            number: Verb::Pour.number(),
-        }),
-    }
-}
-
-/// What a word after ENTER says.
-#[tactic(auto, unfolding(crate::specs::Request::word_entered))]
-fn word_entered<N: RowNotes>(
+/// What is done if a word is said aloud.
+#[tactic(auto, unfolding(crate::specs::Request::word_aloud))]
+fn word_aloud<N: RowNotes>(
     rules: &Rules<'_>,
     half: HalfCommand,
-    next: Word,
+    word: &SaidWord,
     scene: &mut Scene<'_, N>,
 ) -> Understood
-    ensures row { (word : SaidWord) → act_of (scene_of N.rows scene.new) result
-        ≡ word_entered (deed (cave_of rules.now)
-        (phrase half word (Some (said_word (cave_of rules.now) next)))
-        (scene_of N.rows scene.old)) }
-    ensures says { GoesOnSaying 0 scene.old scene.new }
+    ensures row { PlaysBy N.rows word_aloud 0 rules.now (phrase half word.now None) scene.old
+        scene.new result }
 {
-    rows! { scene, Table::WordEntered;
-        let is_water = next.is(b"STREA") || next.is(b"WATER");
-        is_water && is_liquid(rules.thing(Named::Water), lake(rules, scene.state))
-            => {} -> half.asks(Request::Tell(Part::Role(Role::FeetWet)));
-        is_water => {} -> half.asks(Request::Tell(Part::Role(Role::Where)));
-        otherwise => {} -> word_alone(rules, half, &said_word(rules, next), scene);
-    }
-}
-
-/// What two words say. They are looked up as far as they are read.
-#[tactic(auto, unfolding(crate::specs::Request::two_words))]
-fn two_words<N: RowNotes>(
-    rules: &Rules<'_>,
-    half: HalfCommand,
-    word: Word,
-    next: Word,
-    scene: &mut Scene<'_, N>,
-) -> Understood
-    ensures row { PlaysBy N.rows two_words 0 rules.now (phrase half (said_word (cave_of rules.now)
-        word) (Some (said_word (cave_of rules.now) next))) scene.old scene.new result }
-{
-    rows! { scene, Table::TwoWords;
-        word.is(b"ENTER") => {} -> word_entered(rules, half, next, scene);
-        let first = said_word(rules, word);
-        pours_over(rules, word, next, scene)
-            => {} -> word_before(rules, half, &first, &pour_in(rules), scene);
-        otherwise => {} -> word_before(rules, half, &first, &said_word(rules, next), scene);
+    rows! { scene, Table::WordAloud;
+        word.is_of(Class::Motion) && is_magic_motion(word.number())
+            => {} -> word_alone(rules, half, word, scene);
+        word.is_of(Class::Action) && word.number() == Verb::Foo.number()
+            => {} -> word_alone(rules, half, word, scene);
+        otherwise => {} -> half.asks(Request::Tell(Part::Word(WordLine::Okay, word.word)));
     }
 }

@@ -22,18 +22,35 @@ use turn_scene::{Rules, Scene, building_place, is_carried, rows, start_place};
 use world_objects::Object;
 use world_objects::object::OBJECTS;
 
-/// An object in the hands falls: the lamp where the game begins, and all else at the older place of
-/// the trail. A death sets that place to where it leaves things, except a death at place 0.
-#[tactic(auto, unfolding(crate::specs::Revival::after_fall, crate::specs::Revival::fall_rows))]
-fn let_fall<N: RowNotes>(rules: &Rules<'_>, object: Object, scene: &mut Scene<'_, N>)
-    ensures scene { scene_of N.rows scene.new
-        ≡ after_fall (cave_of rules.now) object (scene_of N.rows scene.old) }
-    ensures says { GoesOnSaying 0 scene.old scene.new }
+/// The player wants to come back.
+#[tactic(auto, unfolding(crate::specs::Revival::come_back, crate::specs::Revival::reborn_rows))]
+pub fn come_back<N: RowNotes>(rules: &Rules<'_>, scene: &mut Scene<'_, N>)
+    requires { HasRoom (parts_of_arrival scene.old.left + 1) scene.old }
+    ensures scene { scene_of N.rows scene.new ≡ (after_all come_back
+        (deed (cave_of rules.now) question_is.Die (scene_of N.rows scene.old))).scene }
+    ensures says { MovesOnSaying (parts_of_arrival scene.old.left + 1) scene.old scene.new }
 {
-    let is_held = scene.state.objects.is_in_hands(object);
-    rows! { scene, Table::Fall;
-        is_held && rules.is(object, Named::Lamp) => move_to(object, start_place(rules.cave));
-        is_held => move_to(object, scene.state.trail.older);
+    let deaths = scene.state.tallies.deaths.number();
+    rows! { scene, Table::Reborn;
+        deaths == 0 => say(Role::Reborn1);
+        deaths == 1 => say(Role::Reborn2);
+        otherwise => say(Role::Reborn3);
+    }
+    count_death(scene.state);
+    decide_revival(rules, scene);
+}
+
+/// The third death is the last, and after another the player is back.
+#[tactic(auto, unfolding(crate::specs::Revival::revival_rows))]
+fn decide_revival<N: RowNotes>(rules: &Rules<'_>, scene: &mut Scene<'_, N>)
+    requires { HasRoom (parts_of_arrival scene.old.left) scene.old }
+    ensures scene { scene_of N.rows scene.new ≡ (by_table table.Revival revival_rows
+        (deed (cave_of rules.now) question_is.Die (scene_of N.rows scene.old))).scene }
+    ensures says { MovesOnSaying (parts_of_arrival scene.old.left) scene.old scene.new }
+{
+    rows! { scene, Table::Revival;
+        LIVES <= scene.state.tallies.deaths.number() => { end(rules, Ending::Killed, scene); };
+        otherwise => { revive(rules, scene); };
     }
 }
 
@@ -68,36 +85,19 @@ fn revive<N: RowNotes>(rules: &Rules<'_>, scene: &mut Scene<'_, N>)
     describe_here(rules, scene);
 }
 
-/// The third death is the last, and after another the player is back.
-#[tactic(auto, unfolding(crate::specs::Revival::revival_rows))]
-fn decide_revival<N: RowNotes>(rules: &Rules<'_>, scene: &mut Scene<'_, N>)
-    requires { HasRoom (parts_of_arrival scene.old.left) scene.old }
-    ensures scene { scene_of N.rows scene.new ≡ (by_table table.Revival revival_rows
-        (deed (cave_of rules.now) question_is.Die (scene_of N.rows scene.old))).scene }
-    ensures says { MovesOnSaying (parts_of_arrival scene.old.left) scene.old scene.new }
+/// An object in the hands falls: the lamp where the game begins, and all else at the older place of
+/// the trail. A death sets that place to where it leaves things, except a death at place 0.
+#[tactic(auto, unfolding(crate::specs::Revival::after_fall, crate::specs::Revival::fall_rows))]
+fn let_fall<N: RowNotes>(rules: &Rules<'_>, object: Object, scene: &mut Scene<'_, N>)
+    ensures scene { scene_of N.rows scene.new
+        ≡ after_fall (cave_of rules.now) object (scene_of N.rows scene.old) }
+    ensures says { GoesOnSaying 0 scene.old scene.new }
 {
-    rows! { scene, Table::Revival;
-        LIVES <= scene.state.tallies.deaths.number() => { end(rules, Ending::Killed, scene); };
-        otherwise => { revive(rules, scene); };
+    let is_held = scene.state.objects.is_in_hands(object);
+    rows! { scene, Table::Fall;
+        is_held && rules.is(object, Named::Lamp) => move_to(object, start_place(rules.cave));
+        is_held => move_to(object, scene.state.trail.older);
     }
-}
-
-/// The player wants to come back.
-#[tactic(auto, unfolding(crate::specs::Revival::come_back, crate::specs::Revival::reborn_rows))]
-pub fn come_back<N: RowNotes>(rules: &Rules<'_>, scene: &mut Scene<'_, N>)
-    requires { HasRoom (parts_of_arrival scene.old.left + 1) scene.old }
-    ensures scene { scene_of N.rows scene.new ≡ (after_all come_back
-        (deed (cave_of rules.now) question_is.Die (scene_of N.rows scene.old))).scene }
-    ensures says { MovesOnSaying (parts_of_arrival scene.old.left + 1) scene.old scene.new }
-{
-    let deaths = scene.state.tallies.deaths.number();
-    rows! { scene, Table::Reborn;
-        deaths == 0 => say(Role::Reborn1);
-        deaths == 1 => say(Role::Reborn2);
-        otherwise => say(Role::Reborn3);
-    }
-    count_death(scene.state);
-    decide_revival(rules, scene);
 }
 
 /// A player who doesn't want to come back is dead.

@@ -19,6 +19,26 @@ use turn_scene::props::{
 };
 use turn_scene::{Rules, Scene, has_prop, is_carried, is_home_elsewhere, is_near, rows};
 
+/// DROP an object.
+#[tactic(auto, unfolding(crate::specs::Dropping::drop_rows), using(crate::proofs::Falls::drop_falls))]
+pub fn drop_object<N: RowNotes>(rules: &Rules<'_>, task: Task, scene: &mut Scene<'_, N>) -> VerbStep
+    requires { HasRoom parts_of_row scene.old }
+    ensures row { ByRows N.rows (noted table.Drop drop_rows) rules.now task scene.old scene.new
+        result }
+    ensures ranks { let cave = cave_of rules.now in
+        rank_of cave result ≤ drop_rank cave task.object }
+{
+    let x = task.object;
+    let is_held = is_carried(rules, scene.state, x);
+    rows! { scene, Table::Drop, VerbStep::Done(Next::Stay);
+        !is_held && rules.is(x, Named::Rod)
+            && is_carried(rules, scene.state, rules.thing(Named::SecondRod))
+            => {} -> VerbStep::GoOn(Verb::Drop, rules.thing(Named::SecondRod));
+        !is_held => task.default(rules);
+        in VerbStep::Done(drop_held(rules, task, scene));
+    }
+}
+
 /// DROP an object that is carried.
 #[tactic(auto, unfolding(crate::specs::Dropping::drop_rows))]
 fn drop_held<N: RowNotes>(rules: &Rules<'_>, task: Task, scene: &mut Scene<'_, N>) -> Next
@@ -45,33 +65,13 @@ fn drop_held<N: RowNotes>(rules: &Rules<'_>, task: Task, scene: &mut Scene<'_, N
         is_bird && scene.state.at(dragon) && has_prop(scene.state, dragon, DRAGON_ALIVE)
             => say(Role::BirdDragon), destroy(x), set_prop(x, BIRD_FREE), lose_to_snake(rules);
         let troll = rules.thing(Named::Troll);
-        let pillow = rules.thing(Named::Pillow);
         rules.is(x, Named::Bear) && scene.state.at(troll) => say(Role::TrollFlees),
             troll_goes(rules), set_prop(troll, TROLL_FLED), put(rules, x);
+        let pillow = rules.thing(Named::Pillow);
         let is_vase = rules.is(x, Named::Vase) && is_home_elsewhere(rules, scene.state, pillow);
         is_vase && scene.state.at(pillow)
             => set_prop(x, VASE_WHOLE), look(x, VASE_ON_PILLOW), put(rules, x);
         is_vase => set_prop(x, VASE_BROKEN), look(x, VASE_BREAKING), fix(x), put(rules, x);
         otherwise => say(Role::Ok), put(rules, x);
-    }
-}
-
-/// DROP an object.
-#[tactic(auto, unfolding(crate::specs::Dropping::drop_rows), using(crate::proofs::Falls::drop_falls))]
-pub fn drop_object<N: RowNotes>(rules: &Rules<'_>, task: Task, scene: &mut Scene<'_, N>) -> VerbStep
-    requires { HasRoom parts_of_row scene.old }
-    ensures row { ByRows N.rows (noted table.Drop drop_rows) rules.now task scene.old scene.new
-        result }
-    ensures ranks { let cave = cave_of rules.now in
-        rank_of cave result ≤ drop_rank cave task.object }
-{
-    let x = task.object;
-    let is_held = is_carried(rules, scene.state, x);
-    rows! { scene, Table::Drop, VerbStep::Done(Next::Stay);
-        !is_held && rules.is(x, Named::Rod)
-            && is_carried(rules, scene.state, rules.thing(Named::SecondRod))
-            => {} -> VerbStep::GoOn(Verb::Drop, rules.thing(Named::SecondRod));
-        !is_held => task.default(rules);
-        in VerbStep::Done(drop_held(rules, task, scene));
     }
 }

@@ -28,6 +28,40 @@ const LIVING: [Named; 8] = [
     Named::Bear,
 ];
 
+/// EAT without an object.
+#[tactic(auto, using(crate::proofs::Near::is_something), unfolding(crate::specs::Feeding::bare_eat_rows))]
+pub fn eat_what_is_here<N: RowNotes>(
+    rules: &Rules<'_>,
+    task: Task,
+    scene: &mut Scene<'_, N>,
+) -> VerbStep
+    requires { HasRoom parts_of_row scene.old }
+    ensures row { ByRows N.rows (noted table.BareEat bare_eat_rows) rules.now task scene.old
+        scene.new result }
+    ensures ranks { rank_of (cave_of rules.now) result ≤ 1 }
+{
+    let food = rules.thing(Named::Food);
+    rows! { scene, Table::BareEat, VerbStep::Done(Next::Keep);
+        is_near(rules, scene.state, food) => {} -> VerbStep::GoOn(Verb::Eat, food);
+        otherwise => task.ask_what(rules);
+    }
+}
+
+/// EAT an object.
+#[tactic(auto, unfolding(crate::specs::Feeding::eat_rows))]
+pub fn eat<N: RowNotes>(rules: &Rules<'_>, task: Task, scene: &mut Scene<'_, N>) -> Next
+    requires { HasRoom parts_of_row scene.old }
+    ensures row { DoneByRows N.rows (noted table.Eat eat_rows) rules.now task scene.old scene.new
+        result }
+{
+    let x = task.object;
+    rows! { scene, Table::Eat, Next::Stay;
+        rules.is(x, Named::Food) => destroy(x), say(Role::Eaten);
+        rules.is_one_of(x, &LIVING) => say(Role::NoAppetite);
+        otherwise => task.default(rules);
+    }
+}
+
 /// FEED an object.
 #[tactic(auto, unfolding(crate::specs::Feeding::feed_rows))]
 pub fn feed<N: RowNotes>(rules: &Rules<'_>, task: Task, scene: &mut Scene<'_, N>) -> Next
@@ -65,39 +99,5 @@ pub fn feed<N: RowNotes>(rules: &Rules<'_>, task: Task, scene: &mut Scene<'_, N>
         is_bear && has_prop(scene.state, x, BEAR_DEAD) => say(Role::Ridiculous);
         is_bear => task.default(rules);
         otherwise => say(Role::FeedWhat);
-    }
-}
-
-/// EAT without an object.
-#[tactic(auto, using(crate::proofs::Near::is_something), unfolding(crate::specs::Feeding::bare_eat_rows))]
-pub fn eat_what_is_here<N: RowNotes>(
-    rules: &Rules<'_>,
-    task: Task,
-    scene: &mut Scene<'_, N>,
-) -> VerbStep
-    requires { HasRoom parts_of_row scene.old }
-    ensures row { ByRows N.rows (noted table.BareEat bare_eat_rows) rules.now task scene.old
-        scene.new result }
-    ensures ranks { rank_of (cave_of rules.now) result ≤ 1 }
-{
-    let food = rules.thing(Named::Food);
-    rows! { scene, Table::BareEat, VerbStep::Done(Next::Keep);
-        is_near(rules, scene.state, food) => {} -> VerbStep::GoOn(Verb::Eat, food);
-        otherwise => task.ask_what(rules);
-    }
-}
-
-/// EAT an object.
-#[tactic(auto, unfolding(crate::specs::Feeding::eat_rows))]
-pub fn eat<N: RowNotes>(rules: &Rules<'_>, task: Task, scene: &mut Scene<'_, N>) -> Next
-    requires { HasRoom parts_of_row scene.old }
-    ensures row { DoneByRows N.rows (noted table.Eat eat_rows) rules.now task scene.old scene.new
-        result }
-{
-    let x = task.object;
-    rows! { scene, Table::Eat, Next::Stay;
-        rules.is(x, Named::Food) => destroy(x), say(Role::Eaten);
-        rules.is_one_of(x, &LIVING) => say(Role::NoAppetite);
-        otherwise => task.default(rules);
     }
 }

@@ -38,6 +38,24 @@ pub fn find<N: RowNotes>(rules: &Rules<'_>, task: Task, scene: &mut Scene<'_, N>
     }
 }
 
+/// INVENTORY without an object.
+#[tactic(auto, unfolding(crate::specs::Finding::bare_inventory_rows, crate::specs::Finding::bear_along_rows))]
+pub fn inventory<N: RowNotes>(rules: &Rules<'_>, task: Task, scene: &mut Scene<'_, N>) -> Next
+    requires { HasRoom parts_of_inventory scene.old }
+    ensures row { DoneByRows N.rows (noted table.BareInventory bare_inventory_rows) rules.now
+        task scene.old scene.new result }
+{
+    let listed = listed(rules, scene.state);
+    rows! { scene, Table::BareInventory, Next::Stay;
+        listed.is_empty() => say(Role::Empty), task.tell_bear(rules);
+        otherwise => {
+            scene.say(Role::Holding);
+            name_all(listed.as_slice(), scene);
+            task.tell_bear(rules, scene);
+        };
+    }
+}
+
 fn is_in_inventory(rules: &Rules<'_>, state: &State, object: Object) -> bool
     ensures { result ≡ is_in_inventory (cave_of rules.now) state.now object }
 {
@@ -80,23 +98,5 @@ impl Task {
         rows! { scene, Table::BearAlong;
             is_carried(rules, scene.state, rules.thing(Named::Bear)) => say(Role::BearFollows);
         }
-    }
-}
-
-/// INVENTORY without an object.
-#[tactic(auto, unfolding(crate::specs::Finding::bare_inventory_rows, crate::specs::Finding::bear_along_rows))]
-pub fn inventory<N: RowNotes>(rules: &Rules<'_>, task: Task, scene: &mut Scene<'_, N>) -> Next
-    requires { HasRoom parts_of_inventory scene.old }
-    ensures row { DoneByRows N.rows (noted table.BareInventory bare_inventory_rows) rules.now
-        task scene.old scene.new result }
-{
-    let listed = listed(rules, scene.state);
-    rows! { scene, Table::BareInventory, Next::Stay;
-        listed.is_empty() => say(Role::Empty), task.tell_bear(rules);
-        otherwise => {
-            scene.say(Role::Holding);
-            name_all(listed.as_slice(), scene);
-            task.tell_bear(rules, scene);
-        };
     }
 }

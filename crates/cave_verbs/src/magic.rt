@@ -22,6 +22,32 @@ use turn_scene::{
     Rules, Scene, has_prop, home, is_at_home, is_carried, is_home_here, is_near, rows, special,
 };
 
+/// FOO without an object.
+#[tactic(auto, unfolding(crate::specs::Magic::bare_foo_rows))]
+pub fn foo<N: RowNotes>(rules: &Rules<'_>, task: Task, scene: &mut Scene<'_, N>) -> Next
+    requires { HasRoom 1 scene.old }
+    ensures row { DoneByRows N.rows (noted table.BareFoo bare_foo_rows) rules.now task scene.old
+        scene.new result }
+{
+    let k = special(rules, task.word);
+    let is_wrong = k == 0 || is_out_of_turn(scene.state, k);
+    rows! { scene, Table::BareFoo, Next::Stay;
+        is_wrong && magic_of(scene.state) == 0 => say(Role::Magic);
+        is_wrong => say(Role::FooOrder);
+        k != 4 => task.remember(k), say(Role::Ok);
+        let eggs = rules.thing(Named::Eggs);
+        eggs.is_none() => task.begin_anew(), say(Role::Magic);
+        is_at_home(rules, scene.state, eggs) => task.begin_anew(), say(Role::Magic);
+        is_carried(rules, scene.state, eggs) && is_home_here(rules, scene.state, eggs)
+            => task.begin_anew(), say(Role::Magic);
+        let troll = rules.thing(Named::Troll);
+        scene.state.is_gone(eggs) && scene.state.is_gone(troll)
+            && has_prop(scene.state, troll, TROLL_CALM)
+            => task.begin_anew(), set_prop(troll, TROLL_RETURNING), task.send_eggs_home(rules);
+        otherwise => task.begin_anew(), task.send_eggs_home(rules);
+    }
+}
+
 /// How far the player has come with the magic words.
 fn magic_of(state: &State) -> i16
     ensures { result ≡ state.now.talk.magic }
@@ -66,31 +92,5 @@ impl Task {
             otherwise => look(eggs, EGGS_ELSEWHERE);
         }
         scene.move_to(eggs, home(rules, eggs));
-    }
-}
-
-/// FOO without an object.
-#[tactic(auto, unfolding(crate::specs::Magic::bare_foo_rows))]
-pub fn foo<N: RowNotes>(rules: &Rules<'_>, task: Task, scene: &mut Scene<'_, N>) -> Next
-    requires { HasRoom 1 scene.old }
-    ensures row { DoneByRows N.rows (noted table.BareFoo bare_foo_rows) rules.now task scene.old
-        scene.new result }
-{
-    let k = special(rules, task.word);
-    let is_wrong = k == 0 || is_out_of_turn(scene.state, k);
-    rows! { scene, Table::BareFoo, Next::Stay;
-        is_wrong && magic_of(scene.state) == 0 => say(Role::Magic);
-        is_wrong => say(Role::FooOrder);
-        k != 4 => task.remember(k), say(Role::Ok);
-        let eggs = rules.thing(Named::Eggs);
-        eggs.is_none() => task.begin_anew(), say(Role::Magic);
-        is_at_home(rules, scene.state, eggs) => task.begin_anew(), say(Role::Magic);
-        is_carried(rules, scene.state, eggs) && is_home_here(rules, scene.state, eggs)
-            => task.begin_anew(), say(Role::Magic);
-        let troll = rules.thing(Named::Troll);
-        scene.state.is_gone(eggs) && scene.state.is_gone(troll)
-            && has_prop(scene.state, troll, TROLL_CALM)
-            => task.begin_anew(), set_prop(troll, TROLL_RETURNING), task.send_eggs_home(rules);
-        otherwise => task.begin_anew(), task.send_eggs_home(rules);
     }
 }

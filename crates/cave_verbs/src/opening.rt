@@ -93,6 +93,32 @@ fn open_shell<N: RowNotes>(rules: &Rules<'_>, task: Task, scene: &mut Scene<'_, 
     }
 }
 
+/// OPEN or LOCK an object.
+#[tactic(auto, unfolding(crate::specs::Opening::open_rows))]
+pub fn open<N: RowNotes>(rules: &Rules<'_>, task: Task, scene: &mut Scene<'_, N>) -> Next
+    requires { HasRoom parts_of_row scene.old }
+    ensures row { DoneByRows N.rows (noted table.Open open_rows) rules.now task scene.old
+        scene.new result }
+{
+    let x = task.object;
+    let is_grate = rules.is(x, Named::Grate);
+    let is_chain = rules.is(x, Named::Chain);
+    let has_keys = is_near(rules, scene.state, rules.thing(Named::Keys));
+    rows! { scene, Table::Open, Next::Stay;
+        rules.is(x, Named::Clam) || rules.is(x, Named::Oyster) => in open_shell(rules, task, scene);
+        from 8;
+        rules.is(x, Named::Door) && has_prop(scene.state, x, DOOR_OILED) => say(Role::Ok);
+        rules.is(x, Named::Door) => say(Role::Rusty);
+        rules.is(x, Named::Cage) => say(Role::NoLatch);
+        rules.is(x, Named::Keys) => say(Role::KeysWhat);
+        (is_grate || is_chain) && !has_keys => say(Role::NoKeys);
+        is_grate => in open_or_lock_grate(rules, task, scene);
+        is_chain => in open_chain(rules, task, scene);
+        from 25;
+        otherwise => task.default(rules);
+    }
+}
+
 /// OPEN or LOCK the grate, with the keys.
 #[tactic(auto, unfolding(crate::specs::Opening::open_rows))]
 fn open_or_lock_grate<N: RowNotes>(rules: &Rules<'_>, task: Task, scene: &mut Scene<'_, N>) -> Next
@@ -136,31 +162,5 @@ fn open_chain<N: RowNotes>(rules: &Rules<'_>, task: Task, scene: &mut Scene<'_, 
         is_home_elsewhere(rules, scene.state, x) => say(Role::NoLockHere);
         has_other_prop(scene.state, x, CHAIN_UNLOCKED) => say(Role::WasLocked);
         otherwise => lay_down(rules, x), set_prop(x, CHAIN_LOCKED), fix(x), say(Role::ChainLock);
-    }
-}
-
-/// OPEN or LOCK an object.
-#[tactic(auto, unfolding(crate::specs::Opening::open_rows))]
-pub fn open<N: RowNotes>(rules: &Rules<'_>, task: Task, scene: &mut Scene<'_, N>) -> Next
-    requires { HasRoom parts_of_row scene.old }
-    ensures row { DoneByRows N.rows (noted table.Open open_rows) rules.now task scene.old
-        scene.new result }
-{
-    let x = task.object;
-    let is_grate = rules.is(x, Named::Grate);
-    let is_chain = rules.is(x, Named::Chain);
-    let has_keys = is_near(rules, scene.state, rules.thing(Named::Keys));
-    rows! { scene, Table::Open, Next::Stay;
-        rules.is(x, Named::Clam) || rules.is(x, Named::Oyster) => in open_shell(rules, task, scene);
-        from 8;
-        rules.is(x, Named::Door) && has_prop(scene.state, x, DOOR_OILED) => say(Role::Ok);
-        rules.is(x, Named::Door) => say(Role::Rusty);
-        rules.is(x, Named::Cage) => say(Role::NoLatch);
-        rules.is(x, Named::Keys) => say(Role::KeysWhat);
-        (is_grate || is_chain) && !has_keys => say(Role::NoKeys);
-        is_grate => in open_or_lock_grate(rules, task, scene);
-        is_chain => in open_chain(rules, task, scene);
-        from 25;
-        otherwise => task.default(rules);
     }
 }

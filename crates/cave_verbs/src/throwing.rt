@@ -20,6 +20,47 @@ use turn_scene::props::{AXE_BY_BEAR, BEAR_WILD, DRAGON_ALIVE};
 use turn_scene::{Rules, Scene, has_prop, is_carried, is_dwarf_here, is_near, is_treasure, rows};
 use world_objects::{Object, Place};
 
+/// THROW an object.
+#[tactic(auto, unfolding(crate::specs::Throwing::throw_rows), using(crate::proofs::Falls::throw_falls))]
+pub fn throw<N: RowNotes>(rules: &Rules<'_>, task: Task, scene: &mut Scene<'_, N>) -> VerbStep
+    requires { HasRoom parts_of_row scene.old }
+    ensures row { ByRows N.rows (noted table.Throw throw_rows) rules.now task scene.old scene.new
+        result }
+    ensures ranks { let cave = cave_of rules.now in
+        rank_of cave result ≤ throw_rank cave task.object }
+{
+    let x = task.object;
+    let is_held = is_carried(rules, scene.state, x);
+    rows! { scene, Table::Throw, VerbStep::Done(Next::Stay);
+        !is_held && rules.is(x, Named::Rod)
+            && is_carried(rules, scene.state, rules.thing(Named::SecondRod))
+            => {} -> VerbStep::GoOn(Verb::Throw, rules.thing(Named::SecondRod));
+        !is_held => task.default(rules);
+        in throw_held(rules, task, scene);
+    }
+}
+
+/// THROW an object that is carried.
+#[tactic(auto, unfolding(crate::specs::Throwing::throw_rows))]
+fn throw_held<N: RowNotes>(rules: &Rules<'_>, task: Task, scene: &mut Scene<'_, N>) -> VerbStep
+    requires { HasRoom parts_of_row scene.old }
+    ensures row { ByRows N.rows (noted_after table.Throw 2 throw_rows) rules.now task scene.old
+        scene.new result }
+    ensures ranks { rank_of (cave_of rules.now) result ≤ 2 }
+{
+    let x = task.object;
+    let bear = rules.thing(Named::Bear);
+    rows! { scene, Table::Throw, VerbStep::Done(Next::Stay);
+        from 3;
+        is_treasure(x) && scene.state.at(rules.thing(Named::Troll))
+            => destroy(x), troll_goes(rules), say(Role::TrollPaid);
+        rules.is(x, Named::Food) && is_near(rules, scene.state, bear)
+            => {} -> VerbStep::GoOn(Verb::Feed, bear);
+        !rules.is(x, Named::Axe) => {} -> VerbStep::GoOn(Verb::Drop, x);
+        in throw_axe(rules, task, scene);
+    }
+}
+
 fn first_at(place: Place, dwarves: &[Dwarf]) -> Option<usize>
     ensures { result ≡ position (is_dwarf_at place) dwarves.now }
 {
@@ -80,46 +121,5 @@ fn throw_axe<N: RowNotes>(rules: &Rules<'_>, task: Task, scene: &mut Scene<'_, N
         is_near(rules, scene.state, bear) && has_prop(scene.state, bear, BEAR_WILD)
             => bring(x), fix(x), set_prop(x, AXE_BY_BEAR), juggle(bear), say(Role::AxeBear);
         otherwise => {} -> VerbStep::GoOn(Verb::Kill, Object::none());
-    }
-}
-
-/// THROW an object that is carried.
-#[tactic(auto, unfolding(crate::specs::Throwing::throw_rows))]
-fn throw_held<N: RowNotes>(rules: &Rules<'_>, task: Task, scene: &mut Scene<'_, N>) -> VerbStep
-    requires { HasRoom parts_of_row scene.old }
-    ensures row { ByRows N.rows (noted_after table.Throw 2 throw_rows) rules.now task scene.old
-        scene.new result }
-    ensures ranks { rank_of (cave_of rules.now) result ≤ 2 }
-{
-    let x = task.object;
-    let bear = rules.thing(Named::Bear);
-    rows! { scene, Table::Throw, VerbStep::Done(Next::Stay);
-        from 3;
-        is_treasure(x) && scene.state.at(rules.thing(Named::Troll))
-            => destroy(x), troll_goes(rules), say(Role::TrollPaid);
-        rules.is(x, Named::Food) && is_near(rules, scene.state, bear)
-            => {} -> VerbStep::GoOn(Verb::Feed, bear);
-        !rules.is(x, Named::Axe) => {} -> VerbStep::GoOn(Verb::Drop, x);
-        in throw_axe(rules, task, scene);
-    }
-}
-
-/// THROW an object.
-#[tactic(auto, unfolding(crate::specs::Throwing::throw_rows), using(crate::proofs::Falls::throw_falls))]
-pub fn throw<N: RowNotes>(rules: &Rules<'_>, task: Task, scene: &mut Scene<'_, N>) -> VerbStep
-    requires { HasRoom parts_of_row scene.old }
-    ensures row { ByRows N.rows (noted table.Throw throw_rows) rules.now task scene.old scene.new
-        result }
-    ensures ranks { let cave = cave_of rules.now in
-        rank_of cave result ≤ throw_rank cave task.object }
-{
-    let x = task.object;
-    let is_held = is_carried(rules, scene.state, x);
-    rows! { scene, Table::Throw, VerbStep::Done(Next::Stay);
-        !is_held && rules.is(x, Named::Rod)
-            && is_carried(rules, scene.state, rules.thing(Named::SecondRod))
-            => {} -> VerbStep::GoOn(Verb::Throw, rules.thing(Named::SecondRod));
-        !is_held => task.default(rules);
-        in throw_held(rules, task, scene);
     }
 }

@@ -19,5 +19,5 @@ mod written;
 
 pub use cave_doubts::doubts;
 pub use flaw::{Doubt, Source};
-pub use known::{left_doubts, push_unmet};
+pub use known::DoubtEntries;
 pub use listing::{DoubtFiles, push_doubts};

@@ -15,7 +15,7 @@ pub struct DoubtFiles<'a> {
     pub known: &'a str,
 }
 
-pub(crate) fn file_of<'a>(files: &DoubtFiles<'a>, source: Source) -> &'a str
+fn file_of<'a>(files: &DoubtFiles<'a>, source: Source) -> &'a str
     ensures { result.now ≡ file_of files.now source }
 {
     match source {

@@ -2,10 +2,11 @@ pub mod Names
 pub mod Unused
 pub mod Clues
 pub mod NearKey
-pub mod KnownLines
+pub mod Known
 pub mod TextKinds
 pub mod WayWords
 pub mod TravelWords
 pub mod WaysByPlace
 pub mod Words
 pub mod Reach
+pub mod Marks

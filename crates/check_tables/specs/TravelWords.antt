@@ -33,7 +33,3 @@ words_of_way cave place (Some row) = row_words cave place row
 -- the words of the row at a line of the database
 abbrev pub way_words : CaveView → WayLine → List ℕ
 way_words cave way = words_of_way cave way.place (slice_get (ways_from cave way.place) way.index)
-
--- the entries of these rows, a line each
-abbrev pub way_entries : CaveView → List WayLine → List ℕ
-way_entries cave ways = flat_map (λ way. way_words cave way ++ codes "\n") ways

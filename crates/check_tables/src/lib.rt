@@ -4,7 +4,8 @@
 #![tactic(auto)]
 
 pub mod clue;
-pub mod known_lines;
+pub mod known;
+pub mod marks;
 pub mod names;
 mod near_key;
 pub mod reach;

@@ -2,74 +2,55 @@
 
 ghost use Rattle.std.specs.Prelude.{◌≡◌, ◌++◌, OnOk, option_map};
 ghost use Rattle.std.specs.List.{flat_map, slice_get};
+ghost use Rattle.base_text.specs.Text.{Tells};
 ghost use Rattle.cave_data.specs.CaveView.{ways_from};
 ghost use Rattle.data_rows.specs.RowViews.{going};
-ghost use Rattle.check_tables.specs.TravelWords.{end_words, row_words, way_entries, way_words};
-ghost use Rattle.check_tables.specs.TravelWords.{words_of_way};
+ghost use Rattle.check_tables.specs.TravelWords.{end_words, row_words, way_words, words_of_way};
 ghost use Rattle.check_tables.specs.WayWords.{motion_name};
 
-use crate::way_words::{push_condition_mark, push_motion};
+use crate::known::Entries;
+use crate::way_words::{put_condition_mark, put_motion};
+use base_text::Text;
 use cave_data::Cave;
 use data_bindings::WayLine;
 use data_rows::{Destination, Row, Special};
 use std::alloc::{AllocError, Global};
 
 /// Appends where a row leads.
-fn push_end_words(
-    alloc: Global,
-    destination: Destination,
-    text: &mut Vec<u8>,
-) -> Result<(), AllocError>
-    ensures { OnOk result (text.new.items ≡ text.old.items ++ end_words destination) }
+fn put_end_words(destination: Destination, text: &mut Text)
+    ensures { Tells (end_words destination) text.old text.new }
 {
     match destination {
         Destination::Place(place) => {
-            let words = format!(in alloc; " to {place}")?;
-            text.extend_from_slice(words.as_bytes())
+            write!(text, " to {place}");
         }
         Destination::Message(message) => {
-            let words = format!(in alloc; " to message {message}")?;
-            text.extend_from_slice(words.as_bytes())
+            write!(text, " to message {message}");
         }
-        Destination::Special(Special::Squeeze) => text.extend_from_slice(b" to the narrow passage"),
-        Destination::Special(Special::Bridge) => text.extend_from_slice(b" to the troll's bridge"),
-        Destination::PutsEmeraldDown => text.extend_from_slice(b" to put EMERALD down"),
-        Destination::NoWay => text.extend_from_slice(b" to no rule"),
+        Destination::Special(Special::Squeeze) => text.put(b" to the narrow passage"),
+        Destination::Special(Special::Bridge) => text.put(b" to the troll's bridge"),
+        Destination::PutsEmeraldDown => text.put(b" to put EMERALD down"),
+        Destination::NoWay => text.put(b" to no rule"),
     }
 }
 
 /// Appends the names of motions.
-fn push_motions(
-    alloc: Global,
-    cave: &Cave,
-    motions: &[u16],
-    text: &mut Vec<u8>,
-) -> Result<(), AllocError>
-    ensures { OnOk result
-        (text.new.items ≡ text.old.items ++ flat_map (motion_name cave.now) motions.now) }
+fn put_motions(cave: &Cave, motions: &[u16], text: &mut Text)
+    ensures { Tells (flat_map (motion_name cave.now) motions.now) text.old text.new }
 {
     for motion in motions {
-        push_motion(alloc, cave, *motion, text)?;
+        put_motion(cave, *motion, text);
     }
-    Ok(())
 }
 
 /// Appends the words of a row of a place.
-fn push_row_words(
-    alloc: Global,
-    cave: &Cave,
-    place: u16,
-    row: &Row,
-    text: &mut Vec<u8>,
-) -> Result<(), AllocError>
-    ensures { OnOk result
-        (text.new.items ≡ text.old.items ++ row_words cave.now place (going row.now)) }
+fn put_row_words(cave: &Cave, place: u16, row: &Row, text: &mut Text)
+    ensures { Tells (row_words cave.now place (going row.now)) text.old text.new }
 {
-    let start = format!(in alloc; "from {place} by")?;
-    text.extend_from_slice(start.as_bytes())?;
-    push_motions(alloc, cave, &row.motions, text)?;
-    push_end_words(alloc, row.destination(), text)?;
-    push_condition_mark(alloc, cave, false, row.condition(), text)
+    write!(text, "from {place} by");
+    put_motions(cave, &row.motions, text);
+    put_end_words(row.destination(), text);
+    put_condition_mark(cave, false, row.condition(), text);
 }
 
 /// The row at a line of the database.
@@ -81,19 +62,13 @@ fn row_of_way<'a>(cave: &'a Cave, way: &WayLine) -> Option<&'a Row>
 }
 
 /// Appends the words of a row of a place, if there is one.
-fn push_words_of_way(
-    alloc: Global,
-    cave: &Cave,
-    place: u16,
-    row: Option<&Row>,
-    text: &mut Vec<u8>,
-) -> Result<(), AllocError>
-    ensures { OnOk result (text.new.items ≡ text.old.items
-        ++ words_of_way cave.now place (option_map (λ row. going row.now) row.entry)) }
+fn put_words_of_way(cave: &Cave, place: u16, row: Option<&Row>, text: &mut Text)
+    ensures { Tells (words_of_way cave.now place (option_map (λ row. going row.now) row.entry))
+        text.old text.new }
 {
     match row {
-        Some(row) => push_row_words(alloc, cave, place, row, text),
-        None => Ok(()),
+        Some(row) => put_row_words(cave, place, row, text),
+        None => {}
     }
 }
 
@@ -106,22 +81,28 @@ pub fn push_way_words(
 ) -> Result<(), AllocError>
     ensures { OnOk result (text.new.items ≡ text.old.items ++ way_words cave.now way.now) }
 {
-    let row = row_of_way(cave, way);
-    push_words_of_way(alloc, cave, way.place, row, text)
+    let mut words = Text::after(alloc, text);
+    put_words_of_way(cave, way.place, row_of_way(cave, way), &mut words);
+    words.give_to(text)
 }
 
-/// Appends the entries of rows, a line each.
-pub fn push_way_entries(
-    alloc: Global,
-    cave: &Cave,
-    ways: &[WayLine],
-    text: &mut Vec<u8>,
-) -> Result<(), AllocError>
-    ensures { OnOk result (text.new.items ≡ text.old.items ++ way_entries cave.now ways.now) }
-{
-    for way in ways {
-        push_way_words(alloc, cave, way, text)?;
-        text.extend_from_slice(b"\n")?;
+/// The travel rows of a cave, as lists of what is known have them.
+#[derive(Clone, Copy)]
+pub struct TravelEntries<'a> {
+    pub cave: &'a Cave,
+}
+
+impl Entries for TravelEntries<'_> {
+    type Thing = WayLine;
+
+    ghost entry = { λ rows. way_words rows.cave.now };
+
+    fn push_entry(
+        &self,
+        alloc: Global,
+        way: WayLine,
+        text: &mut Vec<u8>,
+    ) -> Result<(), AllocError> {
+        push_way_words(alloc, self.cave, &way, text)
     }
-    Ok(())
 }

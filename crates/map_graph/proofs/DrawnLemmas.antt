@@ -7,10 +7,9 @@ use Rattle.std.proofs.lemmas.List.Sums.{count_by-le-length, length-filter}
 use Rattle.cave_data.specs.CaveView.{CaveView}
 use Rattle.map_graph.specs.Parts.{drawn_places}
 use Rattle.map_ways.specs.Regions.{is_way_on, places_around, places_within}
-use Rattle.map_graph.specs.Stops.{is_visited}
+use Rattle.map_graph.specs.Stops.{Stops, is_visited}
 use Rattle.map_graph.specs.declared.parts.DrawnPart.{DrawnPart}
 use Rattle.map_ways.specs.declared.regions.Region.{Region}
-use Rattle.map_graph.specs.declared.stops.Stop.{Stop}
 
 module _ (P : ℕ → Type 0) (cave : CaveView) (mapped : List ℕ) (all : All P mapped) where
   within_all : (from ways : ℕ) → All P (places_within cave mapped from ways)
@@ -22,7 +21,7 @@ module _ (P : ℕ → Type 0) (cave : CaveView) (mapped : List ℕ) (all : All P
   around_all None = all
   around_all (Some around) = within_all around.place around.ways
 
-  pub drawn_within : (stops : List Stop) (part : DrawnPart)
+  pub drawn_within : (stops : Stops) (part : DrawnPart)
       → All P (drawn_places cave stops part mapped)
   unfolding drawn_places
   drawn_within stops part =

@@ -1,3 +1,4 @@
 pub mod DrawnLemmas
 pub mod PartLemmas
 pub mod TitleLemmas
+pub mod StopLemmas

@@ -12,9 +12,8 @@ use Rattle.map_ways.specs.Labels.{label_of, is_one_line, is_within_line}
 use Rattle.map_graph.specs.Map.{EdgesAreLines, NodesAreLines}
 use Rattle.map_graph.specs.Places.{look_of_place, node, node_opening, node_end, node_text}
 use Rattle.map_graph.specs.Places.{nowhere_note, strength}
-use Rattle.map_graph.specs.Stops.{is_visited}
+use Rattle.map_graph.specs.Stops.{Stops, is_visited}
 use Rattle.map_ways.specs.Ways.{count_nowhere, is_way}
-use Rattle.map_graph.specs.declared.stops.Stop.{Stop}
 use Rattle.map_ways.proofs.LineLemmas.{both_within, decimal_within, line_after, label_within}
 
 cond_within : (test : Bool) (a b : List ℕ) → is_within_line a ≡ true → is_within_line b ≡ true
@@ -47,7 +46,7 @@ unfolding head
 head_within is_end is_reached is_left =
     cond_within (not is_end) _ _ refl (cond_within (is_left && not is_reached) _ _ refl refl)
 
-module _ (cave : CaveView) (stops : List Stop) where
+module _ (cave : CaveView) (stops : Stops) where
   at_within : (from to : ℕ) → is_within_line (head_at cave stops from to) ≡ true
   at_within from to =
       head_within (is_way cave from to) (is_taken cave stops from to) (is_taken cave stops to from)
@@ -119,7 +118,7 @@ from_label_is_one_line from to head strong first second =
     ∙ line_after head end first
     ∙ line_after strong (codes "];\n") second
 
-module _ (cave : CaveView) (stops : List Stop) (logs from to : ℕ) where
+module _ (cave : CaveView) (stops : Stops) (logs from to : ℕ) where
   edge_strength_within : is_within_line (edge_strength cave stops logs from to) ≡ true
   edge_strength_within = strength_within logs (is_edge_taken cave stops from to)
 

@@ -6,22 +6,23 @@ use Rattle.map_graph.specs.declared.captions.SeenCounts.{SeenCounts}
 use Rattle.map_graph.specs.declared.parts.DrawnPart.{DrawnPart}
 use Rattle.map_ways.specs.declared.regions.Region.{Region}
 
--- how many there are of something, which has an s unless there is one
-abbrev pub counted : ℕ → List ℕ → List ℕ
-counted count noun =
-    decimal count ++ (codes " " ++ (noun ++ (if count == 1 then [] else codes "s")))
+-- the end of what there are this many of
+abbrev pub plural : ℕ → List ℕ
+plural count = if count == 1 then [] else codes "s"
 
 -- how many of the places and ways plays of this many logs saw
 abbrev pub seen_words : SeenCounts → ℕ → List ℕ
 seen_words counts logs =
-    decimal counts.visited ++ (codes " of " ++ (counted counts.places (codes "place")
-    ++ (codes ", " ++ (decimal counts.taken ++ (codes " of "
-    ++ (counted counts.ways (codes "way") ++ (codes " in " ++ counted logs (codes "log"))))))))
+    decimal counts.visited ++ (codes " of " ++ (decimal counts.places ++ (codes " place"
+    ++ (plural counts.places ++ (codes ", " ++ (decimal counts.taken ++ (codes " of "
+    ++ (decimal counts.ways ++ (codes " way" ++ (plural counts.ways ++ (codes " in "
+    ++ (decimal logs ++ (codes " log" ++ plural logs)))))))))))))
 
 -- how many there are
 abbrev pub count_words : SeenCounts → List ℕ
 count_words counts =
-    counted counts.places (codes "place") ++ (codes ", " ++ counted counts.ways (codes "way"))
+    decimal counts.places ++ (codes " place" ++ (plural counts.places ++ (codes ", "
+    ++ (decimal counts.ways ++ (codes " way" ++ plural counts.ways)))))
 
 abbrev pub title_of_map : SeenCounts → ℕ → List ℕ
 title_of_map counts logs = if logs == 0 then count_words counts else seen_words counts logs
@@ -29,8 +30,8 @@ title_of_map counts logs = if logs == 0 then count_words counts else seen_words 
 -- places are drawn that are at most this many ways from one
 abbrev pub distance_words : ℕ → ℕ → List ℕ
 distance_words ways place =
-    codes "<BR/>drawn: at most " ++ (counted ways (codes "way")
-    ++ (codes " from place " ++ decimal place))
+    codes "<BR/>drawn: at most " ++ (decimal ways ++ (codes " way" ++ (plural ways
+    ++ (codes " from place " ++ decimal place))))
 
 -- which places are drawn, if not all are
 abbrev pub around_words : Option Region → List ℕ
@@ -44,7 +45,7 @@ abbrev pub part_words : DrawnPart → List ℕ
 part_words part = around_words part.around ++ seen_only_words part.seen
 
 -- what lines and colours mean that show what plays saw
-abbrev pub seen_legend : Bool → List ℕ
+unfoldable pub seen_legend : Bool → List ℕ
 seen_legend seen =
     codes "<TD BORDER=\"3\">a log was here</TD>"
     ++ ((if seen then []
@@ -56,24 +57,24 @@ abbrev pub logs_legend : ℕ → Bool → List ℕ
 logs_legend logs seen = if logs == 0 then [] else seen_legend seen
 
 -- what they mean on each map
-abbrev pub cave_legend : List ℕ
+unfoldable pub cave_legend : List ℕ
 cave_legend =
     codes "<TD BORDER=\"1\" BGCOLOR=\"gray80\">dark</TD>"
     ++ codes "<TD BORDER=\"1\" STYLE=\"ROUNDED\">circle: leads on by itself</TD>"
 
 -- what words and marks mean, and how the line of what stands above the map ends
-abbrev pub words_legend : List ℕ
+unfoldable pub words_legend : List ℕ
 words_legend =
     codes "</TR></TABLE></TD></TR><TR><TD>EAST / WEST: to the higher number / to the lower. "
     ++ codes "+ begins here, = is this to the rules</TD></TR></TABLE>>];\n"
 
 -- how it begins
-abbrev pub caption_opening : List ℕ
+unfoldable pub caption_opening : List ℕ
 caption_opening =
     codes "  graph [labelloc=t, fontname=\"Helvetica\", fontsize=10, label=<<TABLE BORDER=\"0\">"
     ++ codes "<TR><TD><FONT POINT-SIZE=\"16\">"
 
-abbrev pub legend_opening : List ℕ
+unfoldable pub legend_opening : List ℕ
 legend_opening = codes "</FONT></TD></TR><TR><TD><TABLE BORDER=\"0\" CELLSPACING=\"6\"><TR>"
 
 abbrev pub heading : SeenCounts → ℕ → DrawnPart → List ℕ

@@ -12,10 +12,9 @@ use Rattle.data_rows.specs.PlaceRole.{PLACE_NAMES}
 use Rattle.cave_world.specs.Sight.{LIGHT_BIT, has_condition, forced}
 use Rattle.map_ways.specs.Labels.{label_of}
 use Rattle.check_tables.specs.WayWords.{word_or_number, number_of_object}
-use Rattle.map_graph.specs.Stops.{is_visited, visits}
+use Rattle.map_graph.specs.Stops.{Stops, is_visited}
 use Rattle.map_graph.specs.Titles.{title}
 use Rattle.map_ways.specs.Ways.{count_nowhere}
-use Rattle.map_graph.specs.declared.stops.Stop.{Stop}
 
 -- a half of the object is there as a game begins
 abbrev pub begins_at : CaveView → ℕ → ℕ → Bool
@@ -47,15 +46,15 @@ abbrev pub title_line : CaveView → List ℕ → ℕ → List ℕ
 title_line cave mapped place = decimal place ++ (title cave mapped place ++ codes "\n")
 
 -- what is written at a place where a player stays, line by line
-unfoldable pub stay_text : CaveView → List ℕ → List Stop → ℕ → List ℕ
+unfoldable pub stay_text : CaveView → List ℕ → Stops → ℕ → List ℕ
 stay_text cave mapped stops place =
     title_line cave mapped place
     ++ (flat_map (object_label_line cave) (objects_beginning cave place)
     ++ (flat_map (role_label_line cave place) place_keys
-    ++ visits_label_line (visits stops place)))
+    ++ visits_label_line (stops.visits place)))
 
 -- what is written at a node, which for a place of a forced motion is only its number
-unfoldable pub node_text : CaveView → List ℕ → List Stop → ℕ → List ℕ
+unfoldable pub node_text : CaveView → List ℕ → Stops → ℕ → List ℕ
 node_text cave mapped stops place =
     if forced cave place then decimal place else stay_text cave mapped stops place
 
@@ -88,7 +87,7 @@ abbrev pub node_end : ℕ → List ℕ
 node_end count = codes "];" ++ (nowhere_note count ++ codes "\n")
 
 -- the line of a node
-unfoldable pub node : CaveView → List ℕ → List Stop → ℕ → ℕ → List ℕ
+unfoldable pub node : CaveView → List ℕ → Stops → ℕ → ℕ → List ℕ
 node cave mapped stops logs place =
     node_opening place
     ++ (label_of (node_text cave mapped stops place)

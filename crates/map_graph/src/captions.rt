@@ -1,16 +1,16 @@
 //! What stands above a map: how much of the cave plays saw, which part is drawn, and a legend.
 
-ghost use Rattle.std.specs.Fmt.{decimal};
-ghost use Rattle.std.specs.Prelude.{◌≡◌, ◌++◌, OnOk, codes};
+ghost use Rattle.std.specs.Prelude.{◌≡◌, ◌++◌};
+ghost use Rattle.base_text.specs.Text.{Tells};
 ghost use Rattle.map_graph.specs.Captions.{around_words, caption, caption_opening, cave_legend};
-ghost use Rattle.map_graph.specs.Captions.{counted, distance_words, heading};
+ghost use Rattle.map_graph.specs.Captions.{distance_words, heading};
 ghost use Rattle.map_graph.specs.Captions.{legend_opening, logs_legend};
-ghost use Rattle.map_graph.specs.Captions.{part_words, seen_legend, seen_only_words, seen_words};
+ghost use Rattle.map_graph.specs.Captions.{part_words, plural, seen_legend, seen_only_words, seen_words};
 ghost use Rattle.map_graph.specs.Captions.{title_of_map, words_legend};
 
 use crate::parts::DrawnPart;
+use base_text::Text;
 use map_ways::Region;
-use std::alloc::{AllocError, Global};
 
 /// How many places and ways there are, and how many of them plays saw.
 #[derive(Clone, Copy)]
@@ -21,44 +21,16 @@ pub struct SeenCounts {
     pub ways: usize,
 }
 
-/// Appends how many there are of something.
-fn push_counted(
-    alloc: Global,
-    count: usize,
-    noun: &str,
-    text: &mut Vec<u8>,
-) -> Result<(), AllocError>
-    ensures { OnOk result (text.new.items ≡ text.old.items ++ counted count noun.now) }
+/// The end of what there are this many of.
+fn plural(count: usize) -> &'static str
+    ensures { result.now ≡ plural count }
 {
-    let plural = if count == 1 { "" } else { "s" };
-    let words = format!(in alloc; "{count} {noun}{plural}")?;
-    text.extend_from_slice(words.as_bytes())
-}
-
-/// Appends how many of several places or ways plays saw.
-fn push_seen(
-    alloc: Global,
-    seen: usize,
-    count: usize,
-    noun: &str,
-    text: &mut Vec<u8>,
-) -> Result<(), AllocError>
-    ensures { OnOk result (text.new.items
-        ≡ text.old.items ++ (decimal seen ++ (codes " of " ++ counted count noun.now))) }
-{
-    let words = format!(in alloc; "{seen} of ")?;
-    text.extend_from_slice(words.as_bytes())?;
-    push_counted(alloc, count, noun, text)
+    if count == 1 { "" } else { "s" }
 }
 
 /// Appends how many of the places and ways plays of this many logs saw.
-pub fn push_seen_words(
-    alloc: Global,
-    counts: SeenCounts,
-    logs: usize,
-    text: &mut Vec<u8>,
-) -> Result<(), AllocError>
-    ensures { OnOk result (text.new.items ≡ text.old.items ++ seen_words counts logs) }
+pub fn put_seen_words(counts: SeenCounts, logs: usize, text: &mut Text)
+    ensures { Tells (seen_words counts logs) text.old text.new }
 {
     let SeenCounts {
         visited,
@@ -66,56 +38,49 @@ pub fn push_seen_words(
         taken,
         ways,
     } = counts;
-    push_seen(alloc, visited, places, "place", text)?;
-    text.extend_from_slice(b", ")?;
-    push_seen(alloc, taken, ways, "way", text)?;
-    text.extend_from_slice(b" in ")?;
-    push_counted(alloc, logs, "log", text)
+    write!(
+        text,
+        "{visited} of {places} place{}, {taken} of {ways} way{} in {logs} log{}",
+        plural(places),
+        plural(ways),
+        plural(logs),
+    );
 }
 
-fn push_title_of_map(
-    alloc: Global,
-    counts: SeenCounts,
-    logs: usize,
-    text: &mut Vec<u8>,
-) -> Result<(), AllocError>
-    ensures { OnOk result (text.new.items ≡ text.old.items ++ title_of_map counts logs) }
+fn put_title_of_map(counts: SeenCounts, logs: usize, text: &mut Text)
+    ensures { Tells (title_of_map counts logs) text.old text.new }
 {
     if logs == 0 {
         let SeenCounts { places, ways, .. } = counts;
-        push_counted(alloc, places, "place", text)?;
-        text.extend_from_slice(b", ")?;
-        return push_counted(alloc, ways, "way", text);
+        write!(
+            text,
+            "{places} place{}, {ways} way{}",
+            plural(places),
+            plural(ways)
+        );
+    } else {
+        put_seen_words(counts, logs, text);
     }
-    push_seen_words(alloc, counts, logs, text)
 }
 
 /// Appends that places at most this many ways from one are drawn.
-fn push_distance(
-    alloc: Global,
-    ways: usize,
-    place: u16,
-    text: &mut Vec<u8>,
-) -> Result<(), AllocError>
-    ensures { OnOk result (text.new.items ≡ text.old.items ++ distance_words ways place) }
+fn put_distance(ways: u16, place: u16, text: &mut Text)
+    ensures { Tells (distance_words ways place) text.old text.new }
 {
-    text.extend_from_slice(b"<BR/>drawn: at most ")?;
-    push_counted(alloc, ways, "way", text)?;
-    let words = format!(in alloc; " from place {place}")?;
-    text.extend_from_slice(words.as_bytes())
+    write!(
+        text,
+        "<BR/>drawn: at most {ways} way{} from place {place}",
+        plural(ways as usize),
+    );
 }
 
 /// Appends which places are drawn, if not all are.
-fn push_around_words(
-    alloc: Global,
-    around: Option<Region>,
-    text: &mut Vec<u8>,
-) -> Result<(), AllocError>
-    ensures { OnOk result (text.new.items ≡ text.old.items ++ around_words around) }
+fn put_around_words(around: Option<Region>, text: &mut Text)
+    ensures { Tells (around_words around) text.old text.new }
 {
     match around {
-        Some(Region { place, ways }) => push_distance(alloc, ways as usize, place, text),
-        None => Ok(()),
+        Some(Region { place, ways }) => put_distance(ways, place, text),
+        None => {}
     }
 }
 
@@ -129,14 +94,15 @@ fn seen_only_words(seen: bool) -> &'static str
     }
 }
 
-fn push_part_words(alloc: Global, part: DrawnPart, text: &mut Vec<u8>) -> Result<(), AllocError>
-    ensures { OnOk result (text.new.items ≡ text.old.items ++ part_words part) }
+fn put_part_words(part: DrawnPart, text: &mut Text)
+    ensures { Tells (part_words part) text.old text.new }
 {
-    push_around_words(alloc, part.around, text)?;
-    text.extend_from_slice(seen_only_words(part.seen).as_bytes())
+    put_around_words(part.around, text);
+    text.put(seen_only_words(part.seen).as_bytes());
 }
 
 /// What lines and colours mean that show what plays saw.
+#[tactic(auto, unfolding(crate::specs::Captions::seen_legend))]
 fn seen_legend(seen: bool) -> &'static str
     ensures { result.now ≡ seen_legend seen }
 {
@@ -156,6 +122,7 @@ fn logs_legend(logs: usize, seen: bool) -> &'static str
 }
 
 /// What colours and shapes mean on each map.
+#[tactic(auto, unfolding(crate::specs::Captions::cave_legend))]
 fn cave_legend() -> &'static str
     ensures { result.now ≡ cave_legend }
 {
@@ -164,15 +131,15 @@ fn cave_legend() -> &'static str
 }
 
 /// Appends what lines and colours mean.
-fn push_legend(logs: usize, seen: bool, text: &mut Vec<u8>) -> Result<(), AllocError>
-    ensures { OnOk result
-        (text.new.items ≡ text.old.items ++ (logs_legend logs seen ++ cave_legend)) }
+fn put_legend(logs: usize, seen: bool, text: &mut Text)
+    ensures { Tells (logs_legend logs seen ++ cave_legend) text.old text.new }
 {
-    text.extend_from_slice(logs_legend(logs, seen).as_bytes())?;
-    text.extend_from_slice(cave_legend().as_bytes())
+    text.put(logs_legend(logs, seen).as_bytes());
+    text.put(cave_legend().as_bytes());
 }
 
 /// What words and marks mean, and how the line ends.
+#[tactic(auto, unfolding(crate::specs::Captions::words_legend))]
 fn words_legend() -> &'static str
     ensures { result.now ≡ words_legend }
 {
@@ -181,6 +148,7 @@ fn words_legend() -> &'static str
 }
 
 /// How the line begins.
+#[tactic(auto, unfolding(crate::specs::Captions::caption_opening))]
 fn caption_opening() -> &'static str
     ensures { result.now ≡ caption_opening }
 {
@@ -189,6 +157,7 @@ fn caption_opening() -> &'static str
 }
 
 /// What stands between the title and the legend.
+#[tactic(auto, unfolding(crate::specs::Captions::legend_opening))]
 fn legend_opening() -> &'static str
     ensures { result.now ≡ legend_opening }
 {
@@ -196,34 +165,21 @@ fn legend_opening() -> &'static str
 }
 
 /// Appends how the line begins, with the title of a map, and which part is drawn.
-fn push_heading(
-    alloc: Global,
-    counts: SeenCounts,
-    logs: usize,
-    part: DrawnPart,
-    text: &mut Vec<u8>,
-) -> Result<(), AllocError>
-    ensures { OnOk result (text.new.items
-        ≡ text.old.items ++ heading counts logs part) }
+fn put_heading(counts: SeenCounts, logs: usize, part: DrawnPart, text: &mut Text)
+    ensures { Tells (heading counts logs part) text.old text.new }
 {
-    text.extend_from_slice(caption_opening().as_bytes())?;
-    push_title_of_map(alloc, counts, logs, text)?;
-    push_part_words(alloc, part, text)?;
-    text.extend_from_slice(legend_opening().as_bytes())
+    text.put(caption_opening().as_bytes());
+    put_title_of_map(counts, logs, text);
+    put_part_words(part, text);
+    text.put(legend_opening().as_bytes());
 }
 
 /// Appends the line of what stands above a map.
 #[tactic(auto, unfolding(crate::specs::Captions::caption))]
-pub fn push_caption(
-    alloc: Global,
-    counts: SeenCounts,
-    logs: usize,
-    part: DrawnPart,
-    text: &mut Vec<u8>,
-) -> Result<(), AllocError>
-    ensures { OnOk result (text.new.items ≡ text.old.items ++ caption counts logs part) }
+pub fn put_caption(counts: SeenCounts, logs: usize, part: DrawnPart, text: &mut Text)
+    ensures { Tells (caption counts logs part) text.old text.new }
 {
-    push_heading(alloc, counts, logs, part, text)?;
-    push_legend(logs, part.seen, text)?;
-    text.extend_from_slice(words_legend().as_bytes())
+    put_heading(counts, logs, part, text);
+    put_legend(logs, part.seen, text);
+    text.put(words_legend().as_bytes());
 }

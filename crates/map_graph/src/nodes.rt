@@ -1,12 +1,13 @@
 //! The nodes of places.
 
-ghost use Rattle.std.specs.Prelude.{◌≡◌, ◌≤◌, ◌<◌, ◌++◌, All, IfOk, OnOk};
-ghost use Rattle.std.specs.Fmt.{decimal};
+ghost use Rattle.std.specs.Prelude.{◌≡◌, ◌≤◌, ◌<◌, All, IfOk};
 ghost use Rattle.std.specs.List.{flat_map};
 ghost use Rattle.base_lines.specs.Numbers.{LAST_PLACE};
 ghost use Rattle.base_lines.specs.Numbers as defined;
+ghost use Rattle.base_text.specs.Text.{Tells};
 ghost use Rattle.data_bindings.specs.Listing.{place_keys};
 ghost use Rattle.data_rows.specs.PlaceRole.{place_number};
+ghost use Rattle.map_graph.specs.Stops.{stops_of};
 ghost use Rattle.map_ways.specs.Labels.{label_of};
 ghost use Rattle.map_graph.specs.Places.{begins_at, look_of_place, node, node_end, node_opening};
 ghost use Rattle.map_graph.specs.Places.{node_text, nowhere_note, object_label_line};
@@ -14,16 +15,17 @@ ghost use Rattle.map_graph.specs.Places.{objects_beginning, role_label_line, sta
 ghost use Rattle.map_graph.specs.Places.{title_line, visits_label_line};
 
 use crate::sights::Sights;
-use crate::stops::{Stop, is_visited, visits};
-use crate::titles::push_title;
+use crate::stops::{Stops, is_visited};
+use crate::titles::put_title;
 use base_lines::numbers::LAST_OBJECT;
+use base_text::Text;
 use cave_data::Cave;
 use cave_world::sight::LIGHT_BIT;
 use cave_world::{forced, has_condition};
-use check_tables::way_words::{number_of_object, push_word_or_number};
+use check_tables::way_words::{number_of_object, put_word_or_number};
 use data_bindings::place_keys;
 use data_rows::PlaceRole;
-use map_ways::{count_nowhere, push_label};
+use map_ways::{count_nowhere, put_label};
 use std::alloc::{AllocError, Global};
 use world_objects::Place;
 
@@ -46,163 +48,103 @@ fn objects_beginning(alloc: Global, cave: &Cave, place: u16) -> Result<Vec<u16>,
         .collect(alloc)
 }
 
-fn push_object_label_line(
-    alloc: Global,
-    cave: &Cave,
-    object: u16,
-    text: &mut Vec<u8>,
-) -> Result<(), AllocError>
+fn put_object_label_line(cave: &Cave, object: u16, text: &mut Text)
     requires { object ≤ defined.LAST_OBJECT }
-    ensures { OnOk result (text.new.items ≡ text.old.items ++ object_label_line cave.now object) }
+    ensures { Tells (object_label_line cave.now object) text.old text.new }
 {
-    text.extend_from_slice(b"+")?;
-    push_word_or_number(alloc, cave, number_of_object(object as u8), text)?;
-    text.extend_from_slice(b"\n")
+    text.put(b"+");
+    put_word_or_number(cave, number_of_object(object as u8), text);
+    text.put(b"\n");
 }
 
-fn push_objects(
-    alloc: Global,
-    cave: &Cave,
-    objects: &[u16],
-    text: &mut Vec<u8>,
-) -> Result<(), AllocError>
+fn put_objects(cave: &Cave, objects: &[u16], text: &mut Text)
     requires { All (λ object. object ≤ defined.LAST_OBJECT) objects.now }
-    ensures { OnOk result
-        (text.new.items ≡ text.old.items ++ flat_map (object_label_line cave.now) objects.now) }
+    ensures { Tells (flat_map (object_label_line cave.now) objects.now) text.old text.new }
 {
     for object in objects {
-        push_object_label_line(alloc, cave, *object, text)?;
+        put_object_label_line(cave, *object, text);
     }
-    Ok(())
 }
 
 /// Appends the line of a role, if a place has it.
-fn push_role_label_line(
-    cave: &Cave,
-    place: u16,
-    role: PlaceRole,
-    text: &mut Vec<u8>,
-) -> Result<(), AllocError>
-    ensures { OnOk result (text.new.items
-        ≡ text.old.items ++ role_label_line cave.now place (place_number role)) }
+fn put_role_label_line(cave: &Cave, place: u16, role: PlaceRole, text: &mut Text)
+    ensures { Tells (role_label_line cave.now place (place_number role)) text.old text.new }
 {
     match cave.place(role) {
         Some(found) if found == place => {
-            text.extend_from_slice(b"= ")?;
-            text.extend_from_slice(role.name().as_bytes())?;
-            text.extend_from_slice(b"\n")
+            text.put(b"= ");
+            text.put(role.name().as_bytes());
+            text.put(b"\n");
         }
-        _ => Ok(()),
+        _ => {}
     }
 }
 
 /// Appends the lines of those of these roles that a place has.
-fn push_roles(
-    cave: &Cave,
-    place: u16,
-    roles: &[PlaceRole],
-    text: &mut Vec<u8>,
-) -> Result<(), AllocError>
-    ensures { OnOk result (text.new.items ≡ text.old.items
-        ++ flat_map (λ role. role_label_line cave.now place (place_number role)) roles.now) }
+fn put_roles(cave: &Cave, place: u16, roles: &[PlaceRole], text: &mut Text)
+    ensures { Tells (flat_map (λ role. role_label_line cave.now place (place_number role))
+        roles.now) text.old text.new }
 {
     for role in roles {
-        push_role_label_line(cave, place, *role, text)?;
+        put_role_label_line(cave, place, *role, text);
     }
-    Ok(())
 }
 
-fn push_roles_of_place(cave: &Cave, place: u16, text: &mut Vec<u8>) -> Result<(), AllocError>
-    ensures { OnOk result (text.new.items
-        ≡ text.old.items ++ flat_map (role_label_line cave.now place) place_keys) }
+fn put_roles_of_place(cave: &Cave, place: u16, text: &mut Text)
+    ensures { Tells (flat_map (role_label_line cave.now place) place_keys) text.old text.new }
 {
-    push_roles(cave, place, place_keys(), text)
+    put_roles(cave, place, place_keys(), text);
 }
 
-fn push_visits_label_line(alloc: Global, count: usize, text: &mut Vec<u8>) -> Result<(), AllocError>
-    ensures { OnOk result (text.new.items ≡ text.old.items ++ visits_label_line count) }
+fn put_visits_label_line(count: usize, text: &mut Text)
+    ensures { Tells (visits_label_line count) text.old text.new }
 {
-    if count == 0 {
-        return Ok(());
+    if count != 0 {
+        write!(text, "visits {count}\n");
     }
-    let line = format!(in alloc; "visits {count}\n")?;
-    text.extend_from_slice(line.as_bytes())
 }
 
 /// Appends the line of a place: its number and its title.
-fn push_title_line(
-    alloc: Global,
-    cave: &Cave,
-    mapped: &[u16],
-    place: u16,
-    text: &mut Vec<u8>,
-) -> Result<(), AllocError>
-    ensures { OnOk result
-        (text.new.items ≡ text.old.items ++ title_line cave.now mapped.now place) }
+fn put_title_line(cave: &Cave, mapped: &[u16], place: u16, text: &mut Text)
+    ensures { Tells (title_line cave.now mapped.now place) text.old text.new }
 {
-    let number = format!(in alloc; "{place}")?;
-    text.extend_from_slice(number.as_bytes())?;
-    push_title(cave, mapped, place, text)?;
-    text.extend_from_slice(b"\n")
+    write!(text, "{place}");
+    put_title(cave, mapped, place, text);
+    text.put(b"\n");
 }
 
-fn push_objects_beginning(
-    alloc: Global,
-    cave: &Cave,
-    place: u16,
-    text: &mut Vec<u8>,
-) -> Result<(), AllocError>
-    ensures { OnOk result (text.new.items ≡ text.old.items
-        ++ flat_map (object_label_line cave.now) (objects_beginning cave.now place)) }
+fn put_objects_beginning(cave: &Cave, place: u16, text: &mut Text)
+    ensures { Tells (flat_map (object_label_line cave.now) (objects_beginning cave.now place))
+        text.old text.new }
 {
-    let objects = objects_beginning(alloc, cave, place)?;
-    push_objects(alloc, cave, &objects, text)
+    match objects_beginning(text.alloc(), cave, place) {
+        Ok(objects) => put_objects(cave, &objects, text),
+        Err(AllocError) => text.fail(),
+    }
 }
 
 /// Appends what is written at a place where a player stays.
 #[tactic(auto, unfolding(crate::specs::Places::stay_text))]
-fn push_stay_text(
-    alloc: Global,
-    cave: &Cave,
-    mapped: &[u16],
-    stops: &[Stop],
-    place: u16,
-    text: &mut Vec<u8>,
-) -> Result<(), AllocError>
-    ensures { OnOk result
-        (text.new.items ≡ text.old.items ++ stay_text cave.now mapped.now stops.now place) }
+fn put_stay_text(cave: &Cave, mapped: &[u16], stops: &Stops, place: u16, text: &mut Text)
+    ensures { Tells (stay_text cave.now mapped.now (stops_of stops.now) place) text.old text.new }
 {
-    push_title_line(alloc, cave, mapped, place, text)?;
-    push_objects_beginning(alloc, cave, place, text)?;
-    push_roles_of_place(cave, place, text)?;
-    push_visits_label_line(alloc, visits(stops, place), text)
-}
-
-fn push_number(alloc: Global, number: u16, text: &mut Vec<u8>) -> Result<(), AllocError>
-    ensures { OnOk result (text.new.items ≡ text.old.items ++ decimal number) }
-{
-    let digits = format!(in alloc; "{number}")?;
-    text.extend_from_slice(digits.as_bytes())
+    put_title_line(cave, mapped, place, text);
+    put_objects_beginning(cave, place, text);
+    put_roles_of_place(cave, place, text);
+    put_visits_label_line(stops.visits(place), text);
 }
 
 /// Appends what is written at a node, which for a place of a forced motion is only its number.
 #[tactic(auto, unfolding(crate::specs::Places::node_text))]
-fn push_node_text(
-    alloc: Global,
-    cave: &Cave,
-    mapped: &[u16],
-    stops: &[Stop],
-    place: u16,
-    text: &mut Vec<u8>,
-) -> Result<(), AllocError>
+fn put_node_text(cave: &Cave, mapped: &[u16], stops: &Stops, place: u16, text: &mut Text)
     requires { place ≤ LAST_PLACE }
-    ensures { OnOk result
-        (text.new.items ≡ text.old.items ++ node_text cave.now mapped.now stops.now place) }
+    ensures { Tells (node_text cave.now mapped.now (stops_of stops.now) place) text.old text.new }
 {
     if forced(cave, Place::new(place)) {
-        return push_number(alloc, place, text);
+        write!(text, "{place}");
+    } else {
+        put_stay_text(cave, mapped, stops, place, text);
     }
-    push_stay_text(alloc, cave, mapped, stops, place, text)
 }
 
 /// How a place looks: one of a forced motion is a small circle, and one without light is dark.
@@ -236,71 +178,50 @@ pub fn strength(logs: usize, is_reached: bool) -> &'static str
 }
 
 /// Appends how many rows lead to no place, if any do.
-fn push_nowhere_note(alloc: Global, count: usize, text: &mut Vec<u8>) -> Result<(), AllocError>
-    ensures { OnOk result (text.new.items ≡ text.old.items ++ nowhere_note count) }
+fn put_nowhere_note(count: usize, text: &mut Text)
+    ensures { Tells (nowhere_note count) text.old text.new }
 {
-    if count == 0 {
-        return Ok(());
+    if count != 0 {
+        write!(text, " // ways not drawn: {count}");
     }
-    let note = format!(in alloc; " // ways not drawn: {count}")?;
-    text.extend_from_slice(note.as_bytes())
 }
 
 /// Appends how the line of a node begins.
-fn push_node_opening(alloc: Global, place: u16, text: &mut Vec<u8>) -> Result<(), AllocError>
-    ensures { OnOk result (text.new.items ≡ text.old.items ++ node_opening place) }
+fn put_node_opening(place: u16, text: &mut Text)
+    ensures { Tells (node_opening place) text.old text.new }
 {
-    let opening = format!(in alloc; "  {place} [label=")?;
-    text.extend_from_slice(opening.as_bytes())
+    write!(text, "  {place} [label=");
 }
 
 /// Appends the label of a node.
-fn push_node_label(
-    alloc: Global,
-    cave: &Cave,
-    mapped: &[u16],
-    stops: &[Stop],
-    place: u16,
-    text: &mut Vec<u8>,
-) -> Result<(), AllocError>
+fn put_node_label(cave: &Cave, mapped: &[u16], stops: &Stops, place: u16, text: &mut Text)
     requires { place ≤ LAST_PLACE }
-    ensures { OnOk result (text.new.items
-        ≡ text.old.items ++ label_of (node_text cave.now mapped.now stops.now place)) }
+    ensures { Tells (label_of (node_text cave.now mapped.now (stops_of stops.now) place)) text.old text.new }
 {
-    let mut label = Vec::new(alloc);
-    push_node_text(alloc, cave, mapped, stops, place, &mut label)?;
-    push_label(&label, text)
+    let mut label = text.beside();
+    put_node_text(cave, mapped, stops, place, &mut label);
+    put_label(&text.bytes_of(label), text);
 }
 
 /// Appends how the line of a node ends, with how many rows lead to no place.
-fn push_node_end(alloc: Global, count: usize, text: &mut Vec<u8>) -> Result<(), AllocError>
-    ensures { OnOk result (text.new.items ≡ text.old.items ++ node_end count) }
+fn put_node_end(count: usize, text: &mut Text)
+    ensures { Tells (node_end count) text.old text.new }
 {
-    text.extend_from_slice(b"];")?;
-    push_nowhere_note(alloc, count, text)?;
-    text.extend_from_slice(b"\n")
+    text.put(b"];");
+    put_nowhere_note(count, text);
+    text.put(b"\n");
 }
 
 /// Appends the line of a node.
 #[tactic(auto, unfolding(crate::specs::Places::node))]
-pub fn push_node(
-    alloc: Global,
-    cave: &Cave,
-    mapped: &[u16],
-    sights: Sights<'_>,
-    place: u16,
-    text: &mut Vec<u8>,
-) -> Result<(), AllocError>
+pub fn put_node(cave: &Cave, mapped: &[u16], sights: Sights<'_>, place: u16, text: &mut Text)
     requires { place ≤ LAST_PLACE }
-    ensures { OnOk result (text.new.items ≡ text.old.items
-        ++ node cave.now mapped.now sights.entry.stops.now sights.entry.logs place) }
+    ensures { Tells (node cave.now mapped.now (stops_of sights.entry.stops.now) sights.entry.logs place)
+        text.old text.new }
 {
-    push_node_opening(alloc, place, text)?;
-    push_node_label(alloc, cave, mapped, sights.stops, place, text)?;
-    text.extend_from_slice(look_of_place(cave, place).as_bytes())?;
-    text.extend_from_slice(strength(
-        sights.logs,
-        is_visited(cave, sights.stops, place),
-    ).as_bytes())?;
-    push_node_end(alloc, count_nowhere(cave, place), text)
+    put_node_opening(place, text);
+    put_node_label(cave, mapped, sights.stops, place, text);
+    text.put(look_of_place(cave, place).as_bytes());
+    text.put(strength(sights.logs, is_visited(cave, sights.stops, place)).as_bytes());
+    put_node_end(count_nowhere(cave, place), text);
 }

@@ -2,8 +2,9 @@
 
 ghost use Rattle.std.specs.Prelude.{◌≡◌, IfOk};
 ghost use Rattle.map_graph.specs.Parts.{drawn_places};
+ghost use Rattle.map_graph.specs.Stops.{stops_of};
 
-use crate::stops::{Stop, is_visited};
+use crate::stops::{Stops, is_visited};
 use cave_data::Cave;
 use map_ways::{Region, places_around};
 use std::alloc::{AllocError, Global};
@@ -22,12 +23,12 @@ pub struct DrawnPart {
 pub fn drawn_places(
     alloc: Global,
     cave: &Cave,
-    stops: &[Stop],
+    stops: &Stops,
     part: DrawnPart,
     mapped: &[u16],
 ) -> Result<Vec<u16>, AllocError>
     ensures { IfOk result
-        (λ places. places.items ≡ drawn_places cave.now stops.now part mapped.now) }
+        (λ places. places.items ≡ drawn_places cave.now (stops_of stops.now) part mapped.now) }
 {
     places_around(alloc, cave, mapped, part.around)?
         .iter()

@@ -1,11 +1,11 @@
 //! What plays saw of a cave, and which part of it is drawn.
 
-use crate::stops::Stop;
+use crate::stops::Stops;
 
 /// What plays of logs saw, and the places that are drawn.
 #[derive(Clone, Copy)]
 pub struct Sights<'a> {
-    pub stops: &'a [Stop],
+    pub stops: &'a Stops,
     /// How many logs were played.
     pub logs: usize,
     /// Whether only what plays saw is drawn.

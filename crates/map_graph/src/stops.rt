@@ -1,13 +1,19 @@
-//! Where a player is in the states of plays, and by which ways the player goes on a line.
+//! Where players are in the states of plays, and by which ways they go on a line.
 
-ghost use Rattle.std.specs.Prelude.{◌≡◌, ◌++◌, OnOk};
-ghost use Rattle.map_graph.specs.Stops.{arrives_at, comes_by, is_at, is_blocked, is_visited};
-ghost use Rattle.map_graph.specs.Stops.{is_way_taken, visits, way_by_row, ways_by_rows};
+ghost use Rattle.std.specs.Prelude.{◌≡◌, ◌==◌, ◌+◌, ◌∷◌, [], ℕ, OnOk, if◌then◌else◌, length};
+ghost use Rattle.std.specs.Prelude.{slice_index_or};
+ghost use Rattle.map_graph.specs.Stops.{is_blocked, is_visited, is_way_taken, no_stops};
+ghost use Rattle.map_graph.specs.Stops.{stops_of, way_by_row, ways_by_rows, with_stops};
+ghost use Rattle.cave_data.specs.CaveView.{ways_from};
+ghost use Rattle.map_graph.specs.Stops.{is_passed, is_way_taken_between};
 
+use base_lines::numbers::LAST_PLACE;
 use cave_data::Cave;
 use cave_world::{RuleRow, Table};
+use check_tables::marks::{Mark, MarkSet};
 use map_ways::leads_by;
-use std::alloc::AllocError;
+use std::alloc::{AllocError, Global};
+use std::marker::Model;
 use world_objects::Place;
 
 /// A stop of a play.
@@ -20,6 +26,41 @@ pub enum Stop {
     OnWay(u16, usize),
 }
 
+/// What the stops of plays say together: the places where players were, the rows that took them on,
+/// and the visits of each place.
+#[derive(Drop)]
+pub struct Stops {
+    places: MarkSet,
+    ways: MarkSet,
+    visits: Vec<usize>,
+}
+
+impl Model for Stops {
+    ghost use Rattle.map_graph.specs.Stops.{StopMarks};
+
+    ghost Value = { StopMarks };
+
+    ghost view = { λ s. record { places = s.places; ways = s.ways; visits = s.visits.items } };
+}
+
+/// Counts one more of a number. A count that can't grow any more is answered like a lack of memory:
+/// no play is so long.
+fn count_one(counts: &mut Vec<usize>, number: usize) -> Result<(), AllocError>
+    ensures { OnOk result ((other : ℕ) → slice_index_or counts.new.items other 0
+        ≡ slice_index_or counts.old.items other 0 + (if other == number then 1 else 0)) }
+{
+    while counts.len() <= number {
+        counts.push(0)?;
+    }
+    match counts[number].checked_add(1) {
+        Some(more) => {
+            counts[number] = more;
+            Ok(())
+        }
+        None => Err(AllocError),
+    }
+}
+
 /// Whether the way is blocked before these rows are noted.
 fn is_blocked(later: &[RuleRow]) -> bool
     ensures { result ≡ is_blocked later.now }
@@ -27,79 +68,125 @@ fn is_blocked(later: &[RuleRow]) -> bool
     matches!(later, [RuleRow::OfTable(Table::Blocking, _), ..])
 }
 
-/// Appends the way of a row that is noted before others.
-fn push_way_by_row(row: RuleRow, later: &[RuleRow], stops: &mut Vec<Stop>) -> Result<(), AllocError>
-    ensures { OnOk result (stops.new.items ≡ stops.old.items ++ way_by_row row later.now) }
-{
-    match row {
-        RuleRow::OfPlace(place, index, true) if !is_blocked(later) => {
-            Ok(stops.push(Stop::OnWay(place, index))?)
+impl Stops {
+    /// The stops of no play.
+    pub fn new(alloc: Global) -> Stops
+        ensures { stops_of result ≡ no_stops }
+    {
+        Stops {
+            places: MarkSet::new(alloc),
+            ways: MarkSet::new(alloc),
+            visits: Vec::new(alloc),
         }
-        _ => Ok(()),
+    }
+
+    /// Notes a stop.
+    pub fn note(&mut self, alloc: Global, stop: Stop) -> Result<(), AllocError>
+        ensures { OnOk result (stops_of self.new ≡ with_stops (stops_of self.old) (stop ∷ [])) }
+    {
+        match stop {
+            Stop::InState(before, here) => {
+                let number = here.number() as usize;
+                self.places.note(alloc, Mark { group: 0, number })?;
+                if before == here {
+                    Ok(())
+                } else {
+                    count_one(&mut self.visits, number)
+                }
+            }
+            Stop::OnWay(place, number) => {
+                let group = place as usize;
+                self.ways.note(alloc, Mark { group, number })
+            }
+        }
+    }
+
+    /// Notes the way of a row that is noted before others.
+    #[tactic(auto, using(crate::proofs::StopLemmas::without_more))]
+    fn note_way_by_row(
+        &mut self,
+        alloc: Global,
+        row: RuleRow,
+        later: &[RuleRow],
+    ) -> Result<(), AllocError>
+        ensures { OnOk result (stops_of self.new ≡ with_stops (stops_of self.old) (way_by_row row later.now)) }
+    {
+        match row {
+            RuleRow::OfPlace(place, index, true) if !is_blocked(later) => {
+                self.note(alloc, Stop::OnWay(place, index))
+            }
+            _ => Ok(()),
+        }
+    }
+
+    /// Notes the ways of a line, at which these rows are noted.
+    pub fn note_ways_by_rows(&mut self, alloc: Global, rows: &[RuleRow]) -> Result<(), AllocError>
+        ensures { OnOk result (stops_of self.new ≡ with_stops (stops_of self.old) (ways_by_rows rows.now)) }
+    {
+        let mut rest = rows;
+        while let Some((row, later)) = rest.split_first() {
+            self.note_way_by_row(alloc, *row, later)?;
+            rest = later;
+        }
+        Ok(())
+    }
+
+    fn was_at(&self, place: u16) -> bool
+        ensures { result ≡ (stops_of self.now).was_at place }
+    {
+        self.places.has(Mark {
+            group: 0,
+            number: place as usize,
+        })
+    }
+
+    fn went_by(&self, place: u16, row: usize) -> bool
+        ensures { result ≡ (stops_of self.now).went_by place row }
+    {
+        self.ways.has(Mark {
+            group: place as usize,
+            number: row,
+        })
+    }
+
+    /// How often plays reached a place by a line that began elsewhere, or began there.
+    pub fn visits(&self, place: u16) -> usize
+        ensures { result ≡ (stops_of self.now).visits place }
+    {
+        self.visits.get(place as usize).copied().unwrap_or(0)
     }
 }
 
-/// Appends the ways of a line, at which these rows are noted.
-pub fn push_ways_by_rows(rows: &[RuleRow], stops: &mut Vec<Stop>) -> Result<(), AllocError>
-    ensures { OnOk result (stops.new.items ≡ stops.old.items ++ ways_by_rows rows.now) }
+fn count_rows(cave: &Cave, place: u16) -> usize
+    ensures { result ≡ length (ways_from cave.now place) }
 {
-    let mut rest = rows;
-    while let Some((row, later)) = rest.split_first() {
-        push_way_by_row(*row, later, stops)?;
-        rest = later;
-    }
-    Ok(())
-}
-
-impl Stop {
-    /// Whether the player is at a place, or takes a way that begins or ends there.
-    fn is_at(&self, cave: &Cave, place: u16) -> bool
-        ensures { result ≡ is_at cave.now place self.now }
-    {
-        match *self {
-            Stop::InState(_, here) => here.number() == place,
-            Stop::OnWay(from, index) => from == place || leads_by(cave, from, index, place),
-        }
-    }
-
-    /// Whether the player takes a way from one place to the other.
-    fn comes_by(&self, cave: &Cave, from: u16, to: u16) -> bool
-        ensures { result ≡ comes_by cave.now from to self.now }
-    {
-        match *self {
-            Stop::InState(_, _) => false,
-            Stop::OnWay(place, index) => place == from && leads_by(cave, place, index, to),
-        }
-    }
-
-    /// Whether the player is at a place, and wasn't there as the line began.
-    fn arrives_at(&self, place: u16) -> bool
-        ensures { result ≡ arrives_at place self.now }
-    {
-        match *self {
-            Stop::InState(before, here) => here.number() == place && before.number() != place,
-            Stop::OnWay(_, _) => false,
-        }
-    }
-}
-
-/// Whether a play was at a place.
-pub fn is_visited(cave: &Cave, stops: &[Stop], place: u16) -> bool
-    ensures { result ≡ is_visited cave.now stops.now place }
-{
-    stops.iter().any(|stop| stop.is_at(cave, place))
+    cave.travel(place).len()
 }
 
 /// Whether a play took a way from one place to the other.
-pub fn is_way_taken(cave: &Cave, stops: &[Stop], from: u16, to: u16) -> bool
-    ensures { result ≡ is_way_taken cave.now stops.now from to }
+pub fn is_way_taken(cave: &Cave, stops: &Stops, from: u16, to: u16) -> bool
+    ensures { result ≡ is_way_taken cave.now (stops_of stops.now) from to }
 {
-    stops.iter().any(|stop| stop.comes_by(cave, from, to))
+    (0..count_rows(cave, from)).any(|row| stops.went_by(from, row) && leads_by(cave, from, row, to))
 }
 
-/// How often plays reached a place by a line that began elsewhere, or began there.
-pub fn visits(stops: &[Stop], place: u16) -> usize
-    ensures { result ≡ visits stops.now place }
+fn is_way_taken_between(cave: &Cave, stops: &Stops, place: u16, other: u16) -> bool
+    ensures { result ≡ is_way_taken_between cave.now (stops_of stops.now) place other }
 {
-    stops.iter().filter(|stop| stop.arrives_at(place)).count()
+    is_way_taken(cave, stops, place, other) || is_way_taken(cave, stops, other, place)
+}
+
+/// Whether plays took a way that begins or ends at a place.
+#[tactic(auto, unfolding(map_ways::specs::Ways::place_numbers))]
+fn is_passed(cave: &Cave, stops: &Stops, place: u16) -> bool
+    ensures { result ≡ is_passed cave.now (stops_of stops.now) place }
+{
+    (1..LAST_PLACE + 1).any(|other| is_way_taken_between(cave, stops, place, other))
+}
+
+/// Whether a play was at a place.
+pub fn is_visited(cave: &Cave, stops: &Stops, place: u16) -> bool
+    ensures { result ≡ is_visited cave.now (stops_of stops.now) place }
+{
+    stops.was_at(place) || is_passed(cave, stops, place)
 }

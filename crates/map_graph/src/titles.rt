@@ -1,6 +1,7 @@
 //! The title of a place: the first words of its text, as many as tell it from other places.
 
-ghost use Rattle.std.specs.Prelude.{◌≡◌, ◌≤◌, ◌++◌, OnOk};
+ghost use Rattle.std.specs.Prelude.{◌≡◌, ◌≤◌};
+ghost use Rattle.base_text.specs.Text.{Tells};
 ghost use Rattle.map_graph.specs.Titles.{count_shared, first_words, greater_of, or_other};
 ghost use Rattle.map_graph.specs.Titles.{parts_from};
 ghost use Rattle.map_graph.specs.Titles.{text_for_title, title, title_source, word_start};
@@ -8,9 +9,9 @@ ghost use Rattle.map_graph.specs.Titles.{words_as_shown, words_of_line, words_te
 ghost use Rattle.map_graph.specs.Titles.{words_telling_all};
 
 use base_lines::bytes::{skip_blanks, split_word};
+use base_text::Text;
 use cave_data::Cave;
 use data_bindings::first_line;
-use std::alloc::AllocError;
 
 /// How many words a title has, if these tell it from the others.
 const WORDS_SHOWN: usize = 8;
@@ -55,21 +56,19 @@ fn word_start(shown: usize) -> &'static str
 }
 
 /// Appends the first words of a line, at most this many. Blanks between them are one.
-fn push_first_words(line: &[u8], most: usize, text: &mut Vec<u8>) -> Result<(), AllocError>
-    ensures { OnOk result
-        (text.new.items ≡ text.old.items ++ words_as_shown 0 (first_words most line.now)) }
+fn put_first_words(line: &[u8], most: usize, text: &mut Text)
+    ensures { Tells (words_as_shown 0 (first_words most line.now)) text.old text.new }
 {
     let mut rest = line;
     for shown in 0..most {
         let (word, after) = split_word(skip_blanks(rest));
         if word.is_empty() {
-            return Ok(());
+            return;
         }
-        text.extend_from_slice(word_start(shown).as_bytes())?;
-        text.extend_from_slice(word)?;
+        text.put(word_start(shown).as_bytes());
+        text.put(word);
         rest = after;
     }
-    Ok(())
 }
 
 /// Whether there is no word, or it isn't the other one.
@@ -127,15 +126,9 @@ fn words_telling_all(cave: &Cave, place: u16, others: &[u16]) -> usize
 
 /// Appends the title of a place among others.
 #[tactic(auto, unfolding(crate::specs::Titles::title))]
-pub fn push_title(
-    cave: &Cave,
-    places: &[u16],
-    place: u16,
-    text: &mut Vec<u8>,
-) -> Result<(), AllocError>
-    ensures { OnOk result
-        (text.new.items ≡ text.old.items ++ title cave.now places.now place) }
+pub fn put_title(cave: &Cave, places: &[u16], place: u16, text: &mut Text)
+    ensures { Tells (title cave.now places.now place) text.old text.new }
 {
     let most = words_telling_all(cave, place, places);
-    push_first_words(title_source(cave, place), most, text)
+    put_first_words(title_source(cave, place), most, text);
 }

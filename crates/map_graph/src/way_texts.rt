@@ -1,16 +1,18 @@
 //! What is written about ways.
 
-ghost use Rattle.std.specs.Prelude.{◌≡◌, ◌≤◌, ◌++◌, IfOk, OnOk, [], map};
+ghost use Rattle.std.specs.Prelude.{◌≡◌, ◌≤◌, IfOk, OnOk, [], map};
 ghost use Rattle.base_lines.specs.Numbers.{LAST_PLACE};
+ghost use Rattle.base_text.specs.Text.{Tells};
 ghost use Rattle.data_rows.specs.RowViews.{going};
 ghost use Rattle.map_graph.specs.WayTexts.{line_of_text, motion_start, motions_after};
 ghost use Rattle.map_graph.specs.WayTexts.{motions_text, row_lines, row_motions};
 ghost use Rattle.map_graph.specs.WayTexts.{text_to, taking_text, two_texts, way_text};
 
+use base_text::Text;
 use cave_data::Cave;
 use cave_world::forced;
 use check_tables::reach::{goes_on_to, motions_again, motions_begun};
-use check_tables::way_words::{push_condition_mark, push_motion};
+use check_tables::way_words::{put_condition_mark, put_motion};
 use data_rows::{Condition, Row};
 use map_ways::ends_at;
 use std::alloc::{AllocError, Global};
@@ -31,38 +33,23 @@ fn motion_start(shown: usize) -> &'static str
 }
 
 /// Appends the names of motions.
-fn push_motions(
-    alloc: Global,
-    cave: &Cave,
-    motions: &[u16],
-    text: &mut Vec<u8>,
-) -> Result<(), AllocError>
-    ensures { OnOk result
-        (text.new.items ≡ text.old.items ++ motions_after cave.now 0 motions.now) }
+fn put_motions(cave: &Cave, motions: &[u16], text: &mut Text)
+    ensures { Tells (motions_after cave.now 0 motions.now) text.old text.new }
 {
     for (shown, motion) in motions.iter().enumerate() {
-        text.extend_from_slice(motion_start(shown).as_bytes())?;
-        push_motion(alloc, cave, *motion, text)?;
+        text.put(motion_start(shown).as_bytes());
+        put_motion(cave, *motion, text);
     }
-    Ok(())
 }
 
 /// Appends the motions that are named: none if a forced motion leads on.
-fn push_motions_text(
-    alloc: Global,
-    cave: &Cave,
-    from: u16,
-    motions: &[u16],
-    text: &mut Vec<u8>,
-) -> Result<(), AllocError>
+fn put_motions_text(cave: &Cave, from: u16, motions: &[u16], text: &mut Text)
     requires { from ≤ LAST_PLACE }
-    ensures { OnOk result
-        (text.new.items ≡ text.old.items ++ motions_text cave.now from motions.now) }
+    ensures { Tells (motions_text cave.now from motions.now) text.old text.new }
 {
-    if forced(cave, Place::new(from)) {
-        return Ok(());
+    if !forced(cave, Place::new(from)) {
+        put_motions(cave, motions, text);
     }
-    push_motions(alloc, cave, motions, text)
 }
 
 /// Motions that take a row, with its condition.
@@ -79,12 +66,12 @@ fn taking_text(
     ensures { IfOk result
         (λ text. text.items ≡ taking_text cave.now from later motions.now condition) }
 {
-    let mut text = Vec::new(alloc);
+    let mut text = Text::new(alloc);
     if !motions.is_empty() {
-        push_motions_text(alloc, cave, from, motions, &mut text)?;
-        push_condition_mark(alloc, cave, later, condition, &mut text)?;
+        put_motions_text(cave, from, motions, &mut text);
+        put_condition_mark(cave, later, condition, &mut text);
     }
-    Ok(text)
+    text.finish()
 }
 
 /// Appends a second text to the first, with a comma if there are both.
@@ -141,49 +128,35 @@ fn text_to(
 }
 
 /// Appends a text that isn't empty, on its own line.
-fn push_line_of_text(prefix: &str, line: &[u8], text: &mut Vec<u8>) -> Result<(), AllocError>
-    ensures { OnOk result (text.new.items ≡ text.old.items ++ line_of_text prefix.now line.now) }
+fn put_line_of_text(prefix: &str, line: &[u8], text: &mut Text)
+    ensures { Tells (line_of_text prefix.now line.now) text.old text.new }
 {
     if line.is_empty() {
-        return Ok(());
+        return;
     }
-    text.extend_from_slice(prefix.as_bytes())?;
-    text.extend_from_slice(line)?;
-    text.extend_from_slice(b"\n")
+    text.put(prefix.as_bytes());
+    text.put(line);
+    text.put(b"\n");
 }
 
 /// Appends the lines of rows.
-fn push_rows(
-    alloc: Global,
-    cave: &Cave,
-    prefix: &str,
-    ends: (u16, u16),
-    rows: &[Row],
-    text: &mut Vec<u8>,
-) -> Result<(), AllocError>
+fn put_rows(cave: &Cave, prefix: &str, ends: (u16, u16), rows: &[Row], text: &mut Text)
     requires { ends.0 ≤ LAST_PLACE }
-    ensures { OnOk result (text.new.items ≡ text.old.items
-        ++ row_lines cave.now prefix.now ends.0 ends.1 [] (map going rows.now)) }
+    ensures { Tells (row_lines cave.now prefix.now ends.0 ends.1 [] (map going rows.now)) text.old
+        text.new }
 {
     for (count, row) in rows.iter().enumerate() {
-        let line = text_to(alloc, cave, ends, &rows[..count], row)?;
-        push_line_of_text(prefix, &line, text)?;
+        match text_to(text.alloc(), cave, ends, &rows[..count], row) {
+            Ok(line) => put_line_of_text(prefix, &line, text),
+            Err(AllocError) => text.fail(),
+        }
     }
-    Ok(())
 }
 
 /// Appends the lines of the rows from a place to another.
-pub(crate) fn push_way(
-    alloc: Global,
-    cave: &Cave,
-    prefix: &str,
-    from: u16,
-    to: u16,
-    text: &mut Vec<u8>,
-) -> Result<(), AllocError>
+pub(crate) fn put_way(cave: &Cave, prefix: &str, from: u16, to: u16, text: &mut Text)
     requires { from ≤ LAST_PLACE }
-    ensures { OnOk result
-        (text.new.items ≡ text.old.items ++ way_text cave.now prefix.now from to) }
+    ensures { Tells (way_text cave.now prefix.now from to) text.old text.new }
 {
-    push_rows(alloc, cave, prefix, (from, to), cave.travel(from), text)
+    put_rows(cave, prefix, (from, to), cave.travel(from), text);
 }

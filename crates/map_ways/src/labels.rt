@@ -1,10 +1,11 @@
 //! Labels of a graph.
 
-ghost use Rattle.std.specs.Prelude.{◌≡◌, ◌++◌, OnOk};
+ghost use Rattle.std.specs.Prelude.{◌≡◌};
 ghost use Rattle.std.specs.List.{flat_map};
+ghost use Rattle.base_text.specs.Text.{Tells};
 ghost use Rattle.map_ways.specs.Labels.{escape_of, is_control, label_of};
 
-use std::alloc::AllocError;
+use base_text::Text;
 
 /// The control byte after the last that is printed.
 const DELETE: u8 = 127;
@@ -19,38 +20,35 @@ fn is_control(byte: u8) -> bool
 
 /// Appends a byte as it is between quotes.
 #[tactic(auto, unfolding(crate::specs::Labels::escape_of))]
-fn push_escape(byte: u8, text: &mut Vec<u8>) -> Result<(), AllocError>
-    ensures { OnOk result (text.new.items ≡ text.old.items ++ escape_of byte) }
+fn put_escape(byte: u8, text: &mut Text)
+    ensures { Tells (escape_of byte) text.old text.new }
 {
     if byte == b'"' || byte == b'\\' {
-        return text.extend_from_slice(&[b'\\', byte]);
+        text.put(&[b'\\', byte]);
+    } else if byte == b'\n' {
+        text.put(b"\\n");
+    } else if byte == b'&' {
+        text.put(b"&amp;");
+    } else if is_control(byte) {
+        text.put(b"?");
+    } else {
+        text.put(&[byte]);
     }
-    if byte == b'\n' {
-        return text.extend_from_slice(b"\\n");
-    }
-    if byte == b'&' {
-        return text.extend_from_slice(b"&amp;");
-    }
-    if is_control(byte) {
-        return text.extend_from_slice(b"?");
-    }
-    text.extend_from_slice(&[byte])
 }
 
-fn push_escapes(label: &[u8], text: &mut Vec<u8>) -> Result<(), AllocError>
-    ensures { OnOk result (text.new.items ≡ text.old.items ++ flat_map escape_of label.now) }
+fn put_escapes(label: &[u8], text: &mut Text)
+    ensures { Tells (flat_map escape_of label.now) text.old text.new }
 {
     for byte in label {
-        push_escape(*byte, text)?;
+        put_escape(*byte, text);
     }
-    Ok(())
 }
 
 /// Appends a label between quotes.
-pub fn push_label(label: &[u8], text: &mut Vec<u8>) -> Result<(), AllocError>
-    ensures { OnOk result (text.new.items ≡ text.old.items ++ label_of label.now) }
+pub fn put_label(label: &[u8], text: &mut Text)
+    ensures { Tells (label_of label.now) text.old text.new }
 {
-    text.extend_from_slice(b"\"")?;
-    push_escapes(label, text)?;
-    text.extend_from_slice(b"\"")
+    text.put(b"\"");
+    put_escapes(label, text);
+    text.put(b"\"");
 }

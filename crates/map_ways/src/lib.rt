@@ -7,7 +7,7 @@ pub mod laws;
 pub mod regions;
 pub mod ways;
 
-pub use labels::push_label;
+pub use labels::put_label;
 pub use regions::{Region, count_ends_among, is_one_of, places_around};
 pub use ways::{
     are_joined, count_nowhere, ends_at, ends_of_edges, is_mapped, is_way, leads_by, mapped_places,

@@ -31,6 +31,7 @@ use Rattle.play_command.specs.declared.line.What.TheVariants as what
 use Rattle.play_command.specs.declared.views.CheckView.{CheckView}
 use Rattle.play_command.specs.declared.views.CheckView.TheVariants as checked
 use Rattle.play_command.specs.declared.views.CoverView.{CoverView}
+use Rattle.play_command.specs.declared.views.CoverView.TheVariants as covered
 use Rattle.play_command.specs.declared.views.CoverView.TheVariants.{Rules, Said}
 use Rattle.play_command.specs.declared.views.EditView.{EditView}
 use Rattle.play_command.specs.declared.views.EditView.TheVariants as edited
@@ -127,7 +128,8 @@ output_of rows =
 abbrev pub check_views : List (List ℕ × Option CheckView)
 check_views = (codes "maximum", Some checked.Maximum) ∷ (codes "bindings", Some checked.Bindings)
     ∷ (codes "names", Some checked.Names) ∷ (codes "unused", Some checked.Unused)
-    ∷ (codes "words", Some checked.Words) ∷ (codes "doubts", None) ∷ []
+    ∷ (codes "words", Some checked.Words) ∷ (codes "doubts", None)
+    ∷ (codes "known", Some checked.Known) ∷ []
 
 abbrev pub play_views : List (List ℕ × PlayView)
 play_views = (codes "transcript", played.Transcript) ∷ (codes "steps", played.Steps)
@@ -143,7 +145,7 @@ edit_views = (codes "transcript", edited.Transcript) ∷ (codes "play", edited.P
 
 abbrev pub cover_views : List (List ℕ × CoverView)
 cover_views = (codes "counts", Said Counts) ∷ (codes "texts", Said Texts)
-    ∷ (codes "rules", Rules) ∷ []
+    ∷ (codes "rules", Rules) ∷ (codes "known", covered.Known) ∷ []
 
 abbrev pub report_views : List (List ℕ × ReportView)
 report_views = (codes "reports", report.Reports) ∷ (codes "table", report.Table) ∷ []
@@ -271,13 +273,19 @@ part_of rows =
 
 -- ---- what a command asks
 
+-- nothing is judged or left out where all is listed
+abbrev pub cover_by : List Row → ℕ → CoverView → Result What Misuse
+cover_by rows seed covered.Known =
+    if judges_left rows then Err misuse.ListAlone else Ok (what.Cover seed covered.Known false)
+cover_by rows seed view = Ok (what.Cover seed view (is_set (codes "strict") rows))
+
 -- of texts is printed what was found for it; otherwise each that is left if they are to be judged
 -- or left out, and else how many there are
 abbrev pub cover_of : List Row → Result What Misuse
 cover_of rows = do
   seed ← number_of Seed 0 rows
   view ← view_of cover_views (Said (if judges_left rows then Texts else Counts)) rows
-  Ok (what.Cover seed view (is_set (codes "strict") rows))
+  cover_by rows seed view
 
 abbrev pub what_of : CommandName → List Row → Result What Misuse
 what_of command.Check rows = check_of rows

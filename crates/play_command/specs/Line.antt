@@ -156,6 +156,7 @@ misuse_text misuse.TwoOutputs =
     codes "'--in-place' can be used neither with '--output <FILE>' nor with '--print <WHAT>': "
     ++ codes "it is short for '--print log --output LOG'"
 misuse_text misuse.DoubtsAlone = codes "'--strict' and '--known <FILE>' are for '--print doubts'"
+misuse_text misuse.ListAlone = codes "'--strict' and '--known <FILE>' are not for '--print known'"
 misuse_text misuse.WithinAlone = codes "'--within <N>' is for '--from <PLACE>'"
 misuse_text misuse.SeenAlone = codes "'--seen' needs a LOG"
 misuse_text misuse.SeedAlone = codes "'--seed <N>' needs a LOG"

@@ -169,16 +169,26 @@ fn part_in(found: &ArgMatches<'_>) -> Result<MapPart, Misuse>
 fn cover_in(found: &ArgMatches<'_>) -> Result<What, Misuse>
     ensures { result ≡ cover_of (rows_in found.now) }
 {
-    let usual = if judges_left(found) {
+    let is_judged = judges_left(found);
+    let usual = if is_judged {
         CoverView::Said(TextView::Texts)
     } else {
         COVER_VIEWS[0].1
     };
-    Ok(What::Cover {
-        seed: number_in(found, NumberOption::Seed, USUAL_SEED)?,
-        view: view_in(found, COVER_VIEWS, usual)?,
-        strict: is_set(found, "strict"),
-    })
+    let seed = number_in(found, NumberOption::Seed, USUAL_SEED)?;
+    match view_in(found, COVER_VIEWS, usual)? {
+        CoverView::Known if is_judged => Err(Misuse::ListAlone),
+        CoverView::Known => Ok(What::Cover {
+            seed,
+            view: CoverView::Known,
+            strict: false,
+        }),
+        view => Ok(What::Cover {
+            seed,
+            view,
+            strict: is_set(found, "strict"),
+        }),
+    }
 }
 
 /// What a command asks.

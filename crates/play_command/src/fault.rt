@@ -30,6 +30,8 @@ pub enum Misuse {
     TwoOutputs,
     /// Doubts are to be judged or left out, and something else is to be printed.
     DoubtsAlone,
+    /// What is never shown is to be judged or left out, and all of it is to be listed.
+    ListAlone,
     /// A number of ways is given, and no place from which they are counted.
     WithinAlone,
     /// Only what logs saw is to be drawn, and there are no logs.
@@ -65,6 +67,7 @@ impl Misuse {
                 "'--in-place' can be used neither with '--output <FILE>' nor with \
                 '--print <WHAT>': it is short for '--print log --output LOG'",
             Misuse::DoubtsAlone => "'--strict' and '--known <FILE>' are for '--print doubts'",
+            Misuse::ListAlone => "'--strict' and '--known <FILE>' are not for '--print known'",
             Misuse::WithinAlone => "'--within <N>' is for '--from <PLACE>'",
             Misuse::SeenAlone => "'--seen' needs a LOG",
             Misuse::SeedAlone => "'--seed <N>' needs a LOG",

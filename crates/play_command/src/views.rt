@@ -18,6 +18,8 @@ pub enum CheckView {
     Unused,
     /// The words, by what they mean.
     Words,
+    /// All that is doubtful about the cave, as a list of what is known has it.
+    Known,
 }
 
 /// What a play of a log prints.
@@ -90,6 +92,9 @@ pub enum CoverView {
     Said(TextView),
     /// Which rows of the rules apply.
     Rules,
+    /// The texts that are never said and the rows that never apply, as a list of what is known has
+    /// them.
+    Known,
 }
 
 /// What the coverage of texts prints.
@@ -155,7 +160,8 @@ macro_rules! views {
             "names" Some(CheckView::Names), "the object of each name that the rules know";
             "unused" Some(CheckView::Unused), "the messages that nothing says";
             "words" Some(CheckView::Words), "the words, by what they mean";
-            or "doubts" None, "what is doubtful about the cave"
+            "doubts" None, "what is doubtful about the cave";
+            or "known" Some(CheckView::Known), "all of that, as a list for --known"
         }
     };
     (play $make:ident) => {
@@ -188,8 +194,9 @@ macro_rules! views {
                 "how many texts are said, and the names of the others";
             "texts" CoverView::Said(TextView::Texts),
                 "each text that is never said, with its first line";
-            or "rules" CoverView::Rules,
-                "how many rows of each table of the rules apply, and when the others would"
+            "rules" CoverView::Rules,
+                "how many rows of each table of the rules apply, and when the others would";
+            or "known" CoverView::Known, "all these texts and rows, as a list for --known"
         }
     };
 }

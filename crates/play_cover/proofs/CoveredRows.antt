@@ -17,7 +17,7 @@ use Rattle.play_machine.specs.Moments.{Moment, moment_at, moments_from}
 use Rattle.play_cover.specs.Plays.{rows_at}
 use Rattle.play_cover.specs.RowCounts.{EachCoveredRowIsThere, IsMarkOfARow}
 use Rattle.play_cover.specs.RowMarks.{mark_of_row}
-use Rattle.play_cover.specs.declared.marks.Mark.{Mark}
+use Rattle.check_tables.specs.declared.marks.Mark.{Mark}
 
 of_rows : (cave : CaveView) (rows : List RuleRow)
     → ((row : RuleRow) → Contains rows row → IsRow cave row) → (covered : Mark)

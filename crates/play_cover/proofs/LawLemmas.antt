@@ -8,10 +8,10 @@ use Rattle.cave_data.proofs.ReadLemmas.{same_cave}
 use Rattle.cave_data.specs.CaveView.{CaveView}
 use Rattle.play_command.specs.declared.views.CoverView.{CoverView}
 use Rattle.play_machine.proofs.Lists.{any_flat}
-use Rattle.play_cover.specs.Marks.{is_among, is_same}
+use Rattle.check_tables.specs.Marks.{is_among, is_same}
 use Rattle.play_cover.specs.Plays.{AgainIsNothing, OneCoveredOutput, OrderIsNothing, cover_text}
 use Rattle.play_cover.specs.Plays.{covered_in_all, covered_in_log, report_by}
-use Rattle.play_cover.specs.declared.marks.Mark.{Mark}
+use Rattle.check_tables.specs.declared.marks.Mark.{Mark}
 
 -- whether a log covers it
 abbrev covers : CoverView → CaveView → ℕ → Mark → List ℕ → Bool

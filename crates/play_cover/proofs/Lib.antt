@@ -2,8 +2,6 @@ pub mod CountedRows
 pub mod CoveredRows
 pub mod LawLemmas
 pub mod MoreLogsLemmas
-pub mod Noting
-pub mod Padding
 pub mod Reaching
 pub mod RowMarkLemmas
 pub mod Telling

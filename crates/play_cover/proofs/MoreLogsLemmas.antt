@@ -10,15 +10,14 @@ use Rattle.cave_world.specs.declared.tables.RuleRow.TheVariants.{OfPlace}
 use Rattle.play_command.specs.declared.views.CoverView.{CoverView}
 use Rattle.play_command.specs.declared.views.CoverView.TheVariants.{Rules, Said}
 use Rattle.play_cover.specs.Coverage.{Catalogue, missing}
-use Rattle.play_cover.specs.Marks.{is_among, is_same, mark}
+use Rattle.check_tables.specs.Marks.{is_among, is_same, mark}
 use Rattle.play_cover.specs.MoreLogs.{covered_by, IsPartOf, keeps, leaves_out, MoreLogsListNoMore}
 use Rattle.play_cover.specs.MoreLogs.{nothing_left}
 use Rattle.play_cover.specs.Plays.{covered_in_all, covered_in_log}
-use Rattle.play_cover.specs.RowMarks.{mark_of_row}
-use Rattle.play_cover.specs.RowReport.{rule_rows}
+use Rattle.play_cover.specs.RowMarks.{mark_of_row, rule_rows}
 use Rattle.play_cover.specs.TravelRows.{ways_missing}
-use Rattle.play_cover.specs.TextReport.{cave_texts}
-use Rattle.play_cover.specs.declared.marks.Mark.{Mark}
+use Rattle.play_cover.specs.Texts.{cave_texts}
+use Rattle.check_tables.specs.declared.marks.Mark.{Mark}
 
 covered_by-more : (view : CoverView) (cave : CaveView) (seed : ℕ) (logs more : List (List ℕ))
     (one : Mark) → covered_by view cave seed (logs ++ more) one

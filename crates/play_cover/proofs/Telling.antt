@@ -8,8 +8,8 @@ use Rattle.cave_data.specs.Reads.{Reads}
 use Rattle.play_command.specs.declared.views.CoverView.{CoverView}
 use Rattle.cave_play.specs.Logs.{games_of}
 use Rattle.replay_edits.specs.Edit.{Game, game_of}
-use Rattle.play_cover.specs.Known.{KnownEntries}
-use Rattle.play_cover.specs.Marks.{AreMarksOf, is_among, is_marked}
+use Rattle.check_tables.specs.Known.{KnownEntries}
+use Rattle.check_tables.specs.Marks.{AreMarksOf, is_among, is_marked}
 use Rattle.play_cover.specs.Plays.{IsCovered, cover_text, covered_in, left_by, left_in_games}
 use Rattle.play_cover.specs.Plays.{left_in_logs, report_by, report_of_logs, report_on_games}
 use Rattle.std.specs.List.{flat_map}

@@ -2,11 +2,11 @@
 use Rattle.std.specs.Prelude.{ℕ, ◌==◌, Bool, not, if◌then◌else◌, List, [], ◌∷◌, ◌++◌, length, codes}
 use Rattle.std.specs.Fmt.{decimal}
 use Rattle.std.specs.List.{filter, flat_map, sum_by}
-use Rattle.play_cover.specs.Known.{KnownEntries, is_known}
-use Rattle.play_cover.specs.Marks.{mark}
+use Rattle.check_tables.specs.Known.{KnownEntries, entry_lines, unknown, unmet_text}
+use Rattle.check_tables.specs.Marks.{mark}
 use Rattle.play_cover.specs.declared.coverage.Detail.{Detail}
 use Rattle.play_cover.specs.declared.coverage.Detail.TheVariants.{Both, Counts, Missing}
-use Rattle.play_cover.specs.declared.marks.Mark.{Mark}
+use Rattle.check_tables.specs.declared.marks.Mark.{Mark}
 
 -- the groups, in the order of the report: for each its number, how its line begins, and the numbers
 -- of its things; for each of these its name, and the entry that says of it that it isn't covered.
@@ -28,6 +28,11 @@ logs_word logs = if logs == 1 then codes "log" else codes "logs"
 abbrev pub in_logs : ℕ → List ℕ
 in_logs logs = codes " in " ++ (decimal logs ++ (codes " " ++ (logs_word logs ++ codes "\n")))
 
+-- a line for each line of a list that says something and is none of these entries
+abbrev pub unmet_entries : KnownEntries → List ℕ → List ℕ
+unmet_entries known entries =
+    unmet_text known (codes "nothing that is never shown says this") entries
+
 module _ {Group : Type 0} (of : Catalogue Group) where
   -- the names of those that were never covered, if there are any
   abbrev pub names : Group → List ℕ → List ℕ
@@ -36,15 +41,6 @@ module _ {Group : Type 0} (of : Catalogue Group) where
   abbrev pub never : Group → List ℕ → List ℕ
   never group [] = []
   never group (first ∷ others) = codes ", never" ++ names group (first ∷ others)
-
-  -- the entries of these things, each as a line after this
-  abbrev pub entry_lines : List ℕ → Group → List ℕ → List ℕ
-  entry_lines indent group numbers =
-      flat_map (λ n. indent ++ (of.words group n ++ codes "\n")) numbers
-
-  -- those of these things that a list doesn't know
-  abbrev pub left_of : KnownEntries → Group → List ℕ → List ℕ
-  left_of known group numbers = filter (λ n. not (is_known known (of.words group n))) numbers
 
   -- the line of a group, of whose things this many are covered, and these are missing
   abbrev pub line_with : Group → ℕ → ℕ → List ℕ → List ℕ
@@ -55,8 +51,8 @@ module _ {Group : Type 0} (of : Catalogue Group) where
   -- what is written about a group that has this line, some of whose things are left
   abbrev pub detail_text : Detail → Group → List ℕ → List ℕ → List ℕ
   detail_text Counts group line left = line
-  detail_text Missing group line left = entry_lines of.indent group left
-  detail_text Both group line left = line ++ entry_lines of.indent group left
+  detail_text Missing group line left = entry_lines (of.words group) of.indent left
+  detail_text Both group line left = line ++ entry_lines (of.words group) of.indent left
 
   -- how many things there are
   abbrev pub present_count : ℕ
@@ -80,12 +76,12 @@ module _ {Group : Type 0} (of : Catalogue Group) where
 
     -- the entries of all things that aren't covered
     abbrev pub all_entries : List ℕ
-    all_entries = flat_map (λ group. entry_lines [] group (missing group)) of.groups
+    all_entries = flat_map (λ group. entry_lines (of.words group) [] (missing group)) of.groups
 
     module _ (known : KnownEntries) where
       -- what is missing, and isn't known
       abbrev pub left : Group → List ℕ
-      left group = left_of known group (missing group)
+      left group = unknown (of.words group) known (missing group)
 
       -- what is written about a group
       abbrev pub group_text : Detail → Group → List ℕ

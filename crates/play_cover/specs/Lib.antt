@@ -1,6 +1,4 @@
 pub mod Coverage
-pub mod Known
-pub mod Marks
 pub mod MoreLogs
 pub mod Plays
 pub mod RowCounts
@@ -10,3 +8,4 @@ pub mod RuleTables
 pub mod TextReport
 pub mod Texts
 pub mod TravelRows
+pub mod Unshown

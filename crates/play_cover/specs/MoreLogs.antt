@@ -7,12 +7,12 @@ use Rattle.play_command.specs.declared.views.CoverView.{CoverView}
 use Rattle.play_command.specs.declared.views.CoverView.TheVariants.{Rules, Said}
 use Rattle.play_command.specs.declared.views.TextView.{TextView}
 use Rattle.play_cover.specs.Coverage.{missing}
-use Rattle.play_cover.specs.Marks.{is_among}
+use Rattle.check_tables.specs.Marks.{is_among}
 use Rattle.play_cover.specs.Plays.{covered_in_all}
-use Rattle.play_cover.specs.RowReport.{rule_rows}
+use Rattle.play_cover.specs.RowMarks.{rule_rows}
 use Rattle.play_cover.specs.TravelRows.{ways_missing}
-use Rattle.play_cover.specs.TextReport.{cave_texts}
-use Rattle.play_cover.specs.declared.marks.Mark.{Mark}
+use Rattle.play_cover.specs.Texts.{cave_texts}
+use Rattle.check_tables.specs.declared.marks.Mark.{Mark}
 use Rattle.check_tables.specs.declared.text_kinds.TextKind.{TextKind}
 
 -- the first list is the second with none, some or all of its things left out

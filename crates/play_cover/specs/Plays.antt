@@ -1,6 +1,6 @@
 -- Which texts the plays of logs say, which rows of the rules they apply, and what is reported about
 -- these.
-use Rattle.std.specs.Prelude.{◌≡◌, ℕ, Bool, List, [], ◌∷◌, length, map}
+use Rattle.std.specs.Prelude.{◌≡◌, ℕ, Bool, List, [], ◌∷◌, ◌++◌, length, map}
 use Rattle.std.specs.List.{flat_map, Contains}
 use Rattle.std.specs.List.Sorted.{IsPermutation}
 use Rattle.std.specs.Str.Lines.{lines}
@@ -13,17 +13,18 @@ use Rattle.cave_world.specs.declared.tables.RuleRow.TheVariants.{OfTable}
 use Rattle.cave_world.specs.declared.tables.Table.TheVariants as table
 use Rattle.data_bindings.specs.WayLines.{way_lines}
 use Rattle.play_command.specs.declared.views.CoverView.{CoverView}
-use Rattle.play_command.specs.declared.views.CoverView.TheVariants.{Rules, Said}
+use Rattle.play_command.specs.declared.views.CoverView.TheVariants.{Known, Rules, Said}
 use Rattle.cave_play.specs.Logs.{first_stages}
 use Rattle.play_machine.specs.Moments.{Moment, noted_of}
 use Rattle.replay_edits.specs.Edit.{Game, game_of}
-use Rattle.play_cover.specs.Known.{KnownEntries}
-use Rattle.play_cover.specs.Marks.{is_among}
+use Rattle.check_tables.specs.Known.{KnownEntries}
+use Rattle.check_tables.specs.Marks.{is_among}
 use Rattle.play_cover.specs.RowMarks.{mark_of_row}
 use Rattle.play_cover.specs.RowReport.{row_report, rows_left}
 use Rattle.play_cover.specs.TextReport.{text_report, texts_left}
 use Rattle.play_cover.specs.Texts.{said_by_all}
-use Rattle.play_cover.specs.declared.marks.Mark.{Mark}
+use Rattle.play_cover.specs.Unshown.{unshown}
+use Rattle.check_tables.specs.declared.marks.Mark.{Mark}
 
 -- ---- what a play covers
 
@@ -40,26 +41,38 @@ rows_at_start cave begun greeting = mark_of_row (OfTable table.Questions 1) ∷ 
 abbrev pub rows_at : CaveView → Moment → List Mark
 rows_at cave moment = map mark_of_row moment.rows
 
--- the texts that playing a game says, or the rows that it applies or tries, from its beginning to
--- its last line
+-- both
+abbrev pub shown_at_start : CaveView → State → List Part → List Mark
+shown_at_start cave begun greeting =
+    said_at_start cave begun greeting ++ rows_at_start cave begun greeting
+
+abbrev pub shown_at : CaveView → Moment → List Mark
+shown_at cave moment = said_at cave moment ++ rows_at cave moment
+
+-- the texts that playing a game says, the rows that it applies or tries, or both, from its beginning
+-- to its last line
 abbrev pub covered_in : CoverView → CaveView → Game → List Mark
 covered_in (Said view) cave game = noted_of said_at_start said_at cave game
 covered_in Rules cave game = noted_of rows_at_start rows_at cave game
+covered_in Known cave game = noted_of shown_at_start shown_at cave game
 
 -- ---- what is reported
 
 -- the report on this many logs, by what they cover
 abbrev pub report_by : CoverView → KnownEntries → List ℕ → CaveView → (Mark → Bool) → ℕ → List ℕ
 report_by (Said view) known database cave is_covered logs =
-    text_report cave is_covered known view logs
+    text_report cave is_covered known view (way_lines database) logs
 report_by Rules known database cave is_covered logs =
     row_report is_covered cave known (way_lines database) logs
+report_by Known known database cave is_covered logs =
+    unshown cave (way_lines database) is_covered is_covered
 
--- how many things they don't cover that aren't known
+-- how many things they don't cover that aren't known; nothing is left of what is all listed
 abbrev pub left_by : CoverView → KnownEntries → List ℕ → CaveView → (Mark → Bool) → ℕ
 left_by (Said view) known database cave is_covered = texts_left cave is_covered known
 left_by Rules known database cave is_covered =
     rows_left is_covered cave known (way_lines database)
+left_by Known known database cave is_covered = 0
 
 -- the mark is of something that a play of these games covers
 abbrev pub is_covered_in : CoverView → CaveView → List Game → Mark → Bool

@@ -10,7 +10,7 @@ use Rattle.play_machine.specs.Moments.{noted_of}
 use Rattle.play_cover.specs.Plays.{rows_at, rows_at_start}
 use Rattle.play_cover.specs.RowMarks.{mark_of_row}
 use Rattle.play_cover.specs.RuleTables.{row_count}
-use Rattle.play_cover.specs.declared.marks.Mark.{Mark}
+use Rattle.check_tables.specs.declared.marks.Mark.{Mark}
 
 -- each table has as many rows, in words, as its definition has
 abbrev pub EachCountIsOfItsRows : Type 0

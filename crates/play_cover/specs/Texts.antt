@@ -1,7 +1,8 @@
 -- The texts of a cave, each by its kind and its number, and which of them a part says.
 use Rattle.std.specs.Prelude.{ℕ, ◌+◌, ◌*◌, ◌/◌, ◌%◌, ℤ, pos, negsuc, Bool, false, ◌==◌, nat_lt}
-use Rattle.std.specs.Prelude.{is_some, if◌then◌else◌, List, [], ◌∷◌, length, Option, Some, None}
-use Rattle.std.specs.List.{list_any, flat_map, range_with_len}
+use Rattle.std.specs.Prelude.{is_some, if◌then◌else◌, List, [], ◌∷◌, ◌++◌, codes, length}
+use Rattle.std.specs.Prelude.{Option, Some, None}
+use Rattle.std.specs.List.{filter, list_any, flat_map, range_with_len}
 use Rattle.std.specs.FinMap as map
 use Rattle.cave_data.specs.CaveView.{CaveView, Rated, class_of, look_of, name_of}
 use Rattle.turn_ends.specs.Score.{max_score_of}
@@ -10,9 +11,11 @@ use Rattle.cave_world.specs.declared.part.Part.{Part}
 use Rattle.cave_world.specs.declared.part.Part.TheVariants as part
 use Rattle.check_tables.specs.declared.text_kinds.TextKind.{TextKind}
 use Rattle.check_tables.specs.declared.text_kinds.TextKind.TheVariants as kind
-use Rattle.check_tables.specs.TextKinds.{PROPS_PER_OBJECT, kind_number}
-use Rattle.play_cover.specs.Marks.{mark}
-use Rattle.play_cover.specs.declared.marks.Mark.{Mark}
+use Rattle.check_tables.specs.TextKinds.{PROPS_PER_OBJECT, first_line_shown, heading_of_kind}
+use Rattle.check_tables.specs.TextKinds.{kind_number, kinds, name_of_text, text_at, word_of_kind}
+use Rattle.play_cover.specs.Coverage.{Catalogue}
+use Rattle.check_tables.specs.Marks.{mark}
+use Rattle.check_tables.specs.declared.marks.Mark.{Mark}
 
 -- the numbers of texts are below this
 abbrev pub end_of_numbers : ℕ
@@ -46,6 +49,27 @@ has_text cave kind.Name number = is_some (name_of cave number)
 has_text cave kind.Message number = is_some (map.get cave.messages number)
 has_text cave kind.Role number = nat_lt number (length ROLE_NAMES)
 has_text cave kind.Class number = is_class_reached cave number
+
+-- the texts of a kind that the cave has, in ascending order
+unfoldable pub texts_of_kind : CaveView → TextKind → List ℕ
+texts_of_kind cave kind = filter (has_text cave kind) (range_with_len 0 end_of_numbers)
+
+-- the entry of a text that was never said
+abbrev pub text_entry : CaveView → TextKind → ℕ → List ℕ
+text_entry cave kind number =
+    word_of_kind kind ++ (codes " " ++ (name_of_text kind number
+    ++ first_line_shown (text_at cave kind number)))
+
+abbrev pub cave_texts : CaveView → Catalogue TextKind
+cave_texts cave = record {
+  groups = kinds;
+  number = kind_number;
+  heading = heading_of_kind;
+  present = texts_of_kind cave;
+  name = name_of_text;
+  indent = [];
+  words = text_entry cave;
+}
 
 -- ---- which texts a part says
 

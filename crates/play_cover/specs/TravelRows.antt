@@ -5,21 +5,17 @@ use Rattle.std.specs.List.{filter, flat_map}
 use Rattle.cave_data.specs.CaveView.{CaveView}
 use Rattle.data_bindings.specs.declared.by_line.WayLine.{WayLine}
 use Rattle.cave_world.specs.declared.tables.RuleRow.TheVariants.{OfPlace}
+use Rattle.check_tables.specs.Known.{KnownEntries, unknown}
 use Rattle.check_tables.specs.TravelWords.{way_words}
 use Rattle.check_tables.specs.WaysByPlace.{by_place, never_taken}
-use Rattle.play_cover.specs.Known.{KnownEntries, is_known}
 use Rattle.play_cover.specs.RowMarks.{mark_of_row}
-use Rattle.play_cover.specs.declared.marks.Mark.{Mark}
+use Rattle.check_tables.specs.declared.marks.Mark.{Mark}
 
 -- how many of all rows applied, and how many failed
 abbrev pub way_counts : ℕ → ℕ → ℕ → List ℕ
 way_counts applied all failed =
     codes "travel: " ++ (decimal applied ++ (codes " of " ++ (decimal all
     ++ (codes ", " ++ (decimal failed ++ codes " tried and failed")))))
-
--- those of these rows that a list doesn't know
-abbrev pub unknown_ways : CaveView → KnownEntries → List WayLine → List WayLine
-unknown_ways cave known ways = filter (λ way. not (is_known known (way_words cave way))) ways
 
 module _ (is_covered : Mark → Bool) where
   -- a row applied, or was tried and failed
@@ -56,7 +52,7 @@ module _ (is_covered : Mark → Bool) where
   module _ (cave : CaveView) (known : KnownEntries) where
     -- those of them that aren't known
     abbrev pub left_ways : List WayLine → List WayLine
-    left_ways ways = unknown_ways cave known (missing_ways ways)
+    left_ways ways = unknown (way_words cave) known (missing_ways ways)
 
     -- the line of all rows, and then one for each that is left
     abbrev pub travel_text : List WayLine → List ℕ

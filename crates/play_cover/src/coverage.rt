@@ -2,15 +2,15 @@
 
 ghost use Rattle.std.specs.Prelude.{◌≡◌, ◌≤◌, codes, [], ◌++◌, ◌^◌, length, IfOk, OnOk, not};
 ghost use Rattle.play_cover.specs.Coverage.{Catalogue, all_entries, covered, covered_count};
-ghost use Rattle.play_cover.specs.Coverage.{detail_text, entry_lines, groups_text, left, in_logs};
+ghost use Rattle.play_cover.specs.Coverage.{detail_text, groups_text, left, in_logs};
 ghost use Rattle.play_cover.specs.Coverage.{left_count, logs_word, line_with, missing, names};
-ghost use Rattle.play_cover.specs.Coverage.{never, present_count, left_of};
+ghost use Rattle.play_cover.specs.Coverage.{never, present_count};
 ghost use Rattle.std.specs.List.{filter};
-ghost use Rattle.play_cover.specs.Known.{is_known};
-ghost use Rattle.play_cover.specs.Marks.{is_marked, mark};
+ghost use Rattle.check_tables.specs.Known.{entry_lines};
+ghost use Rattle.check_tables.specs.Marks.{is_marked, mark};
 
-use crate::known::KnownList;
-use crate::marks::{Mark, MarkSet};
+use check_tables::known::{Entries, KnownList, push_entries};
+use check_tables::marks::{Mark, MarkSet};
 use std::alloc::{AllocError, Global};
 
 /// The word for this many logs.
@@ -83,6 +83,23 @@ pub trait Groups {
             ≡ text.old.items ++ (catalogue self.now).words group number) };
 }
 
+/// The things of a group, as lists of what is known have them.
+#[derive(Drop)]
+struct InGroup<'a, T: Groups> {
+    of: &'a T,
+    group: T::Group,
+}
+
+impl<T: Groups> Entries for InGroup<'_, T> {
+    type Thing = u16;
+
+    ghost entry = { λ things. (T.catalogue things.of.now).words things.group };
+
+    fn push_entry(&self, alloc: Global, number: u16, text: &mut Vec<u8>) -> Result<(), AllocError> {
+        self.of.push_entry(alloc, self.group, number, text)
+    }
+}
+
 /// What is written about a group: its counts with the names of what isn't covered, a line for each
 /// of these that isn't known, or both.
 #[derive(Clone, Copy, Debug, PartialEq, Eq)]
@@ -148,43 +165,6 @@ fn missing(
         .collect(alloc)
 }
 
-/// Whether a list knows a thing.
-fn is_known_thing<T: Groups>(
-    alloc: Global,
-    of: &T,
-    known: &KnownList,
-    group: T::Group,
-    number: u16,
-) -> Result<bool, AllocError>
-    ensures { IfOk result (λ found.
-        found ≡ is_known known.now ((T.catalogue of.now).words group number)) }
-{
-    let mut entry = Vec::new(alloc);
-    of.push_entry(alloc, group, number, &mut entry)?;
-    Ok(known.has(&entry))
-}
-
-/// The things that a list doesn't know.
-fn left_of<T: Groups>(
-    alloc: Global,
-    of: &T,
-    known: &KnownList,
-    group: T::Group,
-    numbers: &[u16],
-) -> Result<Vec<u16>, AllocError>
-    ensures value { IfOk result (λ left. left.items
-        ≡ left_of (T.catalogue of.now) known.now group numbers.now) }
-    ensures few { IfOk result (λ left. length left.items ≤ length numbers.now) }
-{
-    let mut left = Vec::new(alloc);
-    for number in numbers {
-        if !is_known_thing(alloc, of, known, group, *number)? {
-            left.push(*number)?;
-        }
-    }
-    Ok(left)
-}
-
 /// What is found of a group.
 #[tactic(auto, unfolding(crate::specs::Coverage::covered, crate::specs::Coverage::missing))]
 fn find<T: Groups>(
@@ -209,7 +189,7 @@ fn find<T: Groups>(
     let number = of.number(group);
     let covered = count_covered(marks, number, &numbers);
     let missing = missing(alloc, marks, number, &numbers)?;
-    let left = left_of(alloc, of, known, group, &missing)?;
+    let left = known.unknown(alloc, &InGroup { of, group }, &missing)?;
     Ok(Found {
         covered,
         present: numbers.len(),
@@ -271,26 +251,6 @@ fn push_line<T: Groups>(
     text.extend_from_slice(b"\n")
 }
 
-/// Appends the entries of things, each as a line after this.
-fn push_entries<T: Groups>(
-    alloc: Global,
-    of: &T,
-    indent: &str,
-    group: T::Group,
-    numbers: &[u16],
-    text: &mut Vec<u8>,
-) -> Result<(), AllocError>
-    ensures { OnOk result (text.new.items
-        ≡ text.old.items ++ entry_lines (T.catalogue of.now) indent.now group numbers.now) }
-{
-    for number in numbers {
-        text.extend_from_slice(indent.as_bytes())?;
-        of.push_entry(alloc, group, *number, text)?;
-        text.extend_from_slice(b"\n")?;
-    }
-    Ok(())
-}
-
 /// Appends what is written about a group.
 fn push_detail<T: Groups>(
     alloc: Global,
@@ -304,12 +264,13 @@ fn push_detail<T: Groups>(
         ++ detail_text (T.catalogue of.now) detail group (line_with (T.catalogue of.now) group
         found.now.covered found.now.present found.now.missing.items) found.now.left.items) }
 {
+    let things = InGroup { of, group };
     match detail {
         Detail::Counts => push_line(alloc, of, group, found, text),
-        Detail::Missing => push_entries(alloc, of, of.indent(), group, &found.left, text),
+        Detail::Missing => push_entries(alloc, &things, of.indent(), &found.left, text),
         Detail::Both => {
             push_line(alloc, of, group, found, text)?;
-            push_entries(alloc, of, of.indent(), group, &found.left, text)
+            push_entries(alloc, &things, of.indent(), &found.left, text)
         }
     }
 }
@@ -359,13 +320,13 @@ fn push_missing_entry_lines<T: Groups>(
     text: &mut Vec<u8>,
 ) -> Result<(), AllocError>
     ensures { OnOk result (text.new.items ≡ text.old.items
-        ++ entry_lines (T.catalogue of.now) [] group
+        ++ entry_lines ((T.catalogue of.now).words group) []
         (missing (T.catalogue of.now) (is_marked marks.now) group)) }
 {
     let numbers = of.present(alloc, group)?;
     let number = of.number(group);
     let found = missing(alloc, marks, number, &numbers)?;
-    push_entries(alloc, of, "", group, &found, text)
+    push_entries(alloc, &InGroup { of, group }, "", &found, text)
 }
 
 /// Appends the entries of all things that aren't covered, a line each.

@@ -4,7 +4,7 @@
 ghost use Rattle.play_cover.specs.MoreLogs.{MoreLogsListNoMore};
 ghost use Rattle.play_cover.specs.Plays.{AgainIsNothing, OneCoveredOutput, OrderIsNothing};
 ghost use Rattle.play_cover.specs.RowCounts.{EachCountIsOfItsRows, EachCoveredRowIsThere};
-ghost use Rattle.play_cover.specs.RowMarks.{EachRowHasItsMark};
+ghost use Rattle.play_cover.specs.RowMarks.{EachRowHasItsMark, NoRowIsText};
 ghost use Rattle.play_cover.specs.RuleTables.{TablesAreInOrder};
 
 /// The order of the logs changes no byte of the output.
@@ -31,6 +31,11 @@ pub fn more_logs_list_no_more()
 /// Rows with the same mark are the same row.
 pub fn each_row_has_its_mark()
     ensures { EachRowHasItsMark }
+{}
+
+/// No row has the mark of a text.
+pub fn no_row_is_text()
+    ensures { NoRowIsText }
 {}
 
 /// Each table stands in the list at the place of its variant, and each variant has its table.

@@ -4,9 +4,7 @@
 pub mod cave_texts;
 pub mod coverage;
 pub mod each_table;
-pub mod known;
 pub mod laws;
-pub mod marks;
 pub mod parts;
 pub mod row_report;
 pub mod rule_notes;
@@ -15,3 +13,4 @@ pub mod run;
 pub mod said;
 pub mod text_report;
 pub mod travel_report;
+pub mod unshown;

@@ -4,13 +4,13 @@ ghost use Rattle.std.specs.Prelude.{◌≡◌, ◌∷◌, [], OnOk};
 ghost use Rattle.std.specs.FinMap.{get};
 ghost use Rattle.cave_data.specs.CaveView.{class_of};
 ghost use Rattle.data_rows.specs.Role.{role_number};
-ghost use Rattle.play_cover.specs.Marks.{Notes};
+ghost use Rattle.check_tables.specs.Marks.{Notes};
 ghost use Rattle.play_cover.specs.Texts.{class_said, look_said, message_said, text, said_by_part};
 ghost use Rattle.play_cover.specs.Texts.{said_by_all};
 
-use crate::marks::{Mark, MarkSet};
 use cave_data::Cave;
 use cave_world::Part;
+use check_tables::marks::{Mark, MarkSet};
 use check_tables::text_kinds::{PROPS_PER_OBJECT, TextKind};
 use data_rows::Role;
 use std::alloc::{AllocError, Global};

@@ -1,28 +1,27 @@
 //! The report on the rules, some of whose rows applied.
 
 ghost use Rattle.std.specs.Prelude.{◌≡◌, ◌++◌, IfOk, OnOk};
-ghost use Rattle.play_cover.specs.Known.{unmet_text};
-ghost use Rattle.play_cover.specs.Marks.{is_marked};
-ghost use Rattle.play_cover.specs.RowReport.{row_entries, row_report, row_sums, rows_left};
+ghost use Rattle.check_tables.specs.Marks.{is_marked};
+ghost use Rattle.play_cover.specs.RowReport.{row_report, row_sums, rows_left};
 
-use crate::coverage::{CoverTotals, Detail, Groups, push_all_entries, push_groups, push_in_logs};
+use crate::coverage::{CoverTotals, Detail, Groups, push_groups, push_in_logs};
 use crate::each_table::each_table;
-use crate::known::KnownList;
-use crate::marks::MarkSet;
-use crate::rule_tables::{row_count, table_name, table_number, words_of_row};
-use crate::travel_report::{count_noted_ways, missing_ways, push_travel};
+use crate::rule_tables::{row_count, row_group, table_name, words_of_row};
+use crate::travel_report::{count_noted_ways, push_travel};
+use crate::unshown::push_unmet_rows;
 use cave_data::Cave;
 use cave_world::Table;
-use check_tables::travel_words::push_way_entries;
+use check_tables::known::KnownList;
+use check_tables::marks::MarkSet;
 use data_bindings::WayLine;
 use std::alloc::{AllocError, Global};
 
 /// The tables of the rules.
 #[derive(Clone, Copy)]
-struct RuleTables;
+pub(crate) struct RuleTables;
 
 impl Groups for RuleTables {
-    ghost use Rattle.play_cover.specs.RowReport.{rule_rows};
+    ghost use Rattle.play_cover.specs.RowMarks.{rule_rows};
 
     type Group = Table;
 
@@ -33,7 +32,7 @@ impl Groups for RuleTables {
     }
 
     fn number(&self, table: Table) -> usize {
-        3 * table_number(table)
+        row_group(table)
     }
 
     fn heading(&self, table: Table) -> &'static str {
@@ -105,25 +104,6 @@ pub struct CaveWays<'a> {
     pub ways: &'a [WayLine],
 }
 
-/// Appends which entries of a list no row is that never applied.
-fn push_unmet_rows(
-    alloc: Global,
-    noted: &MarkSet,
-    cave: &Cave,
-    known: &KnownList,
-    ways: &[WayLine],
-    text: &mut Vec<u8>,
-) -> Result<(), AllocError>
-    ensures { OnOk result (text.new.items ≡ text.old.items
-        ++ unmet_text known.now (row_entries (is_marked noted.now) cave.now ways.now)) }
-{
-    let missing = missing_ways(alloc, noted, ways)?;
-    let mut entries = Vec::new(alloc);
-    push_all_entries(alloc, &RuleTables, noted, &mut entries)?;
-    push_way_entries(alloc, cave, &missing, &mut entries)?;
-    known.push_unmet(alloc, &entries, text)
-}
-
 /// Appends the report on the rules, and on the travel rows of a cave, some of which were noted in
 /// this many logs, and returns how many are left that a list doesn't know.
 #[tactic(auto, unfolding(crate::specs::RowReport::row_report))]
@@ -141,7 +121,7 @@ pub fn push_row_report(
         known.now of.now.ways.now) }
 {
     let CaveWays { cave, ways } = *of;
-    push_unmet_rows(alloc, noted, cave, known, ways, text)?;
+    push_unmet_rows(alloc, known, of, noted, text)?;
     let rows = push_groups(alloc, &RuleTables, noted, known, Detail::Both, text)?;
     let left = push_travel(alloc, noted, cave, known, ways, text)?;
     let taken = count_noted_ways(noted, ways, true);

@@ -1,16 +1,16 @@
 //! Which rows apply in plays.
 
 ghost use Rattle.std.specs.Prelude.{OnOk, map};
-ghost use Rattle.play_cover.specs.Marks.{Notes};
+ghost use Rattle.check_tables.specs.Marks.{Notes};
 ghost use Rattle.play_cover.specs.RowMarks.{mark_of_row};
 
-use crate::known::KnownList;
-use crate::marks::MarkSet;
 use crate::row_report::{CaveWays, push_row_report};
 use crate::rule_tables::row_mark;
 use cave_data::Cave;
 use cave_play::logs::PlayNotes;
 use cave_world::{RuleRow, State, Table};
+use check_tables::known::KnownList;
+use check_tables::marks::MarkSet;
 use data_bindings::way_lines;
 use play_machine::{Begun, NotedRows, SeenLine, Watch};
 use std::alloc::{AllocError, Global};
@@ -32,9 +32,9 @@ pub struct RuleNotes {
 }
 
 impl Watch for RuleNotes {
-    ghost use Rattle.play_cover.specs.Marks.{AreMarksOf};
+    ghost use Rattle.check_tables.specs.Marks.{AreMarksOf};
     ghost use Rattle.play_cover.specs.Plays.{rows_at, rows_at_start};
-    ghost use Rattle.play_cover.specs.declared.marks.Mark.{Mark};
+    ghost use Rattle.check_tables.specs.declared.marks.Mark.{Mark};
 
     type Before = ();
 
@@ -52,13 +52,13 @@ impl Watch for RuleNotes {
 
     fn before(_: &State) {}
 
-    #[tactic(auto, using(crate::proofs::Noting::more_marked))]
+    #[tactic(auto, using(check_tables::proofs::Noting::more_marked))]
     fn start(&mut self, alloc: Global, _: &Begun<'_>) -> Result<(), AllocError> {
         let row = RuleRow::OfTable(Table::Questions, 1);
         self.marks.note(alloc, row_mark(row))
     }
 
-    #[tactic(auto, using(crate::proofs::Noting::more_marked))]
+    #[tactic(auto, using(check_tables::proofs::Noting::more_marked))]
     fn see(
         &mut self,
         alloc: Global,
@@ -83,7 +83,7 @@ impl PlayNotes for RuleNotes {
     ghost found_on = { λ database cave known games.
         left_in_games Rules known database cave games };
 
-    #[tactic(auto, using(crate::proofs::Noting::none_marked))]
+    #[tactic(auto, using(check_tables::proofs::Noting::none_marked))]
     fn none(alloc: Global) -> Result<RuleNotes, AllocError> {
         Ok(RuleNotes {
             marks: MarkSet::new(alloc),

@@ -1,13 +1,14 @@
 //! The tables of the rules, by number and name, and the rows of each by their numbers.
 
 ghost use Rattle.std.specs.Prelude.{◌≡◌, ◌<◌};
-ghost use Rattle.play_cover.specs.RowMarks.{mark_of_row};
+ghost use Rattle.play_cover.specs.RowMarks.{mark_of_row, row_group};
 ghost use Rattle.play_cover.specs.RuleTables.{row_count, table_name, table_number, words_of_row};
 ghost use Rattle.play_cover.specs.RuleTables as defined;
 
 use crate::each_table::table_name_and_words;
-use crate::marks::Mark;
 use cave_world::{RuleRow, Table};
+use check_tables::marks::Mark;
+use check_tables::text_kinds::KINDS;
 
 /// The place of a table among all of them, from 0.
 pub fn table_number(table: Table) -> usize
@@ -43,17 +44,27 @@ pub fn words_of_row(table: Table, number: u16) -> &'static str
     }
 }
 
+/// The groups of rows come after those of texts, of which there are as many as kinds.
+const TEXT_GROUPS: usize = KINDS.len();
+
+/// The group of the rows of a table.
+pub fn row_group(table: Table) -> usize
+    ensures { result ≡ row_group table }
+{
+    TEXT_GROUPS + 3 * table_number(table)
+}
+
 /// The mark of a row.
 pub fn row_mark(row: RuleRow) -> Mark
     ensures { result ≡ mark_of_row row }
 {
     match row {
         RuleRow::OfTable(table, number) => Mark {
-            group: 3 * table_number(table),
+            group: row_group(table),
             number: number as usize,
         },
         RuleRow::OfPlace(place, index, applies) => Mark {
-            group: 3 * place as usize + 1 + usize::from(applies),
+            group: TEXT_GROUPS + (3 * place as usize + 1 + usize::from(applies)),
             number: index,
         },
     }

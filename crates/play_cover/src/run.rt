@@ -2,19 +2,20 @@
 
 ghost use Rattle.std.specs.Prelude.{◌≡◌, ℕ, List, [], ◌∷◌, IfOk, length, map};
 ghost use Rattle.std.specs.List.{AllZip};
-ghost use Rattle.play_cover.specs.Known.{known_entries};
+ghost use Rattle.check_tables.specs.Known.{known_entries};
 ghost use Rattle.play_cover.specs.Plays.{IsCovered, cover_stages};
 ghost use Rattle.cave_play.specs.Sources.{Says, IsTaken, Leads};
 ghost use Rattle.cave_play.specs.Logs.{IsMadeReport, JudgesLogs, RunsLogs};
 ghost use Rattle.cave_play.specs.Stages.{Judges, known_stage};
 
-use crate::known::KnownList;
 use crate::rule_notes::RuleNotes;
 use crate::said::SaidTexts;
 use crate::text_report::TextsAsked;
+use crate::unshown::ShownThings;
 use cave_play::inputs::{Readers, Sources};
 use cave_play::logs::{Reported, make_report, write_report};
 use cave_play::{CaveReaders, LogsFault, PlayFault};
+use check_tables::known::KnownList;
 use play_command::{CoverView, Input};
 use std::alloc::Global;
 use std::io::{Read, Write};
@@ -36,7 +37,7 @@ fn read_known<I: Sources>(alloc: Global, file: &str, inputs: &mut I) -> Result<K
     ensures leads { Leads I.Reads inputs.old inputs.new }
 {
     let list = inputs.read(alloc, Input::Known)?;
-    let known = KnownList::entries_of(alloc, file, &list)?;
+    let known = KnownList::of(alloc, file, list)?;
     Ok(known)
 }
 
@@ -67,6 +68,7 @@ pub fn make_cover<I: Sources>(
             make_report::<SaidTexts, I>(alloc, inputs, logs, asked.seed, &texts)
         }
         CoverView::Rules => make_report::<RuleNotes, I>(alloc, inputs, logs, asked.seed, &known),
+        CoverView::Known => make_report::<ShownThings, I>(alloc, inputs, logs, asked.seed, &known),
     }
 }
 

@@ -1,12 +1,13 @@
 //! Which texts plays say.
 
 use crate::cave_texts::CaveTexts;
-use crate::marks::MarkSet;
 use crate::parts::note_parts;
 use crate::text_report::{TextsAsked, push_text_report};
 use cave_data::Cave;
 use cave_play::logs::PlayNotes;
 use cave_world::{State, Unnoted};
+use check_tables::marks::MarkSet;
+use data_bindings::way_lines;
 use play_machine::{Begun, SeenLine, Watch};
 use std::alloc::{AllocError, Global};
 
@@ -17,9 +18,9 @@ pub struct SaidTexts {
 }
 
 impl Watch for SaidTexts {
-    ghost use Rattle.play_cover.specs.Marks.{AreMarksOf};
+    ghost use Rattle.check_tables.specs.Marks.{AreMarksOf};
     ghost use Rattle.play_cover.specs.Plays.{said_at, said_at_start};
-    ghost use Rattle.play_cover.specs.declared.marks.Mark.{Mark};
+    ghost use Rattle.check_tables.specs.declared.marks.Mark.{Mark};
 
     type Before = ();
 
@@ -37,12 +38,12 @@ impl Watch for SaidTexts {
 
     fn before(_: &State) {}
 
-    #[tactic(auto, using(crate::proofs::Noting::more_marked))]
+    #[tactic(auto, using(check_tables::proofs::Noting::more_marked))]
     fn start(&mut self, alloc: Global, begun: &Begun<'_>) -> Result<(), AllocError> {
         note_parts(alloc, &mut self.marks, begun.rules.cave, begun.parts)
     }
 
-    #[tactic(auto, using(crate::proofs::Noting::more_marked))]
+    #[tactic(auto, using(check_tables::proofs::Noting::more_marked))]
     fn see(
         &mut self,
         alloc: Global,
@@ -67,7 +68,7 @@ impl PlayNotes for SaidTexts {
     ghost found_on = { λ database cave asked games.
         left_in_games (Said asked.view) asked.known database cave games };
 
-    #[tactic(auto, using(crate::proofs::Noting::none_marked))]
+    #[tactic(auto, using(check_tables::proofs::Noting::none_marked))]
     fn none(alloc: Global) -> Result<SaidTexts, AllocError> {
         Ok(SaidTexts {
             marks: MarkSet::new(alloc),
@@ -77,14 +78,15 @@ impl PlayNotes for SaidTexts {
     fn push_report(
         &self,
         alloc: Global,
-        _database: &[u8],
+        database: &[u8],
         cave: &Cave,
-        view: &TextsAsked,
+        asked: &TextsAsked,
         logs: usize,
         text: &mut Vec<u8>,
     ) -> Result<usize, AllocError> {
+        let ways = way_lines(alloc, database)?;
         let texts = CaveTexts::of(cave);
-        let left = push_text_report(alloc, &texts, &self.marks, view, logs, text)?;
+        let left = push_text_report(alloc, &texts, &ways, &self.marks, asked, logs, text)?;
         Ok(left)
     }
 }

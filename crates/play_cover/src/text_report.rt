@@ -1,20 +1,20 @@
 //! The report on the texts of a cave, some of which were said.
 
 ghost use Rattle.std.specs.Prelude.{◌≡◌, ◌++◌, IfOk, OnOk};
-ghost use Rattle.play_cover.specs.Coverage.{all_entries};
-ghost use Rattle.play_cover.specs.Known.{unmet_text};
-ghost use Rattle.play_cover.specs.Marks.{is_marked};
-ghost use Rattle.play_cover.specs.TextReport.{cave_texts, detail_of, text_report, text_sums};
+ghost use Rattle.check_tables.specs.Marks.{is_marked};
+ghost use Rattle.play_cover.specs.TextReport.{detail_of, text_report, text_sums};
 ghost use Rattle.play_cover.specs.TextReport.{texts_left};
 
 use crate::cave_texts::CaveTexts;
-use crate::coverage::{Detail, Groups, push_all_entries, push_groups, push_in_logs};
-use crate::known::KnownList;
-use crate::marks::MarkSet;
+use crate::coverage::{Detail, Groups, push_groups, push_in_logs};
+use crate::unshown::push_unmet_texts;
+use check_tables::known::KnownList;
+use check_tables::marks::MarkSet;
 use check_tables::text_kinds::{
     KINDS, PROPS_PER_OBJECT, TextKind, heading_of_kind, name_at, push_first_line, text_at,
     word_of_kind,
 };
+use data_bindings::WayLine;
 use data_rows::role::ROLE_NAMES;
 use play_command::TextView;
 use std::alloc::{AllocError, Global};
@@ -30,7 +30,7 @@ pub struct TextsAsked {
 }
 
 impl<'a> Groups for CaveTexts<'a> {
-    ghost use Rattle.play_cover.specs.TextReport.{cave_texts};
+    ghost use Rattle.play_cover.specs.Texts.{cave_texts};
 
     type Group = TextKind;
 
@@ -48,7 +48,7 @@ impl<'a> Groups for CaveTexts<'a> {
         heading_of_kind(kind)
     }
 
-    #[tactic(auto, unfolding(crate::specs::TextReport::texts_of_kind))]
+    #[tactic(auto, unfolding(crate::specs::Texts::texts_of_kind))]
     fn present(&self, alloc: Global, kind: TextKind) -> Result<Vec<u16>, AllocError> {
         (0..NUMBERS as u16)
             .filter(|number| self.has(kind, *number))
@@ -117,41 +117,27 @@ fn push_text_sums(
     push_in_logs(alloc, logs, text)
 }
 
-/// Appends which entries of a list no text is that was never said.
-fn push_unmet_texts(
-    alloc: Global,
-    cave: &CaveTexts<'_>,
-    said: &MarkSet,
-    known: &KnownList,
-    text: &mut Vec<u8>,
-) -> Result<(), AllocError>
-    ensures { OnOk result (text.new.items ≡ text.old.items
-        ++ unmet_text known.now (all_entries (cave_texts cave.now) (is_marked said.now))) }
-{
-    let mut entries = Vec::new(alloc);
-    push_all_entries(alloc, cave, said, &mut entries)?;
-    known.push_unmet(alloc, &entries, text)
-}
-
 /// Appends what the view asks for about a cave, some of whose texts were said in this many logs,
 /// and returns how many are left that a list doesn't know.
 #[tactic(auto, unfolding(crate::specs::TextReport::text_report))]
 pub fn push_text_report(
     alloc: Global,
     cave: &CaveTexts<'_>,
+    ways: &[WayLine],
     said: &MarkSet,
-    view: &TextsAsked,
+    asked: &TextsAsked,
     logs: usize,
     text: &mut Vec<u8>,
 ) -> Result<usize, AllocError>
     ensures told { OnOk result (text.new.items ≡ text.old.items
-        ++ text_report cave.now (is_marked said.now) view.now.known view.now.view logs) }
+        ++ text_report cave.now (is_marked said.now) asked.now.known asked.now.view ways.now
+        logs) }
     ensures left { IfOk result (λ left.
-        left ≡ texts_left cave.now (is_marked said.now) view.now.known) }
+        left ≡ texts_left cave.now (is_marked said.now) asked.now.known) }
 {
-    push_unmet_texts(alloc, cave, said, &view.known, text)?;
-    let detail = detail_of(view.view);
-    let totals = push_groups(alloc, cave, said, &view.known, detail, text)?;
+    push_unmet_texts(alloc, &asked.known, cave, ways, said, text)?;
+    let detail = detail_of(asked.view);
+    let totals = push_groups(alloc, cave, said, &asked.known, detail, text)?;
     push_text_sums(alloc, totals.covered, totals.present, logs, text)?;
     Ok(totals.left)
 }

@@ -1,5 +1,6 @@
 -- What the order of logs says about maps, and that there is at most one.
-use Rattle.std.proofs.Common.{◌≡◌, ℕ, ◌+◌, Bool, List, [], ◌∷◌, length, refl, sym, ap, ◌∙◌}
+use Rattle.std.proofs.Common.{◌≡◌, ℕ, ◌+◌, Bool, false, List, [], ◌∷◌, length, refl, sym, ap, ◌∙◌}
+use Rattle.std.specs.Prelude.{◌||◌}
 use Rattle.std.specs.List.{filter, flat_map, list_any, sum_by}
 use Rattle.std.specs.List.Sorted.{IsPermutation}
 use Rattle.std.proofs.lemmas.List.{length-append}
@@ -13,9 +14,8 @@ use Rattle.cave_data.proofs.ReadLemmas.{same_cave}
 use Rattle.play_map.specs.Parts.{drawn_part}
 use Rattle.play_map.specs.Plays.{OneMap, OrderOfLogsIsNothing, map_text, stops_in_all, stops_in_log}
 use Rattle.map_graph.specs.Map.{map_of_places}
-use Rattle.map_graph.specs.Stops.{arrives_at, comes_by, is_at}
+use Rattle.map_graph.specs.Stops.{all_stops, arrives_at, goes_by, is_in}
 use Rattle.map_graph.specs.declared.stops.Stop.{Stop}
-use Rattle.play_map.proofs.Agreeing.{agree_map}
 
 -- a test that elements of lists pass, counted list by list
 count_flat : {X A : Type 0} (p : A → Bool) (f : X → List A) (xs : List X)
@@ -48,15 +48,20 @@ count_in_order cave seed test logs others shuffled =
     shuffled
     ∙ sym (count_flat test (stops_in_log cave seed) logs)
 
+-- the stops say the same together, with the logs in any order
+stops_in_order : (cave : CaveView) (seed : ℕ) (logs others : List (List ℕ))
+    → IsPermutation logs others
+    → all_stops (stops_in_all cave seed others) ≡ all_stops (stops_in_all cave seed logs)
+stops_in_order cave seed logs others shuffled = λ i. record {
+  was_at = λ place. false || any_in_order cave seed (is_in place) logs others shuffled i;
+  went_by = λ place row. false || any_in_order cave seed (goes_by place row) logs others shuffled i;
+  visits = λ place. 0 + count_in_order cave seed (arrives_at place) logs others shuffled i;
+}
+
 pub order_of_logs_is_nothing : OrderOfLogsIsNothing
 order_of_logs_is_nothing cave seed part logs others shuffled =
-    agree_map cave (stops_in_all cave seed others) (stops_in_all cave seed logs)
-    (λ place. any_in_order cave seed (is_at cave place) logs others shuffled)
-    (λ from to. any_in_order cave seed (comes_by cave from to) logs others shuffled)
-    (λ place. count_in_order cave seed (arrives_at place) logs others shuffled)
-    (drawn_part part) (length others)
-    ∙ ap (map_of_places cave (stops_in_all cave seed logs) (drawn_part part))
-    (length_permutation logs others shuffled)
+    λ i. map_of_places cave (stops_in_order cave seed logs others shuffled i) (drawn_part part)
+    (length_permutation logs others shuffled i)
 
 pub one_map : OneMap
 one_map database bindings logs seed part =

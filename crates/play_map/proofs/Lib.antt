@@ -1,4 +1,3 @@
-pub mod Agreeing
 pub mod LawLemmas
 pub mod Noted
 pub mod NotedWays

@@ -12,7 +12,7 @@ use Rattle.cave_world.specs.declared.part.Part.{Part}
 use Rattle.cave_world.specs.declared.state.State.{State}
 use Rattle.replay_edits.specs.Edit.{Game, game_of}
 use Rattle.map_graph.specs.Map.{map_of_places}
-use Rattle.map_graph.specs.Stops.{ways_by_rows}
+use Rattle.map_graph.specs.Stops.{all_stops, ways_by_rows}
 use Rattle.play_command.specs.declared.line.MapPart.{MapPart}
 use Rattle.play_map.specs.Parts.{drawn_part, place_stage}
 use Rattle.map_graph.specs.declared.stops.Stop.{Stop}
@@ -38,7 +38,7 @@ stops_in cave game =
 -- the map of a part of a cave with what the plays of games saw of it
 abbrev pub map_of_games : CaveView → MapPart → List Game → List ℕ
 map_of_games cave part games =
-    map_of_places cave (flat_map (stops_in cave) games) (drawn_part part) (length games)
+    map_of_places cave (all_stops (flat_map (stops_in cave) games)) (drawn_part part) (length games)
 
 abbrev pub stops_in_log : CaveView → ℕ → List ℕ → List Stop
 stops_in_log cave seed log = stops_in cave (game_of seed (lines log))
@@ -49,7 +49,7 @@ stops_in_all cave seed logs = flat_map (stops_in_log cave seed) logs
 
 abbrev pub map_text : CaveView → ℕ → MapPart → List (List ℕ) → List ℕ
 map_text cave seed part logs =
-    map_of_places cave (stops_in_all cave seed logs) (drawn_part part) (length logs)
+    map_of_places cave (all_stops (stops_in_all cave seed logs)) (drawn_part part) (length logs)
 
 -- the output is the map of the logs in the cave of the database and its bindings
 abbrev pub IsMapped : List ℕ → List ℕ → List (List ℕ) → ℕ → MapPart → List ℕ → Type 0

@@ -9,18 +9,19 @@ ghost use Rattle.cave_play.specs.Sources.{Says, Leads};
 ghost use Rattle.cave_play.specs.Stages.{large_seed};
 
 use crate::part::{check_place, drawn_part};
-use crate::plays::Stops;
+use crate::plays::StopNotes;
 use cave_data::Cave;
 use cave_play::inputs::{Readers, Sources};
 use cave_play::judge::ReadCave;
 use cave_play::logs::{PlayNotes, Reported, read_for_logs, report_in_cave, write_report};
 use cave_play::{CaveReaders, LogsFault};
 use map_graph::map::push_map;
+use map_graph::stops::Stops;
 use play_command::MapPart;
 use std::alloc::{AllocError, Global};
 use std::io::{Read, Write};
 
-impl PlayNotes for Stops {
+impl PlayNotes for StopNotes {
     ghost use Rattle.play_map.specs.Plays.{map_of_games};
 
     type View = MapPart;
@@ -31,8 +32,10 @@ impl PlayNotes for Stops {
 
     ghost found_on = { λ _ _ _ _. tt };
 
-    fn none(alloc: Global) -> Result<Stops, AllocError> {
-        Ok(Stops::new(alloc))
+    fn none(alloc: Global) -> Result<StopNotes, AllocError> {
+        Ok(StopNotes {
+            stops: Stops::new(alloc),
+        })
     }
 
     fn push_report(
@@ -44,7 +47,7 @@ impl PlayNotes for Stops {
         logs: usize,
         text: &mut Vec<u8>,
     ) -> Result<(), AllocError> {
-        push_map(alloc, cave, self.as_slice(), drawn_part(*part), logs, text)
+        push_map(alloc, cave, &self.stops, drawn_part(*part), logs, text)
     }
 }
 
@@ -68,7 +71,7 @@ fn map_games_in_cave<I: Sources>(
     ensures leads { Leads I.Reads inputs.old inputs.new }
 {
     check_place(&read.cave, part.around)?;
-    report_in_cave::<Stops, I>(alloc, read, inputs, logs, seed, &part)
+    report_in_cave::<StopNotes, I>(alloc, read, inputs, logs, seed, &part)
 }
 
 /// Plays this many logs, each by itself from its first line, and makes the map of a part of the cave

@@ -14,7 +14,7 @@ use Rattle.play_command.specs.declared.line.What.{What}
 use Rattle.play_command.specs.declared.line.What.TheVariants.{Check, Cover, Doubts, Edit, Map, Play}
 use Rattle.play_command.specs.declared.line.What.TheVariants.{Script}
 use Rattle.play_command.specs.declared.views.CoverView.{CoverView}
-use Rattle.play_cover.specs.Known.{known_entries}
+use Rattle.check_tables.specs.Known.{known_entries}
 use Rattle.play_cover.specs.Plays.{IsCovered, cover_stages}
 use Rattle.play_cover.specs.declared.run.CoverAsked.{CoverAsked}
 use Rattle.play_program.specs.Calls.{Call, and_then, Told}

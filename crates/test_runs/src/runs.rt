@@ -36,8 +36,9 @@ pub const EDIT: Run = Run::Edit(EditView::Transcript);
 /// What several logs cover.
 pub const COVER: Run = Run::Cover(CoverView::Said(TextView::Counts));
 
-/// Each run that the program can be asked for, and what it prints for the usual inputs.
-pub const RUNS: [(Run, Printed); 26] = [
+/// Each run that the program can be asked for, and what it prints for the usual inputs; but the list
+/// of known doubts, of which these have none.
+pub const RUNS: [(Run, Printed); 27] = [
     (
         Run::Check(CheckView::Maximum),
         Printed::Whole("cave ok, maximum 132\n"),
@@ -101,6 +102,10 @@ pub const RUNS: [(Run, Printed); 26] = [
     (
         Run::Cover(CoverView::Rules),
         Printed::Between("asking: ", " rows in 2 logs\n"),
+    ),
+    (
+        Run::Cover(CoverView::Known),
+        Printed::Between("short text 1: Road.\n", "\n"),
     ),
     (Run::Map, Printed::Between(MAP_HEAD, MAP_TAIL)),
 ];

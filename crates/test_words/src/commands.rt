@@ -40,7 +40,7 @@ pub(crate) fn shown(alloc: Global, words: &[&str]) -> Result<String, AllocError>
 }
 
 /// Words that ask for a run or a text, and what the answer to them says.
-const ANSWERS: [(&[&str], &str); 34] = [
+const ANSWERS: [(&[&str], &str); 37] = [
     (&["cave", "check", "a"], "Check(Maximum), Cave a"),
     (
         &["cave", "check", "a", "--print", "unused"],
@@ -57,6 +57,10 @@ const ANSWERS: [(&[&str], &str); 34] = [
     (
         &["cave", "check", "a", "--known", "b"],
         "Doubts { strict: false }, Cave a, Known b",
+    ),
+    (
+        &["cave", "check", "a", "--print", "known"],
+        "Check(Known), Cave a",
     ),
     (
         &["cave", "check", "a", "--print", "maximum", "--known=b"],
@@ -229,6 +233,14 @@ const ANSWERS: [(&[&str], &str); 34] = [
             "--strict",
         ],
         "Cover { seed: 0, view: Rules, strict: true }, Cave a, Log b, Known c",
+    ),
+    (
+        &["cave", "cover", "a", "b", "--print", "known"],
+        "Cover { seed: 0, view: Known, strict: false }, Cave a, Log b",
+    ),
+    (
+        &["cave", "cover", "a", "b", "--print=known", "--strict"],
+        "2 Misuse(ListAlone, \"\")",
     ),
     (
         &["cave", "map", "a"],

@@ -47,14 +47,14 @@ fn tick_clocks<N: RowNotes>(rules: &Rules<'_>, scene: &mut Scene<'_, N>) -> bool
         let is_first = first_clock_goes(rules, scene);
         is_first && scene.state.closing.first_clock == 1 => { begin_closing(rules, scene); };
         is_first => { scene.state.closing.first_clock -= 1; };
-        let is_second = scene.state.closing.first_clock == -1;
-        is_second && scene.state.closing.second_clock == 1 && !scene.state.closing.is_closed
+        let has_first_run_out = scene.state.closing.first_clock == -1;
+        has_first_run_out && scene.state.closing.second_clock == 1 && !scene.state.closing.is_closed
             && place_named(rules.cave, PlaceRole::Ne).is_some()
             && place_named(rules.cave, PlaceRole::Sw).is_some() => {
             scene.state.closing.second_clock -= 1;
             close_cave(rules, scene);
         } -> true;
-        is_second && 0 <= scene.state.closing.second_clock
+        has_first_run_out && 0 <= scene.state.closing.second_clock
             => { scene.state.closing.second_clock -= 1; };
     }
 }

@@ -56,96 +56,66 @@ const FIRST_UNGUARDED_HINT: u8 = 9;
 /// How many more turns the lamp burns for each point that a hint costs.
 const TURNS_A_POINT: i32 = 30;
 
-/// The hints are considered, one after another.
-pub fn consider_all<N: RowNotes>(rules: &Rules<'_>, scene: &mut Scene<'_, N>)
-    requires { HasRoom (2 * parts_of_question) scene.old }
+/// A hint that the cave has, and that wasn't taken, counts its turns and is offered.
+#[tactic(auto, unfolding(crate::specs::Hints::after_consider, crate::specs::Hints::hint_rows))]
+fn consider<N: RowNotes>(
+    rules: &Rules<'_>,
+    number: HintNumber,
+    conditions: u32,
+    scene: &mut Scene<'_, N>,
+)
+    requires room { HasRoom parts_of_question scene.old }
+    requires here { conditions ≡ cond_of (cave_of rules.now) scene.old.state.now.trail.here }
     ensures scene { scene_of N.rows scene.new
-        ≡ after_hints (cave_of rules.now) (scene_of N.rows scene.old) }
+        ≡ after_consider (cave_of rules.now) number (scene_of N.rows scene.old) }
     ensures says { GoesOnSaying parts_of_question scene.old scene.new }
+    ensures here { scene.new.state.now.trail ≡ scene.old.state.now.trail }
+    ensures few_on { takes_no_command scene.new.state.now ≡ false → SaysUpTo 0 scene.old scene.new }
+    ensures few_over { takes_no_command scene.old.state.now
+        ≡ true → SaysUpTo 0 scene.old scene.new }
+    ensures stays { takes_no_command scene.new.state.now ≡ false
+        → takes_no_command scene.old.state.now ≡ false }
 {
-    // A hint doesn't move the player, so the conditions of the place are looked up once.
-    let conditions = rules.cave.cond(scene.state.trail.here.number());
-    let count = count_hints(rules.cave);
-    // Most places are in the area of no hint, and then nothing changes.
-    if conditions < 1 << FIRST_HINT && counts_no_turn(count, scene.state) {
+    let is_in_area = is_in_area(number, conditions);
+    if !is_in_area && turns_in_area(number, scene.state).number() == 0 {
         return;
     }
-    for before in 0..count {
-        consider(
-            rules,
-            HintNumber::new(before + FIRST_HINT),
-            conditions,
-            scene,
-        );
-    }
-}
-
-/// How many of the hints that are offered come before the end of those that the cave has.
-fn count_hints(cave: &Cave) -> u8
-    ensures few { result ≤ defined.OFFERED_HINTS }
-    ensures all { IsAbove (result + defined.FIRST_HINT) cave.now.hints ⊎ (result
-        ≡ defined.OFFERED_HINTS) }
-{
-    let count = cave.hint_end().saturating_sub(usize::from(FIRST_HINT));
-    count.min(usize::from(OFFERED_HINTS)) as u8
-}
-
-/// How many turns the player has stayed in the area of the hint that is offered after this many
-/// others.
-fn turns_after(before: usize, state: &State) -> Count<MAX_TURNS_IN_AREA>
-    requires { before < defined.OFFERED_HINTS }
-    ensures { result ≡ turns_in_area state.now (defined.FIRST_HINT + before) }
-{
-    state.hints.turns[before + usize::from(FIRST_HINT) - 1]
-}
-
-/// Whether no turn counts for any of this many hints, from the first on.
-fn counts_no_turn(count: u8, state: &State) -> bool
-    requires { count ≤ defined.OFFERED_HINTS }
-    ensures { IsTrue result → (n : ℕ) → n < count
-        → turns_in_area state.now (defined.FIRST_HINT + n) ≡ 0 }
-{
-    for before in 0..usize::from(count) {
-        if turns_after(before, state).number() != 0 {
-            return false;
-        }
-    }
-    true
-}
-
-/// Says what a hint costs, and asks whether it is worth that.
-#[tactic(auto, unfolding(crate::specs::Hints::price_rows))]
-pub fn price<N: RowNotes>(rules: &Rules<'_>, number: HintNumber, scene: &mut Scene<'_, N>)
-    requires { HasRoom (1 + parts_of_question) scene.old }
-    ensures rows { Does N.rows (by_rows price_rows ∷ []) (1 + parts_of_question) rules.now number
-        scene.old scene.new }
-{
     if let Some(hint) = rules.cave.hint(u16::from(number.number())) {
-        let points = u32::from(hint.points);
-        scene.tell(Part::Number(NumberLine::HintCosts, points, 0));
-        ask(rules, &Question::Take(number), scene);
-    }
-}
-
-/// Gives a hint. A lamp that isn't low then burns for longer.
-#[tactic(auto, unfolding(crate::specs::Hints::give_rows))]
-pub fn give_hint<N: RowNotes>(rules: &Rules<'_>, number: HintNumber, scene: &mut Scene<'_, N>)
-    requires { HasRoom 1 scene.old }
-    ensures rows { Does N.rows (by_table table.HintGiven give_rows ∷ []) 1 rules.now number
-        scene.old scene.new }
-{
-    if let Some(hint) = rules.cave.hint(u16::from(number.number())) {
-        rows! { scene, Table::HintGiven;
-            LOW_CHARGE < scene.state.lamp.charge.turns() => {
-                scene.tell(Part::Message(hint.text));
-                scene.state.take_hint(number);
-                prolong(hint.points, scene.state);
-            };
-            otherwise => {
-                scene.tell(Part::Message(hint.text));
-                scene.state.take_hint(number);
+        let is_left = !scene.state.is_hint_taken(number);
+        rows! { scene, Table::HintTurns;
+            is_left && !is_in_area => { restart(number, scene.state); };
+            is_left => {
+                count_turn(number, scene.state);
+                consider_offer(rules, number, &hint, scene);
             };
         }
+    }
+}
+
+/// A hint for which the player has stayed long enough is offered, or waits while a question is
+/// open.
+#[tactic(auto, unfolding(crate::specs::Hints::offer_rows))]
+fn consider_offer<N: RowNotes>(
+    rules: &Rules<'_>,
+    number: HintNumber,
+    hint: &Hint,
+    scene: &mut Scene<'_, N>,
+)
+    requires room { HasRoom parts_of_question scene.old }
+    requires hint { get (cave_of rules.now).hints number ≡ Some hint.now }
+    ensures rows { Does N.rows (by_table table.Offers offer_rows ∷ []) parts_of_question
+        rules.now number scene.old scene.new }
+    ensures here { scene.new.state.now.trail ≡ scene.old.state.now.trail }
+    ensures few_on { takes_no_command scene.new.state.now ≡ false → SaysUpTo 0 scene.old scene.new }
+    ensures few_over { takes_no_command scene.old.state.now
+        ≡ true → SaysUpTo 0 scene.old scene.new }
+    ensures stays { takes_no_command scene.new.state.now ≡ false
+        → takes_no_command scene.old.state.now ≡ false }
+{
+    let has_stayed = hint.turns <= turns_in_area(number, scene.state).number();
+    rows! { scene, Table::Offers;
+        has_stayed && scene.state.takes_no_command() => {};
+        has_stayed => { offer_by_guard(rules, number, scene); };
     }
 }
 
@@ -239,64 +209,94 @@ fn offer_by_guard<N: RowNotes>(rules: &Rules<'_>, number: HintNumber, scene: &mu
     }
 }
 
-/// A hint for which the player has stayed long enough is offered, or waits while a question is
-/// open.
-#[tactic(auto, unfolding(crate::specs::Hints::offer_rows))]
-fn consider_offer<N: RowNotes>(
-    rules: &Rules<'_>,
-    number: HintNumber,
-    hint: &Hint,
-    scene: &mut Scene<'_, N>,
-)
-    requires room { HasRoom parts_of_question scene.old }
-    requires hint { get (cave_of rules.now).hints number ≡ Some hint.now }
-    ensures rows { Does N.rows (by_table table.Offers offer_rows ∷ []) parts_of_question
-        rules.now number scene.old scene.new }
-    ensures here { scene.new.state.now.trail ≡ scene.old.state.now.trail }
-    ensures few_on { takes_no_command scene.new.state.now ≡ false → SaysUpTo 0 scene.old scene.new }
-    ensures few_over { takes_no_command scene.old.state.now
-        ≡ true → SaysUpTo 0 scene.old scene.new }
-    ensures stays { takes_no_command scene.new.state.now ≡ false
-        → takes_no_command scene.old.state.now ≡ false }
+/// The hints are considered, one after another.
+pub fn consider_all<N: RowNotes>(rules: &Rules<'_>, scene: &mut Scene<'_, N>)
+    requires { HasRoom (2 * parts_of_question) scene.old }
+    ensures scene { scene_of N.rows scene.new
+        ≡ after_hints (cave_of rules.now) (scene_of N.rows scene.old) }
+    ensures says { GoesOnSaying parts_of_question scene.old scene.new }
 {
-    let has_stayed = hint.turns <= turns_in_area(number, scene.state).number();
-    rows! { scene, Table::Offers;
-        has_stayed && scene.state.takes_no_command() => {};
-        has_stayed => { offer_by_guard(rules, number, scene); };
+    // A hint doesn't move the player, so the conditions of the place are looked up once.
+    let conditions = rules.cave.cond(scene.state.trail.here.number());
+    let count = count_hints(rules.cave);
+    // Most places are in the area of no hint, and then nothing changes.
+    if conditions < 1 << FIRST_HINT && counts_no_turn(count, scene.state) {
+        return;
+    }
+    for before in 0..count {
+        consider(
+            rules,
+            HintNumber::new(before + FIRST_HINT),
+            conditions,
+            scene,
+        );
     }
 }
 
-/// A hint that the cave has, and that wasn't taken, counts its turns and is offered.
-#[tactic(auto, unfolding(crate::specs::Hints::after_consider, crate::specs::Hints::hint_rows))]
-fn consider<N: RowNotes>(
-    rules: &Rules<'_>,
-    number: HintNumber,
-    conditions: u32,
-    scene: &mut Scene<'_, N>,
-)
-    requires room { HasRoom parts_of_question scene.old }
-    requires here { conditions ≡ cond_of (cave_of rules.now) scene.old.state.now.trail.here }
-    ensures scene { scene_of N.rows scene.new
-        ≡ after_consider (cave_of rules.now) number (scene_of N.rows scene.old) }
-    ensures says { GoesOnSaying parts_of_question scene.old scene.new }
-    ensures here { scene.new.state.now.trail ≡ scene.old.state.now.trail }
-    ensures few_on { takes_no_command scene.new.state.now ≡ false → SaysUpTo 0 scene.old scene.new }
-    ensures few_over { takes_no_command scene.old.state.now
-        ≡ true → SaysUpTo 0 scene.old scene.new }
-    ensures stays { takes_no_command scene.new.state.now ≡ false
-        → takes_no_command scene.old.state.now ≡ false }
+/// How many of the hints that are offered come before the end of those that the cave has.
+fn count_hints(cave: &Cave) -> u8
+    ensures few { result ≤ defined.OFFERED_HINTS }
+    ensures all { IsAbove (result + defined.FIRST_HINT) cave.now.hints ⊎ (result
+        ≡ defined.OFFERED_HINTS) }
 {
-    let is_in_area = is_in_area(number, conditions);
-    if !is_in_area && turns_in_area(number, scene.state).number() == 0 {
-        return;
+    let count = cave.hint_end().saturating_sub(usize::from(FIRST_HINT));
+    count.min(usize::from(OFFERED_HINTS)) as u8
+}
+
+/// How many turns the player has stayed in the area of the hint that is offered after this many
+/// others.
+fn turns_after(before: usize, state: &State) -> Count<MAX_TURNS_IN_AREA>
+    requires { before < defined.OFFERED_HINTS }
+    ensures { result ≡ turns_in_area state.now (defined.FIRST_HINT + before) }
+{
+    state.hints.turns[before + usize::from(FIRST_HINT) - 1]
+}
+
+/// Whether no turn counts for any of this many hints, from the first on.
+fn counts_no_turn(count: u8, state: &State) -> bool
+    requires { count ≤ defined.OFFERED_HINTS }
+    ensures { IsTrue result → (n : ℕ) → n < count
+        → turns_in_area state.now (defined.FIRST_HINT + n) ≡ 0 }
+{
+    for before in 0..usize::from(count) {
+        if turns_after(before, state).number() != 0 {
+            return false;
+        }
     }
+    true
+}
+
+/// Says what a hint costs, and asks whether it is worth that.
+#[tactic(auto, unfolding(crate::specs::Hints::price_rows))]
+pub fn price<N: RowNotes>(rules: &Rules<'_>, number: HintNumber, scene: &mut Scene<'_, N>)
+    requires { HasRoom (1 + parts_of_question) scene.old }
+    ensures rows { Does N.rows (by_rows price_rows ∷ []) (1 + parts_of_question) rules.now number
+        scene.old scene.new }
+{
     if let Some(hint) = rules.cave.hint(u16::from(number.number())) {
-        let is_offered = !scene.state.is_hint_taken(number);
-        rows! { scene, Table::HintTurns;
-            is_offered && !is_in_area => { restart(number, scene.state); };
-            is_offered => {
-                count_turn(number, scene.state);
-                consider_offer(rules, number, &hint, scene);
+        let points = u32::from(hint.points);
+        scene.tell(Part::Number(NumberLine::HintCosts, points, 0));
+        ask(rules, &Question::Take(number), scene);
+    }
+}
+
+/// Gives a hint. A lamp that isn't low then burns for longer.
+#[tactic(auto, unfolding(crate::specs::Hints::give_rows))]
+pub fn give_hint<N: RowNotes>(rules: &Rules<'_>, number: HintNumber, scene: &mut Scene<'_, N>)
+    requires { HasRoom 1 scene.old }
+    ensures rows { Does N.rows (by_table table.HintGiven give_rows ∷ []) 1 rules.now number
+        scene.old scene.new }
+{
+    if let Some(hint) = rules.cave.hint(u16::from(number.number())) {
+        rows! { scene, Table::HintGiven;
+            LOW_CHARGE < scene.state.lamp.charge.turns() => {
+                scene.tell(Part::Message(hint.text));
+                scene.state.take_hint(number);
+                prolong(hint.points, scene.state);
+            };
+            otherwise => {
+                scene.tell(Part::Message(hint.text));
+                scene.state.take_hint(number);
             };
         }
     }

@@ -79,20 +79,24 @@ impl Attack {
     }
 }
 
-/// A knife is thrown, and lies where the player is, unless the game has said that knives vanish.
-#[tactic(auto, unfolding(crate::specs::Knives::thrown_rows))]
-fn throw_knife<N: RowNotes>(
+/// A dwarf moves and then may threaten the player. One that is gone does nothing.
+#[tactic(auto, unfolding(crate::specs::Knives::dwarf_turn))]
+fn take_dwarf_turn<N: RowNotes>(
     rules: &Rules<'_>,
     number: usize,
     attack: Attack,
     scene: &mut Scene<'_, N>,
-)
-    ensures rows { Does N.rows (throw_knife ∷ []) 0 rules.now (raider number attack)
-        scene.old scene.new }
+) -> Attack
+    requires number { number < defined.PIRATE }
+    requires few { IsByUpTo number attack }
+    ensures rows { PlaysBy N.rows dwarf_turn 0 rules.now (raider number attack)
+        scene.old scene.new result }
+    ensures one_more { IsByUpTo (number + 1) result }
 {
-    rows! { scene, Table::KnifeThrown;
-        matches!(scene.state.dwarves.knife, Knife::Vanished) => {};
-        otherwise => { scene.state.dwarves.knife = Knife::At(scene.state.trail.here); };
+    rows! { scene, Table::DwarfTurn;
+        dwarf_of(scene.state, number).place.number() == 0 => {} -> attack;
+        otherwise => { move_dwarf(rules, number, scene); }
+            -> threaten(rules, number, attack, scene);
     }
 }
 
@@ -124,24 +128,20 @@ fn threaten<N: RowNotes>(
     }
 }
 
-/// A dwarf moves and then may threaten the player. One that is gone does nothing.
-#[tactic(auto, unfolding(crate::specs::Knives::dwarf_turn))]
-fn take_dwarf_turn<N: RowNotes>(
+/// A knife is thrown, and lies where the player is, unless the game has said that knives vanish.
+#[tactic(auto, unfolding(crate::specs::Knives::thrown_rows))]
+fn throw_knife<N: RowNotes>(
     rules: &Rules<'_>,
     number: usize,
     attack: Attack,
     scene: &mut Scene<'_, N>,
-) -> Attack
-    requires number { number < defined.PIRATE }
-    requires few { IsByUpTo number attack }
-    ensures rows { PlaysBy N.rows dwarf_turn 0 rules.now (raider number attack)
-        scene.old scene.new result }
-    ensures one_more { IsByUpTo (number + 1) result }
+)
+    ensures rows { Does N.rows (throw_knife ∷ []) 0 rules.now (raider number attack)
+        scene.old scene.new }
 {
-    rows! { scene, Table::DwarfTurn;
-        dwarf_of(scene.state, number).place.number() == 0 => {} -> attack;
-        otherwise => { move_dwarf(rules, number, scene); }
-            -> threaten(rules, number, attack, scene);
+    rows! { scene, Table::KnifeThrown;
+        matches!(scene.state.dwarves.knife, Knife::Vanished) => {};
+        otherwise => { scene.state.dwarves.knife = Knife::At(scene.state.trail.here); };
     }
 }
 

@@ -27,6 +27,18 @@ fn tell_dwarf_lines<N: RowNotes>(rules: &Rules<'_>, attack: Attack, scene: &mut 
     }
 }
 
+/// Dwarves that threw knives for the first time are angrier from then on.
+#[tactic(auto, unfolding(crate::specs::Lines::provoked_rows))]
+fn set_provoked<N: RowNotes>(rules: &Rules<'_>, attack: Attack, scene: &mut Scene<'_, N>)
+    ensures rows { Does N.rows (by_table table.Provoked provoked_rows ∷ []) 0 rules.now
+        attack scene.old scene.new }
+{
+    rows! { scene, Table::Provoked;
+        attack.knives != 0 && scene.state.dwarves.anger.number() == AWAKE
+            => { set_anger(PROVOKED, scene.state); };
+    }
+}
+
 /// Prints the lines about the knives, if any were thrown.
 #[tactic(auto, unfolding(crate::specs::Lines::knife_rows))]
 fn tell_knife_lines<N: RowNotes>(rules: &Rules<'_>, attack: Attack, scene: &mut Scene<'_, N>)
@@ -42,18 +54,6 @@ fn tell_knife_lines<N: RowNotes>(rules: &Rules<'_>, attack: Attack, scene: &mut 
         attack.hits == 0 => tell(thrown), say(Role::MissAll);
         attack.hits == 1 => tell(thrown), say(Role::HitMany);
         otherwise => tell(thrown), tell(Part::Number(NumberLine::KnivesHit, attack.hits, 0));
-    }
-}
-
-/// Dwarves that threw knives for the first time are angrier from then on.
-#[tactic(auto, unfolding(crate::specs::Lines::provoked_rows))]
-fn set_provoked<N: RowNotes>(rules: &Rules<'_>, attack: Attack, scene: &mut Scene<'_, N>)
-    ensures rows { Does N.rows (by_table table.Provoked provoked_rows ∷ []) 0 rules.now
-        attack scene.old scene.new }
-{
-    rows! { scene, Table::Provoked;
-        attack.knives != 0 && scene.state.dwarves.anger.number() == AWAKE
-            => { set_anger(PROVOKED, scene.state); };
     }
 }
 

@@ -22,6 +22,38 @@ use cave_world::{LAMP_ON, PIRATE, RowNotes, State, Table};
 use data_rows::{PlaceRole, Role};
 use turn_scene::{Rules, Scene, has_prop, is_near, is_place, place_named, rows};
 
+/// The pirate moves like a dwarf, and then may be after the player. One that is gone does nothing.
+#[tactic(auto, unfolding(crate::specs::Pirate::after_pirate, crate::specs::Pirate::pirate_turn_rows))]
+pub fn send_pirate<N: RowNotes>(rules: &Rules<'_>, scene: &mut Scene<'_, N>)
+    requires { HasRoom 1 scene.old }
+    ensures scene { scene_of N.rows scene.new
+        ≡ after_pirate (cave_of rules.now) (scene_of N.rows scene.old) }
+    ensures says { GoesOnSaying 1 scene.old scene.new }
+{
+    rows! { scene, Table::PirateTurn;
+        dwarf_of(scene.state, PIRATE).place.number() == 0 => {};
+        otherwise => {
+            move_dwarf(rules, PIRATE, scene);
+            chase(rules, scene);
+        };
+    }
+}
+
+/// The pirate is after a player whom it sees away from its chest, if that hasn't been seen yet.
+#[tactic(auto, unfolding(crate::specs::Pirate::chase_rows))]
+fn chase<N: RowNotes>(rules: &Rules<'_>, scene: &mut Scene<'_, N>)
+    requires { HasRoom 1 scene.old }
+    ensures rows { Does N.rows (by_table table.Chase chase_rows ∷ []) 1 rules.now tt
+        scene.old scene.new }
+{
+    let sees = dwarf_of(scene.state, PIRATE).has_seen;
+    rows! { scene, Table::Chase;
+        sees && is_player_at_chest(rules, scene.state) => {};
+        sees && is_chest_seen(rules, scene.state) => {};
+        sees => { meet_pirate(rules, scene); };
+    }
+}
+
 /// Whether the chest has been seen.
 fn is_chest_seen(rules: &Rules<'_>, state: &State) -> bool
     ensures { let chest = thing (cave_of rules.now) name.Chest in
@@ -88,37 +120,5 @@ fn meet_pirate<N: RowNotes>(rules: &Rules<'_>, scene: &mut Scene<'_, N>)
             send_pirate_home(rules, scene.state);
         };
         is_pirate_new(scene.state) && scene.happens(20) => say(Role::Rustle);
-    }
-}
-
-/// The pirate is after a player whom it sees away from its chest, if that hasn't been seen yet.
-#[tactic(auto, unfolding(crate::specs::Pirate::chase_rows))]
-fn chase<N: RowNotes>(rules: &Rules<'_>, scene: &mut Scene<'_, N>)
-    requires { HasRoom 1 scene.old }
-    ensures rows { Does N.rows (by_table table.Chase chase_rows ∷ []) 1 rules.now tt
-        scene.old scene.new }
-{
-    let sees = dwarf_of(scene.state, PIRATE).has_seen;
-    rows! { scene, Table::Chase;
-        sees && is_player_at_chest(rules, scene.state) => {};
-        sees && is_chest_seen(rules, scene.state) => {};
-        sees => { meet_pirate(rules, scene); };
-    }
-}
-
-/// The pirate moves like a dwarf, and then may be after the player. One that is gone does nothing.
-#[tactic(auto, unfolding(crate::specs::Pirate::after_pirate, crate::specs::Pirate::pirate_turn_rows))]
-pub fn send_pirate<N: RowNotes>(rules: &Rules<'_>, scene: &mut Scene<'_, N>)
-    requires { HasRoom 1 scene.old }
-    ensures scene { scene_of N.rows scene.new
-        ≡ after_pirate (cave_of rules.now) (scene_of N.rows scene.old) }
-    ensures says { GoesOnSaying 1 scene.old scene.new }
-{
-    rows! { scene, Table::PirateTurn;
-        dwarf_of(scene.state, PIRATE).place.number() == 0 => {};
-        otherwise => {
-            move_dwarf(rules, PIRATE, scene);
-            chase(rules, scene);
-        };
     }
 }

@@ -28,6 +28,40 @@ pub const STIRRING: u16 = 1;
 /// How angry dwarves are that have just woken.
 pub const AWAKE: u16 = 2;
 
+/// Keeps the dwarves before the pirate apart from the player, and makes them forget where they came
+/// from.
+fn keep_apart<N: RowNotes>(rules: &Rules<'_>, scene: &mut Scene<'_, N>)
+    ensures scene { scene_of N.rows scene.new
+        ≡ for_each_from 0 defined.PIRATE (after_keeping_one_apart (cave_of rules.now))
+        (scene_of N.rows scene.old) }
+    ensures says { GoesOnSaying 0 scene.old scene.new }
+{
+    for number in 0..PIRATE {
+        keep_one_apart(rules, number, scene);
+    }
+}
+
+/// In the depths, dwarves that stir may wake.
+#[tactic(auto, unfolding(crate::specs::Waking::waking_rows, crate::specs::Waking::wake))]
+pub fn try_waking<N: RowNotes>(rules: &Rules<'_>, scene: &mut Scene<'_, N>)
+    requires { HasRoom 1 scene.old }
+    ensures rows { Does N.rows (by_table table.Waking waking_rows ∷ []) 1 rules.now
+        no_attack scene.old scene.new }
+{
+    rows! { scene, Table::Waking;
+        !is_in_depths(rules, scene.state) => {};
+        scene.happens(95) => {};
+        otherwise => {
+            set_anger(AWAKE, scene.state);
+            let_one_leave(rules, scene);
+            let_one_leave(rules, scene);
+            keep_apart(rules, scene);
+            scene.say(Role::AxeThrown);
+            scene.bring(rules.thing(Named::Axe));
+        };
+    }
+}
+
 /// The dwarves are this angry from now on.
 pub fn set_anger(degree: u16, state: &mut State)
     requires { degree ≤ MAX_ANGER }
@@ -101,39 +135,5 @@ fn keep_one_apart<N: RowNotes>(rules: &Rules<'_>, number: usize, scene: &mut Sce
             put_dwarf_at(number, elsewhere, scene.state);
         };
         otherwise => { put_dwarf_at(number, place, scene.state); };
-    }
-}
-
-/// Keeps the dwarves before the pirate apart from the player, and makes them forget where they came
-/// from.
-fn keep_apart<N: RowNotes>(rules: &Rules<'_>, scene: &mut Scene<'_, N>)
-    ensures scene { scene_of N.rows scene.new
-        ≡ for_each_from 0 defined.PIRATE (after_keeping_one_apart (cave_of rules.now))
-        (scene_of N.rows scene.old) }
-    ensures says { GoesOnSaying 0 scene.old scene.new }
-{
-    for number in 0..PIRATE {
-        keep_one_apart(rules, number, scene);
-    }
-}
-
-/// In the depths, dwarves that stir may wake.
-#[tactic(auto, unfolding(crate::specs::Waking::waking_rows, crate::specs::Waking::wake))]
-pub fn try_waking<N: RowNotes>(rules: &Rules<'_>, scene: &mut Scene<'_, N>)
-    requires { HasRoom 1 scene.old }
-    ensures rows { Does N.rows (by_table table.Waking waking_rows ∷ []) 1 rules.now
-        no_attack scene.old scene.new }
-{
-    rows! { scene, Table::Waking;
-        !is_in_depths(rules, scene.state) => {};
-        scene.happens(95) => {};
-        otherwise => {
-            set_anger(AWAKE, scene.state);
-            let_one_leave(rules, scene);
-            let_one_leave(rules, scene);
-            keep_apart(rules, scene);
-            scene.say(Role::AxeThrown);
-            scene.bring(rules.thing(Named::Axe));
-        };
     }
 }

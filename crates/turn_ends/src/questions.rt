@@ -16,34 +16,6 @@ use cave_world::{HintNumber, NumberLine, Part, Question, RowNotes, State, Table}
 use data_rows::Role;
 use turn_scene::{Rules, Scene, rows};
 
-/// Asks a question, which the next line answers.
-#[tactic(auto, unfolding(crate::specs::Questions::after_ask, crate::specs::Questions::ask_question, cave_world::specs::State::takes_no_command))]
-pub fn ask<N: RowNotes>(rules: &Rules<'_>, question: &Question, scene: &mut Scene<'_, N>)
-    requires { HasRoom parts_of_question scene.old }
-    ensures scene { scene_of N.rows scene.new
-        ≡ after_ask (cave_of rules.now) question.now (scene_of N.rows scene.old) }
-    ensures says { GoesOnSaying parts_of_question scene.old scene.new }
-    ensures over { IsTrue (takes_no_command scene.new.state.now) }
-{
-    begin_asking(rules, question, scene);
-    set_question(question, scene.state);
-}
-
-/// A player who has died is asked whether to come back.
-#[tactic(auto, unfolding(crate::specs::Questions::die_rows))]
-fn tell_die<N: RowNotes>(rules: &Rules<'_>, scene: &mut Scene<'_, N>)
-    requires { HasRoom 1 scene.old }
-    ensures rows { Does N.rows (by_table table.Die die_rows ∷ []) 1
-        rules.now question_is.Die scene.old scene.new }
-{
-    let deaths = scene.state.tallies.deaths.number();
-    rows! { scene, Table::Die;
-        deaths == 0 => say(Role::Die1);
-        deaths == 1 => say(Role::Die2);
-        otherwise => say(Role::Die3);
-    }
-}
-
 fn offer_hint<N: RowNotes>(cave: &Cave, hint: HintNumber, scene: &mut Scene<'_, N>)
     requires { HasRoom 1 scene.old }
     ensures scene { scene_of N.rows scene.new
@@ -106,6 +78,34 @@ fn begin_asking<N: RowNotes>(rules: &Rules<'_>, question: &Question, scene: &mut
             tell_question(rules, question, scene);
         };
         otherwise => { tell_question(rules, question, scene); };
+    }
+}
+
+/// Asks a question, which the next line answers.
+#[tactic(auto, unfolding(crate::specs::Questions::after_ask, crate::specs::Questions::ask_question, cave_world::specs::State::takes_no_command))]
+pub fn ask<N: RowNotes>(rules: &Rules<'_>, question: &Question, scene: &mut Scene<'_, N>)
+    requires { HasRoom parts_of_question scene.old }
+    ensures scene { scene_of N.rows scene.new
+        ≡ after_ask (cave_of rules.now) question.now (scene_of N.rows scene.old) }
+    ensures says { GoesOnSaying parts_of_question scene.old scene.new }
+    ensures over { IsTrue (takes_no_command scene.new.state.now) }
+{
+    begin_asking(rules, question, scene);
+    set_question(question, scene.state);
+}
+
+/// A player who has died is asked whether to come back.
+#[tactic(auto, unfolding(crate::specs::Questions::die_rows))]
+fn tell_die<N: RowNotes>(rules: &Rules<'_>, scene: &mut Scene<'_, N>)
+    requires { HasRoom 1 scene.old }
+    ensures rows { Does N.rows (by_table table.Die die_rows ∷ []) 1
+        rules.now question_is.Die scene.old scene.new }
+{
+    let deaths = scene.state.tallies.deaths.number();
+    rows! { scene, Table::Die;
+        deaths == 0 => say(Role::Die1);
+        deaths == 1 => say(Role::Die2);
+        otherwise => say(Role::Die3);
     }
 }
 

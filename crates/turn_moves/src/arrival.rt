@@ -86,20 +86,6 @@ fn block<N: RowNotes>(rules: &Rules<'_>, place: Place, scene: &mut Scene<'_, N>)
     }
 }
 
-/// The dwarves move, and a player who survives them sees the place.
-#[tactic(auto, unfolding(crate::specs::Arrival::meet, crate::specs::Arrival::hit_rows))]
-fn meet<N: RowNotes>(rules: &Rules<'_>, scene: &mut Scene<'_, N>) -> bool
-    requires { HasRoom (parts_of_dwarves + parts_of_place) scene.old }
-    ensures row { PlaysBy N.rows meet (parts_of_dwarves + parts_of_place) rules.now tt scene.old
-        scene.new result }
-    ensures still { result ≡ false }
-{
-    rows! { scene, Table::Hits, false;
-        encounter_dwarves(rules, scene) => { die_at(rules, scene.state.trail.here, scene); };
-        otherwise => { describe(rules, scene); };
-    }
-}
-
 /// The player comes to a place. Returns whether a forced motion moves the player on from there.
 #[tactic(auto, unfolding(crate::specs::Arrival::come_to, crate::specs::Arrival::place_rows))]
 fn come_to<N: RowNotes>(rules: &Rules<'_>, place: Place, scene: &mut Scene<'_, N>) -> bool
@@ -116,6 +102,20 @@ fn come_to<N: RowNotes>(rules: &Rules<'_>, place: Place, scene: &mut Scene<'_, N
         forced(rules.cave, here) => { tell_place(rules, scene); } -> true;
         has_condition_of(rules, here, PlaceCondition::NoPirate) => { describe(rules, scene); };
         in meet(rules, scene);
+    }
+}
+
+/// The dwarves move, and a player who survives them sees the place.
+#[tactic(auto, unfolding(crate::specs::Arrival::meet, crate::specs::Arrival::hit_rows))]
+fn meet<N: RowNotes>(rules: &Rules<'_>, scene: &mut Scene<'_, N>) -> bool
+    requires { HasRoom (parts_of_dwarves + parts_of_place) scene.old }
+    ensures row { PlaysBy N.rows meet (parts_of_dwarves + parts_of_place) rules.now tt scene.old
+        scene.new result }
+    ensures still { result ≡ false }
+{
+    rows! { scene, Table::Hits, false;
+        encounter_dwarves(rules, scene) => { die_at(rules, scene.state.trail.here, scene); };
+        otherwise => { describe(rules, scene); };
     }
 }
 

@@ -95,6 +95,7 @@ fn demand_toll<N: RowNotes>(rules: &Rules<'_>, scene: &mut Scene<'_, N>)
 }
 
 /// A player whom the troll lets pass is stopped the next time. Returns whether the troll was calm.
+/// The bear is looked for after that: a troll with the bottle's number says what is in the bottle.
 fn pass_troll(rules: &Rules<'_>, state: &mut State) -> bool
     ensures calm { let troll = thing (cave_of rules.now) name.Troll in
         result ≡ has_prop state.old troll defined.TROLL_CALM }

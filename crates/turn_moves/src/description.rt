@@ -14,45 +14,17 @@ use cave_world::{Part, RowNotes, Table, forced};
 use data_rows::{PlaceRole, Role};
 use turn_scene::{Rules, Scene, is_place, place_named, rows};
 
-#[tactic(auto, unfolding(crate::specs::Description::bear_rows))]
-fn tell_bear<N: RowNotes>(rules: &Rules<'_>, scene: &mut Scene<'_, N>)
-    requires { HasRoom 1 scene.old }
-    ensures rows { Does N.rows (by_table table.BearFollows bear_rows ∷ []) 1 rules.now tt scene.old
-        scene.new }
+/// Prints what is seen at the player's place. Returns whether a forced motion moves the player on
+/// from there.
+#[tactic(auto, unfolding(crate::specs::Description::stop_here, crate::specs::Description::stop_rows))]
+pub fn stop_here<N: RowNotes>(rules: &Rules<'_>, scene: &mut Scene<'_, N>) -> bool
+    requires { HasRoom parts_of_place scene.old }
+    ensures row { PlaysBy N.rows stop_here parts_of_place rules.now tt scene.old scene.new result }
+    ensures few_on { IsTrue result → SaysUpTo parts_of_text scene.old scene.new }
 {
-    rows! { scene, Table::BearFollows;
-        scene.state.toting(rules.thing(Named::Bear)) => say(Role::BearFollows);
-    }
-}
-
-/// Prints the text of the player's place, long or short.
-#[tactic(auto, unfolding(crate::specs::Description::text_rows))]
-fn tell_text<N: RowNotes>(rules: &Rules<'_>, scene: &mut Scene<'_, N>)
-    requires { HasRoom 1 scene.old }
-    ensures rows { Does N.rows (by_table table.PlaceText text_rows ∷ []) 1 rules.now tt
-        scene.old scene.new }
-{
-    let here = scene.state.trail.here;
-    let visits = scene.state.visits(here).number();
-    let is_brief = scene.state.talk.is_brief;
-    rows! { scene, Table::PlaceText;
-        is_brief && visits == 0 => tell(Part::Long(here.number()));
-        !is_brief && visits % 5 == 0 => tell(Part::Long(here.number()));
-        rules.cave.short(here.number()).is_none() => tell(Part::Long(here.number()));
-        otherwise => tell(Part::Short(here.number()));
-    }
-}
-
-/// Something hollow may be heard.
-#[tactic(auto, unfolding(crate::specs::Description::hollow_rows))]
-fn tell_hollow<N: RowNotes>(rules: &Rules<'_>, scene: &mut Scene<'_, N>)
-    requires { HasRoom 1 scene.old }
-    ensures rows { Does N.rows (by_table table.Hollow hollow_rows ∷ []) 1 rules.now tt scene.old
-        scene.new }
-{
-    rows! { scene, Table::Hollow;
-        is_place(scene.state.trail.here, place_named(rules.cave, PlaceRole::Y2))
-            && !scene.state.closing.is_closing && scene.happens(25) => say(Role::Hollow);
+    rows! { scene, Table::Stops, false;
+        forced(rules.cave, scene.state.trail.here) => { tell_place(rules, scene); } -> true;
+        otherwise => { describe(rules, scene); };
     }
 }
 
@@ -110,16 +82,44 @@ pub fn describe<N: RowNotes>(rules: &Rules<'_>, scene: &mut Scene<'_, N>)
     }
 }
 
-/// Prints what is seen at the player's place. Returns whether a forced motion moves the player on
-/// from there.
-#[tactic(auto, unfolding(crate::specs::Description::stop_here, crate::specs::Description::stop_rows))]
-pub fn stop_here<N: RowNotes>(rules: &Rules<'_>, scene: &mut Scene<'_, N>) -> bool
-    requires { HasRoom parts_of_place scene.old }
-    ensures row { PlaysBy N.rows stop_here parts_of_place rules.now tt scene.old scene.new result }
-    ensures few_on { IsTrue result → SaysUpTo parts_of_text scene.old scene.new }
+#[tactic(auto, unfolding(crate::specs::Description::bear_rows))]
+fn tell_bear<N: RowNotes>(rules: &Rules<'_>, scene: &mut Scene<'_, N>)
+    requires { HasRoom 1 scene.old }
+    ensures rows { Does N.rows (by_table table.BearFollows bear_rows ∷ []) 1 rules.now tt scene.old
+        scene.new }
 {
-    rows! { scene, Table::Stops, false;
-        forced(rules.cave, scene.state.trail.here) => { tell_place(rules, scene); } -> true;
-        otherwise => { describe(rules, scene); };
+    rows! { scene, Table::BearFollows;
+        scene.state.toting(rules.thing(Named::Bear)) => say(Role::BearFollows);
+    }
+}
+
+/// Prints the text of the player's place, long or short.
+#[tactic(auto, unfolding(crate::specs::Description::text_rows))]
+fn tell_text<N: RowNotes>(rules: &Rules<'_>, scene: &mut Scene<'_, N>)
+    requires { HasRoom 1 scene.old }
+    ensures rows { Does N.rows (by_table table.PlaceText text_rows ∷ []) 1 rules.now tt
+        scene.old scene.new }
+{
+    let here = scene.state.trail.here;
+    let visits = scene.state.visits(here).number();
+    let is_brief = scene.state.talk.is_brief;
+    rows! { scene, Table::PlaceText;
+        is_brief && visits == 0 => tell(Part::Long(here.number()));
+        !is_brief && visits % 5 == 0 => tell(Part::Long(here.number()));
+        rules.cave.short(here.number()).is_none() => tell(Part::Long(here.number()));
+        otherwise => tell(Part::Short(here.number()));
+    }
+}
+
+/// Something hollow may be heard.
+#[tactic(auto, unfolding(crate::specs::Description::hollow_rows))]
+fn tell_hollow<N: RowNotes>(rules: &Rules<'_>, scene: &mut Scene<'_, N>)
+    requires { HasRoom 1 scene.old }
+    ensures rows { Does N.rows (by_table table.Hollow hollow_rows ∷ []) 1 rules.now tt scene.old
+        scene.new }
+{
+    rows! { scene, Table::Hollow;
+        is_place(scene.state.trail.here, place_named(rules.cave, PlaceRole::Y2))
+            && !scene.state.closing.is_closing && scene.happens(25) => say(Role::Hollow);
     }
 }

@@ -12,7 +12,6 @@ ghost use Rattle.turn_moves.specs.Journeys.{parts_of_own_motion, journey_by_requ
 use crate::back::go_back;
 use crate::bridge::cross_bridge;
 use crate::squeeze::squeeze_through;
-use crate::ways::stay;
 use cave_words::Named;
 use cave_world::{MAX_DETAILS, Motion, Outcome, Part, RowNotes, Table, note_travel};
 use data_rows::{Role, Special};
@@ -133,7 +132,10 @@ fn journey_of_outcome<N: RowNotes>(
             refuse(rules, motion, scene);
             scene.state.trail.here
         }
-        Outcome::NoWay => stay(scene, Role::NoWay),
+        Outcome::NoWay => {
+            scene.say(Role::NoWay);
+            scene.state.trail.here
+        }
     }
 }
 

@@ -19,6 +19,43 @@ use world_objects::{Half, Object};
 /// unseen ones.
 const SHORT_LAMP: i32 = 35;
 
+/// Describes an object, which is then found if it wasn't seen before.
+#[tactic(auto, unfolding(crate::specs::Objects::after_object, crate::specs::Objects::object_rows))]
+fn tell_object<N: RowNotes>(rules: &Rules<'_>, object: Object, scene: &mut Scene<'_, N>)
+    requires { HasRoom 1 scene.old }
+    ensures scene { scene_of N.rows scene.new
+        ≡ after_object (cave_of rules.now) object (scene_of N.rows scene.old) }
+    ensures says { GoesOnSaying 1 scene.old scene.new }
+{
+    rows! { scene, Table::ObjectHere;
+        object == rules.thing(Named::Steps) && scene.state.toting(rules.thing(Named::Gold)) => {};
+        let is_unseen = scene.state.objects.prop(object).value() < 0;
+        is_unseen && scene.state.closing.is_closed => {};
+        is_unseen && (object == rules.thing(Named::Rug) || object == rules.thing(Named::Chain))
+            => { find_treasure(rules, object, SEEN_FASTENED, scene); };
+        is_unseen => { find_treasure(rules, object, SEEN, scene); };
+        otherwise => { tell_object_text(rules, object, scene); };
+    }
+}
+
+/// A treasure is seen for the first time.
+#[tactic(auto, unfolding(crate::specs::Objects::find_treasure, crate::specs::Objects::last_treasure_rows))]
+fn find_treasure<N: RowNotes>(rules: &Rules<'_>, object: Object, prop: i8, scene: &mut Scene<'_, N>)
+    requires low { LOWEST_PROP ≤ℤ prop }
+    requires high { prop ≤ℤ HIGHEST_PROP }
+    requires room { HasRoom 1 scene.old }
+    ensures does { Does N.rows (find_treasure prop) 1 rules.now object scene.old scene.new }
+{
+    scene.set_prop(object, prop);
+    scene.state.tallies.unseen = scene.state.tallies.unseen.down();
+    let unseen = scene.state.tallies.unseen.number();
+    rows! { scene, Table::LastTreasure;
+        unseen == scene.state.tallies.lost.number() && unseen != 0
+            => { shorten_lamp(scene.state); };
+    }
+    tell_object_text(rules, object, scene);
+}
+
 /// The lamp doesn't burn for long any more.
 fn shorten_lamp(state: &mut State)
     ensures { state.new ≡ with_short_lamp state.old }
@@ -49,43 +86,6 @@ fn tell_object_text<N: RowNotes>(rules: &Rules<'_>, object: Object, scene: &mut 
             => tell(Part::Object(object, STEPS_FROM_ABOVE));
         let prop = scene.state.objects.prop(object).value();
         otherwise => tell(Part::Object(object, prop));
-    }
-}
-
-/// A treasure is seen for the first time.
-#[tactic(auto, unfolding(crate::specs::Objects::find_treasure, crate::specs::Objects::last_treasure_rows))]
-fn find_treasure<N: RowNotes>(rules: &Rules<'_>, object: Object, prop: i8, scene: &mut Scene<'_, N>)
-    requires low { LOWEST_PROP ≤ℤ prop }
-    requires high { prop ≤ℤ HIGHEST_PROP }
-    requires room { HasRoom 1 scene.old }
-    ensures does { Does N.rows (find_treasure prop) 1 rules.now object scene.old scene.new }
-{
-    scene.set_prop(object, prop);
-    scene.state.tallies.unseen = scene.state.tallies.unseen.down();
-    let unseen = scene.state.tallies.unseen.number();
-    rows! { scene, Table::LastTreasure;
-        unseen == scene.state.tallies.lost.number() && unseen != 0
-            => { shorten_lamp(scene.state); };
-    }
-    tell_object_text(rules, object, scene);
-}
-
-/// Describes an object, which is then found if it wasn't seen before.
-#[tactic(auto, unfolding(crate::specs::Objects::after_object, crate::specs::Objects::object_rows))]
-fn tell_object<N: RowNotes>(rules: &Rules<'_>, object: Object, scene: &mut Scene<'_, N>)
-    requires { HasRoom 1 scene.old }
-    ensures scene { scene_of N.rows scene.new
-        ≡ after_object (cave_of rules.now) object (scene_of N.rows scene.old) }
-    ensures says { GoesOnSaying 1 scene.old scene.new }
-{
-    rows! { scene, Table::ObjectHere;
-        object == rules.thing(Named::Steps) && scene.state.toting(rules.thing(Named::Gold)) => {};
-        let is_unseen = scene.state.objects.prop(object).value() < 0;
-        is_unseen && scene.state.closing.is_closed => {};
-        is_unseen && (object == rules.thing(Named::Rug) || object == rules.thing(Named::Chain))
-            => { find_treasure(rules, object, SEEN_FASTENED, scene); };
-        is_unseen => { find_treasure(rules, object, SEEN, scene); };
-        otherwise => { tell_object_text(rules, object, scene); };
     }
 }
 

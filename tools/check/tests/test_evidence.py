@@ -3,7 +3,7 @@ or whose row says that they failed, if the page doesn't name them; and which row
 
 from small import Files, edited, tests_of  # first: it finds the scripts
 
-PAGE, MEASURED, OF_CRATES = "docs/PROVED.md", "docs/MEASURED.md", "tools/soak/of-crates"
+PAGE, MEASURED = "docs/PROVED.md", "docs/MEASURED.md"
 PARTS, BUGS = "tools/soak/parts", "model/check-duel"
 HEADS = "| Part | Counted | Minutes | Day |\n|---|---|---|---|\n"
 ROW = "| `%s` | %s | 0.1 | 29 November 2026 |\n"
@@ -11,9 +11,9 @@ TRIED: Files = {
     PARTS: "LOGS: a\nPLANTED LONGER: oil\nPLANTED: wax\nloops: true\nlamps: echo 2 lamps lit\n"
     "planted: true\nduel: true --count 20 --databases 100\n",
     "tools/soak/loops/oil/burns.edit": "", BUGS: "BUGS, DIRECTED = ['short'], ['long']\n",
-    OF_CRATES: HEADS + ROW % ("plant oil", "8 refused") + ROW % ("plant wax", "7 refused")
-    + ROW % ("loops oil", "1 wrong bodies"),
-    MEASURED: f"# It\n\n## What takes longer\n\n{HEADS}" + ROW % ("lamps", "2 lamps lit")
+    MEASURED: f"# It\n\n## What takes longer\n\n{HEADS}" + ROW % ("plant oil", "8 refused")
+    + ROW % ("plant wax", "7 refused") + ROW % ("loops oil", "1 wrong bodies")
+    + ROW % ("lamps", "2 lamps lit")
     + ROW % ("planted", "3 tried, 0 failed")
     + ROW % ("duel", "20 games, 0 differ; 1,000 databases"),
     PAGE: "It is so. **Without a row** is nothing. All else has one.\n",
@@ -28,7 +28,7 @@ Evidence = tests_of("tools/check/run evidence", edited(TRIED, [
     (MEASURED, "`lamps`", "`soot`", "no row in which `lamps` passed on all"),
     (MEASURED, "1,000 databases", "99 databases", "no row in which `duel` passed on all"),
     (BUGS, "['short']", "['short', 'dim']", "no row in which `planted` passed on all"),
-    (OF_CRATES, "1 wrong", "0 wrong", "no row in which `loops oil` passed on all"),
+    (MEASURED, "1 wrong", "0 wrong", "no row in which `loops oil` passed on all"),
     (PARTS, "PLANTED: wax", "PLANTED: soot wick",
      "no row in which `plant soot` passed on all that it tries now, and 1 more of plant"),
 ]))
@@ -41,6 +41,3 @@ Named = tests_of("tools/check/run evidence", edited(NAMED, [
 # A part that counts nothing shows what it said: here the row of the part before it.
 Kept = tests_of("tools/soak/soak lamps shown", edited(TRIED, [
     (PARTS, "planted: true", f"shown: tail -n 4 {MEASURED}", "| `lamps` | 2 lamps lit | 0.0 |")]))
-Sums = tests_of("tools/soak/soak lamps shown", edited(TRIED, [
-    (PARTS, "planted: true", f"shown: tail -n 5 {MEASURED}",
-     "| `loops`, 1 crates | 1 wrong bodies | 0 |")]))

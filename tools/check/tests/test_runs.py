@@ -17,7 +17,7 @@ CAVE: Files = {"caves/a.txt": "1\nno number\n", "logs/first.log": "no\n"}
 EDIT = "# run: edit caves/a.txt logs/first.log logs/first.script\n"
 EDITED: Files = {"logs/first.script": "delete 0\n", "logs/edit.log": EDIT, "logs/edit.out": ""}
 
-Silent = tests_of("tools/check/prefixes --lines /bin/true", [
+Silent = tests_of("tools/check/prefixes /bin/true", [
     ("a program that says nothing", CAVE, "a.txt cut after 0 bytes: status 0, ''"),
     ("no cave", {}, "0 runs on cut inputs"),
 ])

@@ -9,7 +9,10 @@ from functools import cached_property
 from io import StringIO
 from itertools import takewhile
 from shlex import split
-from typing import Iterator, Protocol
+from typing import TYPE_CHECKING, Iterator
+
+if TYPE_CHECKING:
+    from .suites import Suite
 
 KINDS = (".log", ".out", ".script")
 KEYS = [*"cave run status stdin stdout copies mode link disk folder xfail".split(), "no run"]
@@ -24,20 +27,6 @@ FORMS = {"status": (r"\d+", "a number"), "stdin": (r"\S+", "a file"), "stdout": 
          "disk": (r"\d+", "a number"), "folder": ("read-only", "`read-only`")}
 OUTPUT = re.compile("(?:--output|-q*o)(?:=?(.+))?")  # a word, which may have the file in it
 DEVICES = ("/dev/null", "/dev/full")  # what is written there changes nothing
-
-
-class Place(Protocol):
-    """What a log asks of its suite."""
-
-    top: str
-    base: str
-
-    @property
-    def files(self) -> set[str]:
-        """The files of its logs, and those that their heads name."""
-
-    def is_named(self, path: str) -> bool:
-        """Whether the head of some log names a file, by its path from the top."""
 
 
 def lines_of(text: bytes) -> list[str]:
@@ -76,7 +65,7 @@ def content(path: str) -> bytes:
 class Log:
     """A log by its path without a kind."""
 
-    def __init__(self, suite: Place, stem: str) -> None:
+    def __init__(self, suite: Suite, stem: str) -> None:
         self.suite, self.stem = suite, stem
 
     @cached_property

@@ -9,12 +9,15 @@ import sys
 import time
 from dataclasses import dataclass
 from html import escape
-from typing import Iterable, Sequence
+from typing import TYPE_CHECKING, Iterable, Sequence
 
 from common import outputs
 
 from .hunks import Hunk
-from .logs import KINDS, Log, Place, content
+from .logs import KINDS, Log, content
+
+if TYPE_CHECKING:
+    from .suites import Suite
 
 MOST = 20  # lines that are shown of a hunk
 JUNIT = re.compile(rb"\s*(<\?xml[^>]*>\s*)?<testsuites?[\s/>]")  # how a file for a CI begins
@@ -171,7 +174,7 @@ def junit(results: Sequence[Result], sums: Sums, is_all: bool) -> str:
     return NO_XML.sub(lambda it: f"\\x{ord(it[0]) & 0xff:02x}", text)
 
 
-def fault_of_junit(path: str, suites: Iterable[Place]) -> str | None:
+def fault_of_junit(path: str, suites: Iterable[Suite]) -> str | None:
     """Why a file can't become one for a CI, or None: what is there has to be one, or empty."""
     is_of_suite = os.path.isfile(path) and any(
         os.path.samefile(path, it) for suite in suites for it in suite.files)

@@ -19,9 +19,9 @@ complete -c cave -n "__cave '' '' 0 0" -a map -d 'Prints the cave as a graph for
 complete -c cave -n "__cave '' '' 0 0" -a help -d 'Print this message or the help of the given subcommand(s)'
 complete -c cave -n "__cave '' '' 1 99; and test -z (commandline -ct)" -a '(complete --do-complete (commandline -cp)-)'
 complete -c cave -n "__cave 'check' 'bind' 0 99" -l bind -s b -rF -d 'The bindings'
-complete -c cave -n "__cave 'check' 'print' 0 99" -l print -s p -xa 'maximum bindings names unused words doubts' -d 'What to print'
+complete -c cave -n "__cave 'check' 'print' 0 99" -l print -s p -xa 'maximum bindings names unused words doubts known' -d 'What to print'
 complete -c cave -n "__cave 'check' 'strict' 0 99" -l strict  -d 'Prints `doubts`, and ends with status 1 if one is left'
-complete -c cave -n "__cave 'check' 'known' 0 99" -l known -rF -d 'Prints `doubts` without those in this file, which has lines of that list without their line numbers'
+complete -c cave -n "__cave 'check' 'known' 0 99" -l known -rF -d 'Prints `doubts` without those in this file, which --print known makes'
 complete -c cave -n "__cave 'check' 'output' 0 99" -l output -s o -rF -d 'Writes the output into this file, whole or not at all, instead of standard output. Of the files that are read, it may be only one of the same kind as the output'
 complete -c cave -n "__cave 'check' 'help' 0 99" -l help -s h  -d 'Print help'
 complete -c cave -n "__cave 'check' '' 0 0" -F
@@ -56,9 +56,9 @@ complete -c cave -n "__cave 'script' '' 0 1" -F
 complete -c cave -n "__cave 'script' '' 2 99; and test -z (commandline -ct)" -a '(complete --do-complete (commandline -cp)-)'
 complete -c cave -n "__cave 'cover' 'bind' 0 99" -l bind -s b -rF -d 'The bindings'
 complete -c cave -n "__cave 'cover' 'seed' 0 99" -l seed -s s -xa '' -d 'The seed of the random numbers, from 0 to 2147483647'
-complete -c cave -n "__cave 'cover' 'print' 0 99" -l print -s p -xa 'counts texts rules' -d 'What to print'
+complete -c cave -n "__cave 'cover' 'print' 0 99" -l print -s p -xa 'counts texts rules known' -d 'What to print'
 complete -c cave -n "__cave 'cover' 'strict' 0 99" -l strict  -d 'Prints `texts`, unless --print is given, and ends with status 1 if anything is left that no log shows'
-complete -c cave -n "__cave 'cover' 'known' 0 99" -l known -rF -d 'Prints `texts`, unless --print is given, without what this file lists as never shown'
+complete -c cave -n "__cave 'cover' 'known' 0 99" -l known -rF -d 'Prints `texts`, unless --print is given, without what this file lists as never shown; --print known makes it'
 complete -c cave -n "__cave 'cover' 'output' 0 99" -l output -s o -rF -d 'Writes the output into this file, whole or not at all, instead of standard output. Of the files that are read, it may be only one of the same kind as the output'
 complete -c cave -n "__cave 'cover' 'help' 0 99" -l help -s h  -d 'Print help'
 complete -c cave -n "__cave 'cover' '' 0 98" -F

@@ -4,45 +4,35 @@ from __future__ import annotations
 
 import argparse
 import os
-import shutil
 import signal
 import sys
 import threading
 import time
 import webbrowser
-from collections.abc import Callable
 from queue import SimpleQueue
 from types import FrameType
 
-from cave_walk.steps import NO_PROGRAM
-from common import outputs
+from cave_walk import drawing
+from cave_walk.page import program_of
+from cave_walk.steps import Stop, demand_output
+from common import command_line
 
 from . import words
 from .answers import Server
 from .held import Log
-from .page import Drawn, foot_of, page_of
+from .page import foot_of, page_of
 from .plays import Game
 from .program import Given, Program, Refused
 from .saving import Home
 from .site import Site
 
-MISUSED, UNWRITTEN = 2, 6
+UNWRITTEN = 6  # the status
 ENDS = (signal.SIGINT, signal.SIGTERM, signal.SIGHUP)
-Draw = Callable[[str], Drawn]
 
 
-class Stop(Exception):
-    """The end of a run: what is said on standard error, and its status."""
-
-    def __init__(self, message: str, status: int) -> None:
-        super().__init__(message)
-        self.message, self.status = message, status
-
-
-def asked(about: str, arguments: list[str] | None = None) -> argparse.Namespace:
+def asked() -> argparse.Namespace:
     """What the command line says."""
-    asks = argparse.ArgumentParser(
-        description=about, formatter_class=argparse.RawDescriptionHelpFormatter)
+    asks = command_line.parser()
     asks.add_argument("cave", metavar="CAVE")
     asks.add_argument("log", metavar="LOG")
     asks.add_argument("--bind", metavar="FILE")
@@ -51,28 +41,13 @@ def asked(about: str, arguments: list[str] | None = None) -> argparse.Namespace:
     asks.add_argument("--output", metavar="LOG2")
     asks.add_argument("--program", metavar="FILE")
     asks.add_argument("--no-browser", action="store_true")
-    return asks.parse_args(arguments)
+    return asks.parse_args()
 
 
 def port(text: str) -> int:
     if not text.isdecimal() or len(text) > 5 or int(text) > 65_535:
         raise argparse.ArgumentTypeError("a port is a number up to 65535")
     return int(text)
-
-
-def program_of(named: str | None, built: str) -> str:
-    """The program that is run."""
-    found = named or (built if os.access(built, os.X_OK) else "cave")
-    path = shutil.which(found)
-    if not path:
-        raise Stop(NO_PROGRAM.format(found), MISUSED)
-    return path
-
-
-def demand_home(said: argparse.Namespace) -> None:
-    """Stops a run that would save the log over something else that it reads."""
-    if wrong := outputs.fault(said.output or said.log, (said.cave, said.bind, said.program)):
-        raise Stop(wrong, MISUSED)
 
 
 def given(path: str) -> Given:
@@ -86,7 +61,7 @@ def given(path: str) -> Given:
         raise Stop(f"{path}: the file can't be opened: {error.strerror}", 5) from None
 
 
-def site_of(said: argparse.Namespace, program: Program, draw: Draw) -> Site:
+def site_of(said: argparse.Namespace, program: Program) -> Site:
     """What is served: the log, played, with the map of its cave, which is drawn once."""
     cave, bind = given(said.cave), given(said.bind) if said.bind else None
     game = Game(program, cave, bind)
@@ -100,7 +75,8 @@ def site_of(said: argparse.Namespace, program: Program, draw: Draw) -> Site:
         "words": known, "rules": words.OF_RULES,
         "letters": words.letters_of(game.checked("bindings")),
         "motions": words.motions_of(graph, known)}
-    drawn = draw(graph)
+    command_line.demand("dot")
+    drawn = drawing.of(graph)
     bindings = os.path.basename(said.bind) if said.bind else "none"
     foot = foot_of(
         ("Played in", os.path.basename(said.cave)), ("with the bindings", bindings),
@@ -142,10 +118,9 @@ def keep(site: Site) -> None:
             raise Stop("the changes can't be kept", UNWRITTEN) from None
 
 
-def main(about: str, built: str, draw: Draw) -> int:
-    """Runs the tool: `about` is its help, `built` the program of the repository."""
-    said = asked(about)
-    ending = SimpleQueue[None]()
+def main() -> int:
+    """Runs the tool; a Stop ends it, too."""
+    said, ending = asked(), SimpleQueue[None]()
 
     def end(_: int, __: FrameType | None) -> None:
         ending.put(None)
@@ -153,15 +128,12 @@ def main(about: str, built: str, draw: Draw) -> int:
     for it in ENDS:
         signal.signal(it, end)
     try:
-        demand_home(said)
-        site = site_of(said, Program(program_of(said.program, built)), draw)
+        demand_output(said.output or said.log, said.cave, said.bind, said.program)
+        site = site_of(said, Program(program_of(said.program)))
         site.ending = ending
         serve(site, said.port, not said.no_browser)
         keep(site)
     except Refused as refused:
         print(refused.message, file=sys.stderr)
         return refused.status
-    except Stop as stop:
-        print(f"{os.path.basename(sys.argv[0])}: {stop.message}", file=sys.stderr)
-        return stop.status
     return 0

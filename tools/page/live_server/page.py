@@ -3,20 +3,12 @@
 from __future__ import annotations
 
 import html
-from dataclasses import dataclass
 
+from cave_walk.drawing import Drawing
 from cave_walk.filled import WALK, page_of as filled_page, part
 
 LIVE = ["held.js", "told.js", "wire.js", "words.js", "editor.js", "chosen.js", "near.js",
         "changes.js", "file.js", "live.js"]
-
-
-@dataclass(frozen=True)
-class Drawn:
-    """A map as it is laid out: the drawing, and the titles of its places."""
-
-    svg: str
-    titles: dict[str, str]
 
 
 def walk_to_fill(name: str) -> dict[str, object]:
@@ -28,7 +20,7 @@ def walk_to_fill(name: str) -> dict[str, object]:
                "moved": []})
 
 
-def data_of(name: str, drawn: Drawn, live: dict[str, object]) -> dict[str, object]:
+def data_of(name: str, drawn: Drawing, live: dict[str, object]) -> dict[str, object]:
     """What the page begins with."""
     return {"walks": [walk_to_fill(name)], "lines": [], "texts": [[]], "places": drawn.titles,
             "opening": {"to": 0, "score": 0, "lamp": 0, "moved": []}, "parting": None, "live": live}
@@ -39,7 +31,7 @@ def foot_of(*named: tuple[str, str]) -> str:
     return ", ".join(f"{what} <b>{html.escape(name)}</b>" for what, name in named) + "."
 
 
-def page_of(name: str, foot: str, drawn: Drawn, live: dict[str, object]) -> bytes:
+def page_of(name: str, foot: str, drawn: Drawing, live: dict[str, object]) -> bytes:
     """The page, which calls its own server."""
     style = part("walk_page", "page.css") + part("live_page", "live.css")
     script = "\n".join([*(part("walk_page", it) for it in WALK),

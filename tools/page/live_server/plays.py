@@ -2,7 +2,6 @@
 
 from __future__ import annotations
 
-import itertools
 import time
 from collections.abc import Sequence
 from concurrent.futures import ThreadPoolExecutor
@@ -122,14 +121,6 @@ def patch_of(old: Held, new: Held, report: Report) -> Patch:
     opening = None if new.walk[0] == old.walk[0] else new.walk[0]
     return Patch(report.start, until, old_until, turns, new.walk[1 + report.start:1 + until],
                  others, opening)
-
-
-def patch_between(old: Held, new: Held) -> Patch:
-    """What differs between two walks, if no report says it: all except equal ends."""
-    pairs = zip(old.walk[1:], new.walk[1:])
-    start = sum(1 for _ in itertools.takewhile(lambda it: it[0] == it[1], pairs))
-    opening = None if new.walk[0] == old.walk[0] else new.walk[0]
-    return Patch(start, new.count, old.count, 0, new.walk[1 + start:], [], opening)
 
 
 def otherwise(old: list[str], new: list[str]) -> tuple[list[str], list[str]]:

@@ -8,9 +8,7 @@
 from __future__ import annotations
 
 import os
-import select
 import subprocess
-from types import TracebackType
 
 SECONDS = 120  # that a run may take
 LOST = 127
@@ -40,72 +38,14 @@ class Given:
     def content(self) -> bytes:
         return os.pread(self.number, os.fstat(self.number).st_size, 0)
 
-    def close(self) -> None:
-        os.close(self.number)
-
     def __enter__(self) -> Given:
         return self
 
-    def __exit__(self, kind: type[BaseException] | None, wrong: BaseException | None,
-                 trace: TracebackType | None) -> None:
-        self.close()
+    def __exit__(self, *_: object) -> None:
+        os.close(self.number)
 
 
 Word = str | Given
-
-
-class Run:
-    """A run that has been started."""
-
-    def __init__(self, program: str, words: tuple[Word, ...]) -> None:
-        self.given = [it for it in words if isinstance(it, Given)]
-        self.out, self.wrong = Given("out"), Given("wrong")
-        command = [program, *(it if isinstance(it, str) else it.path for it in words)]
-        try:
-            # A session of its own, so that Ctrl-C on the terminal ends only the server.
-            self.process = subprocess.Popen(
-                command, stdin=subprocess.DEVNULL, stdout=self.out.number, stderr=self.wrong.number,
-                pass_fds=[it.number for it in self.given], start_new_session=True)
-        except OSError as error:
-            self.close()
-            raise Refused(f"{program} can't be run: {error.strerror}", LOST) from None
-
-    def said(self) -> bytes:
-        """What the run printed, once it has ended."""
-        try:
-            if not self.has_ended():
-                raise Refused(f"the program takes longer than {SECONDS} seconds", LOST)
-            status = self.process.wait()
-            if status:
-                raise Refused(self.told(), status)
-            return self.out.content()
-        finally:
-            self.close()
-
-    def has_ended(self) -> bool:
-        """Waits until the run has ended, and says whether it has. `Popen.wait` with a limit only looks
-        now and then, and so would take up to 50 milliseconds more."""
-        ending = os.pidfd_open(self.process.pid)
-        try:
-            waiting = select.poll()
-            waiting.register(ending, select.POLLIN)
-            return bool(waiting.poll(SECONDS * 1_000))
-        finally:
-            os.close(ending)
-
-    def told(self) -> str:
-        """What the run said on standard error, with the names of what was handed over."""
-        message = self.wrong.content().decode(errors="replace").rstrip("\n")
-        for it in sorted(self.given, key=lambda it: it.number, reverse=True):
-            message = message.replace(it.path, it.name)
-        return message or f"the program ended with status {self.process.returncode}"
-
-    def close(self) -> None:
-        if hasattr(self, "process") and self.process.poll() is None:
-            self.process.kill()
-            self.process.wait()
-        self.out.close()
-        self.wrong.close()
 
 
 class Program:
@@ -116,4 +56,21 @@ class Program:
 
     def said(self, *words: Word) -> bytes:
         """What a run prints; Refused if it fails."""
-        return Run(self.path, words).said()
+        given = [it for it in words if isinstance(it, Given)]
+        command = [self.path, *(it if isinstance(it, str) else it.path for it in words)]
+        try:
+            # A session of its own, so that Ctrl-C on the terminal ends only the server.
+            ran = subprocess.run(command, stdin=subprocess.DEVNULL, capture_output=True,
+                                 timeout=SECONDS, start_new_session=True,
+                                 pass_fds=[it.number for it in given])
+        except OSError as error:
+            raise Refused(f"{self.path} can't be run: {error.strerror}", LOST) from None
+        except subprocess.TimeoutExpired:
+            raise Refused(f"the program takes longer than {SECONDS} seconds", LOST) from None
+        if ran.returncode:
+            message = ran.stderr.decode(errors="replace").rstrip("\n")
+            for it in sorted(given, key=lambda it: it.number, reverse=True):
+                message = message.replace(it.path, it.name)
+            told = message or f"the program ended with status {ran.returncode}"
+            raise Refused(told, ran.returncode)
+        return ran.stdout

@@ -40,6 +40,14 @@ def number_of(said: dict[str, object], name: str) -> int:
     return number
 
 
+def news_after(asked: dict[str, str]) -> int:
+    """The last event that a page knows."""
+    known = asked.get("after", "")
+    if not known.isdecimal() or len(known) > 9:
+        raise Malformed("after is a number")
+    return int(known)
+
+
 @dataclass
 class Site:
     """What a server answers. Its calls may come at once: each waits for the log."""
@@ -54,42 +62,25 @@ class Site:
 
     def get(self, name: str, asked: dict[str, str]) -> Answer | None:
         """What is found by a name; None if nothing is."""
-        found = {"": self.get_page, "walk": self.get_walk, "news": self.get_news,
-                 "log": self.get_log, "script": self.get_script, "undo": self.get_undo,
-                 "change": self.get_change}.get(name)
-        return found(asked) if found else None
-
-    def get_page(self, _: dict[str, str]) -> Answer:
-        return Answer(self.page(), "text/html; charset=utf-8")
-
-    def get_walk(self, _: dict[str, str]) -> Answer:
-        with self.log.lock:
-            return Answer(self.log.whole())
-
-    def get_news(self, asked: dict[str, str]) -> Answer:
-        known = asked.get("after", "")
-        if not known.isdecimal() or len(known) > 9:
-            raise Malformed("after is a number")
-        with self.log.lock:
-            return Answer(self.log.after(int(known), SECONDS))
-
-    def get_log(self, _: dict[str, str]) -> Answer:
-        with self.log.lock:
-            return Answer(self.log.held.log, TEXT, file=self.home.name)
-
-    def get_script(self, _: dict[str, str]) -> Answer:
-        with self.log.lock:
-            return Answer(self.log.script(), TEXT, file=f"{self.home.name}.script")
-
-    def get_undo(self, _: dict[str, str]) -> Answer:
-        with self.log.lock:
-            return Answer(self.log.undo_script(), TEXT, file=f"{self.home.name}.undo")
-
-    def get_change(self, asked: dict[str, str]) -> Answer | None:
-        number = asked.get("number", "")
-        with self.log.lock:
-            script = self.log.script_of_change(int(number)) if number.isdecimal() else None
-        return None if script is None else Answer(script, TEXT)
+        if name == "":
+            return Answer(self.page(), "text/html; charset=utf-8")
+        log, file = self.log, self.home.name
+        with log.lock:
+            match name:
+                case "walk":
+                    return Answer(log.whole())
+                case "news":
+                    return Answer(log.after(news_after(asked), SECONDS))
+                case "log":
+                    return Answer(log.held.log, TEXT, file=file)
+                case "script":
+                    return Answer(log.script(), TEXT, file=f"{file}.script")
+                case "undo":
+                    return Answer(log.undo_script(), TEXT, file=f"{file}.undo")
+                case "change" if asked.get("number", "").isdecimal():
+                    script = log.script_of_change(int(asked["number"]))
+                    return None if script is None else Answer(script, TEXT)
+        return None
 
     # ---- what changes something
 

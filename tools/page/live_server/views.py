@@ -7,7 +7,7 @@ from dataclasses import dataclass
 
 REPORT = re.compile(
     r"^line \d+: ok, from (?P<start>\d+), met (?P<met>\d+|none), played (?P<played>\d+) of"
-    r" (?P<count>\d+), score (?P<score>-?\d+) of (?P<most>\d+), turns (?P<turns>\d+), at \d+"
+    r" \d+, score (?P<score>-?\d+) of (?P<most>\d+), turns \d+, at \d+"
     r"(?:, ended: (?P<ended>[a-z ]+))?", re.MULTILINE)
 TURNS, TURNS_KEY = re.compile(rb',"turns":(\d+),'), b',"turns":'
 DIGITS = b"0123456789"
@@ -25,10 +25,8 @@ class Report:
     start: int
     met: int | None
     played: int
-    count: int
     score: int
     most: int
-    turns: int
     ended: str
 
 
@@ -38,8 +36,7 @@ def report_of(said: bytes) -> Report:
     found = REPORT.search(text)
     if not found:
         raise Unread(f"no report: {text[:200]}")
-    numbers = {name: int(found[name])
-               for name in ("start", "played", "count", "score", "most", "turns")}
+    numbers = {name: int(found[name]) for name in ("start", "played", "score", "most")}
     met = None if found["met"] == "none" else int(found["met"])
     return Report(line=text[found.start():].partition("\n")[0], met=met,
                   ended=found["ended"] or "", **numbers)

@@ -100,7 +100,7 @@ returns g c =
         (
           decided,
           AreLeftIn-read c.args.files.now database bindings known _ c.in_ok-read.read
-              c.in_ok-found.found read.1 (c.deref.ensures.value ∙ is.0) c.in_ok-found.ensures.left,
+              c.in_ok-found.found read.1 is.0 c.in_ok-found.ensures.left,
         ),
       );
       leads = goes_on g.I.Sources.Reads _ _ _ c.in_ok-read.ensures.leads

@@ -1,5 +1,6 @@
 use Rattle.std.proofs.lemmas.Result.{err_from_is_err_and}
 use Rattle.cave_play.specs.Stages.{cave_stages}
+use Rattle.cave_play.proofs.DoubtLemmas.{IsChecked-read}
 use Rattle.cave_play.proofs.SourceLemmas.{AreHeld-by, texts_by}
 use Rattle.cave_play.proofs.StageLemmas.{Judges-made}
 use Rattle.cave_play.proofs.run.make_check.Goals as goal
@@ -29,7 +30,8 @@ returns g c =
         texts_by Script held database bindings,
         AreHeld-by Script held database bindings one two,
         Judges-made (cave_stages database bindings) _ _ _ read.0
-            (λ text told. (c.in_ok-read.read.cave, read.1.reads, told))
+            (λ text told. IsChecked-read c.args.view database bindings text.items c.in_ok-read.read
+            read.1 told)
             c.check_text-made.ensures.told,
       );
       leads = c.in_ok-read.ensures.leads;

@@ -1,7 +1,7 @@
 use Rattle.std.proofs.Common.{length, ◌∙◌}
 use Rattle.std.specs.List.{filter}
 use Rattle.play_cover.specs.Coverage.{covered}
-use Rattle.play_cover.specs.Marks.{is_marked, mark}
+use Rattle.check_tables.specs.Marks.{is_marked, mark}
 use Rattle.play_cover.proofs.coverage.find.Goals as goal
 
 pub returns-clause-covered : goal.returns-clause-covered

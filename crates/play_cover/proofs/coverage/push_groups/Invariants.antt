@@ -1,7 +1,7 @@
 use Rattle.std.proofs.Common.{◌≡◌, ◌≤◌, ◌*◌, ◌^◌, ◌++◌, length, take}
 use Rattle.std.specs.List.{flat_map, sum_by}
 use Rattle.play_cover.specs.Coverage.{covered, group_text, left}
-use Rattle.play_cover.specs.Marks.{is_marked}
+use Rattle.check_tables.specs.Marks.{is_marked}
 use Rattle.play_cover.proofs.coverage.push_groups.Given as goal
 
 abbrev pub invariant-loop-group : goal.invariant-loop-group

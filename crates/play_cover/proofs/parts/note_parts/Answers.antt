@@ -1,5 +1,5 @@
 use Rattle.play_cover.specs.Texts.{said_by_part}
-use Rattle.play_cover.proofs.Noting.{Notes-all, Notes-more}
+use Rattle.check_tables.proofs.Noting.{Notes-all, Notes-more}
 use Rattle.play_cover.proofs.parts.note_parts.Goals as goal
 
 pub loop-part-preserved : goal.loop-part-preserved

@@ -1,5 +1,5 @@
 use Rattle.std.proofs.Common.{take}
-use Rattle.play_cover.specs.Marks.{Notes}
+use Rattle.check_tables.specs.Marks.{Notes}
 use Rattle.play_cover.specs.Texts.{said_by_all}
 use Rattle.play_cover.proofs.parts.note_parts.Given as goal
 

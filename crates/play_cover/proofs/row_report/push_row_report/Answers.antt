@@ -1,9 +1,10 @@
 use Rattle.std.proofs.Common.{◌++◌, ap, append_assoc, length, ◌∙◌}
-use Rattle.play_cover.specs.Coverage.{groups_text}
-use Rattle.play_cover.specs.Known.{unmet_text}
-use Rattle.play_cover.specs.Marks.{is_marked}
-use Rattle.play_cover.specs.RowReport.{row_entries, row_report, row_sums, rule_rows}
+use Rattle.play_cover.specs.Coverage.{groups_text, unmet_entries}
+use Rattle.check_tables.specs.Marks.{is_marked}
+use Rattle.play_cover.specs.RowMarks.{rule_rows}
+use Rattle.play_cover.specs.RowReport.{row_report, row_sums}
 use Rattle.play_cover.specs.TravelRows.{travel_text}
+use Rattle.play_cover.specs.Unshown.{none_shown, unshown}
 use Rattle.play_cover.specs.declared.coverage.Detail.TheVariants.{Both}
 use Rattle.play_cover.proofs.row_report.push_row_report.Goals as goal
 
@@ -15,7 +16,7 @@ returns-clause-told c =
     let known = c.args.known.now in
     let ways = c.args.of.now.ways.now in
     let old = c.args.text.now.items in
-    let unmet = unmet_text known (row_entries noted cave ways) in
+    let unmet = unmet_entries known (unshown cave ways none_shown noted) in
     let tables = groups_text rule_rows noted known Both in
     let travel = travel_text noted cave known ways in
     let rows = c.in_ok-rows.ensures in

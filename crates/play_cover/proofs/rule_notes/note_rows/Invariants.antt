@@ -1,5 +1,5 @@
 use Rattle.std.proofs.Common.{map, take}
-use Rattle.play_cover.specs.Marks.{Notes}
+use Rattle.check_tables.specs.Marks.{Notes}
 use Rattle.play_cover.specs.RowMarks.{mark_of_row}
 use Rattle.play_cover.proofs.rule_notes.note_rows.Given as goal
 

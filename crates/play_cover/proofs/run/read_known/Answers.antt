@@ -4,7 +4,7 @@ use Rattle.std.proofs.lemmas.Result.{err_from_is_err_and}
 use Rattle.cave_play.specs.Stages.{known_stage}
 use Rattle.cave_play.proofs.JudgeLemmas.{IsFoundIn-known, first_decided-known}
 use Rattle.cave_play.proofs.StageLemmas.{IsFoundIn-memory}
-use Rattle.play_cover.specs.Known.{known_entries}
+use Rattle.check_tables.specs.Known.{known_entries}
 use Rattle.play_cover.proofs.run.read_known.Goals as goal
 
 pub returns-in_err-list : goal.returns-in_err-list
@@ -41,7 +41,7 @@ returns g c =
         (
           first_decided-known list is.1,
           c.in_ok-known.ensures
-              ∙ ap (known_entries c.args.file.now) (c.deref.ensures.value ∙ is.0),
+              ∙ ap (known_entries c.args.file.now) is.0,
         ),
       );
       taken = c.in_ok-list.ensures.taken;

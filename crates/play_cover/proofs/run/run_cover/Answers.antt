@@ -3,7 +3,7 @@ use Rattle.std.specs.List.{AllZip}
 use Rattle.cave_play.specs.Sources.{Says, Held}
 use Rattle.cave_play.proofs.LogLemmas.{RunsLogs-made}
 use Rattle.cave_play.proofs.SourceLemmas.{held_first}
-use Rattle.play_cover.specs.Known.{known_entries}
+use Rattle.check_tables.specs.Known.{known_entries}
 use Rattle.play_cover.specs.Plays.{IsCovered, cover_stages}
 use Rattle.play_cover.proofs.run.run_cover.Goals as goal
 

@@ -1,6 +1,6 @@
 use Rattle.std.proofs.Common.{◌≡◌, ◌++◌, take}
 use Rattle.std.specs.List.{flat_map}
-use Rattle.play_cover.specs.Marks.{is_marked}
+use Rattle.check_tables.specs.Marks.{is_marked}
 use Rattle.play_cover.specs.TravelRows.{way_line}
 use Rattle.play_cover.proofs.travel_report.push_way_lines.Given as goal
 

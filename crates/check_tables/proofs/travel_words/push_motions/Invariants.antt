@@ -1,9 +1,0 @@
-use Rattle.std.proofs.Common.{◌≡◌, ◌++◌, take}
-use Rattle.std.specs.List.{flat_map}
-use Rattle.check_tables.specs.WayWords.{motion_name}
-use Rattle.check_tables.proofs.travel_words.push_motions.Given as goal
-
-abbrev pub invariant-loop-motion : goal.invariant-loop-motion
-invariant-loop-motion l =
-    l.text.items ≡ l.initial.text.items
-    ++ flat_map (motion_name l.cave) (take l.motion-index l.motions)

@@ -1,9 +1,0 @@
-use Rattle.std.proofs.Common.{◌≡◌, ◌-◌, ◌++◌}
-use Rattle.map_graph.specs.Titles.{first_words, words_as_shown}
-use Rattle.map_graph.proofs.titles.push_first_words.Given as goal
-
--- what was written, with the remaining words, is the whole
-abbrev pub invariant-loop-shown : goal.invariant-loop-shown
-invariant-loop-shown l =
-    l.text.items ++ words_as_shown l.shown (first_words (l.most - l.shown) l.rest)
-    ≡ l.initial.text.items ++ words_as_shown 0 (first_words l.most l.line)

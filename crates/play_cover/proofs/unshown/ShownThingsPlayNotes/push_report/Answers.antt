@@ -1,0 +1,22 @@
+use Rattle.std.proofs.Common.{◌++◌, ap, refl, ◌∙◌}
+use Rattle.play_command.specs.declared.views.CoverView.TheVariants.{Known}
+use Rattle.check_tables.specs.Marks.{is_marked}
+use Rattle.play_cover.specs.Unshown.{unshown}
+use Rattle.play_cover.proofs.Telling.{told_by_marks}
+use Rattle.play_cover.proofs.unshown.ShownThingsPlayNotes.push_report.Goals as goal
+
+pub returns : goal.returns
+returns c =
+    let args = c.args in
+    let noted = args.self.now.marks in
+    let cave = args.cave.now in
+    let same = c.deref.ensures.value ∙ c.in_ok-ways.ensures in
+    λ games marked many. (
+      c.in_ok-push_unshown.ensures
+          ∙ ap (λ ways. args.text.now.items
+          ++ unshown cave ways (is_marked noted) (is_marked noted)) same
+          ∙ ap (λ report. args.text.now.items ++ report)
+          (told_by_marks Known args._known.now args.database.now cave games noted args._logs marked
+          many),
+      refl,
+    )

@@ -1,0 +1,203 @@
+//! What isn't shown, as a list of what is known has it, and which plays show what.
+
+ghost use Rattle.std.specs.Prelude.{◌≡◌, ◌++◌, OnOk, map};
+ghost use Rattle.play_cover.specs.Coverage.{unmet_entries};
+ghost use Rattle.check_tables.specs.Marks.{Notes, is_marked};
+ghost use Rattle.play_cover.specs.RowMarks.{mark_of_row};
+ghost use Rattle.play_cover.specs.Texts.{said_by_all};
+ghost use Rattle.play_cover.specs.Unshown.{none_shown, unshown};
+
+use crate::cave_texts::CaveTexts;
+use crate::coverage::push_all_entries;
+use crate::parts::note_parts;
+use crate::row_report::{CaveWays, RuleTables};
+use crate::rule_notes::note_rows;
+use crate::travel_report::missing_ways;
+use cave_data::Cave;
+use cave_play::logs::PlayNotes;
+use cave_world::{Part, RuleRow, State, Table};
+use check_tables::known::{KnownList, push_entries};
+use check_tables::marks::MarkSet;
+use check_tables::travel_words::TravelEntries;
+use data_bindings::{WayLine, way_lines};
+use play_machine::{Begun, NotedRows, SeenLine, Watch};
+use std::alloc::{AllocError, Global};
+
+/// Appends the entries of all texts that weren't said and of all rows that never applied, a line
+/// each.
+fn push_unshown(
+    alloc: Global,
+    of: &CaveWays<'_>,
+    said: &MarkSet,
+    noted: &MarkSet,
+    text: &mut Vec<u8>,
+) -> Result<(), AllocError>
+    ensures { OnOk result (text.new.items ≡ text.old.items
+        ++ unshown of.now.cave.now of.now.ways.now (is_marked said.now) (is_marked noted.now)) }
+{
+    let missing = missing_ways(alloc, noted, of.ways)?;
+    push_all_entries(alloc, &CaveTexts::of(of.cave), said, text)?;
+    push_all_entries(alloc, &RuleTables, noted, text)?;
+    push_entries(alloc, &TravelEntries { cave: of.cave }, "", &missing, text)
+}
+
+/// Appends a line for each line of a list that says something, and is the entry neither of a text
+/// that wasn't said nor of a row that never applied.
+fn push_unmet(
+    alloc: Global,
+    known: &KnownList,
+    of: &CaveWays<'_>,
+    said: &MarkSet,
+    noted: &MarkSet,
+    text: &mut Vec<u8>,
+) -> Result<(), AllocError>
+    ensures { OnOk result (text.new.items ≡ text.old.items ++ unmet_entries known.now
+        (unshown of.now.cave.now of.now.ways.now (is_marked said.now) (is_marked noted.now))) }
+{
+    let words = "nothing that is never shown says this";
+    let mut entries = Vec::new(alloc);
+    push_unshown(alloc, of, said, noted, &mut entries)?;
+    known.push_unmet(alloc, words, &entries, text)
+}
+
+/// The same of texts that weren't said; no entry of a row is told.
+fn push_unmet_said(
+    alloc: Global,
+    known: &KnownList,
+    of: &CaveWays<'_>,
+    said: &MarkSet,
+    text: &mut Vec<u8>,
+) -> Result<(), AllocError>
+    ensures { OnOk result (text.new.items ≡ text.old.items ++ unmet_entries known.now
+        (unshown of.now.cave.now of.now.ways.now (is_marked said.now) none_shown)) }
+{
+    push_unmet(alloc, known, of, said, &MarkSet::new(alloc), text)
+}
+
+/// The same of the texts of a cave.
+pub(crate) fn push_unmet_texts(
+    alloc: Global,
+    known: &KnownList,
+    texts: &CaveTexts<'_>,
+    ways: &[WayLine],
+    said: &MarkSet,
+    text: &mut Vec<u8>,
+) -> Result<(), AllocError>
+    ensures { OnOk result (text.new.items ≡ text.old.items ++ unmet_entries known.now
+        (unshown texts.now ways.now (is_marked said.now) none_shown)) }
+{
+    let cave = texts.cave();
+    push_unmet_said(alloc, known, &CaveWays { cave, ways }, said, text)
+}
+
+/// The same of rows that never applied; no entry of a text is told.
+pub(crate) fn push_unmet_rows(
+    alloc: Global,
+    known: &KnownList,
+    of: &CaveWays<'_>,
+    noted: &MarkSet,
+    text: &mut Vec<u8>,
+) -> Result<(), AllocError>
+    ensures { OnOk result (text.new.items ≡ text.old.items ++ unmet_entries known.now
+        (unshown of.now.cave.now of.now.ways.now none_shown (is_marked noted.now))) }
+{
+    push_unmet(alloc, known, of, &MarkSet::new(alloc), noted, text)
+}
+
+/// Marks what parts say, and rows.
+#[tactic(auto, using(crate::proofs::RowMarkLemmas::both_noted))]
+fn note_shown(
+    alloc: Global,
+    cave: &Cave,
+    parts: &[Part],
+    rows: &[RuleRow],
+    marks: &mut MarkSet,
+) -> Result<(), AllocError>
+    ensures { OnOk result (Notes (said_by_all cave.now parts.now ++ map mark_of_row rows.now)
+        marks.old marks.new) }
+{
+    note_parts(alloc, marks, cave, parts)?;
+    note_rows(alloc, rows, marks)
+}
+
+/// The texts that plays say, and the rows that apply in them, or are tried.
+#[derive(Drop)]
+pub struct ShownThings {
+    marks: MarkSet,
+}
+
+impl Watch for ShownThings {
+    ghost use Rattle.check_tables.specs.Marks.{AreMarksOf};
+    ghost use Rattle.play_cover.specs.Plays.{shown_at, shown_at_start};
+    ghost use Rattle.check_tables.specs.declared.marks.Mark.{Mark};
+
+    type Before = ();
+
+    type Rows = NotedRows;
+
+    ghost Fact = { Mark };
+
+    ghost kept = { λ _. tt };
+
+    ghost first_facts = { shown_at_start };
+
+    ghost facts = { shown_at };
+
+    ghost HasNoted = { λ marks shown. AreMarksOf marks shown.marks };
+
+    fn before(_: &State) {}
+
+    #[tactic(auto, using(check_tables::proofs::Noting::more_marked))]
+    fn start(&mut self, alloc: Global, begun: &Begun<'_>) -> Result<(), AllocError> {
+        let rows = [RuleRow::OfTable(Table::Questions, 1)];
+        note_shown(alloc, begun.rules.cave, begun.parts, &rows, &mut self.marks)
+    }
+
+    #[tactic(auto, using(check_tables::proofs::Noting::more_marked))]
+    fn see(
+        &mut self,
+        alloc: Global,
+        seen: &SeenLine<'_, ()>,
+        rows: &NotedRows,
+    ) -> Result<(), AllocError> {
+        let rows = rows.as_slice()?;
+        note_shown(alloc, seen.rules.cave, seen.parts, rows, &mut self.marks)
+    }
+}
+
+impl PlayNotes for ShownThings {
+    ghost use Rattle.play_command.specs.declared.views.CoverView.TheVariants.{Known};
+    ghost use Rattle.play_cover.specs.Plays.{left_in_games, report_on_games};
+
+    type View = KnownList;
+
+    type Found = usize;
+
+    ghost report_on = { λ database cave known games.
+        report_on_games Known known database cave games };
+
+    ghost found_on = { λ database cave known games.
+        left_in_games Known known database cave games };
+
+    #[tactic(auto, using(check_tables::proofs::Noting::none_marked))]
+    fn none(alloc: Global) -> Result<ShownThings, AllocError> {
+        Ok(ShownThings {
+            marks: MarkSet::new(alloc),
+        })
+    }
+
+    fn push_report(
+        &self,
+        alloc: Global,
+        database: &[u8],
+        cave: &Cave,
+        _known: &KnownList,
+        _logs: usize,
+        text: &mut Vec<u8>,
+    ) -> Result<usize, AllocError> {
+        let ways = way_lines(alloc, database)?;
+        let of = CaveWays { cave, ways: &ways };
+        push_unshown(alloc, &of, &self.marks, &self.marks, text)?;
+        Ok(0)
+    }
+}
