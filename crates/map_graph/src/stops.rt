@@ -109,7 +109,8 @@ impl Stops {
         row: RuleRow,
         later: &[RuleRow],
     ) -> Result<(), AllocError>
-        ensures { OnOk result (stops_of self.new ≡ with_stops (stops_of self.old) (way_by_row row later.now)) }
+        ensures { OnOk result
+            (stops_of self.new ≡ with_stops (stops_of self.old) (way_by_row row later.now)) }
     {
         match row {
             RuleRow::OfPlace(place, index, true) if !is_blocked(later) => {
@@ -121,7 +122,8 @@ impl Stops {
 
     /// Notes the ways of a line, at which these rows are noted.
     pub fn note_ways_by_rows(&mut self, alloc: Global, rows: &[RuleRow]) -> Result<(), AllocError>
-        ensures { OnOk result (stops_of self.new ≡ with_stops (stops_of self.old) (ways_by_rows rows.now)) }
+        ensures { OnOk result
+            (stops_of self.new ≡ with_stops (stops_of self.old) (ways_by_rows rows.now)) }
     {
         let mut rest = rows;
         while let Some((row, later)) = rest.split_first() {

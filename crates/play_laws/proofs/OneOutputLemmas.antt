@@ -22,7 +22,8 @@ one_checked_output database bindings view =
     λ one other first second.
     let (cave, reads, is) = first in
     let (kept, rereads, same) = second in
-    is ∙ ap (λ cave. check_text view cave database bindings) (same_cave database bindings kept cave rereads reads) ∙ sym same
+    is ∙ ap (λ cave. check_text view cave database bindings)
+    (same_cave database bindings kept cave rereads reads) ∙ sym same
 
 pub one_played_output : OnePlayedOutput
 one_played_output database bindings log seed view =

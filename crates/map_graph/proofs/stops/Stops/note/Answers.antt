@@ -11,7 +11,8 @@ pub returns-then-eq : goal.returns-then-eq
 returns-then-eq c =
     let old : Stops = stops_of (the_view c.self.inside) in
     noted_state old _ c.in-InState.before c.in-InState.here
-    (λ place. subst (λ n. is_marked c.note.new.self (mark 0 place) ≡ (((place == n) || false) || old.was_at place))
+    (λ place. subst (λ n. is_marked c.note.new.self (mark 0 place)
+    ≡ (((place == n) || false) || old.was_at place))
     c.number-number.ensures.value (c.in_ok-note-in-InState.ensures.is (mark 0 place)))
     (λ place row. refl)
     (λ place. stays place c.in-InState.before c.in-InState.here (old.visits place)
@@ -24,12 +25,14 @@ returns-else-eq c =
     on_ok_weaker c.count_one.result
     (λ counted.
     noted_state old _ c.in-InState.before c.in-InState.here
-    (λ place. subst (λ n. is_marked c.note.new.self (mark 0 place) ≡ (((place == n) || false) || old.was_at place))
+    (λ place. subst (λ n. is_marked c.note.new.self (mark 0 place)
+    ≡ (((place == n) || false) || old.was_at place))
     c.number-number.ensures.value (c.in_ok-note-in-InState.ensures.is (mark 0 place)))
     (λ place row. refl)
     (λ place. comes place c.in-InState.before c.in-InState.here (old.visits place) _
     (sym c.eq.ensures ∙ c.if-eq.false)
-    (subst (λ n. slice_index_or c.count_one.new.counts.items place 0 ≡ old.visits place + (if place == n then 1 else 0))
+    (subst (λ n. slice_index_or c.count_one.new.counts.items place 0
+    ≡ old.visits place + (if place == n then 1 else 0))
     c.number-number.ensures.value (counted place)))
     ∙ (λ i. with_stops (stops_of (c.self.view_is i)) (sym c.in-InState.is i ∷ [])))
     c.count_one.ensures
