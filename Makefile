@@ -65,8 +65,8 @@ checks: ## checks names, imports, pages and scripts, in a minute or two, without
 	logs/tools/plant --check
 	logs/tools/check-runner
 
-# What is a matter of taste: functions without the word of their definition, phrases, large crates.
-style: ## tells of names, words and sizes for a reader to judge
+# What is a matter of taste: phrases that CONTRIBUTING advises against.
+style: ## tells of words for a reader to judge
 	@tools/check/run style
 
 # The gate: those checks, and the lines that must not compile; each proof from nothing, the edits

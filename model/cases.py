@@ -9,8 +9,7 @@ import directed
 import generate
 from database import Cave, bindings_of, sections_of
 from errands import stage_of
-from known import KnownList
-from lines import Fault
+from lines import Fault, text_of
 from players import Player
 from scripts import known_list, mutated, script_for, script_words
 
@@ -23,18 +22,8 @@ KINDS = {"directed": "directed game", "game": "game", "database": "database"}
 Case = namedtuple("Case", "name texts words")
 
 
-def text_of(lines):
-    return "".join(it + "\n" for it in lines)
-
-
 def cave_of(texts):
     return Cave(sections_of(texts["cave.txt"]), bindings_of(texts["bindings.txt"]))
-
-
-def head_of(rng, start):
-    """A head of a log, which says how the log is played, or something else."""
-    says = rng.choice(["cave.txt", "other.txt", "cave.txt --bind=bindings.txt"])
-    return f"# cave: {says} --seed {start + rng.choice([0, 1])}"
 
 
 def calls_of(rng, call, options, is_edited):
@@ -59,7 +48,10 @@ def game_cases(rng, seed, number, counts):
     cave = cave_of(texts)
     start = rng.choice([0, 1, rng.randrange(1 << 20), rng.randrange(1 << 31)])
     log = Player(rng, cave, start, counts, stage).make()
-    log = [head_of(rng, start)] * (rng.random() < 0.1) + log
+    # A head says how the log is played, or something else.
+    says = rng.choice(["cave.txt", "other.txt", "cave.txt --bind=bindings.txt"])
+    head = f"# cave: {says} --seed {start + rng.choice([0, 1])}"
+    log = [head] * (rng.random() < 0.1) + log
     texts["log.txt"] = text_of(log)
     if rng.random() < 0.02:
         texts["log.txt"] = mutated(rng, texts["log.txt"])
@@ -73,7 +65,7 @@ def game_cases(rng, seed, number, counts):
         options += ["--guarded"] * guarded
     call, other = calls_of(rng, call + options, options, is_edited)
     if KNOWN[0] in other:
-        report = cover.report(cave, set(), 1, "texts", KnownList(None, ""))
+        report = cover.report(cave, set(), 1, "texts", cover.KnownList(None, ""))
         texts["known.txt"] = known_list(rng, report[0])
     return [Case(f"game-{number}", texts, it) for it in (call, [*call, *STATE], other)]
 
@@ -84,15 +76,15 @@ def directed_cases(number):
     texts = {"cave.txt": game.database, "bindings.txt": game.bindings,
              "log.txt": text_of(game.lines)}
     call = ["play", "cave.txt", "log.txt", "--bind", "bindings.txt", "--seed", "0"]
-    calls = [[*call, *STATE]] if game.is_long else [call, [*call, *STATE]]
+    calls = [call, [*call, *STATE]][game.is_long:]
     return [Case(f"directed-{game.name}", texts, it) for it in calls]
 
 
 def doubts_of(texts):
     """The doubts about a cave as lists of what is known have them; none if it is refused."""
     try:
-        found = checks.doubts(cave_of(texts), texts["cave.txt"], texts["bindings.txt"])
-        return [*map(checks.entry_of, found)]
+        return checks.entries_of(
+            checks.doubts(cave_of(texts), texts["cave.txt"], texts["bindings.txt"]))
     except Fault:
         return []
 

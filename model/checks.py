@@ -1,16 +1,11 @@
 """What `check` prints of an accepted cave (docs/FORMATS.md, Names to Doubts)."""
 
-from database import NAMES, ROLES, SECONDS, SECTIONS, numbered_rows
-from lines import FIELD, fields_of, folded, lines_of
+from database import NAMES, ROLES, SECONDS, SECTIONS, SILENT, first_line, numbered_rows
+from lines import FIELD, fields_of, folded, is_blank, lines_of
 
-# The order in which rules number the names, and how they are listed: by five letters.
-ORDER = """
-    KEYS LAMP GRATE CAGE ROD STEPS BIRD DOOR PILLOW SNAKE FISSURE TABLET CLAM OYSTER MAGAZINE DWARF
-    KNIFE FOOD BOTTLE WATER OIL PLANT AXE MIRROR DRAGON CHASM TROLL BEAR MESSAGE VENDING BATTERIES
-    GOLD COINS CHEST EGGS TRIDENT VASE EMERALD PYRAMID PEARL RUG SPICES CHAIN""".split()
-assert sorted(ORDER) == sorted(NAMES)
+ORDER = [it for it in NAMES if it != "MIRROR"]  # in which rules number the names
+ORDER.insert(ORDER.index("DRAGON"), "MIRROR")
 CLASSES = ["motion", "object", "action", "special"]  # what words are
-SILENT = [">$<"]
 ALWAYS = (0, 100)  # the conditions under which a way is always taken
 ENTERED = ["start", "building", "ne", "alcove", "plover"]  # places that rules bring a player to
 BROUGHT = ["CHEST", "PEARL"]  # treasures that rules put somewhere
@@ -27,9 +22,6 @@ ROOMS = {"ROD": ["ne", "sw"], "MAGAZINE": ["witt"], "DWARF": [*DWARVES, "dwarfal
          "MESSAGE": ["message"], "CHEST": ["chest"], "PEARL": ["culdesac"]}
 NEEDERS = """LAMP GRATE ROD BIRD DOOR FISSURE OYSTER MAGAZINE DWARF BOTTLE PLANT PLANT2 AXE DRAGON
     CHASM TROLL BEAR MESSAGE BATTERIES CHEST EGGS VASE PEARL RUG CHAIN""".split()
-
-def first_line(text):
-    return "" if text is None or text == SILENT else text[0]
 
 # ---- Names
 
@@ -112,87 +104,87 @@ def is_hidden(cave, number, word):
     return (rows[0] != means and not (means[0] in (1, 3) and of_class[0] == means)
             and not (objects and (means[0], objects[0], means[1]) in pairs))
 
-def message_doubts(cave, says):
-    """What is said about messages that have no text; 0 is no message."""
-    for words, number in says:
-        if number and number not in cave.messages:
-            yield f"{words} message {number}, which has no text"
+def message_doubts(cave, words, number):
+    """What is said about a message that has no text; 0 is no message."""
+    if number and number not in cave.messages:
+        yield f"{words} message {number}, which has no text"
 
 def row_doubts(cave, section, row, before):
     """What is doubtful about a row, after those before it in its section."""
+    it, bounds = row[0], [other[0] for other in before]
+    is_first, is_treasure = it not in bounds, 50 <= it <= 79
     if section in (1, 2):
-        is_first = all(other[0] != row[0] for other in before)
-        if is_first and (section == 1 or row[0] not in cave.long) and not is_entered(cave, row[0]):
-            yield f"no way leads to place {row[0]}"
+        if is_first and (section == 1 or it not in cave.long) and not is_entered(cave, it):
+            yield f"no way leads to place {it}"
     elif section == 3:
-        place, target, _ = row
-        end = target % 1000
-        if 0 < end <= 300 and not has_text(cave, end):
-            yield f"the way leads to place {end}, which has no text"
-        if 303 < end <= 500:
-            yield f"the way leads to {end}, for which there is no rule"
-        yield from message_doubts(cave, [("the way says", max(end - 500, 0))])
-        index = sum(other[0] == place for other in before)
-        if not list(tried(cave.travel[place]))[index]:
-            yield "no player takes this way: an earlier one is always taken"
-        for role in ["alcove", "plover"] * (end == 301):
-            if cave.place(role) is None:
-                yield f"the way leads to 301, which needs place.{role}, which is unbound"
+        yield from way_doubts(cave, it, row[1] % 1000, bounds.count(it))
     elif section == 4:
-        if is_hidden(cave, row[0], row[1]):
+        if is_hidden(cave, *row):
             yield "an earlier row of this word hides it"
-    elif section == 5:
-        is_first = all(other[0] != row[0] for other in before)
-        if 50 <= row[0] <= 79 and is_first and not is_held(cave, row[0]):
-            yield f"no place holds treasure {row[0]}"
-        if row[0] > 0 and row[0] % 100 and is_first:
-            yield from object_doubts(cave, row[0])
+    elif section == 5 and is_first:
+        if is_treasure and not is_placed(cave, it) and not is_one_of(cave, it, BROUGHT):
+            yield f"no place holds treasure {it}"
+        if it > 0 and it % 100:
+            yield from object_doubts(cave, it)
     elif section == 7:
-        if 50 <= row[0] <= 79 and (row[0], None) not in cave.object_texts:
-            yield f"treasure {row[0]} has no inventory text"
-        it, start = row[0], cave.homes[row[0]][0]
-        if start and not has_text(cave, start) and (50 <= it <= 79 or is_tool(cave, it)):
-            named = f"treasure {it}" if 50 <= it <= 79 else f"object {it}, which players need,"
+        if is_treasure and (it, None) not in cave.object_texts:
+            yield f"treasure {it} has no inventory text"
+        start = cave.homes[it][0]
+        if start and not has_text(cave, start) and (is_treasure or is_tool(cave, it)):
+            named = f"treasure {it}" if is_treasure else f"object {it}, which players need,"
             yield f"{named} begins at place {start}, which has no text"
     elif section == 8:
-        yield from message_doubts(cave, [(f"action {row[0]} says", row[1])])
-        if all(it[:2] != (2, row[0]) for it in cave.words):
-            yield f"no word means action {row[0]}"
+        yield from message_doubts(cave, f"action {it} says", row[1])
+        if all(word[:2] != (2, it) for word in cave.words):
+            yield f"no word means action {it}"
     elif section == 10:
-        bounds = [other[0] for other in before]
-        if any(it >= row[0] for it in bounds):
+        greatest = cave.greatest_score()
+        if any(bound >= it for bound in bounds):
             yield "an earlier class takes its scores"
-        elif any(it >= cave.greatest_score() for it in bounds):
+        elif any(bound >= greatest for bound in bounds):
             yield "no score reaches this class"
-        elif not before and all(it[0] < cave.greatest_score() for it in cave.classes):
-            yield f"no class has the greatest score, {cave.greatest_score()}"
+        elif not before and all(bound < greatest for bound, _ in cave.classes):
+            yield f"no class has the greatest score, {greatest}"
     elif section == 11:
-        hint, _, _, question, text = row
-        for does, message in [("asks by", question), ("gives", text)]:
-            yield from message_doubts(cave, [(f"hint {hint} {does}", message)])
-            if hint >= 4 and not message:
-                yield f"hint {hint} {does} no message"
+        for does, message in zip(("asks by", "gives"), row[3:]):
+            yield from message_doubts(cave, f"hint {it} {does}", message)
+            if it >= 4 and not message:
+                yield f"hint {it} {does} no message"
+
+def way_doubts(cave, place, end, index):
+    """What is doubtful about a way by where it leads and how many of its place come before it."""
+    if 0 < end <= 300 and not has_text(cave, end):
+        yield f"the way leads to place {end}, which has no text"
+    if 303 < end <= 500:
+        yield f"the way leads to {end}, for which there is no rule"
+    yield from message_doubts(cave, "the way says", max(end - 500, 0))
+    if not [*tried(cave.travel[place])][index]:
+        yield "no player takes this way: an earlier one is always taken"
+    for role in ["alcove", "plover"] * (end == 301):
+        if cave.place(role) is None:
+            yield f"the way leads to 301, which needs place.{role}, which is unbound"
+
+def is_one_of(cave, it, names):
+    return it in [object_of(cave, name) for name in names]
 
 def is_tool(cave, it):
     """Whether players need an object that no rule brings."""
-    tools = TOOLS if any(map(cave.place, DWARVES)) else [*TOOLS, "AXE"]
-    return it in [object_of(cave, name) for name in tools]
+    return is_one_of(cave, it, TOOLS if any(map(cave.place, DWARVES)) else [*TOOLS, "AXE"])
+
+def is_placed(cave, it):
+    """Whether a place holds an object as a game begins."""
+    return max(cave.homes.get(it, (0, 0))) > 0
 
 def object_doubts(cave, it):
     """What an object lacks of what rules ask."""
-    first, second = cave.homes.get(it, (0, 0))
-    if is_tool(cave, it) and first <= 0 and second <= 0:
+    if is_tool(cave, it) and not is_placed(cave, it):
         yield f"no place holds object {it}, which players need"
-    is_placed = first > 0 or second > 0
-    yield from prop_doubts(cave, it, [0] * is_placed)
-    for name in GIVEN:
-        if object_of(cave, name) == it and not is_placed:
-            yield from prop_doubts(cave, it, [0])
+    given = [0 for name in GIVEN if object_of(cave, name) == it]
+    yield from prop_doubts(cave, it, [0] if is_placed(cave, it) else given)
     for name in NEEDERS:
         if object_of(cave, name) == it:
-            if name in FOUND and 50 <= it <= 79:
-                yield from prop_doubts(cave, it, [FOUND[name]])
-            yield from prop_doubts(cave, it, PROPS.get(name, ()))
+            found = [FOUND[name]] if name in FOUND and 50 <= it <= 79 else []
+            yield from prop_doubts(cave, it, [*found, *PROPS.get(name, ())])
             for role in ROOMS.get(name, ()):
                 if cave.place(role) is None:
                     yield f"rules about object {it} need place.{role}, which is unbound"
@@ -215,14 +207,10 @@ def line_doubts(cave, section, line, row):
     elif section == 9 and row[0] >= 4 and row[1] and row[0] not in cave.hints:
         yield f"hint {row[0]} has places here, but no row in section 11"
 
-def is_held(cave, treasure):
-    """Whether a place holds a treasure as a game begins, or rules bring it."""
-    first, second = cave.homes.get(treasure, (0, 0))
-    return first > 0 or second > 0 or treasure in [object_of(cave, it) for it in BROUGHT]
-
-def binding_doubts(cave, key, number):
+def binding_doubts(cave, key, digits):
+    number = int(digits)
     if key.startswith("msg."):
-        yield from message_doubts(cave, [(f"{key} is", number)])
+        yield from message_doubts(cave, f"{key} is", number)
         if cave.messages.get(number) == SILENT:
             yield f"{key} is message {number}, whose text prints nothing"
         if key == "msg.hollow" and cave.place("y2") is None:
@@ -232,29 +220,17 @@ def binding_doubts(cave, key, number):
 
 def doubts(cave, database, bindings):
     """Each doubt: which input it is about, its line, and what it says."""
-    listed, before = [], {it: [] for it in SECTIONS}
-    for at, section, row in numbered_rows(database):
+    listed, before, lines = [], {it: [] for it in SECTIONS}, lines_of(database)
+    rows = [*numbered_rows(database)]
+    for at, section, row in rows:
         listed += [("cave", at, it) for it in row_doubts(cave, section, row, before[section])]
         before[section].append(row)
-    lines = lines_of(database)
-    for at, section, row in numbered_rows(database):
-        line = lines[at - 1]
-        listed += [("cave", at, it) for it in line_doubts(cave, section, line, row)]
-    for at, line in enumerate(lines_of(bindings), 1):
-        if says_something(line):
-            key, number = fields_of(line)
-            listed += [("bindings", at, it) for it in binding_doubts(cave, key, int(number))]
-    return listed
+    listed += [("cave", at, it) for at, section, row in rows
+               for it in line_doubts(cave, section, lines[at - 1], row)]
+    return listed + [
+        ("bindings", at, it) for at, line in enumerate(lines_of(bindings), 1) if not is_blank(line)
+        for it in binding_doubts(cave, *fields_of(line))]
 
-def says_something(line):
-    return fields_of(line) and not line.startswith("#")
-
-def doubt_line(doubt, files):
-    """The line of a doubt: `files` has the name of each input's file."""
-    source, at, words = doubt
-    return f"{files[source]}:{at}: {words}"
-
-def entry_of(doubt):
-    """What a list of known doubts has for a doubt."""
-    source, _, words = doubt
-    return f"{source}: {words}"
+def entries_of(found):
+    """What lists of known doubts have for these."""
+    return [f"{source}: {says}" for source, _, says in found]

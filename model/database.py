@@ -2,8 +2,8 @@
 
 from collections import namedtuple
 
-from lines import (FIELD, LINE_LENGTH, MARKS, Fault, fields_of, folded, is_near, lines_of,
-                   number_of)
+from lines import (FIELD, LINE_LENGTH, MARKS, Fault, fields_of, folded, is_blank, is_near,
+                   lines_of, number_of)
 
 PLACE, MESSAGE = (1, 300), (1, 499)
 LONGEST_LIST = 40
@@ -83,6 +83,7 @@ NAMES = """
     KNIFE FOOD BOTTLE WATER OIL MIRROR PLANT AXE DRAGON CHASM TROLL BEAR MESSAGE VENDING BATTERIES
     GOLD COINS CHEST EGGS TRIDENT VASE EMERALD PYRAMID PEARL RUG SPICES CHAIN""".split()
 SECONDS = {"ROD2": "ROD", "PLANT2": "PLANT", "TROLL2": "TROLL"}
+SILENT = [">$<"]  # a text that prints nothing
 
 def is_within(number, bounds):
     return bounds[0] <= number <= bounds[1]
@@ -169,7 +170,8 @@ def with_mark(judge, text):
         cause = fault.message.split(": ")[0]
         if fault.line == 1 and text.startswith(MARKS):
             more = "the file begins with a byte order mark: save it without one"
-        elif fault.line == 1 and cause == "not a section number" and text.strip(" \t")[0] not in "0123456789-":
+        elif fault.line == 1 and cause == "not a section number" and (
+                text.strip(" \t")[0] not in "0123456789-"):
             more = ("expected the number of a section, 1 to 12; if this is a log, CAVE comes before"
                     " it")
         else:
@@ -180,7 +182,7 @@ def bindings_of(text):
     """What a text binds, or its first fault."""
     bound = {}
     for at, line in enumerate(lines_of(text), 1):
-        if line.startswith("#") or not FIELD.search(line):
+        if is_blank(line):
             continue
         key, number = (fields_of(line) + [""])[:2]
         if len(fields_of(line)) != 2 or number.startswith("-") or number_of(number) is None:
@@ -200,6 +202,10 @@ def bindings_of(text):
             raise Fault(at, f"the key is not known: {clue}")
         bound[key] = int(number)
     return bound
+
+def first_line(text):
+    """The first line of a text, if there is one that prints something."""
+    return "" if text in (None, SILENT) else text[0]
 
 class Cave:
     """A database read together with its bindings. A text is the list of its lines."""
@@ -225,11 +231,9 @@ class Cave:
                 self.bits.setdefault(place, set()).add(bit)
         self.classes = sections[10]
         self.hints = {row[0]: row[1:] for row in sections[11]}
-        self.lexicon, self.specials = {}, {}
-        for kind, number, word in self.words:
-            self.lexicon.setdefault(word, (kind, number))
-            if kind == 3:
-                self.specials.setdefault(word, number)
+        # The first row of a word counts.
+        self.lexicon = {word: (kind, it) for kind, it, word in reversed(self.words)}
+        self.specials = {word: it for kind, it, word in reversed(self.words) if kind == 3}
         things = {word[:5]: it for kind, it, word in reversed(self.words) if kind == 1}
         self.things = {name: things.get(name[:5], 0) for name in NAMES}
         for second, name in SECONDS.items():  # one number after that of the name
@@ -250,6 +254,10 @@ class Cave:
         """Whether motion is forced at a place: its first row begins with motion 1."""
         rows = self.travel.get(place)
         return bool(rows) and rows[0][1][0] == 1
+
+    def class_of(self, score):
+        """The place of a score's class among the classes, or None."""
+        return next((at for at, (bound, _) in enumerate(self.classes) if bound >= score), None)
 
     def worth(self, treasure):
         chest = self.things["CHEST"]

@@ -6,7 +6,9 @@ They are made by code, and each run of the duel that plays random games plays th
 
 from seeds import seed_at, seed_where
 from seldom import SELDOM
-from worlds import CLOSING, NUMBERS, game, games_of, wait, with_draws
+from worlds import CLOSING, GAMES, NUMBERS, game, wait, with_draws
+
+__all__ = ["GAMES"]
 
 # ---- The lamp. It burns 35 turns at most from when only lost treasures are left to be seen: one is
 # lost as the bird is killed near the snake, and the other one is seen at 10.
@@ -51,7 +53,6 @@ def long_counts():
 
 AWAKE = [(100, 95, 99), (5, 0, 0), (100, 50, 99), (5, 0, 0), (100, 50, 99)]
 DEEP = {"start": 17, "deep": 1}
-MISSES = [(1000, 95, 999)]
 
 
 def dwarves(count):
@@ -75,11 +76,9 @@ def dwarf_games():
             game(f"knife-of-anger-{anger}-after-{meals}-draws-{number}",
                  [*MET, *["feed dwarf"] * meals, seed_at(number, 1000, 1), "null"], **NEAR)
     with_draws("axe-hits", 1, 3, lambda it: [*MET, "take axe", it, "throw axe", "null"], **NEAR)
-    hit = [(3, 1, 2)]
-    five = ["take food", seed_where(*AWAKE), "null", "null"]
-    for left in range(4, -1, -1):
-        five += ["take axe", seed_where(*hit, *([(5, 0, 4)] + MISSES) * left), "throw axe"]
-    game("five-dwarves-are-killed", [*five, "null"], **{**NEAR, "bound": dwarves(5)})
+    five = [line for left in range(4, -1, -1) for line in (
+        "take axe", seed_where((3, 1, 2), *[(5, 0, 4), (1000, 95, 999)] * left), "throw axe")]
+    game("five-dwarves-are-killed", [*MET, *five, "null"], **{**NEAR, "bound": dwarves(5)})
     for count in (18, 19, 20, 21):
         ways = {16: [*range(30, 30 + count)], 17: []}
         places = [9, 16, 17, *range(30, 30 + count)]
@@ -94,13 +93,15 @@ def dwarf_games():
 
 # ---- The pirate, who comes from 20 to 17.
 
-def pirate(lines, homes, known=("CHEST",), **more):
-    """The lines of a game up to when the pirate comes to 17, and what it says about its world. A
-    chest that isn't known counts as seen, and then the pirate does nothing."""
-    bound = {**DEEP, "chest": 20, "message": 18, **more.pop("bound", {})}
-    places = [9, 10, 16, 17, 18, 20, *more.pop("places", [])]
-    world = {"homes": {"AXE": 0, **homes}, "known": known, "ways": {20: [17]}, "places": places}
-    return [*lines, seed_where(*AWAKE), "null", "null"], {**world, "bound": bound, **more}
+PIRATE = {"known": ["CHEST"], "ways": {20: [17]}, "places": [9, 10, 16, 17, 18, 20],
+          "bound": {**DEEP, "chest": 20, "message": 18}}
+COMES = [seed_where(*AWAKE), "null", "null"]
+
+
+def pirate(name, lines, homes, **more):
+    """A game up to when the pirate comes. A chest that isn't known counts as seen, and then the
+    pirate does nothing."""
+    game(f"pirate-{name}", [*lines, *COMES], **{**PIRATE, "homes": {"AXE": 0, **homes}, **more})
 
 
 def pirate_games():
@@ -112,26 +113,20 @@ def pirate_games():
             ("floor-of-emerald", {"PYRAMID": 18, "EMERALD": 17},
              [*fetched, "drop pyramid", "take emerald"]),
             ("elsewhere", {"PYRAMID": 18, "EMERALD": 16}, fetched)]:
-        lines, world = pirate(lines, homes)
-        game(f"pirate-pyramid-{name}", lines, **world)
+        pirate(f"pyramid-{name}", lines, homes)
     for name in ("EMERALD", "PYRAMID", "CHEST", "MESSAGE"):
-        known = () if name == "CHEST" else ("CHEST",)
-        lines, world = pirate(["take gold"], {"GOLD": 17}, known, lacks=[name])
-        game(f"pirate-without-{name.lower()}", lines, **world)
+        known = [] if name == "CHEST" else ["CHEST"]
+        pirate(f"without-{name.lower()}", ["take gold"], {"GOLD": 17}, known=known, lacks=[name])
     for name, known, at in [("unknown", [], 0), ("seen", ["CHEST"], 17), ("unseen", ["CHEST"], 16)]:
-        lines, world = pirate(["take gold"], {"GOLD": 17, "CHEST": at}, known)
-        game(f"pirate-chest-{name}", lines, **world)
+        pirate(f"chest-{name}", ["take gold"], {"GOLD": 17, "CHEST": at}, known=known)
     for number in (49, 50, 79, 80):
-        lines, world = pirate(["take gold"], {"GOLD": 17}, numbers={"GOLD": number})
-        game(f"pirate-treasure-{number}", lines, **world)
-    for name, known, first in [("none", ["CHEST"], ["kill bird"]), ("one", ["CHEST"], []),
-                               ("two", ["CHEST", "EGGS"], []), ("one-and-one-lost",
-                                                               ["CHEST", "EGGS"], ["kill bird"])]:
-        homes = {"LAMP": 17, "BIRD": 17, "SNAKE": 17}
-        lines, world = pirate(["take lamp", "on", *first], homes, known)
-        game(f"pirate-hides-chest-{name}-left", lines, **world)
-    lines, world = pirate([], {"GOLD": 17})
-    with_draws("pirate-rustles", 20, 100, lambda it: [*lines[:-1], it, "null"], 1, **world)
+        pirate(f"treasure-{number}", ["take gold"], {"GOLD": 17}, numbers={"GOLD": number})
+    for name, more, first in [("none", [], ["kill bird"]), ("one", [], []), ("two", ["EGGS"], []),
+                              ("one-and-one-lost", ["EGGS"], ["kill bird"])]:
+        pirate(f"hides-chest-{name}-left", ["take lamp", "on", *first],
+               {"LAMP": 17, "BIRD": 17, "SNAKE": 17}, known=["CHEST", *more])
+    with_draws("pirate-rustles", 20, 100, lambda it: [*COMES[:-1], it, "null"], 1,
+               homes={"AXE": 0, "GOLD": 17}, **PIRATE)
 
 
 # ---- Travel
@@ -154,10 +149,9 @@ def travel_games():
             game(f"way-by-{condition}-{name}", [*first, "east"], **world)
     for target in (0, 300, 301, 302, 303, 304, 500, 501, 999):
         game(f"way-to-{target}", ["east", "look"], rows=[f"9 {target} 43"])
-    road = [*range(1, 17)]
-    walk = [line for place in road[1:-1] for line in (f"g{place}", "grate")]
-    game("grate-from-1-to-15", ["g1", "grate", *walk], places=road, homes={"GRATE": 300},
-         rows=[f"{it} {to} {motion}" for it in road[:-1] for to, motion in ((16, 63), (9, 64))])
+    walk = [line for place in range(1, 16) for line in (f"g{place}", "grate")]
+    game("grate-from-1-to-15", walk, places=range(1, 17), homes={"GRATE": 300},
+         rows=[row for it in range(1, 16) for row in (f"{it} 16 63", f"{it} 9 64")])
     for visits in (4, 5, 6, 10):
         game(f"described-{visits}-times", ["null"] * visits)
         game(f"described-{visits}-times-brief", ["brief", *["null"] * visits])
@@ -173,30 +167,31 @@ def travel_games():
 
 # ---- The troll's bridge
 
-BRIDGE = {"homes": {"TROLL": (9, 10), "CHASM": (9, 10), "BEAR": 9, "SPICES": 16},
-          "rows": ["9 303 9", "10 303 9"]}
+TOLL = ["9 303 9", "10 303 9"]
+BRIDGE = {"homes": {"TROLL": (9, 10), "CHASM": (9, 10), "BEAR": 9, "SPICES": 16}, "rows": TOLL}
 
 
 def bridge_games():
     for name, known, first in [("unknown", [], []), ("unseen", ["SPICES"], []),
                                ("seen", ["SPICES"], ["g16", "g9"])]:
         game(f"spices-{name}", [*first, "take bear", "over"], known=known, **BRIDGE)
-    game("bridge-without-spices", ["take bear", "over"], lacks=["SPICES"],
-         **{**BRIDGE, "homes": {it: at for it, at in BRIDGE["homes"].items() if it != "SPICES"}})
+    game("bridge-without-spices", ["take bear", "over"], lacks=["SPICES"], rows=TOLL,
+         homes={"TROLL": (9, 10), "CHASM": (9, 10), "BEAR": 9})
     game("bridge-three-times", ["over"] * 4, **BRIDGE)
     game("bridge-without-its-troll", ["take bear", "drop bear", "over", "over"], **BRIDGE)
     for number in (49, 50, 79, 80):
         game(f"troll-is-thrown-{number}", ["take gold", "throw gold", "over"],
              homes={"TROLL": (9, 10), "CHASM": (9, 10), "GOLD": 9}, numbers={"GOLD": number},
-             rows=BRIDGE["rows"])
+             rows=TOLL)
     for prop, lines in [("calm", []), ("paid", ["throw gold"])]:
-        game(f"bridge-of-a-{prop}-troll-with-a-bottle-of-its-number", [*lines, "take bottle", "over"],
+        game(f"bridge-of-a-{prop}-troll-with-a-bottle-of-its-number",
+             [*lines, "take bottle", "over"],
              homes={"TROLL": (9, 10), "GOLD": 9, "BOTTLE": (9, 10)},
-             numbers={"TROLL": NUMBERS["BOTTLE"], "BEAR": NUMBERS["WATER"]}, rows=BRIDGE["rows"])
+             numbers={"TROLL": NUMBERS["BOTTLE"], "BEAR": NUMBERS["WATER"]}, rows=TOLL)
     game("bridge-of-a-troll-with-cage-and-bottle", ["take bird", "over"],
          homes={"TROLL": (9, 10), "BIRD": 9}, known=["GOLD"],
          numbers={"TROLL": NUMBERS["BOTTLE"], "CAGE": NUMBERS["BOTTLE"],
-                  "BEAR": NUMBERS["WATER"], "BIRD": NUMBERS["GOLD"]}, rows=BRIDGE["rows"])
+                  "BEAR": NUMBERS["WATER"], "BIRD": NUMBERS["GOLD"]}, rows=TOLL)
     game("troll-of-number-100", ["take gold", "throw gold"],
          homes={"TROLL": (9, 10), "GOLD": 9}, numbers={"TROLL": 100})
 
@@ -290,12 +285,10 @@ def verb_games():
         taken = ["take keys", "take food"][:held]
         game(f"hint-7-holding-{held}", [*taken, "g16", "g17", "g18", "null"],
              homes={"KEYS": 9, "FOOD": 9}, hints=[(7, 3, 1)], bits={7: [16, 17, 18]})
-    for name, known, lines in [("none", ["EMERALD", "PYRAMID"], []),
-                               ("emerald", ["EMERALD", "PYRAMID"], ["g16", "g9"]),
-                               ("both", ["EMERALD", "PYRAMID"], ["g16", "g17", "g9"]),
-                               ("pyramid", ["EMERALD", "PYRAMID"], ["g17", "g9"])]:
-        game(f"hint-8-seen-{name}", lines, known=known, homes={"EMERALD": 16, "PYRAMID": 17},
-             hints=[(8, 1, 1)], bits={8: [9]})
+    for name, lines in [("none", []), ("emerald", ["g16", "g9"]), ("both", ["g16", "g17", "g9"]),
+                        ("pyramid", ["g17", "g9"])]:
+        game(f"hint-8-seen-{name}", lines, known=["EMERALD", "PYRAMID"],
+             homes={"EMERALD": 16, "PYRAMID": 17}, hints=[(8, 1, 1)], bits={8: [9]})
 
 
 # ---- Liquids that share their number with what rules ask for: it is in the hands, by the cage, and
@@ -309,12 +302,13 @@ def liquid_games():
                  ["on", "take cage", "inventory", f"find {name}", "over", "over", "g16", "look",
                   f"drop {name}", "take cage", "g9", "jump", "yes", "g9"],
                  numbers={**number, "LAMP": NUMBERS["BIRD"]}, dark=[16], words=["72 JUMP"],
-                 homes={"BIRD": 9, "CAGE": 9, "TROLL": (9, 10)}, rows=[*BRIDGE["rows"], "9 0 72"])
+                 homes={"BIRD": 9, "CAGE": 9, "TROLL": (9, 10)}, rows=[*TOLL, "9 0 72"])
             game(f"{liquid.lower()}-in-bottle-as-{name.lower()}",
                  [*wait(80), "take bottle", "fill bottle", "inventory", f"take {name}", "g18",
                   "look", "inventory", f"drop {name}", "look"], bits=bits,
                  numbers={liquid: NUMBERS[name]}, homes={**STORED, name: 9}, bound=CLOSING)
 
 
-GAMES = games_of(lamp_games, dwarf_games, pirate_games, travel_games, bridge_games, closing_games,
-                 score_games, verb_games, liquid_games, long_counts, *SELDOM)
+for add in (lamp_games, dwarf_games, pirate_games, travel_games, bridge_games, closing_games,
+            score_games, verb_games, liquid_games, long_counts, *SELDOM):
+    add()

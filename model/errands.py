@@ -194,5 +194,4 @@ def stage_of(seed, number):
 
 
 def brought_home(treasure):
-    """What brings a treasure home."""
     return [f"+{treasure}", "=building", f"drop {treasure.lower()}"]

@@ -2,6 +2,7 @@
 
 from database import NAMES, PLACES, ROLES, SECONDS
 from errands import parted
+from lines import text_of
 from verbs import ACTIONS
 
 DIRECTIONS = {2: "ROAD", 7: "FORWARD", 8: "BACK", 11: "OUT", 17: "CRAWL", 19: "IN", 21: "NULL",
@@ -13,6 +14,7 @@ TWO_PLACES = "GRATE STEPS DOOR FISSURE DRAGON CHASM TROLL MIRROR PLANT".split()
 STUCK = "SNAKE BEAR CHAIN TABLET VENDING MESSAGE RUG PLANT DWARF".split()
 MAY_BE_LIQUID = "LAMP BIRD BEAR OYSTER PILLOW".split()  # rules ask whether it is in the hands
 TREASURES = "GOLD COINS CHEST EGGS TRIDENT VASE EMERALD PYRAMID PEARL RUG SPICES CHAIN".split()
+FIXED = {"ROD": 41, "PLANT": 43, "TROLL": 45}  # the numbers of those that have a second one
 GO = 200  # the first of the motions that lead anywhere
 
 
@@ -36,16 +38,14 @@ class Maker:
         self.is_hasty = self.kind in ("closing", "closed", "bear") or (
             self.often(0.2) and self.kind not in ("pirate", "full"))
         lacks = {1} if self.often(0.2) else set()
-        self.places = sorted({1, 3, *rng.sample(range(1, 70), count)} - lacks)
-        if rng.random() < 0.5:
-            self.places = sorted({*self.places, *rng.sample([4, 7, 10, 12, 14, 15, 20], 2)})
+        places = {1, 3, *rng.sample(range(1, 70), count)} - lacks
+        if self.often(0.5):
+            places |= {*rng.sample([4, 7, 10, 12, 14, 15, 20], 2)}
+        self.places = sorted(places)
         self.start = rng.choice([it for it in self.places if it > 1] or self.places)
-        self.number_objects()
-        self.add_texts()
-        self.add_words()
-        self.add_homes()
-        self.add_ways()
-        self.add_rest()
+        for make in (self.number_objects, self.add_texts, self.add_words, self.add_homes,
+                     self.add_ways, self.add_rest):
+            make()
 
     def often(self, chance):
         return self.rng.random() < chance
@@ -56,15 +56,14 @@ class Maker:
     def number_objects(self):
         """A number for each name; most treasures are from 50 to 79, and some names have none."""
         rng, self.of = self.rng, {}
-        low = rng.sample(range(1, 25), 24)
-        high = rng.sample(range(25, 40), 15)
-        rich = rng.sample(range(50, 80), 30)
+        low, high, rich = (rng.sample(it, len(it))
+                           for it in (range(1, 25), range(25, 40), range(50, 80)))
         lacks = rng.choice([0, 0, 0.03, 0.1])
         for name in NAMES:
             if self.often(lacks) and name not in self.staged:
                 continue
-            if name in ("ROD", "PLANT", "TROLL"):
-                self.of[name] = {"ROD": 41, "PLANT": 43, "TROLL": 45}[name]
+            if name in FIXED:
+                self.of[name] = FIXED[name]
             elif self.often(0.97 if name in TREASURES else 0.3 if name == "STEPS" else 0):
                 self.of[name] = rich.pop()
             else:
@@ -123,19 +122,13 @@ class Maker:
         return self.rng.randrange(1, 500) if self.often(0.06) else self.rng.choice(self.messages)
 
     def add_words(self):
-        rng, rows = self.rng, []
-        for name, x in self.of.items():
-            rows.append((1000 + x, name))
-        for motion, word in DIRECTIONS.items():
-            rows.append((motion, word))
-        for it, place in enumerate(self.places):
-            rows.append((GO + it, f"GO{place:02}"))
-        lacks = rng.choice([0, 0, 0.1])
-        for word, verb in ACTIONS.items():
-            if not self.often(lacks):
-                rows.append((2000 + verb, word))
-        rows += [(2004, "UNLOCK"), (2006, "CLOSE"), (9, "OVER"), (56, "CLIMB"), (3050, "HELP")]
-        rows += [(3000 + self.message(), "MAGIC")]
+        rng, lacks = self.rng, self.rng.choice([0, 0, 0.1])
+        rows = [(1000 + x, name) for name, x in self.of.items()]
+        rows += DIRECTIONS.items()
+        rows += [(GO + it, f"GO{place:02}") for it, place in enumerate(self.places)]
+        rows += [(2000 + verb, word) for word, verb in ACTIONS.items() if not self.often(lacks)]
+        rows += [(2004, "UNLOCK"), (2006, "CLOSE"), (9, "OVER"), (56, "CLIMB"), (3050, "HELP"),
+                 (3000 + self.message(), "MAGIC")]
         for number, word in enumerate(MAGIC, 1):
             pair = [(2025, word), (3000 + number, word)]
             rows += pair if self.often(0.9) else pair[::-1]
@@ -174,14 +167,14 @@ class Maker:
             if self.kind == "full" and name in self.staged:
                 first, second = self.place(), 0
             if not self.often(0.04):
-                self.rows[7].append(f"{x} {first} {second}" if second or self.often(0.3) else
-                                    f"{x} {first}")
+                self.rows[7].append(f"{x} {first}" + (
+                    f" {second}" if second or self.often(0.3) else ""))
 
     def target(self):
         """A target of a row: its condition and its destination."""
         rng = self.rng
         x = rng.choice(self.objects)
-        to = rng.choice([self.place(), self.place(), self.place(), self.place(), 301, 302, 303,
+        to = rng.choice([*(self.place() for _ in range(4)), 301, 302, 303,
                          rng.choice([0, 304, 500]), 500 + self.message()])
         condition = rng.choice([0, 0, 100, rng.randrange(1, 100), rng.choice([20, 35, 50, 95]),
                                 100 + x, 200 + x, 100 * rng.choice([3, 4, 5, 6, 7]) + x % 100])
@@ -191,14 +184,13 @@ class Maker:
         rng, motions = self.rng, [*DIRECTIONS]
         homes = {x: of for x, *of in map(str.split, self.rows[7])}
         troll = homes.get(str(self.of.get("TROLL")), [])
-        self.forced = {it for it in self.places if self.often(0.12)}
-        self.forced -= {self.start} if self.kind is not None else set()
-        self.forced -= {*self.places} if self.kind == "full" else set()
+        forced = {it for it in self.places if self.often(0.12)}
+        forced -= {self.start} if self.kind is not None else set()
+        forced -= {*self.places} if self.kind == "full" else set()
         for place in self.places:
             rows = []
-            if place in self.forced:
-                if self.often(0.4):
-                    rows.append(f"{place} {self.target()} 1")
+            if place in forced:
+                rows += [f"{place} {self.target()} 1"] if self.often(0.4) else []
                 rows.append(f"{place} {self.place()} 1")
             for _ in range(rng.choice([0, 1, 2, 4])):
                 some = " ".join(str(it) for it in rng.sample(motions, rng.choice([1, 1, 2])))
@@ -207,11 +199,11 @@ class Maker:
                     rows.append(f"{place} {self.target()} {some.split()[0]}")
             if str(place) in troll or self.often(0.1):
                 rows.append(f"{place} {rng.choice([303, 303, 50303])} 9")
-            rows.append(f"{place} 301 71") if self.often(0.4) else None
+            rows += [f"{place} 301 71"] * self.often(0.4)
             rows += [f"{place} {to + 100_000 * self.often(0.1)} {GO + it}"
-                     for it, to in enumerate(self.places) if self.kind is not None
-                     or self.often(0.9)]
-            if len(rows) > 1 and self.often(0.2) and place not in self.forced:
+                     for it, to in enumerate(self.places)
+                     if self.kind is not None or self.often(0.9)]
+            if len(rows) > 1 and self.often(0.2) and place not in forced:
                 rng.shuffle(rows)
             self.rows[3] += rows
         if self.often(0.1) and self.places[-1] >= 15:
@@ -252,7 +244,6 @@ class Maker:
         return sorted({*places} - {self.start} | ({self.start} if has else set()))
 
     def database(self):
-        """The text of the database."""
         rng, lines = self.rng, []
         order = [*range(1, 13)]
         if self.often(0.2):
@@ -261,8 +252,8 @@ class Maker:
             rows = self.rows[section]
             cut = rng.randrange(len(rows) + 1) if self.often(0.05) and section != 5 else len(rows)
             for part in [rows[:cut], rows[cut:]] if cut < len(rows) else [rows]:
-                lines += [str(section), *part, "-1"]
-        return "".join(it + "\n" for it in [*lines, "0"])
+                lines += [section, *part, -1]
+        return text_of([*lines, 0])
 
     def bindings(self):
         """The text of the bindings. What isn't bound to a message prints its name."""
@@ -276,7 +267,7 @@ class Maker:
                 lines.append(f"place.{role} {place}")
         if self.often(0.2):
             lines.append(f"num.letters {rng.choice([5, 6, 8])}")
-        return "".join(it + "\n" for it in lines)
+        return text_of(lines)
 
     def place_of_role(self, role):
         """The place that a role has, or 0; mostly one by which the errand can be done."""
@@ -288,8 +279,8 @@ class Maker:
             return 1 if is_deep else rng.choice([1, 1, 2, 9, 15, place])
         if role == "outside":
             place = rng.choice([1, 1, 2, 3, 8, place])
-            return {"lamp": rng.choice([1, 299])}.get(
-                kind, 1 if kind in ("closed", "closing", "full") else place)
+            far = rng.choice([1, 299])
+            return far if kind == "lamp" else 1 if kind in ("closed", "closing", "full") else place
         if role == "start" and kind is not None:
             return self.start
         if role in ("ne", "sw") and kind in ("closed", "full"):

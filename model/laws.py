@@ -3,28 +3,16 @@ game is played: a module. What it finds is that a law doesn't hold of rules; it 
 it does.
 """
 
-from lines import FIELD, seed_of
+from lines import is_blank, seed_of
 
 MOST = {"clock1": 30, "clock2": 50, "lamp": 100_000}
 MOST_UNSEEN, MOST_LOST = 30, 60_000
 
 def facts(game):
-    """What laws ask of a state, apart from the stream."""
-    return {
-        "state": (game.here, game.last, game.older, game.question, game.hint, game.ended, game.lamp,
-                  game.warned, game.clock1, game.clock2, game.closing, game.closed, game.panicked,
-                  game.deaths, game.anger, game.kills, game.knife, game.brief, game.details,
-                  game.magic, game.half_verb, game.half_object, game.last_object, *game.where,
-                  *game.held, *game.prop, *game.dwarf_at, *game.dwarf_was, *game.dwarf_saw,
-                  *sorted(game.waited.items()), *sorted(game.taken), *sorted(game.visits.items())),
-        "gone": {it for it in range(5) if game.dwarf_at[it] == 0},
-        "past": {it for it, is_so in (("closing", game.closing), ("closed", game.closed),
-                                      ("awake", game.anger >= 2)) if is_so} | game.taken,
-        "unseen": game.unseen, "lost": game.lost, "deaths": game.deaths, "lamp": game.lamp,
-        "question": game.question, "ended": game.ended, "here": game.here,
-        "closing": game.closing, "turns": game.turns, "taken": len(game.taken),
-        "stream": game.stream,
-    }
+    """What laws ask of a state: a copy of it, with its text without the stream."""
+    kept = game.copy()
+    kept.text = [it for it in game.state_lines() if not it.startswith("stream ")]
+    return kept
 
 def of_states(game):
     """For each law about reachable states, whether it holds of this one."""
@@ -47,27 +35,26 @@ def of_states(game):
 
 def of_lines(line, before, after, said):
     """For each law about a line, whether it holds of the states before and after this one."""
-    is_blank = line.startswith("#") or not FIELD.search(line)
-    seed = None if is_blank else seed_of(line)
-    same = before["state"] == after["state"]
-    quiet = same and not said
-    asked = before["question"] is not None
-    if before["ended"]:
-        yield "end_is_quiet", quiet and (seed is not None or before["stream"] == after["stream"])
+    seed = None if is_blank(line) else seed_of(line)
+    quiet, same_stream = before.text == after.text and not said, before.stream == after.stream
+    if before.ended:
+        yield "end_is_quiet", quiet and (seed is not None or same_stream)
     if seed is not None:
-        yield "seeds_alone", quiet and after["stream"] == seed % 1_048_576
-    if is_blank:
-        yield "comments_change_nothing", quiet and before["stream"] == after["stream"]
-    if not (is_blank or seed is not None or before["ended"] or asked):
-        yield "commands_tick", after["turns"] == before["turns"] + 1
-    yield "nothing_goes_back", before["past"] <= after["past"]
-    yield "hints_never_fall", before["taken"] <= after["taken"]
-    yield "treasures_go_one_way", (after["unseen"] <= before["unseen"]
-                                   and before["lost"] <= after["lost"])
-    if before["question"] != "revive":
-        yield "deaths_come_one_by_one", before["deaths"] <= after["deaths"] <= before["deaths"] + 1
-    if before["here"] and after["here"]:
-        yield "gone_for_good", before["gone"] <= after["gone"]
+        yield "seeds_alone", quiet and after.stream == seed % 1_048_576
+    if is_blank(line):
+        yield "comments_change_nothing", quiet and same_stream
+    if not (is_blank(line) or seed is not None or before.ended or before.question is not None):
+        yield "commands_tick", after.turns == before.turns + 1
+    yield "nothing_goes_back", (
+        before.closing <= after.closing and before.closed <= after.closed
+        and (before.anger >= 2) <= (after.anger >= 2) and before.taken <= after.taken)
+    yield "hints_never_fall", len(before.taken) <= len(after.taken)
+    yield "treasures_go_one_way", after.unseen <= before.unseen and before.lost <= after.lost
+    if before.question != "revive":
+        yield "deaths_come_one_by_one", before.deaths <= after.deaths <= before.deaths + 1
+    if before.here and after.here:
+        yield "gone_for_good", not any(
+            now and not was for was, now in zip(before.dwarf_at[:5], after.dwarf_at[:5]))
 
 def broken(game, line, before, after):
     """The laws that don't hold of a line, or of the state after it."""

@@ -27,15 +27,6 @@ MOST_WAITS = 90  # lines of a step that waits, or hunts
 WHERE_DRAWN = [(100, it) for it in (5, 20, 25, 35, 50, 95)] + [(3, 1), (3, 2), (5, 1), (5, 4)]
 
 
-def copy_of(game):
-    """A copy of a game that can be played apart from it."""
-    new = object.__new__(type(game))
-    for name, value in vars(game).items():
-        new.__dict__[name] = value.copy() if isinstance(value, (list, dict, set)) else value
-    new.lists = {place: halves[:] for place, halves in game.lists.items()}
-    return new
-
-
 class Player:
     """Makes a log, like a player who wants to see every rule."""
 
@@ -43,9 +34,7 @@ class Player:
         self.rng, self.cave, self.counts = rng, cave, counts
         self.game, self.log, self.plan = Game(cave, seed), [], []
         self.kind, self.errand = parted(stage)
-        self.words = {}
-        for kind, number, word in cave.words:
-            self.words.setdefault((kind, number), word)
+        self.words = {(kind, number): word for kind, number, word in reversed(cave.words)}
         self.names = {x: name for name, x in cave.things.items() if x}
 
     def often(self, chance):
@@ -78,16 +67,13 @@ class Player:
         wanted = {1, 2} if step == "~oil" else {2}
         return next((it for it, bits in self.cave.bits.items() if bits & {1, 2} == wanted), 0)
 
-    def goal(self):
-        """What brings about a row of a verb's table that seldom applied."""
-        some = self.rng.sample(GOALS, 8)
-        return steps_of(min(some, key=lambda it: self.counts[it[0]]), self.rng)
-
     def new_plan(self):
+        """An errand, what brings about a row of a verb's table that seldom applied, or a round."""
         rng = self.rng
+        errand = lambda: parted(rng.choice(ERRANDS))[1]
+        goal = lambda: steps_of(min(rng.sample(GOALS, 8), key=lambda it: self.counts[it[0]]), rng)
         return rng.choice([
-            lambda: parted(rng.choice(ERRANDS))[1], lambda: parted(rng.choice(ERRANDS))[1],
-            self.goal, self.goal,
+            errand, errand, goal, goal,
             lambda: [f"+{it}" for it in rng.sample(NAMES, 12)],
             lambda: [f"@{it}" for it in rng.sample(TREASURES, 5)],
             lambda: [step for it in rng.sample(TREASURES, 3) for step in brought_home(it)],
@@ -98,25 +84,21 @@ class Player:
         if self.game.question:
             return None
         while self.plan:
-            step, name = self.plan[0], self.plan[0][1:]
-            if step[0] in UNTIL:
-                if line := UNTIL[step[0]](self):
-                    return line
-                self.plan.pop(0)
-                continue
-            if step == "$":
-                self.plan[:1] = brought_home(self.rng.choice(PLAIN_TREASURES))
-                continue
+            step, name, becomes = self.plan[0], self.plan[0][1:], []
             if step in SEEDS:
                 return f"seed {SEEDS[step](self)}"
-            if step[0] not in "+@=~?":
+            if step == "$":
+                becomes = brought_home(self.rng.choice(PLAIN_TREASURES))
+            elif step[0] in UNTIL:
+                if line := UNTIL[step[0]](self):
+                    return line
+            elif step[0] not in "+@=~?":
                 return step
-            place = self.place_for(step)
-            if place in (0, self.game.here):
-                takes = step[0] == "+" and place
-                self.plan[:1] = [f"take {SECONDS.get(name, name)}"] if takes else []
-            else:
+            elif (place := self.place_for(step)) not in (0, self.game.here):
                 return self.go(place)
+            elif step[0] == "+" and place:
+                becomes = [f"take {SECONDS.get(name, name)}"]
+            self.plan[:1] = becomes
         return None
 
     def wait(self):
@@ -159,22 +141,20 @@ class Player:
             return self.border_line()
         if game.dwarf_here() is not None and self.often(0.4):
             return rng.choice(NEAR_DWARF)
-        here = [abs(it) for it in game.lists.get(game.here, [])]
-        hands = game.in_hands()
-        near = here + hands + hands
+        here, hands = [abs(it) for it in game.lists.get(game.here, [])], game.in_hands()
+        near, done = here + hands + hands, abs(game.magic)
         x = rng.choice(near) if near and self.often(0.8) else rng.randrange(1, 101)
         noun = self.word_of(x) if self.often(0.9) else rng.choice(NAMES)
         of_noun = VERBS_OF.get(self.names.get(x)) or [*ACTIONS]
         verb = rng.choice([*ACTIONS, "UNLOCK", "CLOSE"] if self.often(0.4) else of_noun)
         return rng.choice([
-            lambda: f"{verb} {noun}", lambda: f"{verb} {noun}", lambda: f"{verb} {noun}",
+            *[lambda: f"{verb} {noun}"] * 3,
             lambda: f"take {self.word_of(rng.choice(here)) if here else noun}",
             lambda: f"drop {self.word_of(rng.choice(hands)) if hands else noun}",
             lambda: verb, lambda: noun, lambda: f"{noun} {verb}",
-            lambda: self.go(rng.choice([*self.cave.travel] or [1])),
-            lambda: self.go(rng.choice([*self.cave.travel] or [1])),
-            lambda: rng.choice([*DIRECTIONS.values(), "OVER", "CLIMB"]),
-            self.odd_line, self.magic_line,
+            *[lambda: self.go(rng.choice([*self.cave.travel] or [1]))] * 2,
+            lambda: rng.choice([*DIRECTIONS.values(), "OVER", "CLIMB"]), self.odd_line,
+            lambda: MAGIC[done] if done < 4 and self.often(0.8) else rng.choice(MAGIC),
             self.border_line,
         ])()
 
@@ -194,7 +174,7 @@ class Player:
         """A seed by which a draw of a line falls on a border or just below it, if one is found."""
         below, border = (1000, 95 * (self.game.anger - 2)) if self.game.anger > 2 else (100, 35)
         for _ in range(16):
-            game, seed, drawn = copy_of(self.game), border_seed(self.rng, below, border), []
+            game, seed, drawn = self.game.copy(), border_seed(self.rng, below, border), []
             game.stream = seed % (1 << 20)
             game.draw = lambda of: drawn.append((of, Game.draw(game, of))) or drawn[-1][1]
             turn.play_line(game, line)
@@ -214,13 +194,9 @@ class Player:
             "break mirror", "feed dwarf", "take qwerty", "throw axe", "kill", "fill bottle",
             "attack"])
 
-    def magic_line(self):
-        done = abs(self.game.magic)
-        return MAGIC[done] if done < 4 and self.often(0.8) else self.rng.choice(MAGIC)
-
     def play(self, line):
         """Plays a line on a copy, and gives that with the rules that applied."""
-        game, kept, tables.applied = copy_of(self.game), tables.applied, Counter()
+        game, kept, tables.applied = self.game.copy(), tables.applied, Counter()
         try:
             turn.play_line(game, line)
             return game, tables.applied
@@ -230,16 +206,15 @@ class Player:
     def step(self, tries):
         """Adds to the log the line, among a few, that applies the rarest rules, or that of a
         plan."""
-        planned, best = self.planned(), None
+        planned, tried = self.planned(), []
         follows = planned and self.often(0.9)
         lines = [planned] if follows else [self.candidate() for _ in range(tries)]
         for line in dict.fromkeys(lines):
             game, applied = self.play(line)
             rarity = sum(1 / (1 + self.counts[it]) for it in applied)
             rarity -= 0.5 * (game.ended is not None and self.game.ended is None and not game.closed)
-            if best is None or rarity > best[0]:
-                best = rarity, line, game, applied
-        _, line, self.game, applied = best
+            tried.append((rarity, line, game, applied))
+        _, line, self.game, applied = max(tried, key=lambda it: it[0])
         self.log.append(self.dressed(line))
         self.counts.update(applied.keys())
         if line == planned:
@@ -320,15 +295,16 @@ class Player:
         for _ in range(3 * len(errand) + MOST_WAITS * len({*"^*"} & {*errand})):
             if self.game.ended:
                 return
-            if self.game.question:
-                self.put(self.plan.pop(0) if self.plan[:1] in (["yes"], ["no"], ["y"]) else
-                         {"revive": "yes", "dragon": "yes"}.get(self.game.question, "no"))
-            elif (line := self.planned()) is None:
-                return
-            else:
+            if question := self.game.question:
+                answers = self.plan[:1] in (["yes"], ["no"], ["y"])
+                self.put(self.plan.pop(0) if answers else
+                         "yes" if question in ("revive", "dragon") else "no")
+            elif line := self.planned():
                 if self.plan[0][0] not in STAYS:
                     self.plan.pop(0)
                 self.put(line.lower())
+            else:
+                return
 
     def burn_lamp(self):
         """Takes the lamp, at times the batteries too, lights it, and waits until it is nearly low,

@@ -12,12 +12,11 @@ from re import findall, fullmatch
 import checks
 import cover
 import edits
-import ends
 import scores
 import walk
-from database import KEYS, PLACES, ROLES, Cave, bindings_of, sections_of, with_mark
-from known import KnownList
-from lines import GREATEST_SEED, MOST_BYTES, Fault, flaw_of, lines_of, log_of, near_name
+from database import KEYS, PLACES, ROLES, Cave, bindings_of, first_line, sections_of, with_mark
+from lines import (GREATEST_SEED, MOST_BYTES, Fault, flaw_of, lines_of, log_of, near_name,
+                   text_of)
 
 # The commands, each with what other programs call it.
 COMMANDS = {"check": ["test", "verify"], "play": ["run"], "edit": ["replay", "patch"],
@@ -32,10 +31,8 @@ PRINTS = {"check": ["maximum", "bindings", "names", "unused", "words", "doubts",
 OPTIONS = {"--bind": "FILE", "--seed": "N", "--every": "K", "--print": "WHAT", "--strict": None,
            "--guarded": None, "--edit": "EDIT", "--quiet": None, "--known": "FILE",
            "--report": "WHAT"}
-# What a strict run or one with a list of what is known prints.
-LISTS = {"check": "doubts", "cover": "texts"}
-# What an option without a value stands for, and what may be asked for by it.
-USUAL = {"--report": "reports"}
+LISTS = {"check": "doubts", "cover": "texts"}  # what runs that are strict or know a list print
+USUAL = {"--report": "reports"}  # what an option without a value stands for
 REPORTS = ["reports", "table"]
 LETTERS = {"-b": "--bind", "-s": "--seed", "-p": "--print", "-e": "--edit", "-q": "--quiet"}
 KNOWN = {"check": ["--bind", "--print", "--strict", "--known"],
@@ -64,22 +61,16 @@ def tip_of(what, given, names):
 
 def words_of(words):
     """The command, its files and its options."""
-    if not words or words[0] not in FILES:
-        word = (words or [""])[0]
-        meant = [command for command, others in COMMANDS.items()
-                 if any(near_name(word, [it]) for it in others)]
-        tip = f"\n\n  tip: did you mean '{meant[0]}'?" if meant else tip_of(
-            "subcommand", word, COMMANDS)
-        raise wrong(f"unrecognized subcommand '{word}'{tip}", "<COMMAND>")
-    command, files, options, rest, only_files = words[0], [], {}, list(words[1:]), False
+    command, rest = command_of((words or [""])[0]), words[1:]
+    files, options, only_files = [], {}, False
     usage = f"{command} {' '.join(FILES[command])}"
     with_options = usage.replace(" ", " [OPTIONS] ", 1)
     while rest:
-        word = rest.pop(0)
+        word, *rest = rest
         name, has_value, value = word.partition("=")
         if letter := LETTERS.get(word[:2]):
             name, has_value, value = letter, word[2:], word[2:].removeprefix("=")
-        if only_files or not word.startswith("-") or word == "-":
+        if only_files or not is_option(word):
             files.append(word)
             if len(files) > len(FILES[command]) and command != "cover":
                 raise unexpected(word, with_options)
@@ -88,32 +79,49 @@ def words_of(words):
         elif name not in KNOWN[command]:
             is_long = name.startswith("--")
             raise unexpected(name if is_long else name[:2], usage if is_long else with_options)
+        elif name in options and name != "--edit":
+            raise wrong(f"the argument '{shown_option(name)}' cannot be used multiple times",
+                        with_options)
+        elif has_value and not OPTIONS[name]:
+            raise wrong(f"unexpected value '{value}' for '{name}' found; no more were expected",
+                        usage.replace(" ", f" {name} ", 1))
         else:
-            shown = shown_option(name)
-            if name in options and name != "--edit":
-                raise wrong(f"the argument '{shown}' cannot be used multiple times", with_options)
-            if has_value and not OPTIONS[name]:
-                raise wrong(f"unexpected value '{value}' for '{name}' found; no more were expected",
-                            usage.replace(" ", f" {name} ", 1))
             if OPTIONS[name] and not has_value:
-                if name in USUAL and (not rest or rest[0].startswith("-") and rest[0] != "-"):
-                    rest.insert(0, USUAL[name])
-                if not rest or rest[0].startswith("--"):
-                    raise wrong(f"a value is required for '{shown}' but none was supplied")
-                if rest[0].startswith("-") and rest[0] != "-":
-                    raise unexpected(rest[0][:2], with_options)
-                value = rest.pop(0)
+                value, rest = value_after(name, rest, with_options)
             named = {"--print": PRINTS[command], "--report": REPORTS}.get(name, [value])
             if value not in named:
-                raise wrong(f"invalid value '{value}' for '{shown}'\n  [possible values:"
-                            f" {', '.join(named)}]{tip_of('value', value, named)}")
+                of = f"{', '.join(named)}]{tip_of('value', value, named)}"
+                raise wrong(f"invalid value '{value}' for '{shown_option(name)}'"
+                            f"\n  [possible values: {of}")
             options[name] = [*options.get(name, []), value] if name == "--edit" else value
     if missing := [it for it in FILES[command][len(files):] if it.startswith("<")]:
-        listed = "".join(f"\n  {it}" for it in missing)
-        used = [command, *map(shown_option, options)]
-        raise wrong(f"the following required arguments were not provided:{listed}",
-                    " ".join([*used, *FILES[command]]))
+        used = [command, *map(shown_option, options), *FILES[command]]
+        raise wrong("\n  ".join(["the following required arguments were not provided:", *missing]),
+                    " ".join(used))
     return command, files, judged_options(command, files, options)
+
+def command_of(word):
+    """The command that a word names."""
+    if word in FILES:
+        return word
+    meant = [command for command, others in COMMANDS.items()
+             if any(near_name(word, [it]) for it in others)]
+    tip = f"\n\n  tip: did you mean '{meant[0]}'?" if meant else tip_of(
+        "subcommand", word, COMMANDS)
+    raise wrong(f"unrecognized subcommand '{word}'{tip}", "<COMMAND>")
+
+def is_option(word):
+    return word.startswith("-") and word != "-"
+
+def value_after(name, rest, usage):
+    """The value of an option, of the words after it, and the words after the value."""
+    if name in USUAL and (not rest or is_option(rest[0])):
+        return USUAL[name], rest
+    if not rest or rest[0].startswith("--"):
+        raise wrong(f"a value is required for '{shown_option(name)}' but none was supplied")
+    if is_option(rest[0]):
+        raise unexpected(rest[0][:2], usage)
+    return rest[0], rest[1:]
 
 def shown_option(name):
     """An option as messages show it, with its value."""
@@ -125,12 +133,12 @@ def unexpected(word, usage):
     return wrong(f"unexpected argument '{word}' found", usage)
 
 def judged_options(command, files, options):
-    """The options, and what they are if they aren't given."""
-    seed = number_in("--seed", options.get("--seed", "0"), 0, GREATEST_SEED)
+    """The options, with those that each run has though they aren't given."""
+    options["--seed"] = number_in("--seed", options.get("--seed", "0"), 0, GREATEST_SEED)
     number_in("--every", options.get("--every", "50"), 1, 10_000)
     asks_left = "--strict" in options or "--known" in options
     usual = LISTS.get(command) if asks_left else None
-    prints = options.get("--print", usual or PRINTS[command][0])
+    prints = options.setdefault("--print", usual or PRINTS[command][0])
     if command == "check" and asks_left and prints != "doubts":
         raise wrong("'--strict' and '--known <FILE>' are for '--print doubts'")
     if command == "cover" and asks_left and prints == "known":
@@ -142,10 +150,7 @@ def judged_options(command, files, options):
     if "--report" in options:
         raise wrong("'--report <WHAT>' is for '--output <FILE>' or '--in-place': without these,"
                     " '--print <WHAT>' prints reports")
-    return {"edit": options.get("--edit"), "bind": options.get("--bind"), "print": prints,
-            "strict": "--strict" in options, "guarded": "--guarded" in options,
-            "quiet": "--quiet" in options, "seed": seed,
-            "known": options.get("--known")}
+    return options
 
 def number_in(option, text, least, most):
     """The number of an option, of 1 to 10 digits."""
@@ -160,15 +165,20 @@ def opened(name):
     """A file that can be read, or status 5."""
     try:
         return open(name, "rb")
-    except IsADirectoryError:
-        raise Stop(5, f"cave: {name}: the file can't be opened: is a directory\n") from None
     except OSError as error:
-        reason = f"{os.strerror(error.errno)} (os error {error.errno})"
+        reason = ("is a directory" if isinstance(error, IsADirectoryError) else
+                  f"{os.strerror(error.errno)} (os error {error.errno})")
         raise Stop(5, f"cave: {name}: the file can't be opened: {reason}\n") from None
 
-def text_of(file):
+def read(file):
     with file:
         return file.read().decode("latin-1")
+
+def bounded(text, status, flaw):
+    """A text that a run may have; another one ends it."""
+    if len(text) > MOST_BYTES:
+        raise Stop(status, f"cave: {flaw}\n")
+    return text
 
 def judged_as(status, name, judge, *of):
     """What a judge says of an input; its fault ends the run."""
@@ -188,8 +198,8 @@ def cave_of(name, database, bind, bindings):
 
 def read_log(name, file, database, options, told):
     """The text of a log. What is said of its head is added to `told`."""
-    text = text_of(file)
-    if len(text) <= MOST_BYTES and not options["quiet"]:
+    text = read(file)
+    if len(text) <= MOST_BYTES and "--quiet" not in options:
         told.append(head_notice(name, text, database, options))
     return text
 
@@ -202,11 +212,12 @@ def head_notice(name, text, database, options):
     words = findall("[^ \t]+", said)
     cave = [*words, ""][0]
     bind, seed = said_in_head(words, "--bind"), said_in_head(words, "--seed")
+    bound = options.get("--bind")
     if cave and not cave.startswith("-") and base(cave) != base(database):
         other = cave
-    elif bind is not None and (options["bind"] is None or base(bind) != base(options["bind"])):
+    elif bind is not None and (bound is None or base(bind) != base(bound)):
         other = f"--bind {bind}"
-    elif seed and fullmatch("[0-9]{1,10}", seed) and int(seed) != options["seed"]:
+    elif seed and fullmatch("[0-9]{1,10}", seed) and int(seed) != options["--seed"]:
         other = f"--seed {seed}"
     else:
         return ""
@@ -231,50 +242,55 @@ def base(path):
 
 def bindings_lines(cave):
     """Each key with what it is bound to."""
-    counts = {"msg": 0, "place": 0}
+    counts = {"message": 0, "place": 0}
     for key in KEYS[:-1]:
-        family, number = key.split(".")[0], cave.bound.get(key)
-        texts = [cave.messages] if family == "msg" else [cave.long, cave.short]
-        found = next((it[number] for it in texts if number in it), None)
+        kind, number = "message" if key in KEYS[:len(ROLES)] else "place", cave.bound.get(key)
+        texts = cave.messages if kind == "message" else cave.short | cave.long
         if number is None:
             yield f"{key} unbound"
-        elif found is None:
-            yield f"{key} {number}: no such {'message' if family == 'msg' else 'place'}"
+        elif number not in texts:
+            yield f"{key} {number}: no such {kind}"
         else:
-            counts[family] += 1
-            yield f"{key} {number}: {'' if found == ['>$<'] else found[0]}"
+            counts[kind] += 1
+            yield f"{key} {number}: {first_line(texts[number])}"
     yield f"num.letters {cave.letters}"
-    yield (f"-- {counts['msg']} of {len(ROLES)} messages and {counts['place']} of {len(PLACES)}"
+    yield (f"-- {counts['message']} of {len(ROLES)} messages and {counts['place']} of {len(PLACES)}"
            " places have a text")
 
-def doubts_lines(cave, options, name, database, bindings, known):
-    """The doubts that a list doesn't know, after the entries of the list that no doubt is."""
+def check_lines(cave, options, names, database, bindings, known):
+    """What is asked for of a cave. Doubts are those that a list doesn't know, after the entries of
+    the list that no doubt is."""
+    what = options["--print"]
+    views = {"bindings": bindings_lines, "names": checks.names_lines,
+             "unused": checks.unused_lines, "words": checks.words_lines}
+    if what in views:
+        return views[what](cave)
+    if what == "maximum":
+        return [f"cave ok, maximum {cave.greatest_score()}"]
     found = checks.doubts(cave, database, bindings)
-    files = {"cave": name, "bindings": options["bind"]}
-    entries = [*map(checks.entry_of, found)]
-    unknown = {*known.unknown(entries)}
-    left = [checks.doubt_line(it, files) for it in found if checks.entry_of(it) in unknown]
-    unmet = known.unmet(entries, "no doubt says this")
-    lines = [*unmet, *left, f"-- {len(left)} doubt{'s' * (len(left) != 1)}"]
-    if left and options["strict"]:
+    entries = checks.entries_of(found)
+    if what == "known":
+        return entries
+    left = [f"{names[source]}:{at}: {says}" for (source, at, says), entry in zip(found, entries)
+            if entry not in known.entries]
+    lines = [*known.unmet(entries, "no doubt says this"), *left,
+             f"-- {len(left)} doubt{'s' * (len(left) != 1)}"]
+    if left and "--strict" in options:
         raise Stop(1, f"cave: {left[0]}\n", lines)
     return lines
 
-def check_lines(cave, options, name, database, bindings, known):
-    """What is asked for of a cave."""
-    what = options["print"]
-    if what == "doubts":
-        return doubts_lines(cave, options, name, database, bindings, known)
-    if what == "known":
-        return [*map(checks.entry_of, checks.doubts(cave, database, bindings))]
-    views = {"bindings": bindings_lines, "names": checks.names_lines,
-             "unused": checks.unused_lines, "words": checks.words_lines}
-    return views[what](cave) if what in views else [f"cave ok, maximum {cave.greatest_score()}"]
+def play_lines(cave, seed, log, what):
+    """What is asked for of a play."""
+    if what in ("steps", "walk"):
+        return (edits.steps if what == "steps" else walk.walk)(cave, seed, log)
+    played = edits.play(cave, seed, log)
+    return {"score": scores.table(played.game), "state": played.game.state_lines()}.get(
+        what, played.transcript)
 
 def stretch(group, log, new_log, old, new):
-    """Where a replay begins, the place where it meets the old play or None, and how many lines it
-    plays. `old` and `new` are the states at all places, each of which is a checkpoint except the
-    end of a log that isn't empty."""
+    """Where a replay begins, the place where it meets the old play, and how many lines it plays.
+    `old` and `new` are the states at all places, each of which is a checkpoint except the end of a
+    log that isn't empty."""
     prefix, suffix, length = len(log), len(log), len(log)
     for edit in group.edits:
         if edit.kind == "seed":
@@ -289,137 +305,110 @@ def stretch(group, log, new_log, old, new):
     for at in range(len(log) - suffix, len(log) or 1):
         if old[at] == new[at + shift]:
             return start, at + shift, at + shift - start
-    return start, None, len(new_log) - start
-
-def small(text, name):
-    """A text that is printed for a run to read."""
-    if len(text) > MOST_BYTES:
-        more = "would be larger than 1,048,576 bytes, and no run could read it"
-        raise Stop(6, f"cave: {name} {more}\n")
-    return text
+    return start, "none", len(new_log) - start
 
 def run_edit(cave, file, log, script, log_ends, options, told):
     """Edits a log by a script, and gives what is printed: its lines, or a text with its own ends.
     What is said on standard error is added to `told`."""
-    seed, reports, backs, with_guards, rows = options["seed"], [], [], [], []
-    replays = options["print"] in ("reports", "table")
-    is_told = not (options["print"] in ("transcript", "reports") or options["quiet"])
+    seed, what, is_quiet = options["--seed"], options["--print"], "--quiet" in options
+    reports, undo, guarded, rows = [], [], [], []
+    replays, is_told = what in REPORTS, not is_quiet and what not in ("transcript", "reports")
     before, played, wanted = edits.play(cave, seed, log, True) if replays else None, 0, 0
     for group in script:
         try:
             new_seed, new_log = edits.apply_group(group, seed, log)
         except edits.Refused as refused:
-            said, words = f"refused {refused.fault}", f", {refused.words}"
-            line = f"cave: {file}:{refused.line}: {said}{words}\n"
-            if options["strict"]:
+            said, why = f"refused {refused.fault}", f", {refused.words}"
+            line = f"cave: {file}:{refused.line}: {said}{why}\n"
+            if "--strict" in options:
                 raise Stop(4, line) from None
             told += [line] * is_told
-            reports.append(f"line {refused.line}: {said}{words if replays else ''}")
+            reports.append(f"line {refused.line}: {said}{why if replays else ''}")
             rows.append([refused.line, edits.words_of(group), "", said, *["-"] * 8])
             continue
-        report = f"line {group.line}: ok"
+        reports.append(f"line {group.line}: ok")
         if replays:
             after = edits.play(cave, new_seed, new_log, True)
             start, met, count = stretch(group, log, new_log, before.states, after.states)
-            report += (f", from {start}, met {'none' if met is None else met}, played {count} of"
-                       f" {len(new_log)}, {edits.score_and_turns(after.game)}, at {after.game.here}"
-                       + (f", ended: {after.game.ended}" if after.game.ended else ""))
+            game = after.game
+            reports[-1] += (f", from {start}, met {met}, played {count} of {len(new_log)},"
+                            f" {edits.score_and_turns(game)}, at {game.here}"
+                            + (f", ended: {game.ended}" if game.ended else ""))
             rows.append([group.line, edits.words_of(group), edits.text_of(group, log), "ok", start,
-                         "none" if met is None else met, count, after.game.score(),
-                         after.game.turns, after.game.here, after.game.ended or "-",
+                         met, count, game.score(), game.turns, game.here, game.ended or "-",
                          edits.differences(before.states[-1], after.states[-1])])
             before, played, wanted = after, played + count, wanted + len(new_log)
-        reports.append(report)
-        backs.append(edits.undo_of(group, seed, log, options["guarded"]))
-        with_guards += edits.guarded_of(group, log)
+        back, again = edits.scripts_of(group, seed, log, "--guarded" in options)
+        undo, guarded = back + undo, guarded + again
         log_ends.follow(group)
         seed, log = new_seed, new_log
-    if options["print"] == "table":
+    if what == "table":
         return ["\t".join(map(str, row)) for row in [edits.TABLE, *rows]]
-    if replays:
+    if what == "reports":
         return [*reports, f"replayed {played} lines instead of {wanted}"]
-    if options["print"] == "undo":
-        lines = [line for lines in reversed(backs) for line in lines]
-        return small(log_ends.script_text(lines), "the script")
-    if options["print"] == "guarded":
-        return small(log_ends.script_text(with_guards), "the script")
-    if options["print"] == "log":
+    large = "would be larger than 1,048,576 bytes, and no run could read it"
+    if what in ("undo", "guarded"):
+        text = log_ends.script_text(undo if what == "undo" else guarded)
+        return bounded(text, 6, f"the script {large}")
+    if what == "log":
         lost = (f"cave: the edits set the seed {seed}, and a log holds none:"
                 f" play this one with --seed {seed}\n")
-        told += [lost] * (seed != options["seed"] and not options["quiet"])
-        return small(log_ends.log_text(log), "the edited log")
-    if options["print"] == "steps":
-        return edits.steps(cave, seed, log)
-    if options["print"] == "walk":
-        return walk.walk(cave, seed, log)
-    ended = edits.play(cave, seed, log)
-    return {"score": scores.table(ended.game), "state": ended.game.state_lines(),
-            "play": ended.transcript,
-            "transcript": [*reports, *ended.transcript]}[options["print"]]
+        told += [lost] * (seed != options["--seed"] and not is_quiet)
+        return bounded(log_ends.log_text(log), 6, f"the edited log {large}")
+    return reports * (what == "transcript") + [*play_lines(cave, seed, log, what)]
 
-def run_cover(cave, database, names, options, known, told):
+def run_cover(cave, names, options, known, told):
     """Plays logs, each of which is opened when its turn comes, and returns what is printed about
     the texts that none of them says, as lines."""
-    said = set()
-    for name in names:
+    said, (database, *logs) = set(), names
+    for name in logs:
         log = judged_as(3, name, log_of, read_log(name, opened(name), database, options, told))
-        said |= edits.play(cave, options["seed"], log).game.said
-    entries, lines, left = cover.report(cave, said, len(names), options["print"], known)
+        said |= edits.play(cave, options["--seed"], log).game.said
+    entries, lines, left = cover.report(cave, said, len(logs), options["--print"], known)
     lines = [*known.unmet(entries, "nothing that is never shown says this"), *lines]
-    if left and options["strict"]:
+    if left and "--strict" in options:
         what = "left that no log shows: add logs, or list them for --known"
         raise Stop(1, f"cave: {left} {what}\n", lines)
     return lines
 
-def check_known(name, text):
-    """Ends the run if a list of what is known is too large."""
-    if len(text) > MOST_BYTES:
-        large = "the list of what is known is too large: it has at most 1,048,576 bytes"
-        raise Stop(1, f"cave: {name}: {large}\n")
+def known_list(name, text):
+    """A list of what is known, by its file."""
+    flaw = "the list of what is known is too large: it has at most 1,048,576 bytes"
+    return cover.KnownList(name, bounded(text, 1, f"{name}: {flaw}"))
 
 def run_words(words, told):
     """What a run prints, as lines or as a text; a fault of it ends it by `Stop`. What else is said
     on standard error is added to `told`, as lines."""
     command, names, options = words_of(words)
-    bind, known = options["bind"], options["known"]
+    bind, known = options.get("--bind"), options.get("--known")
     others = names[1:] if command != "cover" else []
     in_order = [names[0], bind, *others, *([known] if known is not None else [])]
     files = [None if it is None else opened(it) for it in in_order]
-    listed = text_of(files.pop()) if known is not None else ""
-    known_list = KnownList(known, listed)
+    listed = read(files.pop()) if known is not None else ""
     if command == "cover":
-        check_known(known, listed)
-    database, bindings = text_of(files[0]), text_of(files[1]) if files[1] else ""
+        known_list(known, listed)
+    database, bindings = read(files[0]), read(files[1]) if files[1] else ""
     for name, text, says in [(names[0], database, "a database has"),
                              (bind, bindings, "bindings have")]:
-        if len(text) > MOST_BYTES:
-            most = "at most 1,048,576 bytes"
-            raise Stop(1, f"cave: {name}: the input is too large: {says} {most}\n")
+        bounded(text, 1, f"{name}: the input is too large: {says} at most 1,048,576 bytes")
     cave = cave_of(names[0], database, bind, bindings)
     if command == "check":
-        check_known(known, listed)
-        return check_lines(cave, options, names[0], database, bindings, known_list)
+        files = {"cave": names[0], "bindings": bind}
+        return check_lines(cave, options, files, database, bindings, known_list(known, listed))
     if command == "cover":
-        return run_cover(cave, names[0], names[1:], options, known_list, told)
+        return run_cover(cave, names, options, known_list(known, listed), told)
     moves = read_log(names[1], files[2], names[0], options, told)
     log = judged_as(3, names[1], log_of, moves)
-    if command == "edit":
-        name, text = (names[2], text_of(files[3])) if options["edit"] is None else (
-            "--edit", "".join(it + "\n" for it in options["edit"]))
-        script = judged_as(4, name, edits.script_of, text, options["guarded"])
-        log_ends = ends.Ends(moves, text)
-        return run_edit(cave, name, log, script, log_ends, options, told)
-    if options["print"] == "steps":
-        return edits.steps(cave, options["seed"], log)
-    if options["print"] == "walk":
-        return walk.walk(cave, options["seed"], log)
-    played = edits.play(cave, options["seed"], log)
-    return {"score": scores.table(played.game), "state": played.game.state_lines(),
-            "transcript": played.transcript}[options["print"]]
+    if command == "play":
+        return play_lines(cave, options["--seed"], log, options["--print"])
+    name, text = (names[2], read(files[3])) if names[2:] else (
+        "--edit", text_of(options["--edit"]))
+    script = judged_as(4, name, edits.script_of, text, "--guarded" in options)
+    return run_edit(cave, name, log, script, edits.Ends(moves, text), options, told)
 
 def bytes_of(printed):
     """The bytes of a text or of lines."""
-    text = printed if isinstance(printed, str) else "".join(it + "\n" for it in printed)
+    text = printed if isinstance(printed, str) else text_of(printed)
     return text.encode("latin-1")
 
 def run(words):

@@ -3,6 +3,8 @@
 docs/TURN.md, The score; docs/FORMATS.md, The score.
 """
 
+from database import first_line
+
 CLOSED = {"success": 45, "wrong way": 30, "klutz": 25}  # by the ending; 10 without one of these
 COLUMNS = ("what", "found", "home", "points", "of")
 
@@ -15,8 +17,7 @@ def rows_of(game):
         found = 2 if game.prop[x] >= 0 else 0
         is_home = game.prop[x] == 0 and game.where[x] == cave.place("building")
         home = worth - 2 if is_home else 0
-        name = named("treasure", x, cave.object_texts[x, None])
-        yield name, found, home, found + home, worth
+        yield named("treasure", x, cave.object_texts[x, None]), found, home, found + home, worth
     at_witt = magazine and game.where[magazine] == cave.place("witt")
     others = {"lives": (10 * (3 - game.deaths), 30),
               "ending": (4 * (game.ended not in (None, "quit")), 4),
@@ -36,18 +37,16 @@ def score(game):
 
 def named(kind, number, text):
     """A thing by its number and the first line of its text, with a blank for each tab."""
-    first = "" if text == [">$<"] else text[0].replace("\t", " ")
-    return f"{kind} {number}: {first}"
+    return f"{kind} {number}: {first_line(text)}".replace("\t", " ")
 
 def table(game):
     """The score as a table."""
     points, classes = score(game), game.cave.classes
-    at = next((it for it, (bound, _) in enumerate(classes) if bound >= points), None)
-    name, wanted = "no class", "-"
+    name, wanted, at = "no class", "-", game.cave.class_of(points)
     if at is not None:
         bound, text = classes[at]
         name = named("class", bound, [text])
-        wanted = bound + 1 - points if at < len(classes) - 1 else "-"
+        wanted = bound + 1 - points if classes[at + 1:] else "-"
     for row in [COLUMNS, *rows_of(game),
                 ("score", "-", "-", points, game.cave.greatest_score()),
                 (name, "-", "-", "-", "-"), ("next class", "-", "-", wanted, "-")]:

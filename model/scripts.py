@@ -1,5 +1,6 @@
 """Random scripts for the duel, lists of what is known, and texts with a few changes."""
 
+from lines import text_of
 
 def script_for(rng, log, suggestions, guarded):
     """A script of edits of a log; `suggestions` are lines that may come in. If it may have guards,
@@ -30,7 +31,7 @@ def script_for(rng, log, suggestions, guarded):
         if rng.random() < 0.05:
             lines.append(rng.choice(["# a comment", "", "  ", "begin", "end", "insert", "delete x",
                                      "insert  1 x", "seed 1 ", "delete 0 0", "expect 0 x"]))
-    return "".join(it + "\n" for it in lines + ["end"] * is_open)
+    return text_of(lines + ["end"] * is_open)
 
 
 def script_words(rng, script):
@@ -45,7 +46,7 @@ def known_list(rng, entries):
     share = rng.choice([0, 0.9, 1])
     some = [it for it in entries if rng.random() < share]
     rng.shuffle(some)
-    text = "".join(f"{rng.choice(['', '', '  '])}{it}\n" for it in some)
+    text = text_of(f"{rng.choice(['', '', '  '])}{it}" for it in some)
     return mutated(rng, text) if rng.random() < 0.2 else text
 
 
@@ -64,29 +65,20 @@ def mutated(rng, text):
     for _ in range(rng.choice([1, 1, 1, 2, 4])):
         at = rng.randrange(len(lines))
         fields = lines[at].split(" ")
-        field = rng.randrange(len(fields))
-        piece = rng.choice(PIECES)
-        kind = rng.randrange(12)
-        if kind < 4:
-            fields[field] = piece
-        elif kind == 4:
-            fields.insert(field, piece)
-        elif kind == 5:
-            del fields[field]
-        lines[at] = " ".join(fields)
-        if kind == 6:
+        field, piece, kind = rng.randrange(len(fields)), rng.choice(PIECES), rng.randrange(12)
+        if kind < 6:
+            fields[field:field + (kind != 4)] = [piece] if kind < 5 else []
+            lines[at] = " ".join(fields)
+        elif kind == 6:
             del lines[at]
-        elif kind == 7:
-            lines.insert(at, rng.choice(lines))
-        elif kind == 8:
-            lines.insert(at, piece)
+        elif kind in (7, 8):
+            lines.insert(at, rng.choice(lines) if kind == 7 else piece)
         elif kind == 9:
-            lines = lines[:at] or [""]
+            del lines[at:]
         elif kind == 10:
             many = " 5" * rng.choice([39, 40, 41])
             lines[at] += rng.choice(["\r", " 1 2 3", "x" * 256, many, " x"])
-        elif kind == 11:
+        else:
             lines[at:at + 1] = [lines[at]] * rng.choice([2, 60, 1005, 2005])
-        if not lines:
-            lines = [""]
+        lines = lines or [""]
     return "\n".join(lines)

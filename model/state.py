@@ -3,7 +3,10 @@
 docs/PLAY.md, What a state keeps; docs/VERBS.md, Terms; docs/TURN.md, The score, Questions, Death.
 """
 
+from copy import copy, deepcopy
+
 import scores
+from database import SILENT
 from tables import TABLES, rule
 
 HANDS, NATURE = -1, -1  # where a first half is that is in the hands, and what holds a second half
@@ -41,18 +44,25 @@ class Game:
         self.was_dark, self.forced_left = False, 20
         self.word, self.verb, self.player_verb = "", 0, 0
         self.put_objects()
-        self.first = (self.where[:], self.held[:], self.prop[:],
-                      {place: halves[:] for place, halves in self.lists.items()})
+        self.first = deepcopy((self.where, self.held, self.prop, self.lists))
         self.ask("welcome")
 
     def put_objects(self):
         """Puts each object where it is as a game begins: first those with two places."""
         for treasure in self.cave.treasures:
             self.prop[treasure] = -1
-        homes = self.cave.homes
-        for x in sorted(homes, key=lambda it: (homes[it][1] > 0, it), reverse=True):
-            self.anchor(x, homes[x][1])
-            self.move(x, homes[x][0])
+        homes = self.cave.homes.items()
+        for x, (first, second) in sorted(homes, key=lambda it: (it[1][1] > 0, it), reverse=True):
+            self.anchor(x, second)
+            self.move(x, first)
+
+    def copy(self):
+        """A copy that can be played apart from this game."""
+        new = copy(self)
+        vars(new).update((name, value.copy()) for name, value in vars(self).items()
+                         if isinstance(value, (list, dict, set)))
+        new.lists = {place: halves[:] for place, halves in self.lists.items()}
+        return new
 
     # ---- Chance
 
@@ -110,10 +120,9 @@ class Game:
     def troll_leaves(self):
         troll, second = self.thing("TROLL"), self.thing("TROLL2")
         if troll:
-            self.move(troll, 0)
-            self.anchor(troll, 0)
-            self.move(second, self.home(troll)[0])
-            self.anchor(second, self.home(troll)[1])
+            for x, places in (troll, (0, 0)), (second, self.home(troll)):
+                self.move(x, places[0])
+                self.anchor(x, places[1])
         self.juggle(self.thing("CHASM"))
 
     # ---- What is asked of objects
@@ -165,20 +174,19 @@ class Game:
 
     def dwarf_here(self):
         """The first of the five dwarves that is here, if they are awake; otherwise None."""
-        here = [it for it in DWARVES if self.dwarf_at[it] == self.here and self.anger >= 2]
-        return here[0] if here else None
+        awake = DWARVES if self.anger >= 2 else ()
+        return next((it for it in awake if self.dwarf_at[it] == self.here), None)
 
     def is_dark(self):
         lamp = self.thing("LAMP")
         is_near = self.is_in_hands(lamp) or self.where[lamp] == self.here
-        return not self.cave.has(self.here, 0) and not (
-            lamp and self.prop[lamp] == 1 and is_near)
+        return not (self.cave.has(self.here, 0) or lamp and self.prop[lamp] == 1 and is_near)
 
     # ---- What is said
 
     def show(self, lines):
         """Prints a text of the cave, if there is one."""
-        if lines and lines != [">$<"]:
+        if lines and lines != SILENT:
             self.out += lines
 
     def say(self, role):
@@ -202,6 +210,11 @@ class Game:
     def is_over(self):
         """Whether a question is open or the game has ended, so that nothing more is done."""
         return self.question is not None or self.ended is not None
+
+    def asked(self):
+        """The question that is open, or None."""
+        asked = {"score quit": "score, quit"}.get(self.question, self.question)
+        return f"{asked} {self.hint}" if asked in ("hint", "take hint") else asked
 
     def open_question(self, question):
         """The next line answers it."""
@@ -235,24 +248,24 @@ class Game:
         score, classes = self.score(), self.cave.classes
         self.out.append(f"You scored {score} out of a possible {self.cave.greatest_score()}, using"
                         f" {self.turns} turn{'s' * (self.turns != 1)}.")
-        at = next((it for it, (bound, _) in enumerate(classes) if bound >= score), None)
+        at = self.cave.class_of(score)
         if at is None:
             rule("end: off the scale")
             self.say("off-scale")
             return
-        self.said.add(("class", classes[at][0]))
-        self.show([classes[at][1]])
-        if at == len(classes) - 1:
+        bound, text = classes[at]
+        self.said.add(("class", bound))
+        self.show([text])
+        if not classes[at + 1:]:
             rule("end: top class")
             self.say("top-class")
-        else:
-            rule("end: a class and the next one")
-            more = classes[at][0] + 1 - score
-            self.out.append("To achieve the next higher rating, you need"
-                            f" {more} more point{'s' * (more != 1)}.")
+            return
+        rule("end: a class and the next one")
+        more = bound + 1 - score
+        self.out.append("To achieve the next higher rating, you need"
+                        f" {more} more point{'s' * (more != 1)}.")
 
     def score(self):
-        """The score of the state as it is."""
         return scores.score(self)
 
     # ---- A state as a text
@@ -264,12 +277,10 @@ class Game:
 
     def state_lines(self):
         """The state, one fact a line (docs/PLAY.md, A state as a text)."""
-        yes = {False: "no", True: "yes"}
-        asked = {None: "none", "score quit": "score, quit"}.get(self.question, self.question)
-        asked += f" {self.hint}" if asked in ("hint", "take hint") else ""
+        yes = ("no", "yes")
         yield from [
             f"turns {self.turns}", f"score {self.score()}", f"here {self.here}",
-            f"last {self.last}", f"older {self.older}", f"question {asked}",
+            f"last {self.last}", f"older {self.older}", f"question {self.asked() or 'none'}",
             f"ended {self.ended or 'no'}", f"lamp {self.lamp}", f"lamp warned {yes[self.warned]}",
             f"first clock {self.clock1}", f"second clock {self.clock2}",
             f"closing {yes[self.closing]}", f"closed {yes[self.closed]}",

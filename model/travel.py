@@ -88,18 +88,13 @@ def arrive(game, place):
         game.say("closing-exit")
         game.panic()
         place = game.here
-    if place != game.here and is_blocked(game, place):
+    is_safe = place == game.here or game.cave.is_forced(game.here) or game.cave.has(game.here, 3)
+    if not is_safe and any(game.dwarf_saw[it] and game.dwarf_was[it] == place for it in DWARVES):
         rule("arrival: blocked by a dwarf")
         game.say("blocked")
         place = game.here
     game.here = place
     TABLES["arrival"].apply(game)
-
-def is_blocked(game, place):
-    """Whether one of the five that has seen the player comes from the place."""
-    is_safe = game.cave.is_forced(game.here) or game.cave.has(game.here, 3)
-    return not is_safe and any(
-        game.dwarf_saw[it] and game.dwarf_was[it] == place for it in DWARVES)
 
 # ---- Description
 

@@ -8,6 +8,7 @@ from collections import namedtuple
 
 from database import NAMES, SECONDS
 from generate import DIRECTIONS, GO, MAGIC, TREASURES
+from lines import text_of
 from seeds import seeds_about
 from verbs import ACTIONS
 
@@ -71,34 +72,28 @@ class World:
                 yield f"{number} {name}"
                 yield from (f"{prop}00 {name} at {prop}." for prop in range(MOST_PROPS))
 
-    def home_rows(self):
-        for name, places in self.homes.items():
-            first, second = places if isinstance(places, tuple) else (places, 0)
-            yield f"{self.number(name)} {first} {second}"
-
     def database(self):
-        """The text of the database."""
+        homes = {name: at if isinstance(at, tuple) else (at, 0) for name, at in self.homes.items()}
         sections = {
             1: [f"{it} Place {it}." for it in self.places],
             2: [f"{it} At {it}." for it in self.places],
             3: self.travel_rows(), 4: self.word_rows(), 5: self.object_rows(),
-            6: [f"{it} {text}" for it, text in MESSAGES.items()], 7: self.home_rows(),
+            6: [f"{it} {text}" for it, text in MESSAGES.items()],
+            7: [f"{self.number(name)} {first} {second}" for name, (first, second) in homes.items()],
             9: [f"{bit} {' '.join(map(str, of))}" for bit, of in self.bits.items()],
             10: [f"{it} Class {it}." for it in self.classes],
             11: [f"{hint} {turns} {points} 1 2" for hint, turns, points in self.hints]}
-        lines = [it for section, rows in sections.items() for it in (section, *rows, -1)]
-        return "".join(f"{it}\n" for it in [*lines, 0])
+        rows = [it for section, rows in sections.items() for it in (section, *rows, -1)]
+        return text_of([*rows, 0])
 
     def bindings(self):
-        """The text of the bindings."""
-        return "".join(f"{'num' if role == 'letters' else 'place'}.{role} {number}\n"
+        return text_of(f"{'num' if role == 'letters' else 'place'}.{role} {number}"
                        for role, number in self.bound.items() if number)
 
 
 # ---- Games
 
 GAMES: list = []
-NAMES_OF_SEEDS = ("below", "at")
 CLOSING = {"deep": 1, "ne": 17, "sw": 18}  # in a cave that closes, which has only treasures seen
 
 
@@ -116,12 +111,5 @@ def wait(turns):
 def with_draws(name, border, below, make, before=0, **of_world):
     """Two games in which a draw falls just below a border and on it; `make` puts a seed among the
     lines."""
-    for where, seed in zip(NAMES_OF_SEEDS, seeds_about(border, below, before)):
+    for where, seed in zip(("below", "at"), seeds_about(border, below, before)):
         game(f"{name}-{where}", make(seed), **of_world)
-
-
-def games_of(*functions):
-    """All games, after these functions added theirs."""
-    for add in functions:
-        add()
-    return GAMES

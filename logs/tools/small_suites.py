@@ -6,6 +6,7 @@ import subprocess
 import sys
 import tempfile
 import unittest
+from collections.abc import Mapping
 from typing import NamedTuple
 
 from suite import TOP
@@ -40,7 +41,7 @@ class Folder:
     """Files in a folder of their own, beside a program `say`, if one is given, which `cave-suite`
     runs; otherwise it runs one that does nothing."""
 
-    def __init__(self, files: Files, program: str = "") -> None:
+    def __init__(self, files: Mapping[str, str | bytes], program: str = "") -> None:
         self.folder = tempfile.TemporaryDirectory()
         self.top = os.path.realpath(self.folder.name)
         for name, text in files.items():

@@ -14,10 +14,10 @@ from typing import NamedTuple
 
 from common.files import files, text_of
 from common.sources import sources
+from rule_tables import bracket_of, depths, parts_between
 
 BEGIN = re.compile(r"^(?! *//).*\brows! \{ (?:scene|self), Table::(\w+)[^;{]*;", re.MULTILINE)
 INNER = re.compile(r"\brows! (?=\{)")
-CLOSING = {"(": ")", "{": "}", "[": "]"}
 MODELLED = re.compile(r'\btables\("""(.*?)"""', re.DOTALL)
 # Tables of the model whose rows are those of several tables of the pages, or the other way round.
 OWN = {"anger", "pirate", "bridge", "arrival", "lamp"}
@@ -41,28 +41,13 @@ class Coded(NamedTuple):
 def coded(row: str) -> Coded:
     """What a row does without the rows of other tables in it."""
     while inner := INNER.search(row):
-        end = next(at for at in range(inner.end(), len(row)) if is_closed(row[inner.end() : at]))
-        row = row[: inner.start()] + "more()" + row[end:]
+        row = row.replace(inner[0] + bracket_of(row[inner.end() :]), "more()", 1)
     done = row.partition("=>")[2].partition("->")[0].strip()
-    parts = statements(f"{done[1:-1]};}}") if done[:1] == "{" else items(done)
-    effects = [EFFECT.match(it) for it in parts if not IDLE.match(it)]
+    is_block = done[:1] == "{"
+    parts = statements(f"{done[1:-1]};}}") if is_block else parts_between(",", done)
+    effects = [EFFECT.match(it.strip()) for it in parts if not IDLE.match(it.strip())]
     return Coded([it.lower() for it in ROLE.findall(row)], [it[1] for it in effects if it],
                  None in effects)
-
-
-def items(text: str) -> list[str]:
-    """The parts of a text between commas that are in no bracket."""
-    marks = [at for at, letter in enumerate(text)
-             if letter == "," and not is_open(text[:at])] + [len(text)]
-    return [text[one:other].strip() for one, other in zip([0, *(it + 1 for it in marks)], marks)]
-
-
-def is_open(text: str) -> bool:
-    return any(text.count(one) != text.count(other) for one, other in CLOSING.items())
-
-
-def is_closed(text: str) -> bool:
-    return 0 < text.count("{") == text.count("}")
 
 
 def is_part(said: list[str], due: list[str]) -> bool:
@@ -71,19 +56,10 @@ def is_part(said: list[str], due: list[str]) -> bool:
     return all(it in left for it in said)
 
 
-def statements(text: str) -> Iterator[str]:
-    """The statements of a block, from the first letter after its brace to the brace that ends it."""
-    due, begin = list[str](), 0
-    for at, letter in enumerate(text):
-        if due and letter == due[-1]:
-            due.pop()
-        elif letter in CLOSING:
-            due.append(CLOSING[letter])
-        elif letter == "}":
-            return
-        elif letter == ";" and not due:
-            yield " ".join(text[begin:at].split())
-            begin = at + 1
+def statements(text: str) -> list[str]:
+    """The statements of a block, from the first letter after its brace to the one that ends it."""
+    end = next((at for at, depth in enumerate(depths(text)) if depth < 0), None)
+    return [" ".join(it.split()) for it in parts_between(";", text[:end])[:-1]]
 
 
 def rows_after(text: str) -> Iterator[tuple[str, str]]:

@@ -21,7 +21,8 @@ SHELLS = {
 
 def faults() -> Iterator[str]:
     commands = {it for it in COMMAND.findall(text_of("logs/help/program.out"))}
-    helps = "".join(text_of(f"logs/help/{it}.out") for it in ["program", *sorted(commands - {"help"})])
+    helps = "".join(text_of(f"logs/help/{it}.out")
+                    for it in ["program", *sorted(commands - {"help"})])
     options = OPTION.findall(helps)
     due = [commands, {long for _, long, _ in options}, {short for short, _, _ in options} - {""}]
     values = {it for *_, said in options if "<" in said and "FILE" not in said

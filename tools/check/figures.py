@@ -67,7 +67,6 @@ def value(text: str, given: Mapping[str, int]) -> int:
 
 
 def variants(kind: str) -> int:
-    """How many variants an enum of the code has."""
     for file in sources("src"):
         if found := re.search(rf"(?ms)^pub enum {kind} {{\n(.*?)^}}", file.code):
             return len(re.findall(r"(?m)^    [A-Z]\w*,$", found[1]))

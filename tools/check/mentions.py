@@ -16,11 +16,11 @@ import re
 from collections.abc import Iterator
 from functools import cache
 
-from common.files import TOP, below, crates, files, tables_in, text_of
+from common.files import (SPAN, TOP, below, crates, files, spans_of, tables_in, text_of,
+                          without_links)
 from common.sources import sources
 
 MOST = 300  # the most characters of a cell
-SPAN = re.compile(r"`` ?(.+?) ?``|`([^`]+)`")
 KINDS = "rt antt log out script bind txt md edit svg py".split()
 FILE = re.compile(rf"[\w.*-]+\.(?:{'|'.join(KINDS)})|(?:[\w.*-]+/)+[\w.*-]*", re.ASCII)
 PARTS_OF_A_CRATE = ("src", "specs", "proofs", "must-fail")
@@ -160,11 +160,6 @@ def not_given(cell: str, crate: str) -> Iterator[str]:
             yield f"{crate} doesn't give {call}"
 
 
-def spans_of(text: str) -> list[str]:
-    """What stands in backquotes, each in one line."""
-    return [" ".join((one or other).split()) for one, other in SPAN.findall(text)]
-
-
 def faults_of(text: str, unit: Unit, head: str = "") -> Iterator[str]:
     """What a paragraph, or a cell below a head, names and the repository lacks."""
     names, together, end = list[str](), list[str](), 0
@@ -243,8 +238,7 @@ def faults_of_table(part: str, before: list[str], section: str | None) -> Iterat
 def anchors(page: str) -> set[str]:
     """What the headings of a page are called in links."""
     heads = re.findall(r"^#+ (.*)$", text_of(page), re.MULTILINE)
-    plain = (re.sub(r"\[([^]]+)\]\([^)]*\)", r"\1", it).lower() for it in heads)
-    return {re.sub(r"[^\w\- ]", "", it).replace(" ", "-") for it in plain}
+    return {re.sub(r"[^\w\- ]", "", without_links(it).lower()).replace(" ", "-") for it in heads}
 
 
 def dead_links(page: str) -> Iterator[str]:

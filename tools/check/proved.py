@@ -1,4 +1,4 @@
-"""Names clauses of docs/PROVED.md that aren't there or say nothing, and wrong bodies that are stale.
+"""Names clauses of docs/PROVED.md that aren't there or say nothing, and stale wrong bodies.
 
 A cell of that page below the head Clause names clauses as "`function`, `function`: `label`,
 `label`", or as "`label` of `function`, `function`", with semicolons between parts. Each function of

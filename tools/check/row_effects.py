@@ -16,6 +16,7 @@ from collections import defaultdict
 from collections.abc import Iterator, Mapping, Sequence
 from typing import NamedTuple
 
+from common.files import without_links
 from common.sources import sources
 from rule_tables import SHORT_NAME, Table, object_named, tests_of, with_effects
 
@@ -122,7 +123,6 @@ class Names:
 
 
 def effects_in(defined: Mapping[str, Sequence[Table]]) -> dict[str, list[Effects]]:
-    """The effects of each row of each table of rows."""
     names, lists = Names(), defaultdict[str, dict[str, str]](dict)  # of each crate
     for path, tables in defined.items():
         lists[path.split("/")[1]] |= {it.name: it.text for it in tables if it.form == "effects"}
@@ -147,7 +147,7 @@ def effects_shown(cells: Sequence[str], roles: set[str], about: str,
                   before: Sequence[str]) -> Iterator[str]:
     """The effects that a row of a page names after when it applies, and after the row before it."""
     when, *others = cells
-    text = re.sub(r"\[([^]]+)\]\([^)]*\)", r"\1", "; ".join(filter(None, others)))
+    text = without_links("; ".join(filter(None, others)))
     last, waiting = re.findall(NAME, when)[-1:], list[str]()
     for clause in (it.strip(" .") for it in CLAUSE.split(text.replace(", with ", " "))):
         said = SAID.fullmatch(clause)

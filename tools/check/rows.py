@@ -143,7 +143,7 @@ def faults_of_notes(noted: Noted, pages: list[Shown], places: Places) -> Iterato
 
 
 def late_in_code(at: dict[str, int]) -> Iterator[str]:
-    """Tables, and parts of one, that stand in a file of code the other way round than on the pages."""
+    """Tables, and parts of one, that stand in code the other way round than on the pages."""
     for path, parts in parts_coded().items():
         places = [(at[table], first, table) for table, first in parts if table in at]
         yield from (f"{path}: {one[2]} {one[1]} and {other[2]} {other[1]} stand in the pages the"
@@ -173,11 +173,11 @@ def faults() -> Iterator[str]:
     for path, tables in files.items():
         for one, other in late_tables(places, tables):
             yield f"{path}: {one} and {other} stand in the pages the other way round"
-    for table, names in noted.items():
-        if table not in BY_CASES:
-            rows, done = ([it for name in names for it in found.get(name, [])]
-                          for found in (words, effects))
-            yield from faults_of_code(table, rows, done, coded.get(table, {}))
+    for label, names in noted.items():
+        if label not in BY_CASES:
+            rows = [it for name in names for it in words.get(name, [])]
+            done = [it for name in names for it in effects.get(name, [])]
+            yield from faults_of_code(label, rows, done, coded.get(label, {}))
     yield from late_in_code({table: places[it] for table, names in noted.items() for it in names
                              if it in places})
     yield from faults_of_notes(noted, pages, places)

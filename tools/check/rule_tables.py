@@ -15,10 +15,10 @@ import re
 import textwrap
 from collections import defaultdict
 from collections.abc import Iterable, Iterator, Sequence
-from itertools import accumulate
+from itertools import accumulate, pairwise
 from typing import NamedTuple
 
-from common.files import text_if
+from common.files import text_if, without_links
 from common.sources import sources
 
 PAGES = ("docs/TURN.md", "docs/PLAY.md", "docs/VERBS.md")
@@ -66,7 +66,7 @@ class Shown(NamedTuple):
 
 
 class Words(NamedTuple):
-    """What a row says and asks: roles of messages, names of things, and these and numbers of all."""
+    """What a row says and asks: roles of messages, names of things; these and numbers of all."""
 
     roles: list[str]
     things: set[str]
@@ -89,29 +89,32 @@ def table_of(block: str) -> Table | None:
         form, rows = "rows", ROW.split(text)[1:]
     elif re.fullmatch(EFFECTS, kind):
         text = text.partition("=")[2]
-        form, rows = "effects", items_of(text)
+        form, rows = "effects", parts_between("∷", text)[:-1]  # without the empty list
     return Table(name, form, word, kind, text, rows)
 
 
 def tables_of(text: str) -> list[Table]:
-    """The tables of a file in their order, and its cases."""
     return [*filter(None, map(table_of, re.split(r"\n\s*\n", text)))]
 
 
 def tables_defined() -> dict[str, list[Table]]:
-    """The files of the definitions, with the tables of each."""
     return {file.path: tables_of(file.text) for file in sources("specs")}
 
 
-def depths(text: str) -> list[int]:
+def depths(text: str) -> Iterator[int]:
     """How many brackets are open after each letter of a text."""
-    return [*accumulate((letter == "(") - (letter == ")") for letter in text)]
+    return accumulate((letter in "([{") - (letter in ")]}") for letter in text)
 
 
-def items_of(text: str) -> list[str]:
-    """The items of a list that ends in the empty one."""
-    ends = [at for at, depth in enumerate(depths(text)) if text[at] == "∷" and not depth]
-    return [text[one + 1 : other] for one, other in zip([-1, *ends], ends)]
+def parts_between(mark: str, text: str) -> list[str]:
+    """The parts of a text between marks that are in no bracket."""
+    marks = [at for at, depth in enumerate(depths(text)) if text[at] == mark and not depth]
+    return [text[one + 1 : other] for one, other in pairwise([-1, *marks, len(text)])]
+
+
+def bracket_of(text: str) -> str:
+    """A text up to the end of the bracket that it begins with."""
+    return text[: [*depths(text), 0].index(0) + 1]
 
 
 def parts_of(texts: dict[str, str]) -> dict[str, set[str]]:
@@ -125,9 +128,8 @@ def parts_of(texts: dict[str, str]) -> dict[str, set[str]]:
 def tests_of(row: str) -> str:
     """What the tests of a row say: its first list; nothing for a last row."""
     head, _, rest = row.strip(" ()=∷+").partition(" ")
-    if head.startswith("otherwise") or not rest.startswith("("):
-        return ""
-    return rest[: [*depths(rest), 0].index(0) + 1]
+    has_tests = rest.startswith("(") and not head.startswith("otherwise")
+    return bracket_of(rest) if has_tests else ""
 
 
 def with_effects(text: str, effects: dict[str, str]) -> str:
@@ -161,7 +163,7 @@ def rows_in_words(defined: dict[str, list[Table]]) -> dict[str, list[Words]]:
     found = dict[str, list[Words]]()
     for path, table in ((path, it) for path, tables in defined.items() for it in tables):
         if table.form == "effects":
-            found[table.name] = [Words([], things_in(row, short_names), set()) for row in table.rows]
+            found[table.name] = [Words([], things_in(it, short_names), set()) for it in table.rows]
             continue
         lists = effects[path.split("/")[1]]
         own = {name: text for name, text in lists.items() if name not in shown}
@@ -202,8 +204,7 @@ def cells_of_item(row: str) -> list[str]:
 
 def plain(cell: str) -> str:
     """The words of a cell without marks; an empty one is of a last row."""
-    words = re.sub(r"\[([^]]+)\]\([^)]*\)", r"\1", cell)
-    return re.sub(r"[`*]", "", words) or "otherwise"
+    return re.sub(r"[`*]", "", without_links(cell)) or "otherwise"
 
 
 def tables_in_words() -> Tables:

@@ -23,6 +23,8 @@ PACKAGES = {"cc": "gcc", "dot": "graphviz", "gnuplot": "gnuplot-nox",
             "chromedriver": "chromium-driver", "dpkg-deb": "dpkg", "strip": "binutils",
             "man": "man-db", "sha256sum": "coreutils"}
 OLDEST = (3, 10)  # Python
+NO_PROGRAM = ("there is no program `{}`:"
+              " install the package `cave-logs`, or build it by `make play`")
 
 if sys.version_info < OLDEST:
     sys.exit(f"{sys.argv[0]}: this is Python %d.%d, and %d.%d is needed, or a later one"

@@ -21,6 +21,7 @@ OTHER_TOP = "RACKSHOAL_TREE_OF_A_TEST"
 TOP = os.environ.get(OTHER_TOP) or os.path.abspath(f"{os.path.dirname(__file__)}/../..")
 BUILT = f"{TOP}/crates/cave/out/cave"
 MADE = {"out", "__pycache__"}  # folders that aren't read
+SPAN = re.compile(r"`` ?(.+?) ?``|`([^`]+)`")
 
 
 def text_of(path: str, encoding: str = "utf-8") -> str:
@@ -36,6 +37,16 @@ def bytes_of(path: str) -> bytes:
 def text_if(path: str) -> str:
     """The same, or nothing if there is no such file."""
     return text_of(path) if os.path.exists(os.path.join(TOP, path)) else ""
+
+
+def spans_of(text: str) -> list[str]:
+    """What stands in backquotes, each in one line."""
+    return [" ".join((one or other).split()) for one, other in SPAN.findall(text)]
+
+
+def without_links(text: str) -> str:
+    """A text of a page with the words of its links in place of them."""
+    return re.sub(r"\[([^]]+)\]\([^)]*\)", r"\1", text)
 
 
 def section_of(page: str, heading: str) -> str:
@@ -89,7 +100,6 @@ def files(*patterns: str) -> list[str]:
 
 
 def is_python(path: str) -> bool:
-    """Whether a file is a script or a module in Python."""
     with open(os.path.join(TOP, path), "rb") as file:
         return path.endswith(".py") or file.readline().rstrip() == b"#!/usr/bin/env python3"
 

@@ -135,7 +135,6 @@ def sources(*folders: str, crate: str = "*") -> list[Source]:
 
 @cache
 def functions_named(name: str, crate: str = "*") -> list[Function]:
-    """The functions of that name, of a crate or of all."""
     return [it for file in sources("src", crate=crate) for it in file.functions if it.name == name]
 
 

@@ -1,5 +1,5 @@
-"""Tests of `unittest` that are made of cases, as a module. A script ends with `unittest.main()`, and
-then runs those alone that have WORD in their names if it is called with `-k WORD`."""
+"""Tests of `unittest` that are made of cases, as a module. A script ends with `unittest.main()`,
+and then runs those alone that have WORD in their names if it is called with `-k WORD`."""
 
 import re
 import unittest

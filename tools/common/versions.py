@@ -27,7 +27,6 @@ class Release(NamedTuple):
 
 
 def of_program() -> str:
-    """What `cave --version` says after its name."""
     found: list[str] = CONSTANT.findall(text_of(CODE))
     if len(found) != 1:
         sys.exit(f"{CODE} doesn't have one line `const VERSION: &str = \"N.N\";`")
@@ -49,5 +48,4 @@ def sections() -> list[Release]:
 
 
 def releases() -> list[Release]:
-    """The versions that have a number."""
     return [it for it in sections() if it.version]

@@ -12,7 +12,7 @@ cells say; a row with a number that doesn't say when it applies does so otherwis
 import re
 from collections.abc import Iterable, Iterator
 
-from common.files import match_in
+from common.files import match_in, tables_in, without_links
 
 SET_APART = re.compile(r"`` ?(.+?) ?``|`([^`]+)`|\*\*(.+?)\*\*|\*([^*]+)\*")
 BLANK_LINES = {  # where a page needs them: a comment's line, below a heading, above a list or table
@@ -22,7 +22,7 @@ BLANK_LINES = {  # where a page needs them: a comment's line, below a heading, a
 
 def inline(text: str) -> str:
     """A line of text: code and what is set in bold are bold, and a link is its words."""
-    text = re.sub(r"\[([^]]+)\]\([^)]*\)", r"\1", text).replace("\\", "\\e").replace("→", "\\(->")
+    text = without_links(text).replace("\\", "\\e").replace("→", "\\(->")
     return guarded(SET_APART.sub(
         lambda it: rf"\fI{it[4]}\fR" if it[4] else bold(it[1] or it[2] or it[3]), text))
 
@@ -37,11 +37,11 @@ def guarded(line: str) -> str:
     return f"\\&{line}" if line[:1] in (".", "'") else line
 
 
-def table(rows: list[str]) -> Iterator[str]:
-    cells = [[it.strip() for it in re.split(r"(?<!\\)\|", row.strip()[1:-1])] for row in rows]
-    for first, second, *rest in cells[2:]:
-        said = [second or "otherwise" * (cells[0][0] == "#")]
-        said += (f"{head}: {cell}" for head, cell in zip(cells[0][2:], rest) if cell)
+def table(text: str) -> Iterator[str]:
+    heads, *rows = next(tables_in(text))
+    for first, second, *rest in rows:
+        said = [second or "otherwise" * (heads[0] == "#")]
+        said += (f"{head}: {cell}" for head, cell in zip(heads[2:], rest) if cell)
         yield from (".TP", inline(first) or "\\&", inline(". ".join(said)))
 
 
@@ -50,7 +50,7 @@ def part(text: str) -> Iterator[str]:
     if found := re.match(r"(##+) (.*)", text):
         yield f".SH {found[2].upper()}" if found[1] == "##" else f".SS {found[2]}"
     elif text.startswith("|"):
-        yield from table(text.split("\n"))
+        yield from table(text)
     elif text.startswith("    "):
         lines = (it[4:].replace("\\", "\\e").replace("-", "\\-") for it in text.split("\n"))
         yield from (".PP", ".EX", *map(guarded, lines), ".EE")

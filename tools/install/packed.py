@@ -147,7 +147,6 @@ def manual_of_tool(name: str) -> bytes:
 
 
 def manuals() -> dict[str, bytes]:
-    """The manual pages by the names of their files."""
     rules = {name: text_of(f"docs/{name}") for name in ("TURN.md", "PLAY.md", "VERBS.md")}
     return {"cave.1": manual.of_page(text_of("docs/PROGRAM.md")),
             "cave-formats.5": manual.of_page(text_of("docs/FORMATS.md")),
@@ -157,7 +156,6 @@ def manuals() -> dict[str, bytes]:
 
 
 def debian_changelog() -> bytes:
-    """The changelog, as Debian has it."""
     parts = []
     for release in versions.releases():
         day = datetime.fromisoformat(release.day)
@@ -206,7 +204,7 @@ def sums_of(tree: dict[str, File], kind: str = "sha256") -> bytes:
 
 
 def put(tree: dict[str, File], folder: str) -> None:
-    """Puts a tree into a folder, with permissions of its own: all may enter a folder that is new."""
+    """Puts a tree into a folder, with permissions of its own: all may enter a new folder."""
     mask = os.umask(0o022)
     try:
         for path, it in tree.items():

@@ -7,6 +7,7 @@ import socket
 import subprocess
 import threading
 import time
+from concurrent.futures import ThreadPoolExecutor
 from contextlib import suppress
 from http.client import HTTPException
 from typing import Any
@@ -197,12 +198,12 @@ def random_change(chance: random.Random, server: Served) -> int:
 def two_pages(server: Served) -> Checks:
     """Two pages of one log: each gets what the other does, and can't change what it doesn't
     know."""
-    number, told = server.walk.number, list[bytes]()
-    waiting = threading.Thread(target=lambda: told.append(server.got(f"news?after={number}")))
-    waiting.start()
-    yield "the change is made", pillow(server)[0], 200
-    waiting.join(60)
-    yield "the other page gets the change", b'"kind":"change"' in told[0], True
+    number = server.walk.number
+    with ThreadPoolExecutor() as pool:
+        waiting = pool.submit(server.got, f"news?after={number}")
+        yield "the change is made", pillow(server)[0], 200
+        told = waiting.result(60)
+    yield "the other page gets the change", b'"kind":"change"' in told, True
     status, events = server.post("change", {"number": number, "edits": [
         {"kind": "delete", "place": 0, "was": server.walk.texts()[0]}]})
     yield "who doesn't know it can't change it", [status, events[0][0]["kind"]], [409, "stale"]
@@ -262,19 +263,12 @@ def ends(program: str) -> Checks:
             200, "ended", 0]
     with tour(program) as server:
         opened = server.file()
-        changing = threading.Thread(target=quietly_changed, args=[server])
-        changing.start()
-        server.end(signal.SIGTERM)
-        changing.join(60)
+        with ThreadPoolExecutor() as pool:
+            pool.submit(pillow, server)  # which may get no answer
+            server.end(signal.SIGTERM)
         yield "in the middle of a change: the file", server.file(), opened
         left = [it for it in os.listdir(server.room.name) if it != "tour.log"]
         yield "and one draft at most", left in ([], ["tour.log.unsaved"]), True
-
-
-def quietly_changed(server: Served) -> None:
-    """A change on a server that may end before it answers."""
-    with suppress(Exception):  # of what is left of an answer
-        pillow(server)
 
 
 def beginnings(program: str) -> Checks:

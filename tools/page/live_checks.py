@@ -9,22 +9,8 @@ from common.parts import Checks
 from served import FULL, FULL_SEED, SHOAL, TOUR, Served
 from window import Live
 
-# What the page has of each line, and the opening before them.
-PAGE = """const at = (row) => row + 1;
-return { opening: saidAt(held, 0), lines: held.lines.map((line, row) => [row, line,
-  saidAt(held, at(row)), held.from[row], held.to[row], held.turns[row], held.score[row],
-  held.lamp[row], held.carried[row], held.draws[row], held.stream[row],
-  word(held, 'question', at(row)), word(held, 'ended', at(row)), eventsAt(held, at(row))])}"""
-DRAWN = """[Number(it.dataset.at),
-  it.querySelector('.command > code')?.textContent.replace(/^> /, '') ?? '',
-  it.querySelector('.said')?.textContent ?? '']"""
 TYPED = "return typedField.isConnected ? typedField.value : null"
 LOG = "return held.lines"
-# Notes the last line that is marked from here on, since marks are soon taken away.
-NOTE_MARKS = """window.lastMarked = 0;
-new MutationObserver(() => document.querySelectorAll('#lines .replayed').forEach((it) => {
-  window.lastMarked = Math.max(window.lastMarked, Number(it.dataset.at));
-})).observe(list, { subtree: true, childList: true, attributes: true });"""
 REHEARSED = "return performance.getEntriesByName('rehearsed').length > 0"
 SHOWN = "return performance.getEntriesByName('shown').map((it) => [it.duration, it.detail])"
 UNKNOWN = "return [...shadow.querySelectorAll('.unknown')].map((it) => it.textContent)"
@@ -57,13 +43,13 @@ def lines_of(path: str) -> list[str]:
 def page_is(window: Live, server: Served, how: str) -> Checks:
     """That all the page has is what the program prints of the held log."""
     opening, *lines = map(json.loads, server.played().splitlines())
-    found = window.run(PAGE)
+    found = window.ask("walked")
     yield f"{how}: the opening", found["opening"], opening["said"].removesuffix("\n")
     wanted = [[it["place"], it["line"], it["said"].removesuffix("\n"), it["from"], it["to"],
                it["turns"], it["score"], it["lamp"], len(it["carried"]), it["draws"], it["stream"],
                it["question"] or "-", it["ended"] or "-", it["happened"]] for it in lines]
     yield f"{how}: the lines", found["lines"], wanted
-    for at, line, said in window.each("#lines [data-at]", DRAWN):
+    for at, line, said in window.ask("drawn"):
         if at:
             yield f"{how}: line {at}", [line, said.rstrip("\n")], wanted[at - 1][1:3]
 
@@ -89,7 +75,8 @@ def by_keys(window: Live, server: Served) -> Checks:
     window.press("Home", *["ArrowDown"] * 10, "Enter")
     yield "Enter types over the line", window.run(TYPED), "take pillow"
     yield "an empty line is still there", len(window.retype("").run(LOG)), 22
-    marked = window.do(NOTE_MARKS).press("Backspace").wait("return window.lastMarked > 9")
+    window.ask("noteMarks")
+    marked = window.press("Backspace").wait("return window.lastMarked > 9")
     yield "lines are marked", marked, True
     yield "Backspace takes it out", window.run(LOG)[9], "se"
     yield "the line above is typed over", window.run(TYPED), "nw"
@@ -247,7 +234,6 @@ def on_the_map(window: Live, server: Served) -> Checks:
 # ---- the file of the log, other pages, and the server's end
 
 def seeds(window: Live, server: Served) -> Checks:
-    """The seed at the head."""
     yield "the seed", window.run(SEED_FIELD), "3"
     held = window.click("#seed").retype("99").press("Tab").wait(
         "return byId('seed').dataset.held === '99'")
@@ -261,7 +247,6 @@ def seeds(window: Live, server: Served) -> Checks:
 
 
 def on_disk(window: Live, server: Served) -> Checks:
-    """The file that changed on disk meanwhile."""
     edit_line(window, 18, "drop vase")
     write(server.path, server.file() + b"look\n")
     said = window.press("Control+s").text("#notice")
@@ -272,7 +257,6 @@ def on_disk(window: Live, server: Served) -> Checks:
 
 
 def two_pages(window: Live, server: Served) -> Checks:
-    """Two pages of one log show the same."""
     first, switch = window.current_window_handle, window.switch_to
     switch.new_window("tab")
     edit_line(window.open(server.address), 18, "drop vase")
@@ -302,7 +286,6 @@ def leaving(window: Live, server: Served) -> Checks:
 
 
 def ended(window: Live, server: Served) -> Checks:
-    """The server's end is said."""
     server.end()
     yield "a server that ended", go(window, 4).wait("return wire.isEnded"), True
     yield "is said", "ended" in window.text("#notice"), True

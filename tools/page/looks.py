@@ -18,55 +18,8 @@ WIDTHS = [(1600, 1000), (1200, 800), (900, 1100), (420, 860)]
 CONTRAST = 4.5  # of texts with their ground, as guidelines for all readers require
 MOST_DRAWN, MOST_MS, MOST_BYTES, MOST_SECONDS = 400, 40, 25_000_000, 10
 LONG, LONGEST = 5_000, 65_535
-NARROW = """return [...document.querySelectorAll(
-  'main > section, header, footer, #told, #live-tools')]
-  .filter((it) => it.getBoundingClientRect().right > innerWidth + 1).length
-  + (document.documentElement.scrollWidth > innerWidth ? 1 : 0)"""
-# Texts whose contrast with what is behind them is too low.
-LOW = """
-const numbers = (colour) => colour.match(/[\\d.]+/g).map(Number);
-const light = (colour) => numbers(colour).slice(0, 3).map((it) => it / 255)
-  .map((it) => (it <= 0.04045 ? it / 12.92 : ((it + 0.055) / 1.055) ** 2.4))
-  .reduce((sum, it, at) => sum + it * [0.2126, 0.7152, 0.0722][at], 0);
-const ground = (it) => {
-  for (let at = it; at; at = at.parentElement) {
-    const colour = getComputedStyle(at).backgroundColor;
-    if (numbers(colour).length < 4 || numbers(colour)[3] > 0.9) return colour;
-  }
-  return 'rgb(255, 255, 255)';
-};
-const contrast = (a, b) => {
-  const [low, high] = [light(a), light(b)].sort((x, y) => x - y);
-  return (high + 0.05) / (low + 0.05);
-};
-const texts = [...document.querySelectorAll('body *')].filter((it) => it instanceof HTMLElement
-  && [...it.childNodes].some((node) => node.nodeType === 3 && node.data.trim())
-  && it.checkVisibility() && !it.closest('.hidden, .shadow, script, noscript, option'));
-return [texts.length > 30, texts.map((it) => [it.tagName + '.' + it.className,
-  contrast(getComputedStyle(it).color, ground(it)).toFixed(1)])
-  .filter(([, found]) => found < arguments[0]).map((it) => it.join(' '))]"""
-PRINTED = """dispatchEvent(new Event('beforeprint'));
-const found = [document.querySelectorAll('#lines [data-at]').length, sight.isWhole,
-  getComputedStyle(document.querySelector('.tools')).display];
-dispatchEvent(new Event('afterprint'));
-return found"""
-# Moves, each of which is laid out before the next.
-MOVES = """for (const key of arguments[0]) {
-  document.getElementById('lines').dispatchEvent(
-    new KeyboardEvent('keydown', { key, bubbles: true }));
-  document.body.getBoundingClientRect();
-}"""
-SCROLL = """const list = document.getElementById('lines');
-list.scrollTop = list.scrollHeight * arguments[0]"""
-# Whether lines are drawn all over the visible part of their list, and how many are drawn.
-FULL_SIGHT = """const list = document.getElementById('lines');
-const { left, top, bottom } = list.getBoundingClientRect();
-return [top + 20, (top + bottom) / 2, bottom - 20].every((y) =>
-  document.elementFromPoint(left + 60, y)?.closest('[data-at]'))"""
 CHART = "return document.getElementById('chart').viewBox.baseVal.width"
 GROUND = "return getComputedStyle(document.body).backgroundColor"
-REACHED = """const it = document.activeElement;
-return it.dataset.place ? 'a place' : it.id || it.tagName"""
 NAMED = """button combobox searchbox textbox listbox slider group region option image
 img""".split()
 FOREIGN = "img, b:not(footer b), i, iframe"
@@ -79,7 +32,7 @@ CAVE, LOG_NAME = "a <b>'&\" {{MAP}} cave.txt", "a <i>'&\" {{SCRIPT}} log"
 # ---- what both pages have to be
 
 def readable(page: Window, scheme: str) -> Checks:
-    yield f"texts that are hard to read, {scheme}", page.run(LOW, CONTRAST), [True, []]
+    yield f"texts that are hard to read, {scheme}", page.ask("hardToRead", CONTRAST), [True, []]
 
 
 def named(page: Window, *wanted: tuple[str, str]) -> Checks:
@@ -97,7 +50,7 @@ def named(page: Window, *wanted: tuple[str, str]) -> Checks:
 
 def reached(page: Window, count: int, *wanted: str) -> Checks:
     """That things are reached by pressing Tab that often."""
-    found = [page.press("Tab").run(REACHED) for _ in range(count)]
+    found = [page.press("Tab").ask("reached") for _ in range(count)]
     yield "all is reached by Tab", [it for it in wanted if it not in found], []
 
 
@@ -124,7 +77,7 @@ def shapes(pages: Pages, page: Page) -> Checks:
         page.shade(scheme)
         for width, height in WIDTHS:
             page.resize(width, height).open(walk.path)
-            yield f"too wide at {width}, {scheme}", page.run(NARROW), 0
+            yield f"too wide at {width}, {scheme}", page.ask("tooWide"), 0
             yield f"the chart's width at {width}", 200 < page.run(CHART) < width, True
         page.resize(*WIDTHS[1]).click("#keys summary")
         yield from readable(page, scheme)
@@ -155,7 +108,7 @@ def roles(pages: Pages, page: Page) -> Checks:
 def prints(pages: Pages, page: Page) -> Checks:
     """In print the whole map and all lines."""
     walk = pages.of_walk("printed", FULL, *FULL_SEED)
-    printed = page.open(walk.path, 11).shade(medium="print").run(PRINTED)
+    printed = page.open(walk.path, 11).shade(medium="print").ask("printed")
     yield "what is printed", printed, [len(walk.lines) + 1, True, "none"]
     sheets = base64.b64decode(page.shade().print_page())
     yield "it takes several sheets", len(re.findall(rb"/Type ?/Page\b", sheets)) > 3, True
@@ -195,10 +148,12 @@ def quick(page: Page, walk: Walk) -> Checks:
     yield "seconds in which the page opens", min(taken, MOST_SECONDS), taken
     for keys in (["ArrowDown"] * 100, ["PageDown", "ArrowUp"] * 30, ["End", "Home"] * 10):
         before = page.seconds()
-        taken = (page.do(MOVES, keys).seconds() - before) / len(keys) * 1_000
+        page.ask("move", keys)
+        taken = (page.seconds() - before) / len(keys) * 1_000
         yield f"milliseconds that {keys[0]} takes", min(taken, MOST_MS), taken
     for part in (0.3, 0.9, 0.1, 0.5):
-        drawn = page.do(SCROLL, part).wait(FULL_SIGHT)
+        page.ask("scroll", part)
+        drawn = page.wait("return tests.isFullSight()")
         yield f"lines are drawn after a scroll to {part}", drawn, True
         drawn = page.count("#lines [data-at]")
         yield f"how many are drawn after a scroll to {part}", min(drawn, MOST_DRAWN), drawn
@@ -216,12 +171,11 @@ def longest(pages: Pages, page: Page) -> Checks:
 # ---- the page on which a log is edited
 
 def live_shapes(window: Live, server: Served) -> Checks:
-    """The same as of the page of a walk."""
     edit_line(window, 18, "drop vase")
     for scheme in ("light", "dark"):
         window.shade(scheme)
         for width, height in [*WIDTHS, (400, 800)]:
-            wide = window.resize(width, height).do("go(18)").run(NARROW)
+            wide = window.resize(width, height).do("go(18)").ask("tooWide")
             yield f"too wide at {width}, {scheme}", wide, 0
         window.resize(*WIDTHS[1]).press("Enter").retype("drop xyz")
         yield from readable(window, scheme)
@@ -230,7 +184,6 @@ def live_shapes(window: Live, server: Served) -> Checks:
 
 
 def live_roles(window: Live, server: Served) -> Checks:
-    """The same as of the page of a walk."""
     edit_line(window, 18, "drop vase")
     yield from named(window.press("Enter").retype("dr"), ("group", "Edit"), ("textbox", "Seed"),
                      *(("button", it) for it in ("Undo", "Redo", "Save", "New line")),
@@ -241,7 +194,6 @@ def live_roles(window: Live, server: Served) -> Checks:
 
 
 def live_harmless(window: Live, program: str) -> Checks:
-    """The same as of the page of a walk."""
     log = "".join(f"{it}\n" for it in ["no", HARM[:60], "north", "e", "look"]).encode()
     room = tempfile.TemporaryDirectory()
     words = [write(f"{room.name}/{CAVE}", quotes()), *QUOTES]

@@ -9,50 +9,9 @@ from pages import (Pages, Walk, happened_at, line_beside, named, place_at, said_
 from served import FULL, FULL_SEED, SEED, SHOAL, TOUR
 from window import Page
 
-# What is seen of a line: its number wherever the page shows it, its place, its trail, its facts.
-SEEN = """
-const all = (query) => [...document.querySelectorAll(query)];
-const chosen = all('#lines [aria-selected="true"]');
-const list = document.getElementById('lines').getBoundingClientRect();
-const box = chosen[0].getBoundingClientRect();
-const middle = (place) => {
-  const { x, y, width, height } = place.querySelector('path, polygon, ellipse').getBBox();
-  return [x + width / 2, y + height / 2].map((at) => at.toFixed(1)).join();
-};
-const ends = all('#trails .trail.mine').map((it) => it.getAttribute('d').split(' ').at(-1));
-const here = all('.place.here');
-return {
-  'the lines': chosen.map((it) => Number(it.dataset.at)),
-  'what a screen reader is at': document.getElementById('lines')
-    .getAttribute('aria-activedescendant'),
-  'the chart': Number(document.getElementById('chart').getAttribute('aria-valuenow')),
-  'is in sight': box.top < list.bottom && box.bottom > list.top
-    && (box.top >= list.top - 1 || box.height > list.height),
-  'the place': here.map((it) => Number(it.dataset.place)),
-  'the trail': ends.length,
-  'the trail leads to the place': !ends.length || !here.length || ends.at(-1) === middle(here[0]),
-  'the facts': Object.fromEntries(all('#facts dd').map(({ dataset: { fact }, textContent }) =>
-    [fact, fact === 'Place' ? textContent.split(' ')[0] : textContent])),
-};"""
-SAID = "[Number(it.dataset.at), it.querySelector('.said')?.textContent ?? '']"
-PALE = """return [...document.querySelectorAll('.place:not(.pale):not(.forced)')]
-  .map((it) => Number(it.dataset.place)).sort((a, b) => a - b)"""
-BOTH = """return ['here', 'there'].map((name) =>
-  Number(document.querySelector('.place.' + name)?.dataset.place))"""
 ADDRESS = "return location.hash === arguments[0]"
 THERE = "return beside(now.at)"
 MARKED = ["died", "hint", "closing", "closed", "treasure found", "treasure home"]
-PRINT = "dispatchEvent(new Event('beforeprint'))"  # all lines are drawn
-BADGE = "[Number(it.closest('[data-at]').dataset.at), it.textContent]"
-SIGHT = "return document.getElementById('drawing').getAttribute('viewBox').split(' ').map(Number)"
-DEATH = """const { middle } = placeInView();
-return middle.x > sight.x && middle.x < sight.x + sight.width && middle.y > sight.y
-  && middle.y < sight.y + heightOf(sight.width)"""
-MARK = """const mark = document.querySelectorAll('#chart .event-mark')[arguments[0]];
-const [box, all] = [mark, document.getElementById('chart')].map((it) => it.getBoundingClientRect());
-return [box.x + box.width / 2 - all.x - all.width / 2, mark.textContent, all.width / 2]"""
-VISIT = """const it = document.getElementById('visited'); it.value = arguments[0];
-it.dispatchEvent(new Event('change'))"""
 GO = "go(arguments[0])"
 
 
@@ -83,18 +42,16 @@ def line_is(page: Page, walk: Walk, line: int, how: str) -> Checks:
               "is in sight": True, "the place": [place] * bool(place),
               "the trail": len(trail_of(walk, line)), "the trail leads to the place": True,
               "the facts": facts_of(walk, line)}
-    seen = page.run(SEEN)
+    seen = page.ask("seen")
     for what, it in wanted.items():
         yield f"{how}: {what}", seen[what], it
 
 
 def fact(page: Page, name: str) -> str:
-    """What the figures say of the line."""
     return str(page.value(f'#facts [data-fact="{name}"]'))
 
 
 def pressed(page: Page, *rows: tuple[str, int]) -> Checks:
-    """That keys lead to lines."""
     for key, line in rows:
         yield key, page.press(key).chosen(), line
 
@@ -106,7 +63,7 @@ def facts(pages: Pages, page: Page) -> Checks:
         length, said = len(walk.lines), said_at(walk)
         for line in range(length + 1):
             yield from line_is(page, walk, line, f"line {line}")
-            for at, shown in page.each("#lines [data-at]", SAID):
+            for at, shown in page.ask("said"):
                 if abs(at - line) < 3:
                     yield f"what was said at line {at}", shown.rstrip("\n"), said[at]
             page.press("ArrowDown")
@@ -126,14 +83,13 @@ def marks(pages: Pages, page: Page) -> Checks:
         titles = [f"at {at - 1}: {it}" for at, it in badges if it in MARKED]
         yield f"{name}: marks of the chart", page.each("#chart .event-mark title"), titles
         for at in (at for at, place in enumerate(walk.steps["to"]) if place == 0):
-            in_sight = page.open(walk.path, at).run(DEATH)
+            in_sight = page.open(walk.path, at).ask("isPlaceInSight")
             yield f"{name}: the place of the death at {at} is in sight", in_sight, True
-        shown = page.do(PRINT).each("#lines .event", BADGE)
+        shown = page.do("dispatchEvent(new Event('beforeprint'))").ask("events")
         yield f"{name}: what happened at lines", shown, [[*it] for it in badges]
 
 
 def keys(pages: Pages, page: Page) -> Checks:
-    """Each key that moves."""
     walk = pages.tour()
     last = len(walk.lines)
     yield "the page opens", page.open(walk.path).chosen(), 0
@@ -146,10 +102,10 @@ def keys(pages: Pages, page: Page) -> Checks:
         yield from line_is(page.press(key), walk, line, key)
     page.open(walk.path, 7)
     yield from pressed(page, ("v", 11), ("V", 8), ("V", 14), ("v", 8))  # visits of place 27
-    width, whole = page.press("0").run(SIGHT)[2], page.run("return whole[2]")
+    width, whole = page.press("0").ask("sightOfMap")[2], page.run("return whole[2]")
     yield "0 shows the whole map", width >= whole, True
-    yield "+ comes nearer", page.press("+").run(SIGHT)[2] < width, True
-    yield "- goes farther", page.press("-").run(SIGHT)[2], width
+    yield "+ comes nearer", page.press("+").ask("sightOfMap")[2] < width, True
+    yield "- goes farther", page.press("-").ask("sightOfMap")[2], width
     yield "Keys shows keys", page.click("#keys summary").value("#keys", "open"), True
     for key, is_open in [("Escape", False), ("?", True), ("?", False)]:
         yield f"{key}: keys are shown", page.press(key).value("#keys", "open"), is_open
@@ -160,7 +116,6 @@ def keys(pages: Pages, page: Page) -> Checks:
 
 
 def addresses(pages: Pages, page: Page) -> Checks:
-    """Lines that are linked."""
     walk = pages.tour()
     for address, wanted in [(11, 12), (0, 1), ("opening", 0), (999, len(walk.lines))]:
         yield from line_is(page.open(walk.path, address), walk, wanted, f"#{address}")
@@ -198,10 +153,10 @@ def clicks(pages: Pages, page: Page) -> Checks:
     walk = pages.tour()
     page.open(walk.path, 9).click("#line-12 .said")
     yield from line_is(page, walk, 12, "a click on line 12")
-    half = page.run(MARK, 0)[2]
+    half = page.ask("mark", 0)[2]
     for mark, event in enumerate(["treasure found", "treasure home"]):
         line = next(at for at in range(len(walk.lines)) if event in happened_at(walk, at))
-        right, title, _ = page.run(MARK, mark)
+        right, title, _ = page.ask("mark", mark)
         yield "a mark of the chart", title, f"at {line - 1}: {event}"
         yield from line_is(page.click("#chart", right, 10), walk, line, f"a click at line {line}")
     for right, line in [(half - 3, len(walk.lines)), (3 - half, 0)]:
@@ -218,15 +173,15 @@ def clicks(pages: Pages, page: Page) -> Checks:
     yield "a click on a place that wasn't visited", page.click('[data-place="40"]').chosen(), before
     said = page.value("#said-now")
     yield "what is said of it", said.endswith("never visited in tour.log"), True
-    old = page.click("#whole").run(SIGHT)
-    moved = page.click("#overview", 60, 40).run(SIGHT)
+    old = page.click("#whole").ask("sightOfMap")
+    moved = page.click("#overview", 60, 40).ask("sightOfMap")
     yield "a click on the small map", moved[:2] != old[:2], True
     yield "a drag moves the map alone", page.drag("#drawing", 40, 0).chosen(), before
-    yield from line_is(page.do(VISIT, "37"), walk, visits_of(walk, 37)[0], "place 37 of the list")
+    page.ask("visit", "37")
+    yield from line_is(page, walk, visits_of(walk, 37)[0], "place 37 of the list")
 
 
 def search(pages: Pages, page: Page) -> Checks:
-    """Looking for a text."""
     walk, wanted = pages.tour(), "vase"
     texts = [f"{line}\n{said}".lower() for line, said in zip(["", *walk.lines], said_at(walk))]
     found = [at for at, it in enumerate(texts) if wanted in it]
@@ -254,11 +209,11 @@ def colours(pages: Pages, page: Page) -> Checks:
     page.open(walk.path)
     for line in (0, 3, 7, 12, len(walk.lines)):
         seen = {walk.steps["from"][0], *walk.steps["to"][:line]}
-        yield f"the places that line {line} knows", page.do(GO, line).run(PALE), sorted(seen)
+        known = page.do(GO, line).ask("knownPlaces")
+        yield f"the places that line {line} knows", known, sorted(seen)
 
 
 def against(pages: Pages, page: Page) -> Checks:
-    """Two walks on one page."""
     walk, other = pages.two_tours(), pages.tour()
     yield from line_is_beside(page.open(walk.path), 18, "the page opens where they part")
     yield "what parts them", page.value("#parting"), (
@@ -272,7 +227,7 @@ def against(pages: Pages, page: Page) -> Checks:
     walk = pages.of_walk("astray", pages.log("astray.log", lines), *SEED, against=TOUR)
     yield from line_is_beside(page.open(walk.path), 13, "where they part after a comment")
     for line in (13, 14, 15):
-        places, there = page.run(BOTH), page.run(THERE)
+        places, there = page.ask("bothPlaces"), page.run(THERE)
         yield f"both places, line {line}", places, [place_at(walk, line), place_at(other, there)]
         theirs = page.count("#trails .trail.theirs")
         yield f"the other trail, line {line}", theirs, len(trail_of(other, there))

@@ -9,7 +9,7 @@ import subprocess
 import sys
 import xml.etree.ElementTree as tree
 
-from cave_walk.steps import NO_PROGRAM
+from common.command_line import NO_PROGRAM
 from common.files import TOP, text_of
 from common.parts import Checks
 from pages import Pages

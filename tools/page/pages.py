@@ -35,7 +35,6 @@ class Pages:
         self.room, self.program = room, program
 
     def file(self, name: str, content: str | bytes) -> str:
-        """A file of the folder."""
         return write(f"{self.room}/{name}", content)
 
     def log(self, name: str, lines: list[str]) -> str:
@@ -49,7 +48,6 @@ class Pages:
         return subprocess.run(command, capture_output=True, text=True, stdin=stdin, env=env)
 
     def printed(self, *words: str) -> str:
-        """What the program prints."""
         ran = subprocess.run([self.program, *words], capture_output=True, check=True)
         return ran.stdout.decode("latin-1")
 
@@ -93,7 +91,6 @@ def said_at(walk: Walk) -> list[str]:
 
 
 def score_of(walk: Walk) -> str:
-    """The score that the transcript ends with."""
     return match_in(r"(?m)^-- score (-?\d+ of \d+), turns \d+$", walk.transcript)[1]
 
 
@@ -137,6 +134,5 @@ def line_beside(walk: Walk, other: Walk, line: int) -> int:
 
 
 def happened_at(walk: Walk, line: int) -> list[str]:
-    """What happened at a line, as a list of names."""
     happened: str = walk.steps["happened"][line - 1] if line else "-"
     return [] if happened == "-" else happened.split(",")

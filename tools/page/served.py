@@ -6,17 +6,16 @@
         server.walk.put(events)
 """
 
-from __future__ import annotations
-
-from common.files import TOP, bytes_of, write
-
 import json
 import signal
 import subprocess
 import sys
 import tempfile
+from contextlib import closing
 from http.client import HTTPConnection, HTTPResponse
 from urllib.parse import urlsplit
+
+from common.files import TOP, bytes_of, write
 
 SHOAL = [f"{TOP}/caves/shoal.txt", "--bind", f"{TOP}/caves/shoal.bind"]
 TOUR, SEED = f"{TOP}/logs/tour.log", ["--seed", "3"]
@@ -56,7 +55,6 @@ class Walk:
         return b"".join(it + b"\n" for it in (self.opening, *self.lines))
 
     def texts(self) -> list[str]:
-        """The lines of the log."""
         return [json.loads(it)["line"] for it in self.lines]
 
 
@@ -70,7 +68,6 @@ def moved(line: bytes, places: int, turns: int) -> bytes:
 
 
 def events_of(content: bytes) -> list[Event]:
-    """The events of an answer."""
     rows, events = content.split(b"\n")[:-1], []
     while rows:
         head = json.loads(rows.pop(0))
@@ -91,7 +88,7 @@ class Served:
                         "--no-browser"]
         self.walk, self.errors = Walk(), ""
 
-    def __enter__(self) -> Served:
+    def __enter__(self) -> "Served":
         self.process = subprocess.Popen(
             self.command, stdout=subprocess.PIPE, stderr=subprocess.PIPE, text=True,
             cwd=self.room.name)
@@ -119,18 +116,13 @@ class Served:
 
     def ask(self, method: str, name: str, content: bytes | None = None, *, token: str | None = None,
             headers: dict[str, str] | None = None) -> tuple[HTTPResponse, bytes]:
-        """What the server answers, and the content of that."""
-        connection = HTTPConnection(self.host, timeout=SECONDS)
-        try:
-            path = f"/{self.token if token is None else token}/{name}"
+        path = f"/{self.token if token is None else token}/{name}"
+        with closing(HTTPConnection(self.host, timeout=SECONDS)) as connection:
             connection.request(method, path, content, headers or {})
             answer = connection.getresponse()
             return answer, answer.read()
-        finally:
-            connection.close()
 
     def got(self, name: str) -> bytes:
-        """A file that the server gives."""
         return self.ask("GET", name)[1]
 
     def post(self, name: str, said: object) -> tuple[int, list[Event]]:
@@ -150,7 +142,6 @@ class Served:
         return self.told("change", edits=edits)
 
     def file(self) -> bytes:
-        """The log on disk."""
         return bytes_of(self.path)
 
     def played(self, log: bytes | None = None, seed: str = "") -> bytes:
@@ -165,5 +156,4 @@ class Served:
 
 
 def tour(program: str) -> Served:
-    """A server of a copy of the tour."""
     return Served(program, [*SHOAL, *SEED], log=bytes_of(TOUR))

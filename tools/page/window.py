@@ -21,17 +21,14 @@ from selenium.webdriver.common.by import By
 from selenium.webdriver.common.keys import Keys
 from selenium.webdriver.support.wait import WebDriverWait
 
+from common.files import text_of
+
 ARGUMENTS = """--headless=new --no-first-run --disable-gpu --force-device-scale-factor=1
 --force-color-profile=srgb --hide-scrollbars --disable-dev-shm-usage""".split()
 SECONDS = 30
+ASKED = text_of("tools/page/asked.js")
 QUIET = """return wire.number >= 0 && !wire.isAsking && !editor.isSending
   && document.readyState === 'complete'"""
-# What the clipboard gets, or gives, as keys would copy, cut or paste.
-CLIPBOARD = """const [kind, text] = arguments, held = new DataTransfer();
-held.setData('text/plain', text);
-document.activeElement.dispatchEvent(new ClipboardEvent(kind,
-  { clipboardData: held, bubbles: true, cancelable: true }));
-return held.getData('text/plain')"""
 It = TypeVar("It", bound="Window")
 
 
@@ -54,6 +51,7 @@ class Window(webdriver.Chrome):
         options.set_capability("goog:loggingPrefs", {"browser": "ALL"})
         super().__init__(options=options)
         self.size = (width, height)
+        self.execute_cdp_cmd("Page.addScriptToEvaluateOnNewDocument", {"source": ASKED})
         self.resize(width, height).shade()
 
     def settle(self: It) -> It:
@@ -63,7 +61,6 @@ class Window(webdriver.Chrome):
     # ---- what is shown
 
     def resize(self: It, width: int, height: int) -> It:
-        """Gives what is seen of a page a width and a height."""
         self.execute_cdp_cmd("Emulation.setDeviceMetricsOverride", {
             "width": width, "height": height, "deviceScaleFactor": 1, "mobile": False})
         return self
@@ -85,6 +82,11 @@ class Window(webdriver.Chrome):
     def run(self, script: str, *given: object) -> Any:
         """What a script returns, to which `given` are `arguments`."""
         return self.execute_script(script, *given)
+
+    def ask(self, name: str, *given: object) -> Any:
+        """What a function of asked.js returns."""
+        return self.run("const [name, ...given] = arguments; return tests[name](...given)", name,
+                        *given)
 
     def wait(self, script: str, *given: object) -> Any:
         """What a script returns, once that is true, or at last all the same."""
@@ -206,7 +208,6 @@ class Live(Window):
         return self.type(text) if text else self.press("Delete")
 
     def clipboard(self, kind: str, text: str = "") -> str:
-        """What is copied, cut or pasted."""
-        found = str(self.run(CLIPBOARD, kind, text))
+        found = str(self.ask("clip", kind, text))
         self.settle()
         return found

@@ -1,6 +1,7 @@
 -- The rules of a counter of four digits.
 use Rattle.std.specs.Prelude.{ℕ, ◌+◌, ◌%◌, ◌<◌, Bool, List, bytes_eq, codes, if◌then◌else◌}
-use Rattle.cave_replay.specs.Play.{MachineRules}
+use Rattle.cave_replay.specs.Edit.{Game}
+use Rattle.cave_replay.specs.Play.{MachineRules, state_after}
 
 -- a line that counts
 abbrev pub is_click : List ℕ → Bool
@@ -23,3 +24,7 @@ counter_rules = record {
   said = number_after;
   ticked = λ number line. is_click line;
 }
+
+-- the number of a counter that begins by the seed, and counts the whole log
+abbrev pub number_at_end : Game → ℕ
+number_at_end game = state_after counter_rules (game.seed % 10000) game.log

@@ -1,6 +1,9 @@
 //! The machine.
 
-use cave_replay::{Machine, Meter, Playable, Started, Stepped, Whole};
+ghost use Rattle.std.specs.Prelude.{◌≡◌};
+ghost use Rattle.counter.specs.Counter.{number_at_end};
+
+use cave_replay::{Machine, Meter, Playable, Session, Started, Stepped, Whole};
 use std::alloc::{AllocError, Global};
 
 /// A counter of four digits.
@@ -74,4 +77,11 @@ impl Playable for Counter {
     fn scratch(&self, _alloc: Global) -> Result<(), AllocError> {
         Ok(())
     }
+}
+
+/// The number at the end, after any edits: as if the held log were counted from its first line.
+pub fn closing_number(session: &Session<Counter>) -> u32
+    ensures { result ≡ number_at_end session.now.game }
+{
+    *session.state()
 }

@@ -3,7 +3,7 @@
 
 mod counter;
 
-use crate::counter::Counter;
+use crate::counter::{Counter, closing_number};
 use anyhow::Result;
 use cave_replay::{Meter, Session};
 use replay_scripts::Script;
@@ -31,13 +31,15 @@ fn edit(rt: &HostRuntime, session: &mut Session<Counter>, script: &Script) -> Re
     Ok(())
 }
 
-/// Prints each line of the log with what was said at it.
+/// Prints each line of the log with what was said at it, and the number at the end.
 fn tell(rt: &HostRuntime, session: &Session<Counter>) -> Result<()> {
     for played in session.played_lines() {
         let line = str::from_utf8(played.line)?;
         let (number, clicks) = (*played.piece, played.ticks);
         println!(rt; "{line}: {number} after {clicks}")?;
     }
+    let number = closing_number(session);
+    println!(rt; "closing number {number}")?;
     Ok(())
 }
 

@@ -1,5 +1,3 @@
-pub mod CountedRows
-pub mod CoveredRows
 pub mod LawLemmas
 pub mod MoreLogsLemmas
 pub mod Reaching

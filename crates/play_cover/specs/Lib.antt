@@ -1,7 +1,6 @@
 pub mod Coverage
 pub mod MoreLogs
 pub mod Plays
-pub mod RowCounts
 pub mod RowMarks
 pub mod RowReport
 pub mod RuleTables

@@ -3,7 +3,6 @@
 
 ghost use Rattle.play_cover.specs.MoreLogs.{MoreLogsListNoMore};
 ghost use Rattle.play_cover.specs.Plays.{AgainIsNothing, OneCoveredOutput, OrderIsNothing};
-ghost use Rattle.play_cover.specs.RowCounts.{EachCountIsOfItsRows, EachCoveredRowIsThere};
 ghost use Rattle.play_cover.specs.RowMarks.{EachRowHasItsMark, NoRowIsText};
 ghost use Rattle.play_cover.specs.RuleTables.{TablesAreInOrder};
 
@@ -41,15 +40,4 @@ pub fn no_row_is_text()
 /// Each table stands in the list at the place of its variant, and each variant has its table.
 pub fn tables_are_in_order()
     ensures { TablesAreInOrder }
-{}
-
-/// Each table has as many rows, in words, as its definition has.
-pub fn each_count_is_of_its_rows()
-    ensures { EachCountIsOfItsRows }
-{}
-
-/// Each row that the play of a game is noted to apply or try is one that its table or its place
-/// has.
-pub fn each_covered_row_is_there()
-    ensures { EachCoveredRowIsThere }
 {}

@@ -11,7 +11,7 @@ use Rattle.replay_edits.specs.declared.fault.EditFault.{EditFault}
 use Rattle.replay_edits.specs.declared.fault.EditFault.TheVariants as cause
 use Rattle.replay_scripts.specs.Script.{Applied}
 use Rattle.play_tables.specs.ItemRow.{met_column, accepted_row, item_head_row, refused_row}
-use Rattle.play_tables.specs.Step.{ending_column}
+use Rattle.play_tables.specs.Columns.{ending_column}
 use Rattle.play_edits.specs.Items.{game_after_item}
 use Rattle.play_edits.specs.Outcome.{ItemOutcome, lines_in, played_in, standing_of}
 use Rattle.play_edits.specs.Refusal.{refusal_line, refusal_number, shown_kept_line}

@@ -19,4 +19,3 @@ pub mod OneOutputLemmas
 pub mod Period
 pub mod Redo
 pub mod UndoLines
-pub mod UnusedMessages

@@ -25,7 +25,7 @@ use Rattle.play_machine.specs.Transcript.{is_shown, last_line, play_text, shown_
 use Rattle.play_machine.specs.Transcript.{ticks, transcript_line}
 use Rattle.play_machine.specs.Walk.{moment_object, opening_object, walk_text}
 use Rattle.play_tables.specs.ScoreTable.{score_table}
-use Rattle.play_tables.specs.Step.{step_head_row}
+use Rattle.play_walk.specs.Step.{step_head_row}
 use Rattle.replay_edits.specs.Edit.{Game, game_of}
 use Rattle.turn_ends.specs.Score.{max_score_of, score_of}
 use Rattle.turn_laws.proofs.LineLemmas.{comments_change_nothing}

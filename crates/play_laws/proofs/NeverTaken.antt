@@ -4,14 +4,12 @@ use Rattle.std.specs.Prelude.{not}
 use Rattle.std.specs.List.{slice_get}
 use Rattle.std.proofs.lemmas.Bool.{false≢true}
 use Rattle.cave_data.specs.CaveView.{ways_from}
-use Rattle.cave_world.specs.declared.tables.RuleRow.TheVariants.{OfPlace}
 use Rattle.data_bindings.specs.WayLines.{way_index}
 use Rattle.data_rows.specs.Rows.{Going}
-use Rattle.turn_laws.proofs.NotesOfLines.{noted_rows_are_rows}
 use Rattle.check_tables.specs.Reach.{may_be_taken}
 use Rattle.check_tables.proofs.Journeys.{tried_may_be_taken}
 use Rattle.check_doubts.specs.Ways.{is_never_taken_after}
-use Rattle.play_laws.specs.NeverTaken.{NeverTakenIsNeverNoted, NeverTakenIsNeverTried}
+use Rattle.play_laws.specs.NeverTaken.{NeverTakenIsNeverTried}
 
 not_both : (b : Bool) → not b ≡ true → b ≡ true → ⊥
 not_both true h is = false≢true h
@@ -33,9 +31,3 @@ never_tried cave place before never emerald motion s (applies, tries_it) =
     found (Some way) is never =
         not_both (may_be_taken (take index ways) way) never
         (tried_may_be_taken cave emerald motion s place index applies way tries_it is)
-
-pub never_noted : NeverTakenIsNeverNoted
-never_noted cave place before never s line applies noted =
-    let (_, (motion, t, has)) =
-    noted_rows_are_rows cave s line (OfPlace place (way_index place before) applies) noted in
-    never_tried cave place before never _ motion t (applies, has)

@@ -12,4 +12,3 @@ pub mod NeverTaken
 pub mod Redo
 pub mod RunLaws
 pub mod Unreached
-pub mod UnusedMessages

@@ -1,10 +1,9 @@
--- A way that doubts call never taken is tried by no motion, so none applies it; no line notes it.
+-- A way that doubts call never taken is tried by no motion, so none applies it.
 use Rattle.std.specs.Prelude.{ℕ, Bool, List, Contains, IsTrue}
 use Rattle.cave_data.specs.CaveView.{CaveView}
 use Rattle.cave_world.specs.Travel.{rows_tried_from}
 use Rattle.cave_world.specs.declared.state.State.{State}
 use Rattle.cave_world.specs.declared.tables.RuleRow.TheVariants.{OfPlace}
-use Rattle.cave_turn.specs.Turns.{rows_on_line}
 use Rattle.data_bindings.specs.WayLines.{way_index}
 use Rattle.data_bindings.specs.declared.mark.MarkedRow.{MarkedRow}
 use Rattle.check_doubts.specs.Ways.{is_never_taken}
@@ -19,9 +18,3 @@ abbrev pub NeverTakenIsNeverTried : Type 0
 NeverTakenIsNeverTried = (cave : CaveView) (place : ℕ) (before : List MarkedRow)
     → IsTrue (is_never_taken cave place before) → (emerald motion : ℕ) (s : State)
     → ¬ TriesWay cave emerald motion s place (way_index place before)
-
--- no line notes a way that is never taken, from any state, as one that applies or one that fails
-abbrev pub NeverTakenIsNeverNoted : Type 0
-NeverTakenIsNeverNoted = (cave : CaveView) (place : ℕ) (before : List MarkedRow)
-    → IsTrue (is_never_taken cave place before) → (s : State) (line : List ℕ) (applies : Bool)
-    → ¬ Contains (rows_on_line cave s line) (OfPlace place (way_index place before) applies)

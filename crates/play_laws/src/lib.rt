@@ -1,6 +1,6 @@
 //! Laws about the states that a session of a game holds, about faults and edits of any log, scripts
-//! of edits, their guards and what is printed of them, about ways that are never taken, classes that
-//! no score reaches and messages that nothing says, and about how many draws are counted.
+//! of edits, their guards and what is printed of them, about ways that are never taken and classes
+//! that no score reaches, and about how many draws are counted.
 #![tactic(auto)]
 
 ghost use Rattle.std.specs.Prelude.{◌<◌};
@@ -15,7 +15,6 @@ pub mod edit_laws;
 pub mod fault_laws;
 pub mod guard_laws;
 pub mod log_laws;
-pub mod message_laws;
 pub mod output_laws;
 pub mod way_laws;
 

@@ -9,7 +9,7 @@ use Rattle.cave_replay.specs.Play.{texts_of, ticks_of}
 use Rattle.cave_world.specs.declared.part.Part.{Part}
 use Rattle.cave_world.specs.declared.state.State.{State}
 use Rattle.play_tables.specs.ScoreTable.{score_table}
-use Rattle.play_tables.specs.Step.{step_head_row}
+use Rattle.play_walk.specs.Step.{step_head_row}
 use Rattle.replay_edits.specs.Edit.{Game}
 use Rattle.turn_ends.specs.Score.{max_score_of, score_of}
 use Rattle.play_machine.specs.FinalState.{final_state_text, state_text_after}

@@ -4,7 +4,7 @@ use Rattle.cave_data.specs.CaveView.{CaveView}
 use Rattle.cave_world.specs.declared.part.Part.{Part}
 use Rattle.cave_world.specs.declared.state.State.{State}
 use Rattle.replay_edits.specs.Edit.{Game}
-use Rattle.play_tables.specs.Step.{step_head_row, step_row}
+use Rattle.play_walk.specs.Step.{step_head_row, step_row}
 use Rattle.play_machine.specs.Moments.{Moment, noted_of}
 
 -- the row of a line

@@ -8,7 +8,7 @@ use crate::machine::CaveMachine;
 use crate::watch::{Begun, SeenLine, Watch};
 use cave_replay::Session;
 use cave_world::{State, Unnoted};
-use play_tables::{StepRow, push_step_head_row, push_step_row};
+use play_walk::{StepRow, push_step_head_row, push_step_row};
 use std::alloc::{AllocError, Global};
 use std::mem;
 
@@ -20,7 +20,7 @@ pub struct StepTable {
 
 impl Watch for StepTable {
     ghost use Rattle.std.specs.Prelude.{◌≡◌, ℕ};
-    ghost use Rattle.play_tables.specs.Step.{step_head_row};
+    ghost use Rattle.play_walk.specs.Step.{step_head_row};
     ghost use Rattle.play_machine.specs.Steps.{moment_row};
 
     type Before = State;

@@ -1,3 +1,2 @@
 pub mod LawLemmas
 pub mod Noted
-pub mod NotedWays

@@ -1,3 +1,2 @@
-pub mod NotedWays
 pub mod Parts
 pub mod Plays

@@ -1,7 +1,7 @@
 -- What happened at a line of a log, by the states before and after it.
 use Rattle.std.specs.Prelude.{ℕ, Bool, true, false, ◌==◌, ◌&&◌, ◌||◌, not, nat_lt, nat_le, List}
-use Rattle.std.specs.Prelude.{[], ◌∷◌, ◌++◌, codes, Option, None, Some, if◌then◌else◌}
-use Rattle.std.specs.List.{flat_map, list_any, range_with_len}
+use Rattle.std.specs.Prelude.{[], ◌∷◌, codes, Option, None, Some}
+use Rattle.std.specs.List.{list_any, range_with_len}
 use Rattle.turn_ends.specs.Treasures.{is_seen, is_safe}
 use Rattle.cave_data.specs.CaveView.{CaveView}
 use Rattle.base_lines.specs.Numbers.{LAST_HINT}
@@ -92,18 +92,3 @@ abbrev pub each_event : List Event
 each_event =
     event.Died ∷ event.Revived ∷ event.Hint ∷ event.Dwarf ∷ event.Pirate ∷ event.Closing
     ∷ event.Closed ∷ event.TreasureFound ∷ event.TreasureHome ∷ []
-
--- ---- how they are written
-
--- the name of an event that happened, after a comma
-unfoldable pub event_text : CaveView → State → State → Event → List ℕ
-event_text cave s t event =
-    if event_happens cave s t event then codes "," ++ event_name event else []
-
--- the names of the events, without the comma before the first, or a dash if there are none
-abbrev pub without_comma : List ℕ → List ℕ
-without_comma [] = codes "-"
-without_comma (comma ∷ names) = names
-
-unfoldable pub events_text : CaveView → State → State → List ℕ
-events_text cave s t = without_comma (flat_map (event_text cave s t) each_event)

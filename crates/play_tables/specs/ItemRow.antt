@@ -1,7 +1,7 @@
 -- The row of an item of a script.
 use Rattle.std.specs.Prelude.{ℕ, List, [], ◌∷◌, ◌++◌, codes, length, Option, None, Some}
 use Rattle.std.specs.Fmt.{decimal}
-use Rattle.play_tables.specs.Step.{without_tabs, ending_column}
+use Rattle.play_tables.specs.Columns.{without_tabs, ending_column}
 use Rattle.cave_world.specs.declared.state.State.{State}
 use Rattle.replay_edits.specs.Edit.{Change, inserts, deletes, replaces, reseeds, own_line}
 use Rattle.play_tables.specs.Kinds.{differences_text}

@@ -1,6 +1,6 @@
+pub mod Columns
 pub mod Draws
 pub mod Events
-pub mod Step
 pub mod ScoreRows
 pub mod ScoreTable
 pub mod Kinds

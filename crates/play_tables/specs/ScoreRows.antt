@@ -14,7 +14,7 @@ use Rattle.turn_scene.specs.Treasures.{known_treasures}
 use Rattle.turn_ends.specs.Counting.{ScoreRow, points_by, most_by}
 use Rattle.turn_ends.specs.Treasures.{treasure_rows}
 use Rattle.turn_ends.specs.Score.{score_rows, price_of, score_of}
-use Rattle.play_tables.specs.Step.{without_tabs}
+use Rattle.play_tables.specs.Columns.{without_tabs}
 
 -- a row: its name, what its parts count if it has two, what it counts, and the most that it can
 -- count

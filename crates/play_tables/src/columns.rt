@@ -1,10 +1,10 @@
-//! The columns of a row.
+//! Columns that several tables have.
 
-ghost use Rattle.std.specs.Prelude.{◌≡◌, ◌++◌, OnOk, decimal};
-ghost use Rattle.play_tables.specs.Step.{without_tab, without_tabs, question_column, ending_column};
+ghost use Rattle.std.specs.Prelude.{◌≡◌, ◌++◌, OnOk};
+ghost use Rattle.play_tables.specs.Columns.{ending_column, without_tab, without_tabs};
 
-use cave_world::{Ending, Question};
-use std::alloc::{AllocError, Global};
+use cave_world::Ending;
+use std::alloc::AllocError;
 
 fn without_tab(byte: u8) -> u8
     ensures { result ≡ without_tab byte }
@@ -20,36 +20,6 @@ pub fn push_without_tabs(text: &mut Vec<u8>, line: &[u8]) -> Result<(), AllocErr
         text.push(without_tab(*byte))?;
     }
     Ok(())
-}
-
-fn push_hint(alloc: Global, text: &mut Vec<u8>, before: &str, hint: u8) -> Result<(), AllocError>
-    ensures { OnOk result (text.new.items ≡ text.old.items ++ (before.now ++ decimal hint)) }
-{
-    let words = format!(in alloc; "{before}{hint}")?;
-    text.extend_from_slice(words.as_bytes())
-}
-
-/// Appends the question that is open.
-pub fn push_question_column(
-    alloc: Global,
-    text: &mut Vec<u8>,
-    question: Option<Question>,
-) -> Result<(), AllocError>
-    ensures { OnOk result (text.new.items ≡ text.old.items ++ question_column question) }
-{
-    let Some(question) = question else {
-        return text.extend_from_slice(b"-");
-    };
-    match question {
-        Question::Welcome => text.extend_from_slice(b"welcome"),
-        Question::Quit => text.extend_from_slice(b"quit"),
-        Question::ScoreQuit => text.extend_from_slice(b"score, quit"),
-        Question::Die => text.extend_from_slice(b"revive"),
-        Question::Hint(hint) => push_hint(alloc, text, "hint ", hint.number()),
-        Question::Take(hint) => push_hint(alloc, text, "take hint ", hint.number()),
-        Question::Oyster => text.extend_from_slice(b"oyster"),
-        Question::Dragon => text.extend_from_slice(b"dragon"),
-    }
 }
 
 /// How the game has ended.

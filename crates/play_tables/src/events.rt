@@ -1,7 +1,7 @@
 //! What happened at a line of a log, by the states before and after it.
 
-ghost use Rattle.std.specs.Prelude.{◌≡◌, ◌++◌, OnOk};
-ghost use Rattle.std.specs.List.{flat_map, list_any, range_with_len};
+ghost use Rattle.std.specs.Prelude.{◌≡◌};
+ghost use Rattle.std.specs.List.{list_any, range_with_len};
 ghost use Rattle.turn_scene.specs.Scene.{cave_of};
 ghost use Rattle.base_lines.specs.Numbers.{LAST_HINT};
 ghost use Rattle.turn_scene.specs.Treasures.{treasures};
@@ -9,14 +9,11 @@ ghost use Rattle.play_tables.specs.Events.{asks_revival, is_ended_killed, is_dea
 ghost use Rattle.play_tables.specs.Events.{are_dwarves_woken, is_dwarf_new, is_dwarf_killed};
 ghost use Rattle.play_tables.specs.Events.{is_new_at, is_hoard_richer, is_treasure_found};
 ghost use Rattle.play_tables.specs.Events.{is_brought_home};
-ghost use Rattle.play_tables.specs.Events.{event_happens, event_name, each_event, event_text};
-ghost use Rattle.play_tables.specs.Events.{events_text};
-ghost use Rattle.play_tables.specs.Events.{without_comma};
+ghost use Rattle.play_tables.specs.Events.{each_event, event_happens, event_name};
 
 use cave_world::hints::HINTS;
 use cave_world::{Ending, HintNumber, Question, State};
 use data_rows::PlaceRole;
-use std::alloc::{AllocError, Global};
 use turn_ends::treasures::{is_safe, is_seen};
 use turn_scene::treasures::{FIRST_TREASURE, LAST_TREASURE};
 use turn_scene::{Rules, is_dwarf_here, is_known, place_named};
@@ -204,42 +201,7 @@ pub fn event_name(event: Event) -> &'static str
     }
 }
 
-/// Appends the name of an event after a comma, if it happened.
-#[tactic(auto, unfolding(crate::specs::Events::event_text))]
-fn push_event(
-    text: &mut Vec<u8>,
-    rules: &Rules<'_>,
-    before: &State,
-    after: &State,
-    event: Event,
-) -> Result<(), AllocError>
-    ensures { OnOk result (text.new.items ≡ text.old.items
-        ++ event_text (cave_of rules.now) before.now after.now event) }
-{
-    if !happens(rules, before, after, event) {
-        return Ok(());
-    }
-    text.push(b',')?;
-    text.extend_from_slice(event_name(event).as_bytes())
-}
-
-/// Appends the names of those of these events that happened, each after a comma.
-fn push_each_event(
-    text: &mut Vec<u8>,
-    rules: &Rules<'_>,
-    before: &State,
-    after: &State,
-    events: &[Event],
-) -> Result<(), AllocError>
-    ensures { OnOk result (text.new.items ≡ text.old.items
-        ++ flat_map (event_text (cave_of rules.now) before.now after.now) events.now) }
-{
-    for event in events {
-        push_event(text, rules, before, after, *event)?;
-    }
-    Ok(())
-}
-
+/// All events, in the order in which they are told.
 pub fn each_event() -> [Event; 9]
     ensures { result ≡ each_event }
 {
@@ -254,32 +216,4 @@ pub fn each_event() -> [Event; 9]
         Event::TreasureFound,
         Event::TreasureHome,
     ]
-}
-
-/// The names without the comma before the first, or a dash if there are none.
-fn without_comma(names: &[u8]) -> &[u8]
-    ensures { result.now ≡ without_comma names.now }
-{
-    match names {
-        [] => b"-",
-        [_, rest @ ..] => rest,
-    }
-}
-
-/// Appends the names of the events that happened, with commas between them.
-#[tactic(auto, unfolding(crate::specs::Events::events_text))]
-pub(crate) fn push_events(
-    alloc: Global,
-    text: &mut Vec<u8>,
-    rules: &Rules<'_>,
-    before: &State,
-    after: &State,
-) -> Result<(), AllocError>
-    ensures { OnOk result (text.new.items ≡ text.old.items
-        ++ events_text (cave_of rules.now) before.now after.now) }
-{
-    let mut names = Vec::new(alloc);
-    let events = each_event();
-    push_each_event(&mut names, rules, before, after, &events)?;
-    text.extend_from_slice(without_comma(&names))
 }

@@ -1,4 +1,5 @@
-//! Tables of a play: what each line did, where the score comes from, and what each edit changed.
+//! Tables of a play: where the score comes from, and what each edit changed; and what happened at a
+//! line.
 #![tactic(auto)]
 
 pub mod columns;
@@ -12,11 +13,9 @@ pub mod score_ends;
 pub mod score_names;
 pub mod score_rows;
 pub mod score_table;
-pub mod step;
 
 pub use item_row::{
     push_item_columns, push_item_head_row, push_refused_row, push_replay_columns,
     push_state_columns,
 };
 pub use score_table::push_score_table;
-pub use step::{StepRow, push_step_head_row, push_step_row};

@@ -1,4 +1,3 @@
 pub mod JsonLemmas
 pub mod Moving
 pub mod WalkLemmas
-pub mod StepLemmas

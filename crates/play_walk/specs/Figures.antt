@@ -1,24 +1,26 @@
 -- The figures of a line, each of which is a column of the table of lines and a member of the line's
 -- object.
-use Rattle.std.specs.Prelude.{◌≡◌, ℕ, ℤ, if◌then◌else◌, List, [], ◌∷◌, ◌++◌, codes, map, length}
-use Rattle.std.specs.Prelude.{Option, Some, None, option_map}
+use Rattle.std.specs.Prelude.{ℕ, ℤ, if◌then◌else◌, List, [], ◌∷◌, ◌++◌, codes, drop, map}
+use Rattle.std.specs.Prelude.{length, Option, Some, None, option_map}
 use Rattle.std.specs.Fmt.{decimal, signed_decimal}
 use Rattle.std.specs.List.{filter, flat_map}
 use Rattle.cave_data.specs.CaveView.{CaveView}
 use Rattle.cave_world.specs.declared.ending.Ending.{Ending}
 use Rattle.cave_world.specs.declared.ending.Question.{Question}
+use Rattle.cave_world.specs.declared.ending.Question.TheVariants as question
 use Rattle.cave_world.specs.declared.state.State.{State}
+use Rattle.play_tables.specs.Columns.{ending_column}
 use Rattle.play_tables.specs.Draws.{draws_at}
 use Rattle.play_tables.specs.Events.{each_event, event_happens, event_name}
-use Rattle.play_tables.specs.Step.{ending_column, question_column, step_head_row, step_row}
-use Rattle.play_tables.specs.Step.{without_tabs}
 use Rattle.play_tables.specs.declared.events.Event.{Event}
 use Rattle.turn_ends.specs.Score.{score_of}
 use Rattle.world_objects.specs.Objects.{objects_in_hands}
-use Rattle.play_walk.specs.Json.{Member, json_list, next_member, next_value, quoted}
+use Rattle.play_walk.specs.Json.{Member, json_list, next_value, quoted}
 use Rattle.play_walk.specs.Objects.{listed_object}
+use Rattle.play_walk.specs.declared.figures.Form.{Form}
+use Rattle.play_walk.specs.declared.figures.Form.TheVariants.{Columns, Members}
 
--- what a figure is: a number, a word or none, words, or objects, with how each is written
+-- what a figure is: a number, a word or none, words, or objects, with how an object lists each
 pub data Figure : Type 0 where
   Count : ℕ → Figure
   Signed : ℤ → Figure
@@ -26,35 +28,65 @@ pub data Figure : Type 0 where
   SomeWords : List (List ℕ) → Figure
   SomeObjects : (ℕ → List ℕ) → List ℕ → Figure
 
--- words have no quote and no backslash
-abbrev pub word_or_null : Option (List ℕ) → List ℕ
-word_or_null None = codes "null"
-word_or_null (Some word) = quoted word
+-- ---- how a figure is written: in a table, or in an object
 
-abbrev pub figure_value : Figure → List ℕ
-figure_value (Count n) = decimal n
-figure_value (Signed z) = signed_decimal z
-figure_value (OneWord word) = word_or_null word
-figure_value (SomeWords words) = json_list quoted words
-figure_value (SomeObjects value xs) = json_list value xs
+-- what stands before it
+abbrev pub key_in : Form → List ℕ → List ℕ
+key_in Columns key = codes "\t"
+key_in Members key = codes ",\"" ++ (key ++ codes "\":")
 
-unfoldable pub figure_member : List ℕ × Figure → Member
-figure_member (key, figure) = (key, figure_value figure)
+-- a word, which has no quote and no backslash
+abbrev pub word_in : Form → List ℕ → List ℕ
+word_in Columns word = word
+word_in Members word = quoted word
 
--- a figure after another member
-unfoldable pub next_figure : List ℕ × Figure → List ℕ
-next_figure row = next_member (figure_member row)
+abbrev pub word_or_none : Form → Option (List ℕ) → List ℕ
+word_or_none Columns None = codes "-"
+word_or_none Members None = codes "null"
+word_or_none form (Some word) = word_in form word
 
-abbrev pub question_word : Option Question → Option (List ℕ)
-question_word question = option_map (λ asked. question_column (Some asked)) question
+-- words, with commas between them
+abbrev pub listed_in : Form → List ℕ → List ℕ
+listed_in Columns [] = codes "-"
+listed_in Columns words = words
+listed_in Members words = codes "[" ++ (words ++ codes "]")
 
-abbrev pub ending_word : Option Ending → Option (List ℕ)
-ending_word ending = option_map (λ ended. ending_column (Some ended)) ending
+-- a table has of objects how many there are
+abbrev pub value_in : Form → Figure → List ℕ
+value_in form (Count n) = decimal n
+value_in form (Signed z) = signed_decimal z
+value_in form (OneWord word) = word_or_none form word
+value_in form (SomeWords words) = listed_in form (drop 1 (flat_map (next_value (word_in form)) words))
+value_in Columns (SomeObjects value xs) = decimal (length xs)
+value_in Members (SomeObjects value xs) = json_list value xs
 
--- the name of an event that happened, after another one
-unfoldable pub next_event : CaveView → State → State → Event → List ℕ
-next_event cave s t event =
-    if event_happens cave s t event then next_value quoted (event_name event) else []
+unfoldable pub figure_in : Form → List ℕ × Figure → List ℕ
+figure_in form (key, figure) = key_in form key ++ value_in form figure
+
+abbrev pub figure_member : List ℕ × Figure → Member
+figure_member (key, figure) = (key, value_in Members figure)
+
+-- ---- what the figures are
+
+-- the question that is open
+abbrev pub question_word : Question → List ℕ
+question_word question.Welcome = codes "welcome"
+question_word question.Quit = codes "quit"
+question_word question.ScoreQuit = codes "score, quit"
+question_word question.Die = codes "revive"
+question_word (question.Hint number) = codes "hint " ++ decimal number
+question_word (question.Take number) = codes "take hint " ++ decimal number
+question_word question.Oyster = codes "oyster"
+question_word question.Dragon = codes "dragon"
+
+-- how the game has ended
+abbrev pub ending_word : Ending → List ℕ
+ending_word ended = ending_column (Some ended)
+
+-- the name of an event that happened, after a comma
+unfoldable pub next_event : Form → CaveView → State → State → Event → List ℕ
+next_event form cave s t event =
+    if event_happens cave s t event then next_value (word_in form) (event_name event) else []
 
 -- the names of the events that happened
 unfoldable pub happened_words : CaveView → State → State → List (List ℕ)
@@ -79,8 +111,8 @@ chance_figures line s t =
 -- the question that is open, how the game has ended, and what happened
 unfoldable pub outcome_figures : CaveView → State → State → List (List ℕ × Figure)
 outcome_figures cave s t =
-    (codes "question", OneWord (question_word t.question))
-    ∷ (codes "ended", OneWord (ending_word t.ending))
+    (codes "question", OneWord (option_map question_word t.question))
+    ∷ (codes "ended", OneWord (option_map ending_word t.ending))
     ∷ (codes "happened", SomeWords (happened_words cave s t)) ∷ []
 
 -- the figures of a line that was played after this many turns, by the states before and after it
@@ -88,32 +120,3 @@ unfoldable pub figures : CaveView → List ℕ → ℕ → State → State → L
 figures cave line turns s t =
     place_figures s t ++ (count_figures cave turns t
     ++ (chance_figures line s t ++ outcome_figures cave s t))
-
--- ---- in a table
-
--- a figure in a table: a dash if there is none, and for objects how many there are
-abbrev pub figure_column : Figure → List ℕ
-figure_column (Count n) = decimal n
-figure_column (Signed z) = signed_decimal z
-figure_column (OneWord None) = codes "-"
-figure_column (OneWord (Some word)) = word
-figure_column (SomeWords []) = codes "-"
-figure_column (SomeWords (word ∷ words)) = word ++ flat_map (λ next. codes "," ++ next) words
-figure_column (SomeObjects value xs) = decimal (length xs)
-
-abbrev pub tabbed_key : List ℕ × Figure → List ℕ
-tabbed_key (key, figure) = codes "\t" ++ key
-
-abbrev pub tabbed_column : List ℕ × Figure → List ℕ
-tabbed_column (key, figure) = codes "\t" ++ figure_column figure
-
--- the columns of a line's row are its place, the line itself, and its figures, by their keys
-pub record StepsHaveTheFigures : Type 0 where
-  pub head : (cave : CaveView) (line : List ℕ) (turns : ℕ) (s t : State)
-      → step_head_row
-      ≡ codes "place\tline"
-      ++ (flat_map tabbed_key (figures cave line turns s t) ++ codes "\n")
-  pub row : (cave : CaveView) (place : ℕ) (line : List ℕ) (turns : ℕ) (s t : State)
-      → step_row cave place line turns s t
-      ≡ decimal place ++ (codes "\t" ++ (without_tabs line
-      ++ (flat_map tabbed_column (figures cave line turns s t) ++ codes "\n")))

@@ -1,5 +1,5 @@
-//! A line of a play as an object of JSON: its text, what was said at it, the figures that a table
-//! of lines has, what is carried, and which objects have moved.
+//! What each line of a play did, as the row of a table or as an object of JSON: its place, the line,
+//! and its figures; the object also has what was said, and which objects have moved.
 #![tactic(auto)]
 
 pub mod figures;
@@ -7,5 +7,8 @@ pub mod json;
 pub mod laws;
 pub mod line;
 pub mod objects;
+pub mod step;
 
+pub use figures::StepRow;
 pub use line::{push_walk_line, push_walk_opening};
+pub use step::{push_step_head_row, push_step_row};

@@ -7,12 +7,11 @@ ghost use Rattle.turn_scene.specs.Scene.{cave_of};
 ghost use Rattle.play_walk.specs.Json.{first_member, json_string, next_member};
 ghost use Rattle.play_walk.specs.Walk.{text_members, walk_line, walk_opening};
 
-use crate::figures::put_figures;
+use crate::figures::{Form, StepRow, put_figures};
 use crate::json::{put_json_string, put_next_key, put_number};
 use crate::objects::put_moved;
 use base_text::Text;
 use cave_world::State;
-use play_tables::StepRow;
 use std::alloc::{AllocError, Global};
 use turn_scene::Rules;
 use world_objects::Objects;
@@ -56,7 +55,7 @@ pub fn push_walk_line(
 {
     let mut walk = Text::after(alloc, text);
     put_line_text(&mut walk, step.place, step.line, said);
-    put_figures(&mut walk, rules, step);
+    put_figures(Form::Members, &mut walk, rules, step);
     put_moved(
         &mut walk,
         rules.cave,
@@ -88,7 +87,7 @@ pub fn push_walk_opening(
         before: state,
         after: state,
     };
-    put_figures(&mut walk, rules, &nothing_changes);
+    put_figures(Form::Members, &mut walk, rules, &nothing_changes);
     put_moved(&mut walk, rules.cave, &Objects::unplaced(), &state.objects);
     walk.put(b"}\n");
     walk.give_to(text)

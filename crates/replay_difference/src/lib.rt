@@ -4,7 +4,6 @@
 mod anchors;
 pub mod difference;
 mod meeting;
-pub mod open;
 mod same;
 pub mod script;
 mod walk;

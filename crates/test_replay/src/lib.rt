@@ -1,33 +1,14 @@
-//! Tests of sessions, over machines of their own, and of the edits between two logs.
+//! Tests of sessions: what an edit costs, and what is left if memory is refused, over a machine
+//! that is no game and over a cave.
 #![tactic(auto)]
 
 #[cfg(test)]
-mod copies;
-#[cfg(test)]
 mod costs;
-#[cfg(test)]
-mod dice;
-#[cfg(test)]
-mod differences;
-#[cfg(test)]
-mod display;
-#[cfg(test)]
-mod each_limit;
 #[cfg(test)]
 mod edits;
 #[cfg(test)]
-mod games;
-#[cfg(test)]
-mod machines;
-#[cfg(test)]
-mod meters;
-#[cfg(test)]
-mod play;
-#[cfg(test)]
-mod random;
+mod machine;
 #[cfg(test)]
 mod refusals;
 #[cfg(test)]
-mod row;
-#[cfg(test)]
-mod texts;
+mod session;

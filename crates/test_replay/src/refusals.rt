@@ -1,193 +1,184 @@
-//! Calls whose memory is refused.
+//! Calls of a session whose memory is refused, over a machine that is no game and over a cave.
 //!
-//! Each of these passes if any one allocation is refused. It then shows that the answer is out of
-//! memory, that nothing has changed, and that the same call succeeds with ample memory: an edit
-//! with the report that it has in a session to which nothing happened.
+//! Each test passes if any one allocation is refused. The answer is then out of memory, the session
+//! shows what it showed, and the same call succeeds with ample memory: an edit with the replay that
+//! it has in a session to which nothing happened.
 
-use crate::display::show_the_same;
-use crate::edits::{LineChange, STAIRS, edits_of};
-use crate::machines::counter::Counter;
-use crate::machines::counts::Counts;
-use crate::machines::told::Told;
-use crate::play::{Counting, TestSession};
+ghost use Rattle.cave_words.specs.Lexicon.{IsLexiconOf};
+
+use crate::edits::{LineChange, edits_of};
+use crate::machine::{Counter, Counts};
+use crate::session::TestSession;
 use base_lines::Meter;
-use cave_replay::{GroupReport, OpenFault, Report};
+use cave_data::Cave;
+use cave_replay::{OpenFault, Playable};
+use cave_words::Lexicon;
+use cave_world::Part;
+use data_rows::{Cause, Role};
+use play_machine::CaveMachine;
 use replay_edits::{Edit, EditFault};
 use std::alloc::{AllocError, Global};
 use std::process::Abort;
 use std::test::Fail;
+use turn_text::render;
 
-/// Opens the game of ten stairs, and again if memory is refused.
-fn open<'a>(
+/// A log of five lines.
+const LOG: &[u8] = b"no\nin\ntake lamp\nout\nlook\n";
+
+/// Edits of it, which are made one after another: some by themselves, and some as a group.
+const CHANGES: [&[LineChange]; 7] = [
+    &[LineChange::Insert(0, b"new")],
+    &[LineChange::Insert(3, b"a line of more than 14 bytes")],
+    &[LineChange::Replace(2, b"look")],
+    &[LineChange::Delete(6)],
+    &[LineChange::Reseed(7)],
+    &[LineChange::Reseed(7 + 256 * 1_048_576)],
+    &[
+        LineChange::Replace(4, b"another line that isn't short"),
+        LineChange::Delete(0),
+        LineChange::Insert(5, b"in"),
+        LineChange::Reseed(8),
+    ],
+];
+
+/// Opens a session, and again if memory is refused.
+fn open<M: Playable + Copy>(
     rt: &impl Abort,
     alloc: Global,
-    counts: &'a Counts,
+    machine: M,
     every: u32,
-) -> Result<Counting<'a>, OpenFault> {
-    match TestSession::open(
-        alloc,
-        Told::new(Counter, counts),
-        7,
-        STAIRS,
-        every,
-        &mut Meter::new(),
-    ) {
-        Ok(session) => Ok(session),
-        Err(fault) => {
-            assert_eq!(rt; fault, OpenFault::Memory);
-            TestSession::open(
-                alloc,
-                Told::new(Counter, counts),
-                7,
-                STAIRS,
-                every,
-                &mut Meter::new(),
-            )
-        }
+    meter: &mut M::Meter,
+) -> Result<TestSession<M>, OpenFault> {
+    match TestSession::open(rt, alloc, machine, LOG, every, meter) {
+        Err(OpenFault::Memory) => TestSession::open(rt, alloc, machine, LOG, every, meter),
+        answer => answer,
     }
 }
 
-/// A copy of a session, made again if memory is refused.
-fn copy<'a>(session: &Counting<'a>, counts: &'a Counts) -> Result<Counting<'a>, AllocError> {
-    match session.copy(Counter, counts) {
+/// Copies a session, and again if memory is refused.
+fn copy<M: Playable + Copy>(session: &TestSession<M>) -> Result<TestSession<M>, AllocError> {
+    match session.copy() {
         Ok(copy) => Ok(copy),
-        Err(_) => session.copy(Counter, counts),
+        Err(_) => session.copy(),
     }
 }
 
-/// Edits, made again if memory is refused.
-fn edits_at_last(alloc: Global, changes: &[LineChange<'_>]) -> Result<Vec<Edit>, AllocError> {
-    match edits_of(alloc, changes) {
-        Ok(edits) => Ok(edits),
-        Err(_) => edits_of(alloc, changes),
-    }
-}
-
-/// A report as text.
-fn shown(alloc: Global, report: &Report) -> Result<String, AllocError> {
-    format!(in alloc; "{report:?}")
-}
-
-/// The report of a group as text.
-fn group_shown(alloc: Global, report: &GroupReport) -> Result<String, AllocError> {
-    format!(in alloc; "{report:?}")
-}
-
-/// Makes an edit, and again if memory is refused. The refused one leaves the session as it was, and
-/// the later one has the report that it has in a session to which nothing happened.
-fn edit(
+/// Makes edits in a session and in another that shows the same. If memory is refused to the first,
+/// it still shows what the other shows. Then both make the edits by the same replay.
+fn edit_both<M: Playable + Copy>(
     rt: &impl Abort,
-    alloc: Global,
-    session: &mut Counting<'_>,
-    untouched: &mut Counting<'_>,
-    edit: &Edit,
-) -> Result<(), Fail> {
-    let Err(fault) = session.edit(edit, &mut Meter::new()) else {
-        return Ok(());
-    };
-    assert_eq!(rt; fault, EditFault::Memory);
-    assert!(rt; show_the_same(session, untouched), "{edit:?}");
-    let later = shown(alloc, &session.edit(edit, &mut Meter::new())?)?;
-    let wanted = shown(alloc, &untouched.edit(edit, &mut Meter::new())?)?;
-    assert_eq!(rt; later.as_str(), wanted.as_str());
-    assert!(rt; show_the_same(session, untouched));
-    Ok(())
-}
-
-/// Makes the edits of a group together, and again if memory is refused. The refused group leaves
-/// the session as it was, and the later one has the report that it has if nothing happened.
-fn edit_group(
-    rt: &impl Abort,
-    alloc: Global,
-    session: &mut Counting<'_>,
-    untouched: &mut Counting<'_>,
+    session: &mut TestSession<M>,
+    other: &mut TestSession<M>,
     edits: &[Edit],
+    meter: &mut M::Meter,
 ) -> Result<(), Fail> {
-    let Err(fault) = session.edit_group(edits, &mut Meter::new()) else {
-        return Ok(());
+    let replay = match session.edit(edits, meter) {
+        Err(EditFault::Memory) => {
+            assert!(rt; session.is_like(other), "{edits:?}");
+            session.edit(edits, meter)?
+        }
+        answer => answer?,
     };
-    assert_eq!(rt; fault.cause, EditFault::Memory);
-    assert_eq!(rt; fault.at, 0);
-    assert!(rt; show_the_same(session, untouched));
-    let later = group_shown(alloc, &session.edit_group(edits, &mut Meter::new())?)?;
-    let wanted = group_shown(alloc, &untouched.edit_group(edits, &mut Meter::new())?)?;
-    assert_eq!(rt; later.as_str(), wanted.as_str());
-    assert!(rt; show_the_same(session, untouched));
+    let wanted = match other.edit(edits, meter) {
+        Err(EditFault::Memory) => other.edit(edits, meter)?,
+        answer => answer?,
+    };
+    assert!(rt; replay == wanted, "{edits:?}");
+    assert!(rt; session.is_like(other), "{edits:?}");
     Ok(())
 }
 
-/// Makes each of the edits.
-fn edit_each<'a>(
+/// Makes all edits in a session over a machine, and in a copy of it.
+fn edit_all<M: Playable + Copy>(
     rt: &impl Abort,
     alloc: Global,
-    session: &mut Counting<'a>,
-    counts: &'a Counts,
-    edits: &[Edit],
+    machine: M,
+    every: u32,
+    meter: &mut M::Meter,
 ) -> Result<(), Fail> {
-    for each in edits {
-        let mut untouched = copy(session, counts)?;
-        edit(rt, alloc, session, &mut untouched, each)?;
-    }
-    Ok(())
-}
-
-/// Edits of each kind at a place.
-fn edits_at(alloc: Global, at: u32) -> Result<Vec<Edit>, AllocError> {
-    let changes = [
-        LineChange::Insert(at, b"new"),
-        LineChange::Replace(at, b"other line"),
-        LineChange::Delete(at),
-        LineChange::Reseed(at.saturating_add(8)),
-    ];
-    edits_at_last(alloc, &changes)
-}
-
-/// Edits at the front, in the middle and at the end.
-fn edit_at_each_place(rt: &impl Abort, alloc: Global, every: u32) -> Result<(), Fail> {
-    let counts = Counts::new();
-    let mut session = open(rt, alloc, &counts, every)?;
-    for at in [0, 4, 5, 10] {
-        edit_each(rt, alloc, &mut session, &counts, &edits_at(alloc, at)?)?;
+    let mut session = open(rt, alloc, machine, every, meter)?;
+    let mut other = copy(&session)?;
+    assert!(rt; session.is_like(&other));
+    for changes in CHANGES {
+        let edits = match edits_of(alloc, changes) {
+            Ok(edits) => edits,
+            Err(_) => edits_of(alloc, changes)?,
+        };
+        edit_both(rt, &mut session, &mut other, &edits, meter)?;
     }
     Ok(())
 }
 
 #[test]
-fn a_refused_opening_is_out_of_memory(rt: HostRuntime) -> Result<(), Fail> {
+fn a_session_over_a_counter_goes_on_after_each_refusal(rt: HostRuntime) -> Result<(), Fail> {
     let counts = Counts::new();
-    let session = open(&rt, rt.alloc(), &counts, 1)?;
-    assert_eq!(rt; session.number(), 10);
+    let counter = Counter { counts: &counts };
+    for every in [1, 3, 50] {
+        edit_all(&rt, rt.alloc(), counter, every, &mut Meter::new())?;
+    }
     Ok(())
 }
 
+/// A lamp in a hut.
+const CAVE: &[u8] = b"3\n1 2 2\n2 1 3\n-1\n4\n2 IN\n3 OUT\n1002 LAMP\n2001 TAKE\n-1\n\
+7\n2 2\n-1\n0\n";
+
+/// A cave, and the lexicon of it.
+struct KnownCave {
+    cave: Cave,
+    lexicon: Lexicon,
+    ghost words: { IsLexiconOf cave lexicon },
+}
+
+impl Drop for KnownCave {
+    fn drop(self) {
+        let KnownCave { cave, lexicon } = self;
+        drop(lexicon);
+        drop(cave);
+    }
+}
+
+impl KnownCave {
+    /// The cave, if there is memory to read it, which is all that it may be refused for.
+    fn read(rt: &impl Abort, alloc: Global) -> Option<KnownCave> {
+        let cave = match Cave::read(alloc, CAVE, b"") {
+            Ok(cave) => cave,
+            Err(error) => {
+                assert_eq!(rt; error.cause, Cause::Memory);
+                return None;
+            }
+        };
+        let lexicon = Lexicon::build(alloc, &cave).ok()?;
+        Some(KnownCave { cave, lexicon })
+    }
+
+    /// The machine that plays in it.
+    fn machine(&self) -> CaveMachine<'_> {
+        CaveMachine::new(&self.cave, &self.lexicon)
+    }
+}
+
 #[test]
-fn a_refused_copy_is_out_of_memory(rt: HostRuntime) -> Result<(), Fail> {
-    let counts = Counts::new();
-    let session = open(&rt, rt.alloc(), &counts, 1)?;
-    let copy = copy(&session, &counts)?;
-    assert!(rt; show_the_same(&session, &copy));
+fn a_session_over_a_cave_goes_on_after_each_refusal(rt: HostRuntime) -> Result<(), Fail> {
+    let known = match KnownCave::read(&rt, rt.alloc()) {
+        Some(known) => known,
+        None => KnownCave::read(&rt, rt.alloc()).expect(&rt, "the cave is read"),
+    };
+    edit_all(&rt, rt.alloc(), known.machine(), 1, &mut Meter::new())
+}
+
+#[test]
+fn a_text_is_as_it_was_after_each_refusal(rt: HostRuntime) -> Result<(), Fail> {
+    let known = match KnownCave::read(&rt, rt.alloc()) {
+        Some(known) => known,
+        None => KnownCave::read(&rt, rt.alloc()).expect(&rt, "the cave is read"),
+    };
+    let parts = [Part::Role(Role::Welcome), Part::Role(Role::NoWay)];
+    let mut text = Vec::new(rt.alloc());
+    if render(&known.cave, &parts, 0, &mut text).is_err() {
+        assert!(rt; text.is_empty());
+        render(&known.cave, &parts, 0, &mut text)?;
+    }
+    assert_eq!(rt; text.as_slice(), b"[welcome]\n[no-way]\n".as_slice());
     Ok(())
-}
-
-#[test]
-fn a_refused_edit_changes_nothing(rt: HostRuntime) -> Result<(), Fail> {
-    edit_at_each_place(&rt, rt.alloc(), 1)?;
-    edit_at_each_place(&rt, rt.alloc(), 4)?;
-    edit_at_each_place(&rt, rt.alloc(), 50)
-}
-
-/// Edits of each kind at a place, as one group, with this distance of checkpoints.
-fn edit_group_at(rt: &impl Abort, alloc: Global, every: u32, at: u32) -> Result<(), Fail> {
-    let counts = Counts::new();
-    let mut session = open(rt, alloc, &counts, every)?;
-    let mut untouched = copy(&session, &counts)?;
-    let edits = edits_at(alloc, at)?;
-    edit_group(rt, alloc, &mut session, &mut untouched, &edits)
-}
-
-#[test]
-fn a_refused_group_changes_nothing(rt: HostRuntime) -> Result<(), Fail> {
-    edit_group_at(&rt, rt.alloc(), 1, 0)?;
-    edit_group_at(&rt, rt.alloc(), 4, 5)?;
-    edit_group_at(&rt, rt.alloc(), 50, 9)
 }

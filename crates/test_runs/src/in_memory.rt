@@ -1,69 +1,38 @@
-//! A system in memory, of which a contract can name the bytes of its files and the calls that it gets.
+//! A system in memory, of which a contract can name the bytes of its files and the calls that it
+//! gets.
 
-ghost use Rattle.std.specs.Prelude.{◌≡◌, None, Some, bytes_eq, option_map};
+ghost use Rattle.std.specs.Prelude.{◌≡◌, Some, bytes_eq, option_map};
 ghost use Rattle.test_runs.specs.Memory.{bytes_at, calls_by, file_named};
 
 use crate::calls::{KeptCall, KeptMessage, MemoryFile};
-use crate::streams::TestReader;
 use play_program::{Message, System, Target, replace};
 use std::alloc::Global;
 use std::io;
-use std::io::{Cursor, ErrorKind, Write};
+use std::io::{Cursor, ErrorKind};
 use std::process::Abort;
-use test_data::caves::CAVE;
 
-/// A file in memory. Its drafts take this many bytes, and then fail.
+/// A file in memory.
 #[derive(Drop)]
 pub struct MemoryTarget {
     pub bytes: Vec<u8>,
     pub alloc: Global,
-    pub room: usize,
-}
-
-/// A draft in memory, and how many bytes it still takes.
-#[derive(Drop)]
-pub struct MemoryDraft {
-    taken: Vec<u8>,
-    room: usize,
-}
-
-impl Write for MemoryDraft {
-    ghost contents = { λ draft. Some draft.taken.items };
-
-    fn write(&mut self, buf: &[u8]) -> io::Result<usize> {
-        let count = buf.len().min(self.room);
-        if count < buf.len() && count == 0 {
-            return Err(io::Error::from(ErrorKind::StorageFull));
-        }
-        self.taken.extend_from_slice(&buf[..count])?;
-        self.room -= count;
-        Ok(count)
-    }
-
-    fn flush(&mut self) -> io::Result<()> {
-        Ok(())
-    }
 }
 
 impl Target for MemoryTarget {
-    type Draft = MemoryDraft;
+    type Draft = Vec<u8>;
 
     ghost shown = { λ target. Some target.bytes.items };
 
-    fn begin(&mut self) -> io::Result<MemoryDraft> {
-        Ok(MemoryDraft {
-            taken: Vec::new(self.alloc),
-            room: self.room,
-        })
+    fn begin(&mut self) -> io::Result<Vec<u8>> {
+        Ok(Vec::new(self.alloc))
     }
 
-    fn publish(&mut self, draft: MemoryDraft) -> io::Result<()> {
-        let MemoryDraft { taken, room: _ } = draft;
-        self.bytes = taken;
+    fn publish(&mut self, draft: Vec<u8>) -> io::Result<()> {
+        self.bytes = draft;
         Ok(())
     }
 
-    fn discard(&mut self, draft: MemoryDraft) {
+    fn discard(&mut self, draft: Vec<u8>) {
         drop(draft);
     }
 }
@@ -130,63 +99,6 @@ impl<R: Abort> System for MemorySystem<'_, R> {
             Some(MemoryFile::Log) => replace(&mut self.log, bytes),
             _ => Err(io::Error::from(ErrorKind::PermissionDenied)),
         }
-    }
-
-    fn tell(&mut self, message: Message<'_>) {
-        let kept = KeptMessage::told_by(self.alloc, &message).expect(self.rt, "memory for a call");
-        self.kept
-            .push(KeptCall::Tells(kept))
-            .expect(self.rt, "memory for a call");
-    }
-}
-
-/// A system of a cave and a log, whose readers fail from the ask with this number on. No contract
-/// names its bytes or its calls.
-#[derive(Drop)]
-pub struct FailingSystem<'a, R: Abort> {
-    pub rt: &'a R,
-    pub alloc: Global,
-    pub log: &'a [u8],
-    pub failing: u64,
-    pub kept: Vec<KeptCall>,
-}
-
-impl<'a, R: Abort> System for FailingSystem<'a, R> {
-    type File = TestReader<'a>;
-
-    ghost bytes_of = { λ system name. None };
-
-    ghost calls = { λ system. None };
-
-    ghost one_file = { λ _ _ _. None };
-
-    fn is_one_file(&self, one: &str, other: &str) -> io::Result<bool> {
-        Ok(one == other)
-    }
-
-    fn open(&mut self, file: &str) -> io::Result<TestReader<'a>> {
-        let name = String::from_str(self.alloc, file).expect(self.rt, "memory for a call");
-        self.kept
-            .push(KeptCall::Opens(name))
-            .expect(self.rt, "memory for a call");
-        match MemoryFile::named(file) {
-            Some(MemoryFile::Cave) => Ok(TestReader::of(CAVE)),
-            Some(MemoryFile::Log) => {
-                let mut log = TestReader::of(self.log);
-                log.failing = self.failing;
-                Ok(log)
-            }
-            _ => Err(io::Error::from(ErrorKind::NotFound)),
-        }
-    }
-
-    fn put(&mut self, file: &str, bytes: &[u8]) -> io::Result<()> {
-        let name = String::from_str(self.alloc, file).expect(self.rt, "memory for a call");
-        let copy = Vec::from_slice(self.alloc, bytes).expect(self.rt, "memory for a call");
-        self.kept
-            .push(KeptCall::Puts(name, copy))
-            .expect(self.rt, "memory for a call");
-        Err(io::Error::from(ErrorKind::PermissionDenied))
     }
 
     fn tell(&mut self, message: Message<'_>) {

@@ -1,34 +1,23 @@
-//! Tests of runs that cross the crates, and the streams that they read and write.
+//! Tests of runs: their readers and writers, limits, a system in memory, and texts of faults that
+//! no log shows.
 #![tactic(auto)]
 
-#[cfg(test)]
-mod ample_memory;
 pub mod calls;
 #[cfg(test)]
 mod caves;
 #[cfg(test)]
 mod each_limit;
 #[cfg(test)]
-mod edits;
-#[cfg(test)]
-mod faults;
-#[cfg(test)]
-mod feeds;
-#[cfg(test)]
-mod games;
-#[cfg(test)]
 mod in_memory;
-#[cfg(test)]
-mod memory;
 #[cfg(test)]
 mod programs;
 #[cfg(test)]
 mod readers;
 #[cfg(test)]
-mod refusals;
-#[cfg(test)]
 mod runs;
 #[cfg(test)]
 mod streams;
+#[cfg(test)]
+mod texts;
 #[cfg(test)]
 mod writers;

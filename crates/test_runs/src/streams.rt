@@ -4,8 +4,8 @@ use std::alloc::{AllocError, Global};
 use std::io;
 use std::io::{Read, Write};
 
-/// Gives its bytes in pieces. It fails from the ask with the number `failing` on, or gives a byte at
-/// each ask without end.
+/// Gives its bytes in pieces. It fails from the ask with the number `failing` on, or gives a byte
+/// at each ask without end.
 #[derive(Clone, Copy)]
 pub struct TestReader<'a> {
     /// What is left to give.
@@ -23,14 +23,9 @@ pub struct TestReader<'a> {
 impl<'a> TestReader<'a> {
     /// A source that gives all that it can at each ask.
     pub fn of(bytes: &'a [u8]) -> TestReader<'a> {
-        TestReader::in_pieces(bytes, usize::MAX)
-    }
-
-    /// A source that gives at most this many bytes at each ask.
-    pub fn in_pieces(bytes: &'a [u8], piece: usize) -> TestReader<'a> {
         TestReader {
             bytes,
-            piece,
+            piece: usize::MAX,
             failing: 0,
             endless: false,
             asks: 0,
@@ -86,21 +81,19 @@ pub struct Sink {
 impl Sink {
     /// A sink that takes at most this many bytes at each call.
     pub fn in_pieces(alloc: Global, piece: usize) -> Sink {
-        Sink::over(Vec::new(alloc), piece)
-    }
-
-    /// A sink that needs no more memory for its first bytes, this many.
-    pub fn with_room(alloc: Global, bytes: usize) -> Result<Sink, AllocError> {
-        Ok(Sink::over(Vec::with_capacity(alloc, bytes)?, usize::MAX))
-    }
-
-    fn over(taken: Vec<u8>, piece: usize) -> Sink {
         Sink {
-            taken,
+            taken: Vec::new(alloc),
             piece,
             failing: 0,
             calls: 0,
         }
+    }
+
+    /// A sink that takes all, and needs no memory for its first bytes, this many.
+    pub fn with_room(alloc: Global, bytes: usize) -> Result<Sink, AllocError> {
+        let mut sink = Sink::in_pieces(alloc, usize::MAX);
+        sink.taken.reserve(bytes)?;
+        Ok(sink)
     }
 }
 

@@ -19,17 +19,3 @@ pub mod OneList
 pub mod Missing
 pub mod WordLines
 pub mod LineLemmas
-pub mod QuestionLemmas
-pub mod NumberedRows
-pub mod Notes
-pub mod TriedWays
-pub mod NotesOfEnds
-pub mod NotesOfDwarves
-pub mod SaidByWays
-pub mod NotesOfMoves
-pub mod SaidWords
-pub mod NotesOfVerbs
-pub mod NotesOfClocks
-pub mod NotesOfCommands
-pub mod NotesOfAnswers
-pub mod NotesOfLines

@@ -7,7 +7,3 @@ pub mod OneList
 pub mod Missing
 pub mod Unmet
 pub mod LineLaws
-pub mod QuestionRows
-pub mod DefinedRows
-pub mod NotedRows
-pub mod SaidParts

@@ -8,7 +8,6 @@ pub mod line_laws;
 pub mod list_laws;
 pub mod object_laws;
 pub mod reachable;
-pub mod row_laws;
 pub mod unmet_laws;
 
 ghost use Rattle.turn_laws.specs.Laws.{CommandsTick, DragonIsFoughtOrLeft, EndIsQuiet, FewDeaths};

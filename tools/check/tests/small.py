@@ -10,14 +10,15 @@ import subprocess
 import sys
 import tempfile
 import unittest
-from collections.abc import Iterable, Mapping, Sequence
+from collections.abc import Iterable
 
 TOP = os.path.abspath(f"{os.path.dirname(__file__)}/../../..")
 sys.path += [f"{TOP}/tools/check", f"{TOP}/tools"]
 
-from common.files import OTHER_TOP, write  # of the folder that is on the path now
+from common.files import OTHER_TOP, cases_in, text_of, write  # of what is on the path now
 from common.tests import Test, class_of
 
+CASES = "tools/check/tests"  # with the pages of cases
 # What a repository has: the texts of files by their paths.
 Files = dict[str, str]
 # A case: its name, the files, what the check has to say, and nothing if all is right.
@@ -52,17 +53,32 @@ def tests_of(command: str, cases: Iterable[Case], wrong: int = 1,
     return class_of(command, ((name, one(files, said)) for name, files, said in cases))
 
 
-def changed(right: Files, cases: Mapping[tuple[str, str], str]) -> Iterable[Case]:
-    """A case for each path and text, which the repository has in addition."""
-    return ((f"{path} {text}", right | {path: text}, said) for (path, text), said in cases.items())
+def files_of(page: str) -> Files:
+    """The files of a repository by their paths, and parts of texts: the rows of the last table of a
+    page of cases, and the blocks below it."""
+    path = f"{CASES}/{page}.md"
+    blocks = re.findall(r"(?ms)^(```+)(\S+)\n(.*?)^\1$", text_of(path))
+    return {name: text for *_, name, text in [*cases_in(path, "Files"), *blocks]}
 
 
-def edited(right: Files, cases: Iterable[Sequence[str]]) -> Iterable[Case]:
-    """A case for each path, in whose file one text is replaced by another."""
-    return ((f"{path} {old} {new}", right | {path: right[path].replace(old, new)}, said)
-            for path, old, new, said in cases)
+def cases_of(page: str, heading: str) -> list[list[str]]:
+    """The rows of a table of a page of cases, with the parts that their words in capitals mean."""
+    parts = {name: it for name, it in files_of(page).items() if name.isupper()}
+    words = re.compile("|".join(parts) or r"(?!)")
+    return [[path, *(words.sub(lambda it: parts[it[0]], text) for text in texts), said]
+            for path, *texts, said in cases_in(f"{CASES}/{page}.md", heading)]
 
 
-def written_out(text: str, parts: Mapping[str, str]) -> str:
-    """A text of a table of cases, with what some words of it stand for."""
-    return re.sub("|".join(parts), lambda it: parts[it[0]], text)
+def of_page(command: str, page: str, heading: str,
+            others: Files | None = None) -> type[unittest.TestCase]:
+    """A class with a test for each row of a table of a page, over the repository of the page with
+    other files: in a file one text is replaced by another, or is all that it has."""
+    right = {name: it for name, it in files_of(page).items() if not name.isupper()}
+    right |= others or {}
+
+    def case(path: str, *texts: str) -> Case:
+        *old, new, said = texts
+        text = right[path].replace(old[0], new) if old else new
+        return " ".join([path, *old, new]), right | {path: text}, said
+
+    return tests_of(command, (case(*row) for row in cases_of(page, heading)))

@@ -1,13 +1,10 @@
 """Where a transcript and what the program prints now differ, as hunks."""
 
-from __future__ import annotations
-
 import os
 from bisect import bisect_right
-from dataclasses import dataclass
 from difflib import SequenceMatcher
 from itertools import takewhile
-from typing import Iterator, Sequence
+from typing import Iterator, NamedTuple, Sequence
 
 from .logs import Log, content, lines_of
 
@@ -16,8 +13,7 @@ ECHO = "> "  # before a line of the log in a transcript
 Part = tuple[str, int, int, int, int]  # kind, lines of the old text, lines of the new one
 
 
-@dataclass(frozen=True)
-class Hunk:
+class Hunk(NamedTuple):
     """A place where two texts differ: where it is, both aligned, and the parts of the texts."""
 
     where: tuple[str, ...]

@@ -1,7 +1,5 @@
 """A log of a suite: what its head says, how it is run, and what is wrong with its place."""
 
-from __future__ import annotations
-
 import os
 import re
 from difflib import get_close_matches
@@ -53,7 +51,7 @@ def is_below(name: str) -> bool:
 
 
 def is_lost(path: str) -> bool:
-    """Whether a link leads nowhere."""
+    """Whether it is a link that leads nowhere."""
     return os.path.islink(path) and not os.path.exists(path)
 
 
@@ -65,7 +63,7 @@ def content(path: str) -> bytes:
 class Log:
     """A log by its path without a kind."""
 
-    def __init__(self, suite: Suite, stem: str) -> None:
+    def __init__(self, suite: "Suite", stem: str) -> None:
         self.suite, self.stem = suite, stem
 
     @cached_property
@@ -108,13 +106,10 @@ class Log:
     @cached_property
     def line_count(self) -> int:
         """The lines of the log; none of a transcript or a script that has no log."""
-        if not self.has(".log"):
-            return 0
-        return content(f"{self.stem}.log").count(b"\n")
+        return content(f"{self.stem}.log").count(b"\n") if self.has(".log") else 0
 
     @property
     def status(self) -> int:
-        """The status with which the program has to end."""
         return int(self.head.get("status", ["0"])[0])
 
     @property
@@ -124,7 +119,6 @@ class Log:
 
     @property
     def words(self) -> list[str]:
-        """The words with which the program is called."""
         run = self.head.get("run", [])
         if "cave" not in self.head:
             return run

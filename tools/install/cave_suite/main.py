@@ -1,13 +1,13 @@
 """The command line of the runner of suites, and the run itself."""
 
-from __future__ import annotations
-
 import argparse
 import io
 import os
 import shutil
 import sys
 from shlex import quote
+
+from common.command_line import NO_PROGRAM
 
 from .hunks import Hunk, differences, sentence
 from .logs import Log
@@ -19,14 +19,12 @@ from .suites import NAME, Suite, Suites, shards
 from .updates import Asked, write
 
 SECONDS = 60.0  # that a run may take
-NO_PROGRAM = ("there is no program `{}`:"
-              " install the package `cave-logs`, or build it by `make play`")
 CLOSED, STOPPED = 141, 130  # the status after SIGPIPE, and after SIGINT
 
 
 def updated(log: Log, found: Played, asked: Asked | None) -> list[Hunk]:
-    """Writes a transcript again, as a reader says if one is asked; gives what is left. A log that is
-    known to fail only gets its first one, and goes on to fail: it isn't yet what it should be."""
+    """Writes a transcript again, as a reader says if one is asked; gives what is left. A log that
+    is known to fail only gets its first one, and goes on to fail: it isn't what it should be."""
     is_known = log.xfail is not None
     if not found.is_played or not found.hunks or is_known and log.has(".out"):
         return found.hunks
@@ -100,13 +98,6 @@ def at_least_one(text: str) -> int:
     return int(text)
 
 
-def processors() -> int:
-    """The processors that this process may use."""
-    if hasattr(os, "sched_getaffinity"):
-        return len(os.sched_getaffinity(0))
-    return os.cpu_count() or 1
-
-
 def options(doc: str, usage: str, is_front: bool) -> argparse.ArgumentParser:
     asks = argparse.ArgumentParser(
         usage=usage, description=doc, formatter_class=argparse.RawDescriptionHelpFormatter)
@@ -115,7 +106,8 @@ def options(doc: str, usage: str, is_front: bool) -> argparse.ArgumentParser:
         asks.add_argument("--program", metavar="P", default="cave",
                           help="a file, or a command on the PATH: cave, if nothing else is said")
         asks.add_argument("--top", metavar="FOLDER", help="where the files lie that heads name")
-    asks.add_argument("-j", "--jobs", metavar="N", type=at_least_one, default=processors(),
+    processors = len(os.sched_getaffinity(0))  # that this process may use
+    asks.add_argument("-j", "--jobs", metavar="N", type=at_least_one, default=processors,
                       help="plays N logs at once; as many as there are processors")
     asks.add_argument("--shard", "--part", metavar="K/M", type=shard, default=(1, 1),
                       help="plays the K-th of M parts with about as many lines each")

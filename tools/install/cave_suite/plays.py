@@ -1,7 +1,5 @@
 """Plays logs side by side, and compares what is printed with their transcripts."""
 
-from __future__ import annotations
-
 import os
 import signal
 import subprocess
@@ -113,7 +111,6 @@ def all_played(program: str, logs: Sequence[Log], seconds: float, jobs: int,
     if min(jobs, len(logs)) == 1:
         yield map(do, range(len(logs)))
         return
-    # Processes, since only one thread of a Python process can begin a program at a time.
     context = get_context("fork")
     ends: list[Connection] = []
     processes = []

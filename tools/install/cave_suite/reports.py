@@ -1,23 +1,19 @@
 """What is said about a suite that is played: for readers, as TAP and as JUnit's file, and how far
 the run is."""
 
-from __future__ import annotations
-
 import os
 import re
 import sys
 import time
 from dataclasses import dataclass
 from html import escape
-from typing import TYPE_CHECKING, Iterable, Sequence
+from typing import Iterable, Sequence
 
 from common import outputs
 
 from .hunks import Hunk
 from .logs import KINDS, Log, content
-
-if TYPE_CHECKING:
-    from .suites import Suite
+from .suites import Suite
 
 MOST = 20  # lines that are shown of a hunk
 JUNIT = re.compile(rb"\s*(<\?xml[^>]*>\s*)?<testsuites?[\s/>]")  # how a file for a CI begins
@@ -47,8 +43,6 @@ class Result:
 
 
 class Sums:
-    """How many logs passed, failed, and failed as it is known that they do."""
-
     def __init__(self) -> None:
         self.passed = self.failed = self.known = 0
         self.began = time.monotonic()
@@ -84,11 +78,10 @@ class Progress:
 
     def __init__(self, count: int) -> None:
         self.count, self.last, self.is_shown = count, 0.0, False
-        self.is_asked = sys.stderr.isatty()
 
     def show(self, at: int, failed: int) -> None:
         now = time.monotonic()
-        if self.is_asked and now - self.last > SECONDS:
+        if sys.stderr.isatty() and now - self.last > SECONDS:
             said = f"{at} of {self.count} logs, {failed} failed"
             print(f"\r{said}\x1b[K", end="", file=sys.stderr, flush=True)
             self.last, self.is_shown = now, True

@@ -1,7 +1,5 @@
 """Plays a log: the folder of its run, what the program prints, and the run as a line of a shell."""
 
-from __future__ import annotations
-
 import ctypes
 import os
 import resource

@@ -1,7 +1,5 @@
 """Suites of logs: which logs they have, which of them words mean, and how they are divided."""
 
-from __future__ import annotations
-
 import heapq
 import os
 from functools import cached_property
@@ -44,7 +42,6 @@ class Suite:
         self.known: dict[str, Log] = {}
 
     def log(self, stem: str) -> Log:
-        """The log of a path without a kind."""
         return self.known.setdefault(stem, Log(self, stem))
 
     @cached_property
@@ -68,7 +65,6 @@ class Suite:
 
     @cached_property
     def names(self) -> dict[str, Log]:
-        """All of them by their names."""
         return {it.name: it for it in map(self.log, self.stems)}
 
     def logs(self, folder: str | None = None) -> list[Log]:

@@ -1,7 +1,5 @@
 """Writes transcripts again: all of what the program prints, or the hunks that a reader accepts."""
 
-from __future__ import annotations
-
 import sys
 from typing import Sequence
 
@@ -57,7 +55,7 @@ class Asked:
 
     def update(self, log: Log, old: Sequence[str], new: Sequence[str],
                hunks: Sequence[Hunk]) -> list[Hunk]:
-        """Writes the hunks that the reader accepts, also if the questions are interrupted, and gives
+        """Writes the hunks that the reader accepts, also if the questions are interrupted; gives
         those that are left."""
         taken: list[Hunk] = []
         left: list[Hunk] = []

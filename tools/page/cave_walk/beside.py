@@ -1,57 +1,44 @@
 """Compares two walks, as a module: where they part, where they come together again, and which of
 their lines are the same, by the script that makes the one log of the other.
 
-    from cave_walk.beside import alike_at_end, alike_at_start, same_lines
+    from cave_walk.beside import parting_and_meeting, same_lines
 
 A walk is the list of its lines, as `cave play --print walk` prints them.
 """
 
 from collections.abc import Iterable
-from itertools import takewhile
+from itertools import groupby, takewhile
+from operator import itemgetter
 from typing import Any
 
-FIGURES = """line from to score lamp carried draws stream question ended happened moved""".split()
+# What is the same of two lines that do the same, whenever that is.
+FIGURES = itemgetter(*"""line from to score lamp carried draws stream question ended happened
+moved""".split())
 Line = dict[str, Any]
+Played = tuple[int, Any]  # the place of a line, and its figures
 
 
-def is_played(line: Line) -> bool:
-    """Whether a line is neither a comment nor blank."""
-    return not line["line"].startswith("#") and bool(line["line"].strip(" \t"))
+def played(walk: list[Line]) -> list[Played]:
+    """The lines that are neither comments nor blank."""
+    return [(at, FIGURES(it)) for at, it in enumerate(walk)
+            if not it["line"].startswith("#") and it["line"].strip(" \t")]
 
 
-def played(walk: list[Line]) -> list[tuple[int, Line]]:
-    """The lines that are played, with their places."""
-    return [(at, it) for at, it in enumerate(walk) if is_played(it)]
+def alike(ours: Iterable[Played], theirs: Iterable[Played]) -> int:
+    """How many lines are alike before the first that isn't."""
+    return sum(1 for _ in takewhile(lambda pair: pair[0][1] == pair[1][1], zip(ours, theirs)))
 
 
-def plays_alike(pair: tuple[tuple[int, Line], tuple[int, Line]]) -> bool:
-    """Whether two lines are the same and do the same, whenever that is."""
-    (_, one), (_, other) = pair
-    return all(one[it] == other[it] for it in FIGURES)
-
-
-def first_of(pairs: Iterable[Any], is_alike: Any) -> int:
-    """How many pairs are alike before the first that isn't."""
-    return sum(1 for _ in takewhile(is_alike, pairs))
-
-
-def alike_at_start(ours: list[Line], theirs: list[Line]) -> list[int] | None:
+def parting_and_meeting(ours: list[Line], theirs: list[Line]) -> list[list[int] | None]:
     """How many lines of each walk, comments among them, are before the first that plays in another
-    way; None if there is none."""
+    way; and how many before the first of those at the end that play alike; None for none."""
     first, second = played(ours), played(theirs)
-    alike = first_of(zip(first, second), plays_alike)
-    if alike == len(first) == len(second):
-        return None
-    return [rows[alike][0] if alike < len(rows) else len(walk)
-            for rows, walk in ((first, ours), (second, theirs))]
-
-
-def alike_at_end(ours: list[Line], theirs: list[Line]) -> list[int] | None:
-    """How many lines of each walk, comments among them, are before the first of those at the end
-    that play alike; None if there are none."""
-    first, second = played(ours)[::-1], played(theirs)[::-1]
-    alike = first_of(zip(first, second), plays_alike)
-    return [rows[alike - 1][0] for rows in (first, second)] if alike else None
+    begin, end = alike(first, second), alike(reversed(first), reversed(second))
+    if begin == len(first) == len(second):
+        return [None, None]
+    return [[rows[begin][0] if begin < len(rows) else len(walk)
+             for rows, walk in ((first, ours), (second, theirs))],
+            [rows[-end][0] for rows in (first, second)] if end else None]
 
 
 def kept_lines(script: str, count: int) -> list[int | None]:
@@ -69,11 +56,9 @@ def same_lines(script: str, count: int) -> list[list[int]]:
     """The lines that a log has in common with the one that a script makes of it, as stretches: the
     first line in each, and how many lines there are."""
     found = list[list[int]]()
-    for second, first in enumerate(kept_lines(script, count)):
-        if first is None:
-            continue
-        if found and [sum(found[-1][::2]), sum(found[-1][1:])] == [first, second]:
-            found[-1][2] += 1
-        else:
-            found.append([first, second, 1])
+    for shift, rows in groupby(enumerate(kept_lines(script, count)),
+                               lambda it: None if it[1] is None else it[1] - it[0]):
+        places = [second for second, _ in rows]
+        if shift is not None:
+            found.append([places[0] + shift, places[0], len(places)])
     return found

@@ -43,7 +43,6 @@ def block(name: str, rows: Iterable[str]) -> str:
 
 
 def script_of(steps: Steps) -> str:
-    """The commands for gnuplot."""
     lines = [*zip(steps["place"], steps["score"], steps["lamp"], steps["happened"])]
     told = [HEAD, block("steps", (f"{at}\t{score}\t{lamp}" for at, score, lamp, _ in lines))]
     plots = [LINES]

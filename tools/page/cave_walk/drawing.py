@@ -11,6 +11,7 @@ way its two.
 import re
 import subprocess
 import xml.etree.ElementTree as tree
+from itertools import takewhile
 from typing import NamedTuple
 
 from .steps import Stop
@@ -44,21 +45,15 @@ def child_of(element: tree.Element, name: str) -> tree.Element:
 
 def titles_of(graph: str) -> dict[str, str]:
     """The title of each place by its number, as its label has it on separate lines."""
-    found = {}
+    found = dict[str, str]()
     for number, label in LABEL.findall(graph):
         shown = [re.sub(r"\\(.)", r"\1", it) for it in re.split(r"\\n", label) if it]
-        rows = shown[:1]
-        for row in shown[1:]:
-            if OWN_LINE.match(row):
-                break
-            rows.append(row)
-        words = " ".join(rows).replace("&amp;", "&")
-        found[number] = words.removeprefix(number).strip()
+        rows = [*shown[:1], *takewhile(lambda it: not OWN_LINE.match(it), shown[1:])]
+        found[number] = " ".join(rows).replace("&amp;", "&").removeprefix(number).strip()
     return found
 
 
 def drawn_by_dot(graph: str) -> bytes:
-    """What `dot` draws of a graph."""
     ran = subprocess.run(["dot", "-Tsvg"], input=graph.encode(), capture_output=True)
     if ran.returncode:
         raise Stop(f"dot ends with status {ran.returncode}: {ran.stderr.decode().strip()}")

@@ -1,7 +1,7 @@
 """A page as one file of HTML, made of its parts, as a module.
 
-    from cave_walk.filled import part, page_of
-    page_of(style, script, data, TITLE=title, FOOT=foot, MAP=svg)
+    from cave_walk.filled import STYLE, WALK, page_of
+    page_of(STYLE, WALK, data, TITLE=title, FOOT=foot, MAP=svg)
 """
 
 import base64
@@ -10,16 +10,29 @@ import html
 import json
 import os
 import re
+from collections.abc import Sequence
 
 HERE = os.path.dirname(os.path.dirname(os.path.realpath(__file__)))  # of the pages' parts
 BUILT = os.path.abspath(f"{HERE}/../../crates/cave/out/cave")
-WALK = ["walk.js", "map.js", "objects.js", "lines.js", "chart.js", "moves.js"]
+STYLE = ["walk_page/page.css"]
+WALK = [f"walk_page/{it}.js" for it in "walk map objects lines chart moves".split()]
 
 
-def part(folder: str, name: str) -> str:
+def part(path: str) -> str:
     """A part of a page: a script, a style or the frame."""
-    with open(f"{HERE}/{folder}/{name}", encoding="utf-8") as file:
+    with open(f"{HERE}/{path}", encoding="utf-8") as file:
         return file.read()
+
+
+def foot_of(cave: str, bind: str | None, by: str, seed: str | None = None) -> str:
+    """By what a log was played, at the foot of its page."""
+    named = {"Played in": os.path.basename(cave),
+             "with the bindings": os.path.basename(bind or ""), "from the seed": seed,
+             "by": by.strip()}
+    told = [f"{what} <b>{html.escape(name)}</b>" for what, name in named.items() if name]
+    if not bind:
+        told.insert(1, "without bindings")
+    return ", ".join(told) + "."
 
 
 def as_json(data: object) -> str:
@@ -32,14 +45,16 @@ def hash_of(content: str) -> str:
     return f"'sha256-{base64.b64encode(hashlib.sha256(content.encode()).digest()).decode()}'"
 
 
-def page_of(style: str, script: str, data: object, may: str, **slots: str) -> bytes:
-    """The page, which may run its own script, use its own style, and do what is said besides; each
-    of its slots is filled once, so that no text of a cave can be a slot."""
-    script = f'"use strict";\n{script}'
+def page_of(styles: Sequence[str], scripts: Sequence[str], data: object, may: str = "",
+            **slots: str) -> bytes:
+    """The page, which may run its own scripts, use its own styles, and do what is said besides;
+    each of its slots is filled once, so that no text of a cave can be a slot."""
+    style = "".join(map(part, styles))
+    script = "\n".join(['"use strict";', *map(part, scripts)])
     policy = (f"default-src 'none'; script-src {hash_of(script)}; style-src {hash_of(style)};"
               f" {may}base-uri 'none'; form-action 'none'")
     slots |= {"POLICY": html.escape(policy), "STYLE": style, "SCRIPT": script,
               "DATA": as_json(data), "TITLE": html.escape(slots["TITLE"])}
-    frame = part("walk_page", "page.html")
-    made = re.sub(r"\{\{([A-Z]+)\}\}", lambda found: slots.get(found[1], ""), frame)
+    made = re.sub(r"\{\{([A-Z]+)\}\}", lambda found: slots.get(found[1], ""),
+                  part("walk_page/page.html"))
     return made.encode(errors="replace")

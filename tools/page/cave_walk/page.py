@@ -1,7 +1,6 @@
 """The page of a walk: what it shows of one log, or of two, by what the program prints of them."""
 
 import argparse
-import html
 import json
 import os
 import shutil
@@ -9,14 +8,17 @@ import stat
 import subprocess
 import sys
 import time
+from collections import defaultdict
+from itertools import count
 from typing import Any
 
 from common import command_line
+from common.command_line import NO_PROGRAM
 
 from . import drawing
-from .beside import alike_at_end, alike_at_start, same_lines
-from .filled import BUILT, WALK, page_of, part
-from .steps import NO_PROGRAM, NONE, Stop, demand_output, put, text
+from .beside import parting_and_meeting, same_lines
+from .filled import BUILT, STYLE, WALK, foot_of, page_of
+from .steps import NONE, Stop, demand_output, put, text
 
 NUMBERS = "from to turns score lamp draws stream".split()
 NAMED = ["question", "ended", "happened"]  # columns of few words
@@ -28,20 +30,19 @@ class Progress:
     """Shows on a terminal how far the page is."""
 
     def __init__(self) -> None:
-        self.begun, self.stage, self.shows = time.monotonic(), 0, sys.stderr.isatty()
+        self.begun, self.stage = time.monotonic(), 0
 
     def tell(self, doing: str) -> None:
         self.stage += 1
-        self.show(f"\r{self.stage} of {STAGES}: {doing}, after"
-                  f" {time.monotonic() - self.begun:.0f} s\x1b[K")
+        seconds = time.monotonic() - self.begun
+        self.show(f"{self.stage} of {STAGES}: {doing}, after {seconds:.0f} s")
 
-    def show(self, line: str) -> None:
-        if self.shows:
-            print(line, end="", file=sys.stderr, flush=True)
+    def show(self, line: str = "") -> None:
+        if sys.stderr.isatty():
+            print(f"\r{line}\x1b[K", end="", file=sys.stderr, flush=True)
 
 
 def program_of(named: str | None) -> str:
-    """The program that is run."""
     asked = named or (BUILT if os.access(BUILT, os.X_OK) else "cave")
     if not (found := shutil.which(asked)):
         raise Stop(NO_PROGRAM.format(asked))
@@ -56,32 +57,33 @@ def said_by(program: str, words: list[str]) -> str:
     return text(ran.stdout)
 
 
-class Texts:
-    """Lines of texts, and texts as their lines, each of which is kept once."""
+def numbers() -> defaultdict[Any, int]:
+    """What gives a number to each key, from 0 on."""
+    return defaultdict(count().__next__)
+
+
+class Shared:
+    """What the walks of a page share, each once: lines, texts as their lines, lists of objects, and
+    the names of these."""
 
     def __init__(self) -> None:
-        self.lines, self.whole = dict[str, int](), dict[tuple[int, ...], int]()
+        self.lines, self.texts, self.lists = numbers(), numbers(), numbers()
+        self.names = dict[int, str]()
 
-    def add(self, lines: list[str]) -> int:
-        """The number of a text."""
-        known = tuple(self.lines.setdefault(it, len(self.lines)) for it in lines)
-        return self.whole.setdefault(known, len(self.whole))
+    def text(self, told: str) -> int:
+        """The number of a text; one that is empty has no lines."""
+        rows = readable(told).removesuffix("\n").split("\n") if told else []
+        return self.texts[tuple(self.lines[it] for it in rows)]
 
-
-class Lists:
-    """Lists of objects, each of which is kept once, and the name of each object."""
-
-    def __init__(self) -> None:
-        self.whole, self.names = dict[tuple[int, ...], int](), dict[int, str]()
-
-    def note(self, objects: list[Said]) -> list[int]:
+    def objects(self, objects: list[Said]) -> list[int]:
         """The numbers of objects, whose names are kept."""
         self.names |= {it["object"]: it["name"] for it in objects}
         return [it["object"] for it in objects]
 
-    def add(self, objects: list[Said]) -> int:
-        """The number of a list."""
-        return self.whole.setdefault(tuple(self.note(objects)), len(self.whole))
+    def moves(self, line: Said) -> list[list[int]]:
+        """The objects that a line moved, each by its number with where it is then."""
+        moved = line["moved"]
+        return [[x, it["first"], it["second"]] for x, it in zip(self.objects(moved), moved)]
 
 
 def readable(told: str) -> str:
@@ -89,59 +91,36 @@ def readable(told: str) -> str:
     return told and text(told.encode("latin-1"))
 
 
-def rows_of(told: str) -> list[str]:
-    """The rows of a text; one that is empty has none."""
-    return readable(told).removesuffix("\n").split("\n") if told else []
-
-
-def moves_of(line: Said, lists: Lists) -> list[list[int]]:
-    """The objects that a line moved, each by its number with where it is then."""
-    numbers = lists.note(line["moved"])
-    return [[x, it["first"], it["second"]] for x, it in zip(numbers, line["moved"])]
-
-
-def walk_of(program: str, cave: str, log: str, options: list[str], texts: Texts,
-            lists: Lists) -> tuple[Said, list[Said], Said]:
+def walk_of(program: str, files: list[str], shared: Shared) -> tuple[Said, list[Said], Said]:
     """A walk as the page has it: its columns, its lines and what each says; and the opening."""
-    files = [cave, log, *options]
     printed = said_by(program, ["play", *files, "--print", "walk"]).split("\n")
     opening, *lines = (json.loads(it) for it in printed if it)
     walk: Said = {name: [it[name] for it in lines] for name in NUMBERS}
     for name in NAMED:
         told = [",".join(it[name] or []) if name == "happened" else it[name] for it in lines]
-        each = dict.fromkeys([NONE, *(it or NONE for it in told)])
-        words = {it: at for at, it in enumerate(each)}
-        walk[name] = {"words": [*words], "rows": [words[it or NONE] for it in told]}
-    table = [it.split("\t") for it in said_by(
-        program, ["play", *files, "--print", "score"]).removesuffix("\n").split("\n")]
+        words = numbers()
+        _, *rows = [words[it or NONE] for it in (NONE, *told)]
+        walk[name] = {"words": [*words], "rows": rows}
+    scores = said_by(program, ["play", *files, "--print", "score"]).removesuffix("\n")
+    table = [it.split("\t") for it in scores.split("\n")]
     maximum = next(int(it[-1]) for it in table if it[0] == "score")
     ends = lines[-1] if lines else opening
     return opening, lines, walk | {
-        "name": os.path.basename(log), "lines": [readable(it["line"]) for it in lines],
+        "name": os.path.basename(files[1]), "lines": [readable(it["line"]) for it in lines],
         "sum": f"score {ends['score']} of {maximum}, turns {ends['turns']}", "maximum": maximum,
-        "table": table, "said": [texts.add(rows_of(it["said"])) for it in (opening, *lines)],
-        "hands": [lists.add(it["carried"]) for it in lines],
-        "moves": [[at, moves_of(it, lists)] for at, it in enumerate(lines) if it["moved"]]}
+        "table": table, "said": [shared.text(it["said"]) for it in (opening, *lines)],
+        "hands": [shared.lists[tuple(shared.objects(it["carried"]))] for it in lines],
+        "moves": [[at, shared.moves(it)] for at, it in enumerate(lines) if it["moved"]]}
 
 
 def together(said: argparse.Namespace, program: str, ours: list[Said], theirs: list[Said]) -> Said:
     """Where two walks part and come together again, as the number of lines of each before that, or
     None if they don't; and the lines that both logs have."""
-    parting, meeting = alike_at_start(ours, theirs), alike_at_end(ours, theirs)
+    parting, meeting = parting_and_meeting(ours, theirs)
     # A script that would be too large isn't printed: then no line stands beside another.
     ran = subprocess.run([program, "script", said.log, said.against], capture_output=True)
     same = [] if ran.returncode else same_lines(ran.stdout.decode(), len(ours))
-    return {"parting": parting, "meeting": parting and meeting, "beside": same}
-
-
-def foot_of(said: argparse.Namespace, program: str) -> str:
-    """By what the walk was played: the cave, its bindings, the seed and the program."""
-    def named(what: str, name: str) -> str:
-        return f"{what} <b>{html.escape(os.path.basename(name))}</b>"
-    bindings = named("with the bindings", said.bind) if said.bind else "without bindings"
-    return (f"{named('Played in', said.cave)}, {bindings}, from the seed"
-            f" <b>{html.escape(said.seed or '0')}</b>, by"
-            f" <b>{html.escape(said_by(program, ['--version']).strip())}</b>.")
+    return {"parting": parting, "meeting": meeting, "beside": same}
 
 
 def words() -> argparse.Namespace:
@@ -163,42 +142,44 @@ def judge_files(said: argparse.Namespace) -> None:
     for path in read:
         if path and os.path.exists(path) and stat.S_ISFIFO(os.stat(path).st_mode):
             raise Stop(f"{path}: a pipe can't be read several times")
+    if lost := command_line.missing("dot"):
+        raise Stop(lost)
+
+
+def made(said: argparse.Namespace, program: str, progress: Progress) -> bytes:
+    shared, logs = Shared(), [said.log] + [said.against] * (said.against is not None)
+    options = [it for name in ("bind", "seed") if (value := getattr(said, name)) is not None
+               for it in (f"--{name}", value)]
+    progress.tell("playing the log")
+    played = [walk_of(program, [said.cave, said.log, *options], shared)]
+    progress.tell("playing the other log")
+    played += [walk_of(program, [said.cave, it, *options], shared) for it in logs[1:]]
+    progress.tell("drawing the map")
+    drawn = drawing.of(said_by(program, ["map", said.cave, said.log, *options]))
+    progress.tell("writing the page")
+    walks, opening = [it[2] for it in played], played[0][0]
+    if len({it["name"] for it in walks}) < len(walks):
+        for walk, name in zip(walks, logs):
+            walk["name"] = name
+    data = {"walks": walks, "lines": [*shared.lines], "texts": [*shared.texts],
+            "lists": [*shared.lists], "places": drawn.titles,
+            "opening": {it: opening[it] for it in ("to", "score", "lamp")}
+                       | {"moves": shared.moves(opening)},
+            "names": {x: readable(name) for x, name in shared.names.items()},
+            **(together(said, program, *(it[1] for it in played)) if played[1:] else {})}
+    foot = foot_of(said.cave, said.bind, said_by(program, ["--version"]), said.seed or "0")
+    return page_of(STYLE, WALK, data, TITLE=" against ".join(it["name"] for it in walks), FOOT=foot,
+                   MAP=drawn.svg)
 
 
 def main() -> int:
     said, progress = words(), Progress()
     judge_files(said)
-    if lost := command_line.missing("dot"):
-        raise Stop(lost)
-    program, texts, lists = program_of(said.program), Texts(), Lists()
-    options = [it for name in ("bind", "seed") if (value := getattr(said, name)) is not None
-               for it in (f"--{name}", value)]
+    program = program_of(said.program)
     try:
-        progress.tell("playing the log")
-        played = [walk_of(program, said.cave, said.log, options, texts, lists)]
-        progress.tell("playing the other log")
-        played += [walk_of(program, said.cave, it, options, texts, lists)
-                   for it in [said.against] if it is not None]
-        progress.tell("drawing the map")
-        drawn = drawing.of(said_by(program, ["map", said.cave, said.log, *options]))
-        progress.tell("writing the page")
-        walks = [it[2] for it in played]
-        if len({it["name"] for it in walks}) < len(walks):
-            for walk, name in zip(walks, (said.log, said.against)):
-                walk["name"] = name
-        names = " against ".join(it["name"] for it in walks)
-        opening = played[0][0]
-        data = {"walks": walks, "lines": [*texts.lines], "texts": [*texts.whole],
-                "lists": [*lists.whole], "places": drawn.titles,
-                "opening": {it: opening[it] for it in ("to", "score", "lamp")}
-                           | {"moves": moves_of(opening, lists)},
-                "names": {x: readable(name) for x, name in lists.names.items()},
-                **(together(said, program, *(it[1] for it in played)) if played[1:] else {})}
-        script = "\n".join(part("walk_page", it) for it in WALK)
-        page = page_of(part("walk_page", "page.css"), script, data, "", TITLE=names,
-                       FOOT=foot_of(said, program), MAP=drawn.svg)
+        page = made(said, program, progress)
         progress.tell("putting it")
         put(said.output, page)
     finally:
-        progress.show("\r\x1b[K")
+        progress.show()
     return 0

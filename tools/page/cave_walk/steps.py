@@ -14,8 +14,6 @@ from common import outputs
 COLUMNS = """place line from to turns score lamp carried draws stream question ended
 happened""".split()
 NUMBERS = "place from to turns score lamp carried draws stream".split()
-NO_PROGRAM = ("there is no program `{}`:"
-              " install the package `cave-logs`, or build it by `make play`")
 NONE = "-"  # of a column that has nothing to say
 Steps = dict[str, list[Any]]  # the columns by their names, those of NUMBERS as numbers
 
@@ -39,7 +37,6 @@ def text(given: bytes) -> str:
 
 
 def columns_of(table: str) -> Steps:
-    """The columns of a table of steps."""
     head, *rows = table.removesuffix("\n").split("\n")
     if head.split("\t") != COLUMNS:
         raise Stop("the first line isn't that of `cave play --print steps`")
@@ -55,7 +52,6 @@ def columns_of(table: str) -> Steps:
 
 
 def events_of(happened: str) -> list[str]:
-    """What happened at a line, as a list of names."""
     return [] if happened == NONE else happened.split(",")
 
 
@@ -74,7 +70,6 @@ def put(path: str, content: bytes) -> None:
 
 
 def print_out(content: bytes) -> None:
-    """Prints an output."""
     try:
         if not sys.stdout:
             raise OSError(errno.EBADF, os.strerror(errno.EBADF))

@@ -1,17 +1,17 @@
 """The server: only on the loopback address, and only for pages that have its token."""
 
-from __future__ import annotations
-
+import json
 import secrets
 import sys
 import threading
+from collections.abc import Callable
 from contextlib import suppress
 from http.server import BaseHTTPRequestHandler, ThreadingHTTPServer
 from socket import SHUT_RDWR, socket
 from urllib.parse import parse_qsl
 
 from .scripts import Malformed
-from .site import Answer, Site, object_of, told
+from .site import Answer, Site, told
 
 HOST = "127.0.0.1"
 MOST_SENT = 4_000_000  # bytes of what a page sends
@@ -22,43 +22,36 @@ HEADERS = {
     "Cache-Control": "no-store", "Referrer-Policy": "no-referrer",
     "X-Content-Type-Options": "nosniff", "X-Frame-Options": "DENY",
     "Cross-Origin-Resource-Policy": "same-origin", "Cross-Origin-Opener-Policy": "same-origin"}
+UNQUOTED = {ord(it): "_" for it in '"\\/?'} | dict.fromkeys(range(32), "_")
+Request = socket | tuple[bytes, socket]
 
 
 class Server(ThreadingHTTPServer):
     """The server of a site, with the token of its addresses."""
 
-    daemon_threads = True
-    allow_reuse_address = True
     request_queue_size = MOST_AT_ONCE
 
     def __init__(self, site: Site, port: int) -> None:
         super().__init__((HOST, port), Answers)
         self.site, self.token = site, secrets.token_urlsafe(24)
+        self.hosts = [f"{HOST}:{self.server_port}", f"localhost:{self.server_port}"]
+        self.address = f"http://{self.hosts[0]}/{self.token}/"
         self.room = threading.BoundedSemaphore(MOST_AT_ONCE)
 
-    @property
-    def hosts(self) -> list[str]:
-        return [f"{HOST}:{self.server_port}", f"localhost:{self.server_port}"]
-
-    @property
-    def address(self) -> str:
-        return f"http://{self.hosts[0]}/{self.token}/"
-
-    def process_request(self, request: socket | tuple[bytes, socket], client: object) -> None:
+    def process_request(self, request: Request, client: object) -> None:
         """Serves a connection, unless there are too many."""
-        if not self.room.acquire(blocking=False):
+        if self.room.acquire(blocking=False):
+            super().process_request(request, client)
+        else:
             self.shutdown_request(request)
-            return
-        super().process_request(request, client)
 
-    def process_request_thread(self, request: socket | tuple[bytes, socket],
-                               client: object) -> None:
+    def process_request_thread(self, request: Request, client: object) -> None:
         try:
             super().process_request_thread(request, client)
         finally:
             self.room.release()
 
-    def handle_error(self, request: socket | tuple[bytes, socket], client: object) -> None:
+    def handle_error(self, request: Request, client: object) -> None:
         """A page that goes away before its answer is complete isn't a fault."""
         if not isinstance(sys.exc_info()[1], (ConnectionError, TimeoutError)):
             super().handle_error(request, client)
@@ -93,7 +86,6 @@ class Answers(BaseHTTPRequestHandler):
 
     def send_error(self, code: int, message: str | None = None, explain: str | None = None) -> None:
         """What isn't understood gets just a status as its answer."""
-        self.close_connection = True
         self.answer(None, code)
 
     def name(self) -> str | None:
@@ -106,23 +98,24 @@ class Answers(BaseHTTPRequestHandler):
             and all(it == f"http://{hosts[0]}" for it in origins) and len(origins) < 2
             and self.headers.get("Sec-Fetch-Site", "none") in ("none", "same-origin")
             and secrets.compare_digest(path[1].encode(), self.server.token.encode()))
-        if is_allowed:
-            self.limit.cancel()
-        return path[2] if is_allowed else None
+        if not is_allowed:
+            return None
+        self.limit.cancel()
+        return path[2]
 
     def do_GET(self) -> None:  # noqa: N802, by the name that the library wants
-        name = self.name()
-        try:
-            asked = dict(parse_qsl(self.path.partition("?")[2], max_num_fields=4))
-            self.answer(None if name is None else self.server.site.get(name, asked))
-        except (Malformed, ValueError) as wrong:
-            self.answer(told(400, "malformed", str(wrong)))
+        query = self.path.partition("?")[2]
+        self.find(lambda name: self.server.site.get(name, dict(parse_qsl(query))))
 
     def do_POST(self) -> None:  # noqa: N802
+        self.find(lambda name: self.server.site.post(name, self.sent()) if name else None)
+
+    def find(self, found: Callable[[str], Answer | None]) -> None:
+        """Answers with what is found by a name, for whoever may ask for it."""
         name = self.name()
+        is_asked = name is not None and (self.command == "GET" or self.is_ours())
         try:
-            said = object_of(self.sent()) if name and self.is_ours() else None
-            self.answer(None if said is None else self.server.site.post(name or "", said))
+            self.answer(found(name or "") if is_asked else None)
         except Malformed as wrong:
             self.answer(told(400, "malformed", str(wrong)))
 
@@ -131,13 +124,19 @@ class Answers(BaseHTTPRequestHandler):
         kind = self.headers.get("Content-Type", "").partition(";")[0].strip()
         return "Origin" in self.headers and kind == "application/json"
 
-    def sent(self) -> bytes:
-        """What is sent, which isn't larger than a change may be."""
+    def sent(self) -> dict[str, object]:
+        """What a page sends, one object of JSON, which isn't larger than a change may be."""
         length = self.headers.get("Content-Length", "")
         if not length.isdecimal() or len(length) > 9 or int(length) > MOST_SENT:
             self.close_connection = True
             raise Malformed("what is sent is too large, or has no length")
-        return self.rfile.read(int(length))
+        try:
+            said = json.loads(self.rfile.read(int(length)))
+        except (ValueError, RecursionError):
+            raise Malformed("a page sends JSON") from None
+        if not isinstance(said, dict):
+            raise Malformed("a page sends an object")
+        return said
 
     def answer(self, answer: Answer | None, status: int = 404) -> None:
         """Sends an answer; just a status if there is none."""
@@ -160,6 +159,3 @@ class Answers(BaseHTTPRequestHandler):
         finally:
             if given.ends:
                 self.server.site.ending.put(None)
-
-
-UNQUOTED = {ord(it): "_" for it in '"\\/?'} | dict.fromkeys(range(32), "_")

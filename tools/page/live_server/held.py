@@ -4,13 +4,12 @@ each.
 Each change is one edit by the program. What it leads to is an event, which pages put into what they
 show; pages that have an older event get all later ones."""
 
-from __future__ import annotations
-
 import itertools
 import json
 import threading
-import time
+from collections.abc import Iterator
 from dataclasses import dataclass, field
+from typing import NamedTuple
 
 from .plays import Game, Held, Patch, Played, otherwise, patch_of
 from .scripts import joined, title_of
@@ -27,8 +26,7 @@ class Nothing(Exception):
     """There is nothing to take back, or to do again."""
 
 
-@dataclass(frozen=True)
-class Change:
+class Change(NamedTuple):
     """A change that was made: its script, the one that takes it back, what became of it."""
 
     number: int
@@ -40,8 +38,7 @@ class Change:
         return {"number": self.number, "title": title_of(self.script), "report": self.report}
 
 
-@dataclass(frozen=True)
-class Event:
+class Event(NamedTuple):
     """What a page gets: a line of JSON, and lines of a walk after it."""
 
     number: int
@@ -56,20 +53,18 @@ def event_text(head: dict[str, object], lines: list[bytes]) -> bytes:
 
 @dataclass
 class Log:
-    """The held log with its changes. Whoever calls it holds its lock."""
+    """The held log with its changes, of which the first `done` are made, and the others taken back.
+    Whoever calls it holds its lock."""
 
     game: Game
     held: Held
     saved: bytes
-    done: list[Change] = field(default_factory=list)
-    undone: list[Change] = field(default_factory=list)
+    changes: list[Change] = field(default_factory=list)
+    done: int = 0
     events: list[Event] = field(default_factory=list)
     lock: threading.Condition = field(default_factory=threading.Condition)
     number: int = 0
-    numbers: itertools.count[int] = field(default_factory=lambda: itertools.count(1))
-
-    def __post_init__(self) -> None:
-        self.opened = (self.held.log, self.held.seed)
+    numbers: Iterator[int] = field(default_factory=lambda: itertools.count(1))
 
     @property
     def is_unsaved(self) -> bool:
@@ -82,49 +77,47 @@ class Log:
         if any(it.is_change for it in self.events if it.number > known) or known > self.number:
             raise Stale
 
-    def change(self, script: bytes) -> Event:
+    def change(self, script: bytes) -> bytes:
         """Makes a change; those that were taken back are forgotten."""
         played = self.game.change(self.held, script)
         made = Change(next(self.numbers), script, played.undo, played.report.line)
-        self.done.append(made)
-        self.undone.clear()
+        self.changes[self.done:] = [made]
+        self.done += 1
         return self.put(played, "change")
 
-    def go_to(self, count: int) -> Event:
+    def go_to(self, count: int) -> bytes:
         """Takes changes back, or makes them again, until this many of them are made."""
-        changes = [*self.done, *reversed(self.undone)]
-        if not 0 <= count <= len(changes) or count == len(self.done):
+        if not 0 <= count <= len(self.changes) or count == self.done:
             raise Nothing
-        is_back = count < len(self.done)
-        moved = self.done[count:][::-1] if is_back else changes[len(self.done):count]
-        script = joined(it.undo if is_back else it.script for it in moved)
-        played = self.game.change(self.held, script)
-        self.done, self.undone = changes[:count], changes[count:][::-1]
+        if is_back := count < self.done:
+            scripts = [it.undo for it in reversed(self.changes[count:self.done])]
+        else:
+            scripts = [it.script for it in self.changes[self.done:count]]
+        played = self.game.change(self.held, joined(scripts))
+        self.done = count
         return self.put(played, "back" if is_back else "again")
 
-    def put(self, played: Played, kind: str) -> Event:
+    def put(self, played: Played, kind: str) -> bytes:
         """Holds the log that a run has made, and announces it."""
-        old, self.held = self.held, played.held
-        patch = patch_of(old, played.held, played.report)
+        old, self.held, report = self.held, played.held, played.report
         gone, come = otherwise(old.facts, played.held.facts)
-        report = played.report
-        head: dict[str, object] = {
+        return self.tell({
             "kind": kind, "report": report.line, "met": report.met, "played": report.played,
             "score": report.score, "most": report.most, "ended": report.ended,
             "milliseconds": round(played.milliseconds),
-            "facts": {"gone": gone[:MOST_FACTS], "come": come[:MOST_FACTS]}}
-        return self.tell(head, patch)
+            "facts": {"gone": gone[:MOST_FACTS], "come": come[:MOST_FACTS]}},
+            patch_of(old, played.held, report))
 
     # ---- what pages get
 
     def state(self) -> dict[str, object]:
         """What each event says of the log."""
-        return {"number": self.number, "seed": self.held.seed, "count": self.held.count,
-                "unsaved": self.is_unsaved, "done": len(self.done),
-                "changes": len(self.done) + len(self.undone),
-                "last": self.done[-1].told() if self.done else None}
+        return {"number": self.number, "seed": self.held.seed, "count": self.held.length(),
+                "unsaved": self.is_unsaved, "done": self.done, "changes": len(self.changes),
+                "last": self.changes[self.done - 1].told() if self.done else None}
 
-    def tell(self, head: dict[str, object], patch: Patch | None = None) -> Event:
+    def tell(self, head: dict[str, object], patch: Patch | None = None) -> bytes:
+        """Announces an event, whose text it gives."""
         self.number += 1
         lines: list[bytes] = []
         if patch:
@@ -132,40 +125,31 @@ class Log:
                      "turns": patch.turns, "others": len(patch.others),
                      "opening": patch.opening is not None}
             lines = [*([patch.opening] if patch.opening else []), *patch.lines, *patch.others]
-        event = Event(self.number, patch is not None, event_text(self.state() | head, lines))
-        self.events.append(event)
+        text = event_text(self.state() | head, lines)
+        self.events.append(Event(self.number, patch is not None, text))
         while len(self.events) > 1 and (
                 len(self.events) > KEPT or sum(len(it.text) for it in self.events) > KEPT_BYTES):
             self.events.pop(0)
         self.lock.notify_all()
-        return event
+        return text
 
     def whole(self) -> bytes:
         """All that a page gets when it opens."""
-        changes = [it.told() for it in (*self.done, *reversed(self.undone))]
-        return event_text(self.state() | {"kind": "whole", "list": changes}, self.held.walk)
+        told = {"kind": "whole", "list": [it.told() for it in self.changes]}
+        return event_text(self.state() | told, self.held.walk)
 
     def after(self, known: int, seconds: float) -> bytes:
         """The events after one that a page knows; it waits for the first of them."""
-        until = time.monotonic() + seconds
-        while known == self.number and (left := until - time.monotonic()) > 0:
-            self.lock.wait(left)
+        self.lock.wait_for(lambda: known != self.number, seconds)
         later = [it for it in self.events if it.number > known]
         if len(later) != self.number - known:
             return event_text(self.state() | {"kind": "reload"}, [])
         return b"".join(it.text for it in later)
 
-    # ---- scripts
+    # ---- the scripts of all changes since the log was opened, and of what takes them back
 
     def script(self) -> bytes:
-        """The script of all changes since the log was opened."""
-        return b"".join(it.script for it in self.done)
+        return b"".join(it.script for it in self.changes[:self.done])
 
     def undo_script(self) -> bytes:
-        """The script that takes all of them back."""
-        return b"".join(it.undo for it in reversed(self.done))
-
-    def script_of_change(self, number: int) -> bytes | None:
-        """The script of a change, by its number."""
-        found = [it.script for it in (*self.done, *self.undone) if it.number == number]
-        return found[0] if found else None
+        return b"".join(it.undo for it in reversed(self.changes[:self.done]))

@@ -1,7 +1,5 @@
 """The run of `tools/page/live`: reads what the command line names, serves its page, and ends."""
 
-from __future__ import annotations
-
 import argparse
 import os
 import signal
@@ -10,9 +8,9 @@ import threading
 import time
 import webbrowser
 from queue import SimpleQueue
-from types import FrameType
 
 from cave_walk import drawing
+from cave_walk.filled import foot_of
 from cave_walk.page import program_of
 from cave_walk.steps import Stop, demand_output
 from common import command_line
@@ -20,9 +18,9 @@ from common import command_line
 from . import words
 from .answers import Server
 from .held import Log
-from .page import foot_of, page_of
+from .page import page_of
 from .plays import Game
-from .program import Given, Program, Refused
+from .program import Given, Program
 from .saving import Home
 from .site import Site
 
@@ -31,7 +29,6 @@ ENDS = (signal.SIGINT, signal.SIGTERM, signal.SIGHUP)
 
 
 def asked() -> argparse.Namespace:
-    """What the command line says."""
     asks = command_line.parser()
     asks.add_argument("cave", metavar="CAVE")
     asks.add_argument("log", metavar="LOG")
@@ -69,23 +66,20 @@ def site_of(said: argparse.Namespace, program: Program) -> Site:
         held = game.play(opened, said.seed)
     home = Home(said.log, held.log, said.output)
     graph = program.said("map", cave, *game.options()).decode(errors="replace")
-    known = words.words_of(cave.content())
+    known = words.words_of(game.checked("words"))
     live: dict[str, object] = {
-        "file": home.to, "most": words.most_of(game.checked("maximum")),
+        "file": home.to, "most": words.number_in(game.checked("maximum"), words.MAXIMUM, 0),
         "words": known, "rules": words.OF_RULES,
-        "letters": words.letters_of(game.checked("bindings")),
+        "letters": words.number_in(game.checked("bindings"), words.LETTERS, 5),
         "motions": words.motions_of(graph, known)}
     command_line.demand("dot")
     drawn = drawing.of(graph)
-    bindings = os.path.basename(said.bind) if said.bind else "none"
-    foot = foot_of(
-        ("Played in", os.path.basename(said.cave)), ("with the bindings", bindings),
-        ("by", program.said("--version").decode(errors="replace").strip()))
+    version = program.said("--version").decode(errors="replace")
+    foot = foot_of(said.cave, said.bind or "none", version)
     return Site(Log(game, held, held.log), home, lambda: page_of(home.name, foot, drawn, live))
 
 
 def serve(site: Site, at: int, opens: bool) -> None:
-    """Serves a site until it is stopped."""
     try:
         server = Server(site, at)
     except OSError as error:
@@ -109,31 +103,22 @@ def keep(site: Site) -> None:
         if not site.log.is_unsaved:
             return
         try:
-            path = site.home.draft(site.log.game, held.log, held.seed)
+            path = site.home.draft(site.log.game, held)
             print(f"The changes aren't saved. They are in {path}", file=sys.stderr)
-        except Refused as refused:
-            print(refused.message, "The script of the changes that aren't saved:", sep="\n",
+        except Stop as stop:
+            print(stop.message, "The script of the changes that aren't saved:", sep="\n",
                   file=sys.stderr)
             print(site.log.script().decode(errors="replace"), end="", file=sys.stderr)
             raise Stop("the changes can't be kept", UNWRITTEN) from None
 
 
 def main() -> int:
-    """Runs the tool; a Stop ends it, too."""
     said, ending = asked(), SimpleQueue[None]()
-
-    def end(_: int, __: FrameType | None) -> None:
-        ending.put(None)
-
     for it in ENDS:
-        signal.signal(it, end)
-    try:
-        demand_output(said.output or said.log, said.cave, said.bind, said.program)
-        site = site_of(said, Program(program_of(said.program)))
-        site.ending = ending
-        serve(site, said.port, not said.no_browser)
-        keep(site)
-    except Refused as refused:
-        print(refused.message, file=sys.stderr)
-        return refused.status
+        signal.signal(it, lambda *_: ending.put(None))
+    demand_output(said.output or said.log, said.cave, said.bind, said.program)
+    site = site_of(said, Program(program_of(said.program)))
+    site.ending = ending
+    serve(site, said.port, not said.no_browser)
+    keep(site)
     return 0

@@ -1,11 +1,9 @@
 """What the program prints of a held log, and of a script that changes it."""
 
-from __future__ import annotations
-
 import time
 from collections.abc import Sequence
 from concurrent.futures import ThreadPoolExecutor
-from dataclasses import dataclass
+from typing import NamedTuple
 
 from .program import Given, Program, Word
 from .scripts import seed_after
@@ -14,10 +12,10 @@ from .views import Report, beside_its_numbers, facts_of, report_of, turns_of, wa
 CHECKPOINTS = 300  # of a log, about: fewer cost less, and a replay begins farther ahead
 MOST_EVERY = 10_000
 AT_ONCE = 3  # runs: the walk takes as long as all others together, and more get in its way
+NO_EDIT = b"# no edit\n"
 
 
-@dataclass(frozen=True)
-class Held:
+class Held(NamedTuple):
     """A log as it is held: its bytes, its seed, the lines of its walk, the facts it ends with."""
 
     log: bytes
@@ -25,24 +23,21 @@ class Held:
     walk: list[bytes]
     facts: list[str]
 
-    @property
-    def count(self) -> int:
+    def length(self) -> int:
         """How many lines the log has."""
         return len(self.walk) - 1
 
 
-@dataclass(frozen=True)
-class Played:
-    """What a script made of a held log."""
+class Played(NamedTuple):
+    """What a script made of a held log, and how long the program took."""
 
     held: Held
     report: Report
     undo: bytes
-    milliseconds: float  # that the program took
+    milliseconds: float
 
 
-@dataclass(frozen=True)
-class Patch:
+class Patch(NamedTuple):
     """What has to be put into the walk of one log to make it that of another.
 
     The lines from `start` to `until` take the place of those to `old_until`; each later line has
@@ -57,8 +52,7 @@ class Patch:
     opening: bytes | None
 
 
-@dataclass(frozen=True)
-class Game:
+class Game(NamedTuple):
     """A cave with its bindings, and the program that plays logs in it."""
 
     program: Program
@@ -72,32 +66,38 @@ class Game:
         """What `check` prints of the cave."""
         return self.program.said("check", self.cave, *self.options(), "--print", view)
 
-    def said_in(self, words: Sequence[Word], views: Sequence[str]) -> list[bytes]:
-        """What runs with these words print in each of these views; Refused if one of them is."""
+    def said_in(self, words: Sequence[Word], *views: str) -> list[bytes]:
+        """What runs with these words print in each of these views; a Stop if one of them fails."""
         with ThreadPoolExecutor(AT_ONCE) as pool:
-            runs = [pool.submit(self.program.said, *words, it) for it in views]
+            runs = [pool.submit(self.program.said, *words, "--print", it) for it in views]
         return [it.result() for it in runs]
 
     def play(self, log: Given, seed: str) -> Held:
         """A log, played from its first line."""
-        words: list[Word] = ["play", self.cave, log, *self.options(), "--seed", seed, "--print"]
-        walk, facts = self.said_in(words, ("walk", "state"))
+        words: list[Word] = ["play", self.cave, log, *self.options(), "--seed", seed]
+        walk, facts = self.said_in(words, "walk", "state")
         return Held(log.content(), seed, walk_of(walk, []), facts_of(facts))
 
     def change(self, held: Held, script: bytes) -> Played:
-        """What a script does to a held log; Refused if one of its edits is."""
+        """What a script does to a held log; a Stop if one of its edits is refused."""
+        begun = time.monotonic()
         with Given("the log", held.log) as log, Given("change", script) as edits:
             words: list[Word] = [
                 "edit", self.cave, log, edits, *self.options(), "--seed", held.seed,
-                "--every", str(every_of(held.count)), "--guarded", "--strict", "--print"]
-            views, begun = ("walk", "reports", "log", "undo", "state"), time.monotonic()
-            walk, said, changed, undo, facts = self.said_in(words, views)
-            taken = (time.monotonic() - begun) * 1_000
-        seed = seed_after(script, held.seed)
-        report = report_of(said)
+                "--every", str(every_of(held.length())), "--guarded", "--strict"]
+            walk, said, changed, undo, facts = self.said_in(
+                words, "walk", "reports", "log", "undo", "state")
+        taken = (time.monotonic() - begun) * 1_000
+        seed, report = seed_after(script, held.seed), report_of(said)
         known = held.walk[:1 + report.start] if seed == held.seed else []
         after = Held(changed, seed, walk_of(walk, known), facts_of(facts))
         return Played(after, report, undo, taken)
+
+    def write(self, held: Held, path: str) -> None:
+        """Has the program write a held log into a file: an edit without an edit."""
+        with Given("the log", held.log) as log, Given("no edit", NO_EDIT) as script:
+            self.program.said("edit", self.cave, log, script, *self.options(), "--seed", held.seed,
+                              "--print", "log", "--output", path)
 
 
 def every_of(count: int) -> int:
@@ -107,17 +107,12 @@ def every_of(count: int) -> int:
 
 def patch_of(old: Held, new: Held, report: Report) -> Patch:
     """What differs in the walk of a changed log, by the report on the change."""
-    shift = new.count - old.count
-    until = new.count if report.met is None else report.met
-    old_until = until - shift
-    turns, others = 0, []
-    later = new.walk[1 + until:]
-    if later:
-        turns = turns_of(later[0]) - turns_of(old.walk[1 + old_until])
-    if turns:
-        pairs = zip(old.walk[1 + old_until:], later)
-        others = [line for was, line in pairs
-                  if beside_its_numbers(was) != beside_its_numbers(line)]
+    until = new.length() if report.met is None else report.met
+    old_until = until - (new.length() - old.length())
+    was, later = old.walk[1 + old_until:], new.walk[1 + until:]
+    turns = turns_of(later[0]) - turns_of(was[0]) if later else 0
+    others = [now for before, now in zip(was, later)
+              if beside_its_numbers(before) != beside_its_numbers(now)] if turns else []
     opening = None if new.walk[0] == old.walk[0] else new.walk[0]
     return Patch(report.start, until, old_until, turns, new.walk[1 + report.start:1 + until],
                  others, opening)

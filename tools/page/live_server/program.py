@@ -5,21 +5,14 @@
     program.said("check", cave, "--print", "names")
 """
 
-from __future__ import annotations
-
 import os
 import subprocess
+from typing import NamedTuple
+
+from cave_walk.steps import Stop
 
 SECONDS = 120  # that a run may take
 LOST = 127
-
-
-class Refused(Exception):
-    """A run that failed: what the program said of it, and its status."""
-
-    def __init__(self, message: str, status: int) -> None:
-        super().__init__(message)
-        self.message, self.status = message, status
 
 
 class Given:
@@ -28,17 +21,14 @@ class Given:
     def __init__(self, name: str, content: bytes = b"") -> None:
         self.name = name
         self.number = os.memfd_create("cave")
+        self.path = f"/dev/fd/{self.number}"
         with open(self.number, "wb", closefd=False) as file:
             file.write(content)
-
-    @property
-    def path(self) -> str:
-        return f"/dev/fd/{self.number}"
 
     def content(self) -> bytes:
         return os.pread(self.number, os.fstat(self.number).st_size, 0)
 
-    def __enter__(self) -> Given:
+    def __enter__(self) -> "Given":
         return self
 
     def __exit__(self, *_: object) -> None:
@@ -48,14 +38,11 @@ class Given:
 Word = str | Given
 
 
-class Program:
-    """The program, by its path."""
-
-    def __init__(self, path: str) -> None:
-        self.path = path
+class Program(NamedTuple):
+    path: str
 
     def said(self, *words: Word) -> bytes:
-        """What a run prints; Refused if it fails."""
+        """What a run prints. If it fails, a Stop says what the program said, and has its status."""
         given = [it for it in words if isinstance(it, Given)]
         command = [self.path, *(it if isinstance(it, str) else it.path for it in words)]
         try:
@@ -64,13 +51,13 @@ class Program:
                                  timeout=SECONDS, start_new_session=True,
                                  pass_fds=[it.number for it in given])
         except OSError as error:
-            raise Refused(f"{self.path} can't be run: {error.strerror}", LOST) from None
+            raise Stop(f"{self.path} can't be run: {error.strerror}", LOST) from None
         except subprocess.TimeoutExpired:
-            raise Refused(f"the program takes longer than {SECONDS} seconds", LOST) from None
+            raise Stop(f"the program takes longer than {SECONDS} seconds", LOST) from None
         if ran.returncode:
             message = ran.stderr.decode(errors="replace").rstrip("\n")
             for it in sorted(given, key=lambda it: it.number, reverse=True):
                 message = message.replace(it.path, it.name)
             told = message or f"the program ended with status {ran.returncode}"
-            raise Refused(told, ran.returncode)
+            raise Stop(told, ran.returncode)
         return ran.stdout

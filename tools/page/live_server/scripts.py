@@ -1,10 +1,8 @@
 """Changes of a log as scripts of the program: each edit after a guard, several as one group."""
 
-from __future__ import annotations
-
 import re
-from collections.abc import Iterable
-from dataclasses import dataclass
+from collections.abc import Sequence
+from typing import NamedTuple
 
 KINDS = ("insert", "delete", "replace", "seed")
 GROUP = (b"begin", b"end")
@@ -16,8 +14,7 @@ class Malformed(Exception):
     """A change that a page can't have meant."""
 
 
-@dataclass(frozen=True)
-class Edit:
+class Edit(NamedTuple):
     """One edit: what kind, where, the new line, and the line that the page shows at its place."""
 
     kind: str
@@ -33,7 +30,6 @@ class Edit:
 
 
 def edit_of(said: object) -> Edit:
-    """An edit as a page sends it."""
     if not isinstance(said, dict):
         raise Malformed("an edit is an object")
     kind, place = said.get("kind"), said.get("place")
@@ -64,12 +60,11 @@ def script_of(edits: list[Edit]) -> bytes:
     return "".join(f"{it}\n" for it in lines).encode()
 
 
-def joined(scripts: Iterable[bytes]) -> bytes:
+def joined(scripts: Sequence[bytes]) -> bytes:
     """Scripts that follow each other as one group; a script by itself as it is."""
-    given = [*scripts]
-    if len(given) == 1:
-        return given[0]
-    lines = [line for script in given for line in script.splitlines(keepends=True)
+    if len(scripts) == 1:
+        return scripts[0]
+    lines = [line for script in scripts for line in script.splitlines(keepends=True)
              if line.rstrip(b"\r\n") not in GROUP]
     return b"".join([GROUP[0] + b"\n", *lines, GROUP[1] + b"\n"])
 

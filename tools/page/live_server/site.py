@@ -1,14 +1,13 @@
 """What pages ask for, and what they are answered: a page, its log, changes, saving, the end."""
 
-from __future__ import annotations
-
-import json
 from collections.abc import Callable
 from dataclasses import dataclass, field
 from queue import SimpleQueue
+from typing import NamedTuple
+
+from cave_walk.steps import Stop
 
 from .held import Log, Nothing, Stale, event_text
-from .program import Refused
 from .saving import Changed, Home
 from .scripts import Malformed, edits_of, script_of
 
@@ -16,8 +15,7 @@ SECONDS = 20  # that a page waits for news
 TEXT, JSON_LINES = "text/plain; charset=utf-8", "application/jsonl"
 
 
-@dataclass(frozen=True)
-class Answer:
+class Answer(NamedTuple):
     """An answer: its status, its content and the kind of it, the file that it is saved as, and
     whether the server ends once it is sent."""
 
@@ -61,7 +59,6 @@ class Site:
     # ---- what is only looked at
 
     def get(self, name: str, asked: dict[str, str]) -> Answer | None:
-        """What is found by a name; None if nothing is."""
         if name == "":
             return Answer(self.page(), "text/html; charset=utf-8")
         log, file = self.log, self.home.name
@@ -77,9 +74,9 @@ class Site:
                     return Answer(log.script(), TEXT, file=f"{file}.script")
                 case "undo":
                     return Answer(log.undo_script(), TEXT, file=f"{file}.undo")
-                case "change" if asked.get("number", "").isdecimal():
-                    script = log.script_of_change(int(asked["number"]))
-                    return None if script is None else Answer(script, TEXT)
+                case "change":
+                    return next((Answer(it.script, TEXT) for it in log.changes
+                                 if str(it.number) == asked.get("number")), None)
         return None
 
     # ---- what changes something
@@ -87,54 +84,34 @@ class Site:
     def post(self, name: str, said: dict[str, object]) -> Answer | None:
         """What a page's request leads to; None if there is no such thing."""
         done = {"change": self.change, "go": self.go, "save": self.save, "end": self.end}.get(name)
-        if not done:
-            return None
         try:
-            return done(said)
+            with self.log.lock:
+                return done(said) if done else None
         except Stale:
             return told(409, "stale")
         except Nothing:
             return told(409, "nothing")
         except Changed:
             return told(409, "changed", self.home.to)
-        except Refused as refused:
+        except Stop as refused:
             return told(422, "refused", refused.message)
 
     def change(self, said: dict[str, object]) -> Answer:
-        """Makes a change of the log."""
-        script, known = script_of(edits_of(said.get("edits"))), number_of(said, "number")
-        with self.log.lock:
-            self.log.demand_fresh(known)
-            return Answer(self.log.change(script).text)
+        script = script_of(edits_of(said.get("edits")))
+        self.log.demand_fresh(number_of(said, "number"))
+        return Answer(self.log.change(script))
 
     def go(self, said: dict[str, object]) -> Answer:
         """Takes changes back, or makes them again."""
-        count, known = number_of(said, "count"), number_of(said, "number")
-        with self.log.lock:
-            self.log.demand_fresh(known)
-            return Answer(self.log.go_to(count).text)
+        count = number_of(said, "count")
+        self.log.demand_fresh(number_of(said, "number"))
+        return Answer(self.log.go_to(count))
 
     def save(self, said: dict[str, object]) -> Answer:
-        """Puts the log into its file."""
-        with self.log.lock:
-            held = self.log.held
-            self.home.save(self.log.game, held.log, held.seed, said.get("told") is True)
-            self.log.saved = held.log
-            return Answer(self.log.tell({"kind": "saved", "file": self.home.to}).text)
+        held = self.log.held
+        self.home.save(self.log.game, held, is_told=said.get("told") is True)
+        self.log.saved = held.log
+        return Answer(self.log.tell({"kind": "saved", "file": self.home.to}))
 
     def end(self, _: dict[str, object]) -> Answer:
-        """Ends the server."""
-        with self.log.lock:
-            event = self.log.tell({"kind": "ended"})
-        return Answer(event.text, ends=True)
-
-
-def object_of(content: bytes) -> dict[str, object]:
-    """What a page sends: one object of JSON."""
-    try:
-        said = json.loads(content)
-    except (ValueError, RecursionError):
-        raise Malformed("a page sends JSON") from None
-    if not isinstance(said, dict):
-        raise Malformed("a page sends an object")
-    return said
+        return Answer(self.log.tell({"kind": "ended"}), ends=True)

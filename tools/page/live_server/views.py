@@ -1,9 +1,7 @@
 """What the program prints, as far as the server has to read it."""
 
-from __future__ import annotations
-
 import re
-from dataclasses import dataclass
+from typing import NamedTuple
 
 REPORT = re.compile(
     r"^line \d+: ok, from (?P<start>\d+), met (?P<met>\d+|none), played (?P<played>\d+) of"
@@ -17,8 +15,7 @@ class Unread(Exception):
     """What the program printed in another form than the manual says."""
 
 
-@dataclass(frozen=True)
-class Report:
+class Report(NamedTuple):
     """What became of a change: the line of the program, and what it says."""
 
     line: str
@@ -33,8 +30,7 @@ class Report:
 def report_of(said: bytes) -> Report:
     """The report on a script that has one edit or one group."""
     text = said.decode(errors="replace")
-    found = REPORT.search(text)
-    if not found:
+    if not (found := REPORT.search(text)):
         raise Unread(f"no report: {text[:200]}")
     numbers = {name: int(found[name]) for name in ("start", "played", "score", "most")}
     met = None if found["met"] == "none" else int(found["met"])
@@ -46,10 +42,8 @@ def walk_of(said: bytes, known: list[bytes]) -> list[bytes]:
     """The lines of `--print walk`: that of the opening, and one for each line of the log. To split a
     long walk takes time, so the lines that are known, those before a change, are only compared."""
     begin = b"".join(it + b"\n" for it in known)
-    if said.startswith(begin):
-        lines = [*known, *said[len(begin):].split(b"\n")]
-    else:
-        lines = said.split(b"\n")
+    is_known = said.startswith(begin)
+    lines = [*known, *said[len(begin):].split(b"\n")] if is_known else said.split(b"\n")
     if lines.pop() or not lines or not lines[0].startswith(b'{"place":null,'):
         raise Unread("a walk has an opening, and ends with a line")
     return lines
@@ -57,8 +51,7 @@ def walk_of(said: bytes, known: list[bytes]) -> list[bytes]:
 
 def turns_of(line: bytes) -> int:
     """How many turns were taken, as a line of a walk says."""
-    found = TURNS.search(line)
-    if not found:
+    if not (found := TURNS.search(line)):
         raise Unread("a line of a walk says how many turns were taken")
     return int(found[1])
 

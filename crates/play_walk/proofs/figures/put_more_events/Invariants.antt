@@ -7,5 +7,6 @@ use Rattle.play_walk.proofs.figures.put_more_events.Given as goal
 
 abbrev pub invariant-loop-event : goal.invariant-loop-event
 invariant-loop-event l =
-    Tells (flat_map (next_event (cave_of l.rules) l.before l.after) (take l.event-index l.events))
+    Tells (flat_map (next_event l.form (cave_of l.rules) l.before l.after)
+    (take l.event-index l.events))
     l.initial.text l.text
