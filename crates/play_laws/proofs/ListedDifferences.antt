@@ -30,7 +30,7 @@ use Rattle.play_tables.specs.Kinds.{AreAlike, difference_text, differences_text,
 use Rattle.play_tables.specs.Kinds.{is_same_in, kind_name, without_separator}
 use Rattle.play_tables.specs.declared.kinds.FactKind.{FactKind}
 use Rattle.play_tables.specs.declared.kinds.FactKind.TheVariants as kind
-use Rattle.world_objects.specs.SameObjects.{objects_decides}
+use Rattle.world_objects.proofs.SameObjects.{objects_decides}
 use Rattle.play_laws.specs.ListedDifferences.{DifferencesAreListed, fact_in, names_of_kinds}
 use Rattle.play_laws.specs.ListedDifferences.{NoDifferenceIsADash}
 

@@ -7,7 +7,8 @@ use Rattle.std.specs.Prelude.{codes}
 use Rattle.cave_data.specs.CaveView.{CaveView}
 use Rattle.world_objects.specs.Objects.{Layout}
 use Rattle.world_objects.specs.Lists.{halves_at}
-use Rattle.cave_world.specs.SameGame.{IsSameGame, same_state}
+use Rattle.cave_world.proofs.SameGame.{same_state}
+use Rattle.cave_world.specs.SameGame.{IsSameGame}
 use Rattle.cave_world.specs.declared.dwarves.Dwarves.{Dwarves}
 use Rattle.cave_world.specs.declared.dwarves.Knife.{Knife}
 use Rattle.cave_world.specs.declared.dwarves.Knife.TheVariants.{Unthrown, At, Vanished}

@@ -1,7 +1,7 @@
 use Rattle.std.proofs.Common.{◌++◌, ap, ◌∙◌}
 use Rattle.play_command.specs.declared.views.CoverView.TheVariants.{Rules}
 use Rattle.check_tables.specs.Marks.{is_marked}
-use Rattle.play_cover.specs.RowReport.{row_report, rows_left}
+use Rattle.play_cover.specs.Reports.{row_report, rows_left}
 use Rattle.play_cover.proofs.Telling.{left_by_marks, told_by_marks}
 use Rattle.play_cover.proofs.rule_notes.RuleNotesPlayNotes.push_report.Goals as goal
 

@@ -1,7 +1,7 @@
 use Rattle.std.proofs.Common.{◌++◌, ap, refl, ◌∙◌}
 use Rattle.play_command.specs.declared.views.CoverView.TheVariants.{Known}
 use Rattle.check_tables.specs.Marks.{is_marked}
-use Rattle.play_cover.specs.Unshown.{unshown}
+use Rattle.play_cover.specs.Reports.{unshown}
 use Rattle.play_cover.proofs.Telling.{told_by_marks}
 use Rattle.play_cover.proofs.unshown.ShownThingsPlayNotes.push_report.Goals as goal
 
