@@ -21,10 +21,8 @@ KINDS = {"directed": "directed game", "game": "game", "database": "database"}
 # A case is its files and the words with which both are called.
 Case = namedtuple("Case", "name texts words")
 
-
 def cave_of(texts):
     return Cave(sections_of(texts["cave.txt"]), bindings_of(texts["bindings.txt"]))
-
 
 def calls_of(rng, call, options, is_edited):
     """A call of a game that prints something other than its transcript, at random."""
@@ -38,7 +36,6 @@ def calls_of(rng, call, options, is_edited):
     covers += ["--strict"] * (rng.random() < 0.3) + KNOWN * (rng.random() < 0.5)
     views = [[*call, "--print", it] for it in ("steps", "walk", "score")]
     return call, rng.choice([*views, covers, [*covers, "--print", "texts"]])
-
 
 def game_cases(rng, seed, number, counts):
     """A random game, called in three ways, one of which prints the state to which it leads."""
@@ -69,7 +66,6 @@ def game_cases(rng, seed, number, counts):
         texts["known.txt"] = known_list(rng, report[0])
     return [Case(f"game-{number}", texts, it) for it in (call, [*call, *STATE], other)]
 
-
 def directed_cases(number):
     """A directed game, with its transcript and the state to which it leads."""
     game = directed.GAMES[number]
@@ -79,7 +75,6 @@ def directed_cases(number):
     calls = [call, [*call, *STATE]][game.is_long:]
     return [Case(f"directed-{game.name}", texts, it) for it in calls]
 
-
 def doubts_of(texts):
     """The doubts about a cave as lists of what is known have them; none if it is refused."""
     try:
@@ -87,7 +82,6 @@ def doubts_of(texts):
             checks.doubts(cave_of(texts), texts["cave.txt"], texts["bindings.txt"]))
     except Fault:
         return []
-
 
 def database_cases(rng, number, kept):
     """A mutated database, or bindings; the text that is changed stays for some cases."""
@@ -105,7 +99,6 @@ def database_cases(rng, number, kept):
         texts["known.txt"] = known_list(rng, doubts_of(texts))
     call = ["check", "cave.txt", "--bind", "bindings.txt", *what]
     return [Case(f"database-{number}", texts, call)]
-
 
 def chunk_of_cases(kind, seed, numbers):
     """The cases of some numbers."""

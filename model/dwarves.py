@@ -111,38 +111,4 @@ phrases({
     "how many hits": lambda game: game.out.append(f"{game.hits} of them get you!"),
 })
 
-tables("""
-    anger
-        anger is 0, here is at least deep | anger becomes 1
-        anger is 0 | nothing
-        anger is 1, here is below deep | nothing
-        anger is 1, draw 95 of 100 | nothing
-        anger is 1 | anger becomes 2; they wake; say axe-thrown; bring AXE
-        | they move; the rows of dwarves; they grow angrier; the rows of knives
-    dwarves
-        seeing is 0 | nothing
-        seeing is 1 | say dwarf-one
-        | how many dwarves
-    thrown knife
-        knife is below 0 | nothing
-        | a knife lies here
-    knives
-        knives is 0 | nothing
-        knives is 1, hits is 0 | say knife-one; say miss-one
-        knives is 1 | say knife-one; say hit-one; die here
-        hits is 0 | how many knives; say miss-all
-        hits is 1 | how many knives; say hit-many; die here
-        | how many knives; how many hits; die here
-    pirate
-        the player is at chest | nothing
-        CHEST prop is at least 0 | nothing
-        a treasure that it takes is carried, MESSAGE is nowhere | say booty; move CHEST to chest; \
-            move MESSAGE to message; rob the player; it goes home
-        a treasure that it takes is carried | say booty; move MESSAGE to message; \
-            rob the player; it goes home
-        no treasure is at hand, one treasure is left to be seen, CHEST is nowhere, \
-            LAMP is at hand, LAMP prop is 1 | say chest-hid; move CHEST to chest; \
-            move MESSAGE to message; it goes home
-        it was elsewhere, draw 20 of 100 | say rustle
-        | nothing
-    """, globals())
+tables("dwarves.txt", globals())

@@ -17,7 +17,6 @@ TREASURES = "GOLD COINS CHEST EGGS TRIDENT VASE EMERALD PYRAMID PEARL RUG SPICES
 FIXED = {"ROD": 41, "PLANT": 43, "TROLL": 45}  # the numbers of those that have a second one
 GO = 200  # the first of the motions that lead anywhere
 
-
 class Maker:
     """Makes a cave: the rows of its sections, as lines. What the errand of a stage names is mostly
     where the player begins, so that the rows that it is for are reached."""

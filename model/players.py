@@ -26,7 +26,6 @@ STAYS = "+@=~^*"  # steps that are done in more lines than one
 MOST_WAITS = 90  # lines of a step that waits, or hunts
 WHERE_DRAWN = [(100, it) for it in (5, 20, 25, 35, 50, 95)] + [(3, 1), (3, 2), (5, 1), (5, 4)]
 
-
 class Player:
     """Makes a log, like a player who wants to see every rule."""
 
@@ -325,7 +324,6 @@ class Player:
         if lamp and self.game.prop[lamp] == 1:
             least = [0, 1, 25, 31] if self.kind == "lamp" else [1, 2, 25, 31, 32]
             self.idle(min(self.game.lamp, 340) - self.rng.choice(least))
-
 
 # Steps that are done until there is nothing to do, and those that are a seed line.
 UNTIL = {"^": Player.wait, "*": Player.hunt}

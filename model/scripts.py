@@ -33,13 +33,11 @@ def script_for(rng, log, suggestions, guarded):
                                      "insert  1 x", "seed 1 ", "delete 0 0", "expect 0 x"]))
     return text_of(lines + ["end"] * is_open)
 
-
 def script_words(rng, script):
     """The words by which a run gets a script: its file, or now and then each line of it."""
     if script and script.isascii() and rng.random() < 0.3:
         return [f"--edit={it}" for it in script.split("\n")[:-1]]
     return ["script.txt"]
-
 
 def known_list(rng, entries):
     """A list of what is known that has some of these entries, all, or none, and perhaps others."""
@@ -49,7 +47,6 @@ def known_list(rng, entries):
     text = text_of(f"{rng.choice(['', '', '  '])}{it}" for it in some)
     return mutated(rng, text) if rng.random() < 0.2 else text
 
-
 # ---- Mutated texts
 
 PIECES = ["0", "-1", "1", "12", "13", "-0", "000", "300", "301", "499", "500", "999", "1000", "100",
@@ -57,7 +54,6 @@ PIECES = ["0", "-1", "1", "12", "13", "-0", "000", "300", "301", "499", "500", "
           "+7", "1234567890", "-", ">$<", "255", "256", "10000", "20", "21", "9900", "10000", "",
           "\r", "\t", " ", "\f", "\xe9", "5", "8", "4", "msg.ok", "place.start", "num.letters",
           "msg.okay", "num.words", "#"]
-
 
 def mutated(rng, text):
     """A text with a few changes of its lines and fields."""

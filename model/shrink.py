@@ -19,15 +19,12 @@ PASSES = [("script.txt", 1), ("log.txt", 1), ("cave.txt", 8), ("log.txt", 1), ("
 BOTH = ("program", "model")
 Said = namedtuple("Said", "status output errors")  # what one of both said
 
-
 # ---- Both
-
 
 def write(texts):
     for name, text in texts.items():
         with open(name, "w", encoding="latin-1", newline="") as file:
             file.write(text)
-
 
 def program_says(path, words):
     """What the program says, in time that is enough on a machine with much else to do."""
@@ -38,22 +35,18 @@ def program_says(path, words):
     except subprocess.TimeoutExpired:
         return Said("none", b"", f"no end in {SECONDS} seconds\n".encode())
 
-
 def model_says(words):
     try:
         return Said(*program.run(words))
     except Exception:
         return Said("raised", b"", traceback.format_exc().encode())
 
-
 def both(path, texts, words):
     """What program and model say of a case, whose files are written into the folder of now."""
     write(texts)
     return program_says(path, words), model_says(words)
 
-
 # ---- Making a difference small
-
 
 def fewer_lines(text, lasts, least, until):
     """The text without the runs of lines, of some length at least, that nothing differs by."""
@@ -70,7 +63,6 @@ def fewer_lines(text, lasts, least, until):
         size //= 2
     return "".join(lines)
 
-
 def made_small(path, case, seconds):
     """The case with as little as its difference needs, as far as one comes in some seconds."""
     until = time.time() + seconds
@@ -85,14 +77,12 @@ def made_small(path, case, seconds):
             texts[name] = fewer_lines(texts[name], lasts, least, until)
     return case._replace(texts=texts)
 
-
 def first_difference(one, other, names=BOTH):
     """The first line in which two outputs differ, as both have it."""
     pairs = [it.decode("latin-1").split("\n") for it in (one, other)]
     at = next((it for it, (a, b) in enumerate(zip(*pairs)) if a != b), min(map(len, pairs)))
     return [f"  {f'{who}:':8} {(of[at:at + 1] or ['(nothing)'])[0]}"
             for who, of in zip(names, pairs)]
-
 
 def kept_in(folder, case, one, other, names=BOTH):
     """Keeps a case in a folder with what both said, and gives the lines that show it."""

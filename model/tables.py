@@ -9,8 +9,10 @@ that has the table.
 
 import re
 from collections import Counter
+from pathlib import Path
 
 from database import NAMES, SECONDS
+from lines import rows_of
 
 applied = Counter[str]()
 rows = {}  # for each row its text, in the order in which the tables were made
@@ -24,6 +26,16 @@ PARTS = {"A": r"([A-Z][A-Z0-9]*|[a-z])", "N": r"(-?\d+)", "W": r"([a-z][\w-]+)"}
 def rule(label):
     """Counts that a rule applied which is a row of no table."""
     applied[label] += 1
+
+def known():
+    """Each rule with its text: the rows of all tables, and what modules count by `rule`."""
+    sources = "".join(it.read_text("utf-8") for it in sorted(Path(__file__).parent.glob("*.py")))
+    calls = re.findall(r'\brule\("([^"]+)"(?:\s+if .*?else "([^"]+)")?\)', sources)
+    return rows | {it: "" for call in calls for it in call if it}
+
+def counted():
+    """How often each rule applied, a line each."""
+    return [f"{applied[it]:8} {it}{text and '  ' + text}\n" for it, text in known().items()]
 
 def phrases(tests, effects):
     """Says which functions phrases call, with what they have in the place of A, N and W."""
@@ -80,14 +92,14 @@ class Table:
                     effect(game)
                 return
 
-def tables(text, names):
-    """The tables of a text by their names: a line without a bar is the name of what follows it.
-    `names` has the functions of the module."""
+def tables(file, names):
+    """The tables of a file of rules/ by their names: a line without a bar is the name of what
+    follows it. `names` has the functions of the module."""
     found, name = {}, ""
-    for line in filter(str.strip, text.split("\n")):
+    for line in rows_of(f"rules/{file}"):
         if "|" in line:
             found[name].append(line)
         else:
-            name = line.strip()
+            name = line
             found[name] = []
     return {name: Table(name, lines, names) for name, lines in found.items()}

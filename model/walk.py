@@ -1,9 +1,13 @@
 """The lines of a play as JSON (docs/FORMATS.md, Lines as JSON)."""
 
+import json
+import re
+
 from edits import steps_of
 from lines import text_of
 
-ESCAPES = {'"': '\\"', "\\": "\\\\", "\n": "\\n", "\t": "\\t"}
+# Bytes for which JSON has an escape of its own that isn't used.
+UNUSED = {"\\b": "\\u0008", "\\f": "\\u000c", "\\r": "\\u000d"}
 
 def walk(cave, seed, log):
     """The opening, and then each line of a log."""
@@ -27,13 +31,5 @@ def named(game, x):
 
 def json_of(value):
     """A value as JSON: a text of bytes as a string that has a character for each byte."""
-    if isinstance(value, str):
-        return f'"{"".join(map(escape, value))}"'
-    if isinstance(value, list):
-        return f"[{','.join(map(json_of, value))}]"
-    if isinstance(value, dict):
-        return "{" + ",".join(f'"{key}":{json_of(it)}' for key, it in value.items()) + "}"
-    return "null" if value is None else str(value)
-
-def escape(byte):
-    return ESCAPES.get(byte) or (byte if " " <= byte <= "~" else f"\\u{ord(byte):04x}")
+    text = json.dumps(value, separators=(",", ":")).replace("\x7f", "\\u007f")
+    return re.sub(r"\\.", lambda it: UNUSED.get(it[0], it[0]), text)

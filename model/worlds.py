@@ -1,10 +1,10 @@
-"""Small caves for directed games, in which there is little but what a game is about, and the games.
-
-From each place a word leads to each other one: `g16` to place 16. Nothing is anywhere, no treasure
-is known, each place is lit, dwarves sleep and no clock runs, unless a game says otherwise.
+"""Directed games by the rows of games.txt: small caves in which there is little but what a game is
+about, and the lines of their logs.
 """
 
+import re
 from collections import namedtuple
+from itertools import product
 
 from database import NAMES, SECONDS
 from generate import DIRECTIONS, GO, MAGIC, TREASURES
@@ -19,42 +19,51 @@ OTHERS = [it for it in NAMES if it not in NUMBERS]
 FIRST_TREASURE = 50
 NUMBERS.update((it, at) for at, it in enumerate((it for it in OTHERS if it not in TREASURES), 1))
 NUMBERS.update((it, at) for at, it in enumerate(TREASURES, FIRST_TREASURE))
-PLACES = (3, 9, 10, 16, 17, 18)
-BOUND = {"start": 9, "building": 10, "outside": 1, "deep": 299}
+# The parts of a cave that say something of their first words, and those that only list words.
+OF_WORDS = {"homes": {}, "ways": {}, "bits": {}, "numbers": {},
+            "bound": {"start": ["9"], "building": ["10"], "outside": ["1"], "deep": ["299"]}}
+LISTS = {it: [] for it in "known rows dark hints classes lacks words welcome long".split()}
+LISTS["places"] = [[it] for it in ("3", "9", "10", "16", "17", "18")]
 MESSAGES = {1: "Question.", 2: "Hint."}
 MOST_PROPS = 6  # of an object that have a text
 
-
 class World:
-    """A cave: `homes` says where objects are by their names, `known` which treasures are known,
-    `ways` the targets of the rows of a place that hasn't one to each other place, `rows` more rows
-    of the travel table, `bits` the places that have a bit, `dark` those that aren't lit, `hints`
-    the rows of hints, `classes` the scores of classes, `numbers` which names have another number,
-    `lacks` which have none, `words` more rows of words, and `bound` the places of roles."""
+    """A cave, by its parts as games.txt has them."""
 
-    def __init__(self, homes=(), known=(), places=PLACES, ways=(), rows=(), bits=(), dark=(),
-                 hints=(), classes=(), numbers=(), lacks=(), words=(), bound=()):
-        self.numbers = {**NUMBERS, **dict(numbers)}
-        self.numbers = {it: at for it, at in self.numbers.items() if it not in lacks}
-        self.homes, self.known = dict(homes), {*known}
-        self.places, self.ways, self.rows = sorted({*places}), dict(ways), [*rows]
-        self.bits = {0: [it for it in self.places if it not in dark], **dict(bits)}
-        self.hints, self.classes, self.words = [*hints], [*classes], [*words]
-        self.bound = {**BOUND, **dict(bound)}
+    def __init__(self, parts):
+        self.of = {it: dict(said) for it, said in OF_WORDS.items()}
+        self.lists = dict(LISTS)
+        for kind, said in (it.partition(" ")[::2] for it in parts):
+            words = [it.split() for it in said.split(",") if it.strip()]
+            if kind in self.of:
+                self.of[kind] |= {first: more for first, *more in words}
+            elif kind in LISTS:
+                self.lists[kind] = words or [[kind]] * (kind == "long")
+            else:
+                raise ValueError(f"a cave has no part {kind}")
+        lacks, known = ([it for it, in self.lists[kind]] for kind in ("lacks", "known"))
+        own = {name: NUMBERS.get(it) or int(it) for name, (it,) in self.of["numbers"].items()}
+        self.numbers = {it: at for it, at in (NUMBERS | own).items() if it not in lacks}
+        self.known = {*known}
+        self.places = sorted({int(it) for words in self.lists["places"] for it in words})
+
+    def rows(self, kind):
+        """The rows that a part lists."""
+        return map(" ".join, self.lists[kind])
 
     def number(self, name):
         return self.numbers[SECONDS[name]] + 1 if name in SECONDS else self.numbers[name]
 
     def travel_rows(self):
         """The rows of the travel table: those that a game requires of a place come first."""
-        yield from self.rows
+        yield from self.rows("rows")
         for place in self.places:
-            to = self.ways.get(place)
-            for it in self.places if to is None else to:
+            to = self.of["ways"].get(str(place))
+            for it in self.places if to is None else map(int, to):
                 yield f"{place} {it} {GO + it % 1000}"
 
     def word_rows(self):
-        yield from self.words
+        yield from self.rows("words")
         yield from (f"{1000 + number} {name}" for name, number in self.numbers.items())
         yield from (f"{motion} {word}" for motion, word in DIRECTIONS.items())
         yield from (f"{GO + it} G{it}" for it in self.places)
@@ -66,50 +75,71 @@ class World:
 
     def object_rows(self):
         """The texts of what is anywhere or known; a treasure that isn't known has none."""
-        for name in sorted({*self.homes, *self.known}):
+        for name in sorted({*self.of["homes"], *self.known}):
             number = self.number(name)
             if number < 100 and (name in self.known or not 50 <= number <= 79):
                 yield f"{number} {name}"
                 yield from (f"{prop}00 {name} at {prop}." for prop in range(MOST_PROPS))
 
     def database(self):
-        homes = {name: at if isinstance(at, tuple) else (at, 0) for name, at in self.homes.items()}
+        dark = {*self.rows("dark")}
+        bits = {"0": [it for it in map(str, self.places) if it not in dark]} | self.of["bits"]
         sections = {
             1: [f"{it} Place {it}." for it in self.places],
             2: [f"{it} At {it}." for it in self.places],
             3: self.travel_rows(), 4: self.word_rows(), 5: self.object_rows(),
             6: [f"{it} {text}" for it, text in MESSAGES.items()],
-            7: [f"{self.number(name)} {first} {second}" for name, (first, second) in homes.items()],
-            9: [f"{bit} {' '.join(map(str, of))}" for bit, of in self.bits.items()],
-            10: [f"{it} Class {it}." for it in self.classes],
-            11: [f"{hint} {turns} {points} 1 2" for hint, turns, points in self.hints]}
+            7: [" ".join([f"{self.number(it)}", *[*places, "0"][:2]])
+                for it, places in self.of["homes"].items()],
+            9: [" ".join([bit, *places]) for bit, places in bits.items()],
+            10: [f"{it} Class {it}." for it in self.rows("classes")],
+            11: [f"{it} 1 2" for it in self.rows("hints")]}
         rows = [it for section, rows in sections.items() for it in (section, *rows, -1)]
         return text_of([*rows, 0])
 
     def bindings(self):
         return text_of(f"{'num' if role == 'letters' else 'place'}.{role} {number}"
-                       for role, number in self.bound.items() if number)
-
+                       for role, (number,) in self.of["bound"].items() if number != "0")
 
 # ---- Games
 
-GAMES: list = []
-CLOSING = {"deep": 1, "ne": 17, "sw": 18}  # in a cave that closes, which has only treasures seen
+DRAWS = re.compile(r"\| draws (\d+) of (\d+)(?: after (\d+))?")
 
+def filled(text, given):
+    """A text with the values of variables in it, and with ranges of numbers written out."""
+    text = re.sub(r"\{(.+?)\}", lambda it: str(eval(it[1], {}, given)), text)
+    return re.sub(r"(\d+)\.\.(\d+)",
+                  lambda it: " ".join(map(str, range(int(it[1]), int(it[2]) + 1))), text)
 
-def game(name, lines, is_long=False, welcome="no", **of_world):
-    """Adds a game; its first line answers the welcome, and a number is a seed line."""
-    world = World(**of_world)
-    lines = [it if isinstance(it, str) else f"seed {it}" for it in lines]
-    GAMES.append(Directed(name, world.database(), world.bindings(), [welcome, *lines], is_long))
+def parts_of(text, mark, names, given):
+    """The parts of a text between marks, some of them several times, with names written out."""
+    for part in map(str.strip, filled(text, given).split(mark)):
+        word, _, times = part.partition(" * ")
+        found = parts_of(names[word], mark, names, given) if word.isupper() else [word]
+        yield from [it for it in found if it] * int(times or 1)
 
+def game(row, names, given, where=""):
+    """The game of a row, with a value for each of its variables."""
+    name, _, rest = row.partition(": ")
+    lines, cave, *_ = f"{rest}|".split("|")
+    world = World(parts_of(cave, ";", names, given))
+    welcome = [*world.rows("welcome"), "no"][0]
+    return Directed(filled(name, given) + where, world.database(), world.bindings(),
+                    [welcome, *parts_of(lines, ",", names, given)], bool(world.lists["long"]))
 
-def wait(turns):
-    return ["nothing"] * turns
-
-
-def with_draws(name, border, below, make, before=0, **of_world):
-    """Two games in which a draw falls just below a border and on it; `make` puts a seed among the
-    lines."""
-    for where, seed in zip(("below", "at"), seeds_about(border, below, before)):
-        game(f"{name}-{where}", make(seed), **of_world)
+def games(rows, names):
+    """The games of rows, some of which only give a name to lines, or to parts of a cave."""
+    for row in rows:
+        if defined := re.fullmatch(r"([A-Z_]+) = (.*)", row):
+            names = names | {defined[1]: defined[2]}
+            continue
+        variables = dict(re.findall(r"\| ([a-z]+): ([^|]+)", row))
+        values = ([int(it) if it.isdigit() else it for it in filled(of, {}).split()]
+                  for of in variables.values())
+        for given in (dict(zip(variables, it)) for it in product(*values)):
+            if draws := DRAWS.search(filled(row, given)):
+                seeds = seeds_about(*(int(it or 0) for it in draws.groups()))
+                yield from (game(row, names | {"DRAW": f"seed {seed}"}, given, where)
+                            for where, seed in zip(("-below", "-at"), seeds))
+            else:
+                yield game(row, names, given)

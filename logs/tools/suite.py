@@ -1,8 +1,6 @@
 """The suite of this repository, the folder above `logs/`, and the frame of checks, for the scripts
 of this folder.
 
-    from suite import SUITE, TOP, check
-
     check(cases, "maps drawn", "failed")      is all that such a script does
 
 Packages of `tools/` can be imported after this one, and `cave_suite`, the runner of suites.

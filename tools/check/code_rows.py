@@ -4,7 +4,7 @@
     tables_modelled()["OPEN/LOCK"]  the rows of a table of the model, by its name on the page
 
 In code a table is what `rows!` has, in several parts where a rule has several functions: a part
-begins with the number of its first row, after `from`. In the model it is a text.
+begins with the number of its first row, after `from`. In the model tables are texts of their own.
 """
 
 import re
@@ -18,7 +18,6 @@ from rule_tables import bracket_of, depths, parts_between
 
 BEGIN = re.compile(r"^(?! *//).*\brows! \{ (?:scene|self), Table::(\w+)[^;{]*;", re.MULTILINE)
 INNER = re.compile(r"\brows! (?=\{)")
-MODELLED = re.compile(r'\btables\("""(.*?)"""', re.DOTALL)
 # Tables of the model whose rows are those of several tables of the pages, or the other way round.
 OWN = {"anger", "pirate", "bridge", "arrival", "lamp"}
 # The words of effects that code and definitions share.
@@ -95,11 +94,11 @@ def parts_coded() -> dict[str, list[tuple[str, int]]]:
 
 def tables_modelled() -> dict[str, list[str]]:
     found, name = dict[str, list[str]](), ""
-    for text in [it for path in files("model/*.py") for it in MODELLED.findall(text_of(path))]:
-        for line in filter(str.strip, text.replace("\\\n", " ").split("\n")):
+    for text in map(text_of, files("model/rules/*.txt")):
+        for line in re.findall(r"(?m)^[^#\n].*", text.replace("\\\n", " ")):
             if "|" in line:
                 found[name].append(" ".join(line.split()))
             else:
-                name = re.sub(r"\b (?=[A-Z])", "/", line.strip().removesuffix(" in any case"))
+                name = re.sub(r"\b (?=[A-Z])", "/", line.removesuffix(" in any case"))
                 found[name] = []
     return {name: rows for name, rows in found.items() if name not in OWN}

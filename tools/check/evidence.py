@@ -29,8 +29,7 @@ def tried_now(name: str, command: list[str]) -> list[int]:
         games, databases = [int(it) for it in command if it.isdigit()][:2]
         return [games, 0, databases]
     if name == "planted":  # and the model without a bug
-        planted = runpy.run_path(f"{TOP}/model/check-duel")
-        return [len(planted["BUGS"]) + len(planted["DIRECTED"]) + 1]
+        return [len(runpy.run_path(f"{TOP}/model/check-duel")["BUGS"]) + 1]
     return [len(files("model/rows/*/*.edit"))] if name == "proved rows" else [1]
 
 

@@ -70,8 +70,9 @@ def faults_of_edit(path: str) -> Iterator[str]:
 
 def faults_of_bugs() -> Iterator[str]:
     """Which bugs of the model can't be planted any more, or not in one place."""
-    planted = runpy.run_path(f"{TOP}/model/check-duel")
-    for bug in (*planted["BUGS"], *planted["DIRECTED"]):
+    bugs = runpy.run_path(f"{TOP}/model/check-duel")["BUGS"]
+    yield from ["model/check-duel: there is no bug"] * (not bugs)
+    for bug in bugs:
         if (count := len(re.findall(bug.old, text_of(f"model/{bug.file}")))) != 1:
             yield f"model/check-duel: {bug.file} has {bug.old!r} {count} times"
 

@@ -11,35 +11,22 @@ same" is what the row above does, except for what it says. What a row does besid
 them, such as what it counts.
 """
 
+import os
 import re
 from collections import defaultdict
 from collections.abc import Iterator, Mapping, Sequence
 from typing import NamedTuple
 
-from common.files import without_links
+from common.files import cases_in, without_links
 from common.sources import sources
 from rule_tables import SHORT_NAME, Table, object_named, tests_of, with_effects
 
 THING = r"(\(the name\.\w+\)|\w+)"
-# What is done to an object, by the word of the definitions.
-DEEDS = {"carry": "is taken", "bring": "is brought here", "destroy": "vanishes", "fix": "is fixed",
-         "loosen": "is loosened", "put": "is put down", "lay_down": "is laid down",
-         "juggle": "comes to the front"}
-# What has no object, by the words of the definitions, each with what a clause of a page then is.
-OTHERS = {
-    "default": "the default", "lose_one": "a treasure is lost", "ask_what": "asks back",
-    "again": "arrives again", "lose_to_snake": "a treasure is lost to the snake",
-    "troll_goes": "the troll leaves", "count_death": "one death more is counted",
-    "begin_anew": "nothing is begun any more", "remember": "the player has come as far as k",
-    "with_more_anger": "the dwarves are angrier by 1", "tell_long": "the long text",
-    "with_turn_burnt": "the lamp has a turn less", "panic": "the player panics",
-    "strike": "a dwarf is killed", "GaveUp": "ends as quit", "describes": "it is described",
-    "count_dwarves": "the line that counts them", "count_knives": "the line that counts them",
-    "with_new_charge": "the lamp has 2,500 turns more", "tell_short": "the short text",
-    "count_hits": "the line that counts those that hit", "set_out": "the player sets out",
-    "die": "the player dies", "die_at": "the player dies", "describe_place": "it is described",
-    "prolong": "the lamp burns 30 turns more for each point of the hint",
-    "hint_message": "the text of the hint's row"}
+# What is done to an object, and what has no object, by the words of definitions and of pages.
+PAGE = f"{os.path.dirname(os.path.abspath(__file__))}/effects.md"
+DEEDS, OTHERS, FORMS, ALONE = ({word: effect for word, effect in cases_in(PAGE, it)}
+                               for it in ("Deeds", "Others", "Forms", "Alone"))
+ALONE = {f"^{it}(?:,|$)": it for it in OTHERS.values()} | ALONE
 DEFINED = re.compile(
     rf"\bsays? role\.(?P<role>\w+)|\bset_prop {THING} (?P<prop>\w+)|\blook {THING} (?P<text>\w+)"
     rf"|\b(?P<deed>{'|'.join(DEEDS)}) {THING}|\bsend {THING} place\.(?P<place>\w+)"
@@ -55,23 +42,6 @@ PLAIN = re.compile(r"[\s∷=]*(?:row|plain_row|chance_row|otherwise) ")  # a row
 IDLE = re.compile(r"(?<!∷)\s\[\](?: ∷ \[\])?\s*$")  # and without effects
 NAME = r"\b(?:[A-Z]{2,}2?|x)\b"
 CLAUSE = re.compile(r"; |: |, and |, (?!and)| and |\. ")
-FORMS = {  # of a clause, each with what it says of its objects
-    r"^that (?:of \w+ )?for prop (-?\d+)$": "text {}", r"\bprop (-?\d+)$": "gets prop {}",
-    r"\btexts? for prop (-?\d+) (?:is|are) printed": "text {}", r"\btaken$": "is taken",
-    r"(?<!knives )\bvanish(?:es)?\b": "vanishes", r"\bbrought here": "is brought here",
-    r"\bfixed\b": "is fixed", r"\bloosened$": "is loosened", r"\bput down$": "is put down",
-    r"\blaid down$": "is laid down", r"\bcomes? to the front\b": "comes to the front",
-    r"\bmoved to (?:the place )?`(\w+)`": "moved to {}",
-    r"^(?:x|[A-Z]{2,}2?) to `(\w+)`$": "moved to {}", r"\bmoved to its first place": "goes home",
-    r"\bmoved to the other end$": "moved to the other end",
-    r"(?<!pirate )\bgo(?:es)? home$": "goes home"}
-ALONE = {  # what has no object
-    **{f"^{it}(?:,|$)": it for it in OTHERS.values()}, r"\bpanics\b": "the player panics",
-    r"\bis killed$": "a dwarf is killed", r"\barrives again$": "arrives again",
-    r"^it is seen prop (-?\d+)$": "it is seen with prop {}",
-    r"^the text for prop (-?\d+)$": "its text {}", r"^the place is described$": "it is described",
-    r"^the game ends as (.+)$": "ends as {}", r"^as ([A-Z]+(?: [A-Z]{2,}2?)?)\b": "as {}",
-    r"^the question ([A-Z]\w+)": "asks {}", r"^([A-Z]\w+) is asked$": "asks {}"}
 SAID = re.compile(r"`([a-z][a-z0-9-]*)`(?: is said)?")
 
 

@@ -93,12 +93,9 @@ def table_of(block: str) -> Table | None:
     return Table(name, form, word, kind, text, rows)
 
 
-def tables_of(text: str) -> list[Table]:
-    return [*filter(None, map(table_of, re.split(r"\n\s*\n", text)))]
-
-
 def tables_defined() -> dict[str, list[Table]]:
-    return {file.path: tables_of(file.text) for file in sources("specs")}
+    return {file.path: [*filter(None, map(table_of, re.split(r"\n\s*\n", file.text)))]
+            for file in sources("specs")}
 
 
 def depths(text: str) -> Iterator[int]:

@@ -107,7 +107,7 @@ def declared_items(file: Source) -> dict[str, int]:
     such a part. Those of impls of traits are none."""
     found = Counter[str]()
     for owner, text in file.parts:
-        if text.startswith(("pub trait", "trait")):
+        if re.match(r"(pub(\(crate\))? )?trait\b", text):
             found[owner] += 0
         elif not IMPL_FOR.match(text):
             found.update(ITEM.findall(text))

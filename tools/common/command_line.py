@@ -1,8 +1,6 @@
 #!/usr/bin/env python3
 """What scripts share on the command line: the answer to `--help`, and programs that aren't there.
 
-    from common import command_line
-
     command_line.run(main)                is what a script does if it isn't asked for help
     command_line.demand("rt", "git")      before it runs these programs
     command_line.skips(2, "maps", "dot")  whether it leaves out two maps, for lack of `dot`

@@ -1,7 +1,4 @@
-"""The files of the repository, what crates.txt says, and what a text has.
-
-    from common.files import BUILT, TOP, crates, files, match_in, text_of, write
-"""
+"""The files of the repository, what crates.txt says, and what a text has."""
 
 import glob
 import os

@@ -1,11 +1,4 @@
-"""Files that a tool writes: never over what it reads, and whole or not at all. A module.
-
-    outputs.fault(path, inputs)    what is wrong with a file that is to be written, or None
-    outputs.is_same(path, other)   whether two names are those of one file
-    outputs.put(path, content)     puts a file; OSError if it can't be written
-"""
-
-from __future__ import annotations
+"""Files that a tool writes: never over what it reads, and whole or not at all. A module."""
 
 import errno
 import os
@@ -22,21 +15,14 @@ def is_same(path: str, other: str) -> bool:
         return os.path.realpath(path) == os.path.realpath(other)
 
 
-def is_printed(path: str) -> bool:
-    """Whether a name leads to the file into which standard output goes."""
-    try:
-        return os.path.samestat(os.stat(path), os.fstat(1))
-    except OSError:
-        return False
-
-
 def fault(path: str, inputs: Iterable[str | None], option: str = "--output") -> str | None:
     """What is wrong with a file that an option names to be written, by what a run reads; None if
     nothing is."""
     if any(it and is_same(path, it) for it in inputs):
         return f"{path}: the output would replace a file that is read: name another after {option}"
-    if is_printed(path):
-        return f"{path}: standard output goes into this file: name another after {option}"
+    with suppress(OSError):
+        if os.path.samestat(os.stat(path), os.fstat(1)):
+            return f"{path}: standard output goes into this file: name another after {option}"
     return None
 
 
@@ -61,8 +47,9 @@ def unwritable(path: str) -> OSError | None:
 
 
 def put(path: str, content: bytes) -> None:
-    """Puts a file by a draft beside it, which takes its place once it is whole. A file that is
-    there keeps its permissions, and a link stays one unless it leads nowhere."""
+    """Puts a file by a draft beside it, which takes its place once it is whole; OSError if it can't
+    be written. A file that is there keeps its permissions, and a link stays one unless it leads
+    nowhere."""
     if wrong := unwritable(path):
         raise wrong
     path = place_of(path)

@@ -18,7 +18,7 @@ USE = re.compile(r"^ *(pub(?:\([^)]*\))? )?use (?:::)?((?!Rattle\.)[^;]*);", re.
 PART = re.compile(r"([\w:*]*)(\{|\}|(?: as (\w+))?)")
 MODULE = re.compile(r"^ *(?:pub(?:\(\w+\))? )?mod (\w+)\b", re.MULTILINE)
 # An impl of a type, or a trait.
-BLOCK = re.compile(r"^(?:pub )?(impl|trait)\b(.*?)\{$.*?^\}$", re.MULTILINE | re.DOTALL)
+BLOCK = re.compile(r"^(?:pub(?:\(crate\))? )?(impl|trait)\b(.*?)\{$.*?^\}$", re.M | re.S)
 FUNCTION = re.compile(
     r"((?:#\[[^\]]*\]\s*)*)^ *(pub(?:\(crate\))? )?(?:const )?fn (\w+)(?:<[^(]*>)?"
     r"\((\s*&?(?:'\w+ )?(?:mut )?self\b)?", re.MULTILINE)

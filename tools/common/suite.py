@@ -1,7 +1,4 @@
-"""The suite of this repository: which logs it has, and how each is run.
-
-    from common.suite import SUITE
-"""
+"""The suite of this repository: which logs it has, and how each is run."""
 
 import os
 import sys

@@ -1,9 +1,4 @@
-"""The version of the program, and what CHANGELOG.md says about each: a module.
-
-    versions.of_program()      what `cave --version` says, as `1.0`
-    versions.releases()        the versions of the page, the newest first
-    versions.sections()        the same below `[Unreleased]`, however they are headed
-"""
+"""The version of the program, and what CHANGELOG.md says about each: a module."""
 
 import re
 import sys
@@ -27,6 +22,7 @@ class Release(NamedTuple):
 
 
 def of_program() -> str:
+    """What `cave --version` says, such as `1.0`."""
     found: list[str] = CONSTANT.findall(text_of(CODE))
     if len(found) != 1:
         sys.exit(f"{CODE} doesn't have one line `const VERSION: &str = \"N.N\";`")
@@ -34,7 +30,7 @@ def of_program() -> str:
 
 
 def sections() -> list[Release]:
-    """All of the page, in its order."""
+    """All of the page, in its order: `[Unreleased]` first, and then versions, the newest first."""
     _, *parts = re.split(r"^## (.*)\n", text_of(PAGE), flags=re.MULTILINE)
     found = list[Release]()
     for heading, text in zip(parts[::2], parts[1::2]):

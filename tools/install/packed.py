@@ -1,7 +1,5 @@
 """What users get of the program, as a tree of files, and what says by which commit it was proved.
 
-    import packed
-
     build = packed.Build(program, is_given, keeps_symbols)
     tree = packed.tree(build, is_debian)           # File by its path below a prefix, in its order
     packed.put(tree, prefix)

@@ -1,6 +1,5 @@
 """Pages that are made to be tested, as a module, each with what the program printed of its walk.
 
-    from pages import Pages
     made = Pages(room, program).of_walk("tour", TOUR, *SEED)
     made.path, made.lines, made.steps, made.transcript, made.told
 """

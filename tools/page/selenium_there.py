@@ -1,7 +1,4 @@
-"""Which Python has selenium, as a module: Debian's, if the one that runs a script hasn't.
-
-    from selenium_there import missing
-"""
+"""Which Python has selenium, as a module: Debian's, if the one that runs a script hasn't."""
 
 import importlib.util
 import os

@@ -1,6 +1,5 @@
 """A server of `tools/page/live` as a module, for its tests: started on a copy of a log, and asked.
 
-    from served import SEED, SHOAL, Served
     with Served(program, [*SHOAL, *SEED], log=b"no\\n") as server:
         status, events = server.post("change", {"number": 0, "edits": [..]})
         server.walk.put(events)

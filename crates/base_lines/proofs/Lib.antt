@@ -1,6 +1,6 @@
+pub mod Prefixes
 pub mod Digits
 pub mod Feeds
 pub mod FirstLines
-pub mod Prefixes
 pub mod GoodLines
 pub mod LogLines

@@ -9,8 +9,8 @@ use Rattle.std.proofs.lemmas.List.Folds.{list_all-append}
 use Rattle.std.proofs.lemmas.Slice.Eq.{bytes_eq-Decides}
 use Rattle.std.proofs.Math.Bool.{and-false}
 use Rattle.base_lines.specs.Limits.{MAX_DIGITS, MAX_SEED}
-use Rattle.base_lines.specs.Prefixes.{prefix_while-append-after_prefix, list_all-prefix_while}
-use Rattle.base_lines.specs.Prefixes.{after_prefix-append, prefix_while-append}
+use Rattle.base_lines.proofs.Prefixes.{prefix_while-append-after_prefix, list_all-prefix_while}
+use Rattle.base_lines.proofs.Prefixes.{after_prefix-append, prefix_while-append}
 use Rattle.base_lines.specs.Bytes.{is_blank, is_all_blank, is_digit, prefix_while, after_prefix}
 use Rattle.base_lines.specs.Bytes.{number_of}
 use Rattle.base_lines.specs.LogLine.{IsLogLine, IsSeedLine, log_line, is_comment, seed_of, seed_in}

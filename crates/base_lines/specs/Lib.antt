@@ -1,5 +1,4 @@
 pub mod Bytes
-pub mod Prefixes
 pub mod Line
 pub mod LogLine
 pub mod Limits

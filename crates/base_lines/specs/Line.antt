@@ -1,6 +1,6 @@
 -- Which bytes and how many a line of a log may have, and what is wrong with another line.
 use Rattle.std.specs.Prelude.{◌≡◌, ℕ, ◌<◌, ◌∷◌, ◌++◌, IsTrue, Bool, false, not, ◌==◌, ◌&&◌, ◌||◌}
-use Rattle.std.specs.Prelude.{◌+◌, nat_lt, nat_le, if◌then◌else◌, List, length, slice_index_or}
+use Rattle.std.specs.Prelude.{[], ◌+◌, nat_lt, nat_le, if◌then◌else◌, List, length, slice_index_or}
 use Rattle.std.specs.Prelude.{codes, Option, None, Some}
 use Rattle.std.specs.Fmt.{decimal}
 use Rattle.std.specs.List.{list_all, prefix_len}
@@ -20,6 +20,10 @@ is_line_byte byte = is_printable byte || byte == 9
 -- a log may have a line: it isn't too long, and has only bytes that are allowed
 unfoldable pub is_line : List ℕ → Bool
 is_line line = not (nat_lt MAX_LINE_BYTES (length line)) && list_all is_line_byte line
+
+-- the first line of a text, which is empty if the text is
+abbrev pub first_line : List ℕ → List ℕ
+first_line text = slice_index_or (lines text) 0 []
 
 -- what is wrong with a line that isn't allowed in a log: how many bytes it has if there are too
 -- many, otherwise the first byte that isn't allowed, and its column

@@ -14,7 +14,7 @@ pub mod nearest;
 pub mod numbers;
 
 pub use line::{LineFault, check_line};
-pub use lines::{split_line, split_log_line};
+pub use lines::{first_line, split_line, split_log_line};
 pub use log_line::{LogLine, is_skipped};
 pub use mark::has_byte_order_mark;
 pub use meter::{Meter, Steps};

@@ -4,7 +4,7 @@ ghost use Rattle.std.specs.Prelude.{◌≡◌, ◌<◌, ◌≤◌, ◌==◌, [],
 ghost use Rattle.std.specs.Prelude.{MatchResult};
 ghost use Rattle.std.specs.List.{position_or_len, prefix_len};
 ghost use Rattle.std.specs.Str.Lines.{lines, strip_carriage_return};
-ghost use Rattle.base_lines.specs.Line.{is_printable, StartsWithFlaw, StartsWithLine};
+ghost use Rattle.base_lines.specs.Line.{StartsWithFlaw, StartsWithLine, first_line, is_printable};
 
 use crate::limits::is_long_line;
 use crate::line::{LineFault, check_line, is_printable};
@@ -42,6 +42,16 @@ pub fn split_line(text: &[u8]) -> Option<(&[u8], &[u8])>
         None
     } else {
         Some((text, &[]))
+    }
+}
+
+/// The first line of a text, without its end; it is empty if the text is.
+pub fn first_line(text: &[u8]) -> &[u8]
+    ensures { result.now ≡ first_line text.now }
+{
+    match split_line(text) {
+        Some((line, _)) => line,
+        None => &[],
     }
 }
 

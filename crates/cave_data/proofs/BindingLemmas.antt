@@ -23,14 +23,12 @@ use Rattle.base_lines.specs.LogLine.{is_skipped}
 use Rattle.data_rows.specs.BindingLines.{binding_row, binding_at, bindings_of}
 use Rattle.cave_data.specs.Bindings.{role_value, place_value, role_key, place_key, letters_key}
 use Rattle.cave_data.specs.Bindings.{letters_value, latest, value_of}
-use Rattle.cave_data.specs.BindingFault.{repeat_cause, form_cause, binding_cause, binding_fault}
-use Rattle.cave_data.specs.BindingFault.{first_binding_fault}
-use Rattle.cave_data.specs.BindingSteps.{bound_to, bind_key, bind, bind_new, bind_line, no_bindings}
-use Rattle.cave_data.specs.BindingSteps.{bindings_from}
-use Rattle.cave_data.specs.Faults.{FaultIs, error_at}
+use Rattle.cave_data.specs.Faults.{repeat_cause, form_cause, binding_cause, binding_fault}
+use Rattle.cave_data.specs.Faults.{first_binding_fault, FaultIs, error_at}
+use Rattle.cave_data.specs.Steps.{bound_to, bind_key, bind, bind_new, bind_line, no_bindings}
+use Rattle.cave_data.specs.Steps.{bindings_from, unless_cause}
 use Rattle.data_rows.specs.Answers.{Fails}
 use Rattle.data_rows.specs.Rows.{◌>>=◌}
-use Rattle.cave_data.specs.Steps.{unless_cause}
 use Rattle.cave_data.proofs.DatabaseLemmas.{allowed_ok, allowed_err}
 use Rattle.cave_data.proofs.FoldLemmas.{added, fold-part}
 use Rattle.cave_data.proofs.RowLemmas.{insert_row, rows_after}

@@ -15,8 +15,8 @@ use Rattle.data_rows.specs.BindingGrammar.{IsBindingLine, HasBindings, no_lines,
 use Rattle.data_rows.specs.BindingGrammar.{binding_line}
 use Rattle.data_rows.proofs.BindingForms.{binding-read, read-binding, binding_unskipped}
 use Rattle.cave_data.specs.Bindings.{value_of}
-use Rattle.cave_data.specs.BindingFault.{repeat_cause, form_cause, binding_cause, binding_fault}
-use Rattle.cave_data.specs.BindingFault.{first_binding_fault}
+use Rattle.cave_data.specs.Faults.{repeat_cause, form_cause, binding_cause, binding_fault}
+use Rattle.cave_data.specs.Faults.{first_binding_fault}
 use Rattle.cave_data.specs.Reads.{BindAnew}
 use Rattle.cave_data.proofs.BindingLemmas.{bindings-append}
 use Rattle.cave_data.proofs.GrammarLemmas.{no_cause}

@@ -14,9 +14,8 @@ use Rattle.cave_data.specs.declared.reader.DatabaseReader.{DatabaseReader}
 use Rattle.cave_data.specs.Faults.{FaultIs, error_at}
 use Rattle.data_rows.specs.Answers.{Fails}
 use Rattle.data_rows.specs.Grammar.{position_after, entries}
-use Rattle.cave_data.specs.FirstFault.{line_cause, first_fault, fault_after, end_fault, is_after}
-use Rattle.cave_data.specs.FirstFault.{site_of_fault}
-use Rattle.cave_data.specs.Steps.{tables_of, no_tables, unless_cause, advance}
+use Rattle.cave_data.specs.Steps.{line_cause, first_fault, fault_after, end_fault, is_after}
+use Rattle.cave_data.specs.Steps.{site_of_fault, tables_of, no_tables, unless_cause, advance}
 use Rattle.cave_data.proofs.StepLemmas.{reader_after, advance-reader_after}
 
 pub record ReadSoFar (database rest : List ℕ) (count : ℕ) (reader : DatabaseReader) : Type 0 where

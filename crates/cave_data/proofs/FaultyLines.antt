@@ -1,8 +1,7 @@
 -- The first fault of lines is that of the first line after which they can't become a database.
 use Rattle.std.proofs.Common.{◌≡◌, ℕ, cond, List, [], ◌∷◌, ◌++◌, Option, Some, None}
 use Rattle.std.proofs.Common.{option_map, refl, sym, ap, subst, ◌∙◌}
-use Rattle.std.specs.Option.{option_or}
-use Rattle.std.specs.Option.{IfSome}
+use Rattle.std.specs.Option.{option_or, IfSome}
 use Rattle.std.proofs.lemmas.List.{append_assoc}
 use Rattle.std.proofs.lemmas.List.Sums.{fold_push}
 use Rattle.data_rows.specs.declared.error.Cause.{Cause}
@@ -15,9 +14,9 @@ use Rattle.data_rows.specs.Grammar.{position_after_line, position_after, entry_a
 use Rattle.data_rows.specs.DatabaseGrammar.{HasRows, blank_line, section_opens, row_line}
 use Rattle.data_rows.specs.DatabaseGrammar.{section_ends, database_ends}
 use Rattle.cave_data.specs.Database.{AreValidTogether}
-use Rattle.cave_data.specs.FirstFault.{shape_cause, first_limit, line_cause, fault_after}
-use Rattle.cave_data.specs.FirstFault.{is_after, first_fault}
-use Rattle.cave_data.specs.FaultyLine.{BeginDatabase, IsNextCause, IsFirstFault}
+use Rattle.cave_data.specs.Steps.{shape_cause, first_limit, line_cause, fault_after}
+use Rattle.cave_data.specs.Steps.{is_after, first_fault}
+use Rattle.cave_data.specs.Faults.{BeginDatabase, IsNextCause, IsFirstFault}
 use Rattle.cave_data.proofs.StepLemmas.{entries_push}
 use Rattle.cave_data.proofs.RightLemmas.{neither, line_together, none_together}
 use Rattle.cave_data.proofs.GrammarLemmas.{RowsFrom, goes}

@@ -15,9 +15,8 @@ use Rattle.data_rows.specs.declared.position.Position.{Position}
 use Rattle.data_rows.specs.declared.position.Position.TheVariants.{Outside, Inside, After}
 use Rattle.base_lines.specs.Bytes.{is_all_blank}
 use Rattle.data_rows.specs.Rows.{Entry, entry_in}
-use Rattle.data_rows.specs.Grammar.{position_after_heading, closes}
-use Rattle.data_rows.specs.Grammar.{position_after_line, position_after, entry_at}
-use Rattle.data_rows.specs.Grammar.{entries_from, entries}
+use Rattle.data_rows.specs.Grammar.{position_after_heading, closes, position_after_line}
+use Rattle.data_rows.specs.Grammar.{position_after, entry_at, entries_from, entries}
 use Rattle.data_rows.specs.RowGrammar.{IsRow}
 use Rattle.data_rows.specs.DatabaseGrammar.{section_number, IsLineOfNumber, HasRows, blank_line}
 use Rattle.data_rows.specs.DatabaseGrammar.{section_opens, row_line, section_ends, database_ends}
@@ -25,8 +24,8 @@ use Rattle.data_rows.proofs.LineLemmas.{nonblank_line, closes-minus_one, closes-
 use Rattle.data_rows.proofs.LineLemmas.{minus_one-closes, heading-section, heading-end, Opens}
 use Rattle.data_rows.proofs.LineLemmas.{opens-heading, begins-row}
 use Rattle.data_rows.proofs.RowLemmas.{entry-read, read-entry}
-use Rattle.cave_data.specs.FirstFault.{shape_here, shape_cause, first_limit, line_cause}
-use Rattle.cave_data.specs.FirstFault.{fault_after, is_after, site_of_fault, first_fault}
+use Rattle.cave_data.specs.Steps.{shape_here, shape_cause, first_limit, line_cause}
+use Rattle.cave_data.specs.Steps.{fault_after, is_after, site_of_fault, first_fault}
 use Rattle.cave_data.specs.Database.{AreValidTogether}
 use Rattle.cave_data.proofs.StepLemmas.{entries_push}
 use Rattle.cave_data.proofs.RightLemmas.{neither, some_less, first_fine}

@@ -30,10 +30,9 @@ use Rattle.data_rows.proofs.RowLemmas.{entry-read, read-entry}
 use Rattle.data_rows.proofs.LineLemmas.{closes-minus_one, heading-section, heading-end}
 use Rattle.cave_data.specs.Texts.{names_object, object_after, object_after_lines}
 use Rattle.cave_data.specs.Limits.{MAX_WAYS, MAX_WORDS, MAX_CLASSES}
-use Rattle.cave_data.specs.FirstFault.{shape_here, shape_cause, at_most, limit_cause, first_limit}
-use Rattle.cave_data.specs.FirstFault.{line_cause}
-use Rattle.cave_data.specs.LowestCause.{HasParts, IsInRange, LacksObject, HasLongList, IsFull}
-use Rattle.cave_data.specs.LowestCause.{IsLowest, OpensNothing, IsLowestAt, ReportsLowest}
+use Rattle.cave_data.specs.Steps.{shape_here, shape_cause, at_most, limit_cause, first_limit}
+use Rattle.cave_data.specs.Steps.{line_cause, HasParts, IsInRange, LacksObject, HasLongList, IsFull}
+use Rattle.cave_data.specs.Steps.{IsLowest, OpensNothing, IsLowestAt, ReportsLowest}
 use Rattle.cave_data.proofs.PartsRead.{reads_parts, reads_in_range, IsLowestRead, parts_found}
 use Rattle.cave_data.proofs.PartsRead.{range_found, parts_missing, range_missed}
 use Rattle.cave_data.proofs.LowestLemmas.{Judged, row_judged}

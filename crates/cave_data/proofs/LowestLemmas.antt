@@ -5,16 +5,14 @@ use Rattle.std.specs.Prelude.{nat_lt, IfErr}
 use Rattle.std.specs.Option.{ok_or}
 use Rattle.std.specs.Result.{is_ok}
 use Rattle.data_rows.specs.declared.error.Cause.{Cause}
-use Rattle.data_rows.specs.declared.error.Cause.TheVariants.{BadNumber, OutOfRange}
-use Rattle.data_rows.specs.declared.error.Cause.TheVariants.{TooManyRows}
+use Rattle.data_rows.specs.declared.error.Cause.TheVariants.{BadNumber, OutOfRange, TooManyRows}
 use Rattle.data_rows.specs.declared.error.Section.{Section}
 use Rattle.data_rows.specs.declared.error.Section.TheVariants as section
 use Rattle.data_rows.specs.declared.number.Number.{Number}
 use Rattle.data_rows.specs.declared.number.Number.TheVariants.{Natural, Negative}
-use Rattle.data_rows.specs.Rows.{Going, ◌>>=◌}
-use Rattle.data_rows.specs.Rows.{number_or_cause, numbers_to_zero, list_in}
-use Rattle.data_rows.specs.Rows.{few_of, word_or_cause, word_number, number_or_zero, within}
-use Rattle.data_rows.specs.Rows.{all_within, text_or_cause, object_or_prop, second_place, text_line}
+use Rattle.data_rows.specs.Rows.{Going, ◌>>=◌, number_or_cause, numbers_to_zero, list_in, few_of}
+use Rattle.data_rows.specs.Rows.{word_or_cause, word_number, number_or_zero, within, all_within}
+use Rattle.data_rows.specs.Rows.{text_or_cause, object_or_prop, second_place, text_line}
 use Rattle.data_rows.specs.Rows.{object_line, way_row, word_row, placement_row, default_row}
 use Rattle.data_rows.specs.Rows.{condition_row, hint_row, entry_in}
 use Rattle.data_rows.specs.Fields.{number_at, fields}

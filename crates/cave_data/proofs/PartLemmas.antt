@@ -14,13 +14,12 @@ use Rattle.cave_data.specs.Printing.{printed_text}
 use Rattle.cave_data.specs.Texts.{text_of_number, with_key, by_object, object_after}
 use Rattle.cave_data.specs.Texts.{object_after_lines}
 use Rattle.cave_data.specs.Tables.{TextsSoFar, with_line}
-use Rattle.cave_data.specs.FirstFault.{at_most, limit_cause}
+use Rattle.cave_data.specs.Steps.{at_most, limit_cause, with_entry, no_texts, no_tables, tables_of}
+use Rattle.cave_data.specs.Steps.{class_of_line, table_limit}
 use Rattle.data_rows.specs.SectionRows.{way_of, word_entry_of, class_line_of, object_line_of}
 use Rattle.data_rows.specs.SectionRows.{long_line_of, short_line_of, message_line_of}
 use Rattle.data_rows.specs.SectionRows.{placement_of_row, default_of_row, marks_of_row, hint_of_row}
 use Rattle.cave_data.specs.Database.{last_of, goings_from, bits_of}
-use Rattle.cave_data.specs.Steps.{with_entry, no_texts, no_tables, tables_of, class_of_line}
-use Rattle.cave_data.specs.Steps.{table_limit}
 use Rattle.cave_data.proofs.FoldLemmas.{added, fold-part}
 use Rattle.cave_data.proofs.TextLemmas.{texts_after}
 use Rattle.cave_data.proofs.RowLemmas.{insert_row, rows_after, with_way_row, ways_after}

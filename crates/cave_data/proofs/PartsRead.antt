@@ -5,8 +5,7 @@ use Rattle.std.proofs.lemmas.Bool.{false≢true}
 use Rattle.std.specs.Result.{is_ok}
 use Rattle.std.proofs.lemmas.List.{length-map}
 use Rattle.data_rows.specs.declared.error.Cause.{Cause}
-use Rattle.data_rows.specs.declared.error.Cause.TheVariants.{BadNumber, OutOfRange}
-use Rattle.data_rows.specs.declared.error.Cause.TheVariants.{TooManyRows}
+use Rattle.data_rows.specs.declared.error.Cause.TheVariants.{BadNumber, OutOfRange, TooManyRows}
 use Rattle.data_rows.specs.declared.error.Section.{Section}
 use Rattle.data_rows.specs.declared.error.Section.TheVariants as section
 use Rattle.data_rows.specs.declared.number.Number.{Number}
@@ -18,12 +17,11 @@ use Rattle.data_rows.specs.Rows.{LAST_MOTION, LAST_TARGET}
 use Rattle.data_rows.specs.RowParts.{BeginsWithNumber, BeginsWithNumbers, no_number, number_then}
 use Rattle.data_rows.specs.RowParts.{IsNumberList}
 use Rattle.data_rows.specs.RowGrammar.{IsWayRow}
-use Rattle.data_rows.proofs.ReadParts.{number-read, read-number, within-read, read-within}
-use Rattle.data_rows.proofs.ReadParts.{may-read, all-read}
-use Rattle.data_rows.proofs.ReadParts.{read-may, list-read, read-list, read-all, some-read}
-use Rattle.data_rows.proofs.ReadParts.{read-some, word-read, read-word}
+use Rattle.data_rows.proofs.ReadParts.{number-read, read-number, within-read, read-within, may-read}
+use Rattle.data_rows.proofs.ReadParts.{all-read, read-may, list-read, read-list, read-all}
+use Rattle.data_rows.proofs.ReadParts.{some-read, read-some, word-read, read-word}
 use Rattle.data_rows.proofs.RowLemmas.{entry-read, read-entry}
-use Rattle.cave_data.specs.LowestCause.{HasParts, IsInRange}
+use Rattle.cave_data.specs.Steps.{HasParts, IsInRange}
 use Rattle.base_lines.specs.Numbers.{LAST_PLACE, LAST_HINT}
 
 -- whether the numbers and words of a row of the section are read

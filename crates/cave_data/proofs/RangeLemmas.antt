@@ -40,10 +40,10 @@ use Rattle.data_rows.specs.BindingLines.{two_fields, bound_within, role_binding}
 use Rattle.data_rows.specs.BindingGrammar.{position_of_name}
 use Rattle.data_rows.specs.BindingLines.{place_binding, letters_binding, binding_of, binding_row}
 use Rattle.data_rows.specs.BindingLines.{binding_at, bindings_of}
-use Rattle.cave_data.specs.BindingSteps.{bind, no_bindings, bindings_from}
+use Rattle.cave_data.specs.Steps.{bind, no_bindings, bindings_from}
 use Rattle.cave_data.specs.Steps.{with_entry, no_tables, tables_of}
-use Rattle.cave_data.specs.Ranges.{IsPlace, IsMessage, IsLetters, IsPlacementInRange, HasOnly}
-use Rattle.cave_data.specs.Ranges.{AreInRange}
+use Rattle.cave_data.specs.Laws.{IsPlace, IsMessage, IsLetters, IsPlacementInRange, HasOnly}
+use Rattle.cave_data.specs.Laws.{AreInRange}
 
 -- Lists and maps of such values.
 

@@ -21,15 +21,12 @@ use Rattle.cave_data.specs.CaveView.{CaveView}
 use Rattle.cave_data.specs.Printing.{printed_class}
 use Rattle.data_rows.specs.Rows.{Entry, TextLine}
 use Rattle.data_rows.specs.Grammar.{entries}
-use Rattle.cave_data.specs.FirstFault.{line_cause, fault_after}
-use Rattle.cave_data.specs.FirstFault.{first_fault}
+use Rattle.cave_data.specs.Steps.{line_cause, fault_after, first_fault, bindings_from, tables_of}
+use Rattle.cave_data.specs.Steps.{class_of_line}
 use Rattle.cave_data.specs.Database.{printed_class_of_line, AreValidTogether, IsDatabase, Holds}
 use Rattle.data_rows.specs.BindingLines.{bindings_of}
 use Rattle.cave_data.specs.Bindings.{default_place}
-use Rattle.cave_data.specs.BindingFault.{first_binding_fault}
-use Rattle.cave_data.specs.BindingSteps.{bindings_from}
-use Rattle.cave_data.specs.Steps.{tables_of, class_of_line}
-use Rattle.cave_data.specs.Faults.{FaultIs, no_memory}
+use Rattle.cave_data.specs.Faults.{first_binding_fault, FaultIs, no_memory}
 use Rattle.cave_data.specs.Cave.{Finished}
 use Rattle.cave_data.specs.Reads.{AreBindings, AreValidInputs, IsDescribed, Reads, fault}
 use Rattle.cave_data.specs.Reads.{too_large_input}

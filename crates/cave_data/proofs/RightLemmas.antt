@@ -1,8 +1,7 @@
 -- Rows are valid together exactly if none of them has a cause.
-use Rattle.std.proofs.Common.{◌≡◌, ℕ, ◌+◌, ◌<◌, ◌≤◌, Bool, true, false, cond, leb}
-use Rattle.std.proofs.Common.{ltb, eqb, List, [], ◌∷◌, ◌++◌, length, fold, Option, Some, None}
-use Rattle.std.proofs.Common.{option_to_list, Result, Ok, Err, refl, sym, ap, subst, ◌∙◌}
-use Rattle.std.proofs.Common.{arith}
+use Rattle.std.proofs.Common.{◌≡◌, ℕ, ◌+◌, ◌<◌, ◌≤◌, Bool, true, false, cond, leb, ltb, eqb, List}
+use Rattle.std.proofs.Common.{[], ◌∷◌, ◌++◌, length, fold, Option, Some, None, option_to_list}
+use Rattle.std.proofs.Common.{Result, Ok, Err, refl, sym, ap, subst, ◌∙◌, arith}
 use Rattle.std.specs.Option.{option_or}
 use Rattle.std.specs.Result.{result_ok}
 use Rattle.std.specs.List.{filter_map}
@@ -18,8 +17,7 @@ use Rattle.data_rows.specs.Rows.{Entry, TextLine, Way, Word, ObjectLine, ClassLi
 use Rattle.cave_data.specs.Texts.{names_object, object_after, object_after_lines}
 use Rattle.data_rows.specs.Grammar.{closes, position_after, entry_here, entry_at, entries}
 use Rattle.data_rows.specs.SectionRows.{way_of, word_entry_of, class_line_of, object_line_of}
-use Rattle.cave_data.specs.FirstFault.{shape_cause, at_most, limit_cause, first_limit}
-use Rattle.cave_data.specs.FirstFault.{line_cause}
+use Rattle.cave_data.specs.Steps.{shape_cause, at_most, limit_cause, first_limit, line_cause}
 use Rattle.cave_data.specs.Database.{BeginWithObject, AreValidTogether}
 use Rattle.cave_data.proofs.StepLemmas.{entries_push}
 

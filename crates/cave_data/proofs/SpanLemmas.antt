@@ -11,8 +11,7 @@ use Rattle.cave_data.specs.CaveView.{ClassEntry}
 use Rattle.cave_data.specs.declared.span.TextSpan.{TextSpan}
 use Rattle.cave_data.specs.declared.span.NumberedSpan.{NumberedSpan}
 use Rattle.cave_data.specs.Spans.{text_of_span, IsSpanWithin, IsLast, IsFrom, RowWithin}
-use Rattle.cave_data.specs.Spans.{word_of_span}
-use Rattle.cave_data.specs.Spans.{class_of_span}
+use Rattle.cave_data.specs.Spans.{word_of_span, class_of_span}
 
 -- more bytes at the end leave a text as it was
 pub text_of_span-append : (bytes more : List ℕ) (span : TextSpan) → IsSpanWithin bytes span

@@ -18,8 +18,7 @@ use Rattle.data_rows.specs.Rows.{◌>>=◌, Entry, entry_in}
 use Rattle.data_rows.specs.Grammar.{position_after_heading, closes, position_after_row}
 use Rattle.data_rows.specs.Grammar.{position_after_line, position_after, entry_here, entry_at}
 use Rattle.data_rows.specs.Grammar.{entries_from, entries}
-use Rattle.cave_data.specs.FirstFault.{shape_here, shape_cause, limit_cause, first_limit}
-use Rattle.cave_data.specs.FirstFault.{line_cause}
+use Rattle.cave_data.specs.Steps.{shape_here, shape_cause, limit_cause, first_limit, line_cause}
 use Rattle.cave_data.specs.Steps.{with_entry, no_tables, tables_of, unless_cause, admit, row_step}
 use Rattle.cave_data.specs.Steps.{into_position, advance_in, advance}
 use Rattle.cave_data.proofs.PartLemmas.{limit_after}

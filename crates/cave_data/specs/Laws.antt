@@ -1,6 +1,6 @@
 -- How the texts, ways and treasures of a cave follow from the rows of its database.
 use Rattle.std.specs.Prelude.{◌≡◌, ℕ, ◌≤◌, ◌<◌, Bool, false, true, ◌==◌, List, [], ◌∷◌, ◌++◌}
-use Rattle.std.specs.Prelude.{length, map, filter, Some, None, is_some}
+use Rattle.std.specs.Prelude.{length, map, filter, Some, None, is_some, pos, negsuc, ◌≤ℤ◌, IfSome}
 use Rattle.std.specs.List.{filter_map, flat_map, list_all, list_any}
 use Rattle.std.specs.FinMap.{get}
 use Rattle.std.specs.Str.Lines.{lines}
@@ -12,7 +12,11 @@ use Rattle.data_rows.specs.Rows.{Entry, TextLine}
 use Rattle.cave_data.specs.Texts.{line_text, by_object}
 use Rattle.data_rows.specs.SectionRows.{way_of, object_line_of, long_line_of, short_line_of}
 use Rattle.data_rows.specs.SectionRows.{message_line_of}
-use Rattle.base_lines.specs.Numbers.{LAST_NAMED}
+use Rattle.base_lines.specs.Numbers.{LAST_NAMED, LAST_PLACE, LAST_MESSAGE}
+use Rattle.std.specs.Ordering.{nat_cmp}
+use Rattle.std.specs.FinMap as map
+use Rattle.data_rows.specs.declared.rows.Placement.{Placement}
+use Rattle.cave_data.specs.declared.bindings.Bindings.{Bindings}
 
 abbrev pub has_number : ℕ → TextLine → Bool
 has_number n line = line.number == n
@@ -50,3 +54,28 @@ pub record Laws (rows : List Entry) (c : CaveView) : Type 0 where
 -- the laws hold of the rows of the database
 abbrev pub KeepsLaws : List ℕ → CaveView → Type 0
 KeepsLaws database c = (rows : List Entry) → HasRows Outside (lines database) rows → Laws rows c
+
+abbrev pub IsPlace : ℕ → Type 0
+IsPlace n = (1 ≤ n) × (n ≤ LAST_PLACE)
+
+abbrev pub IsMessage : ℕ → Type 0
+IsMessage n = (1 ≤ n) × (n ≤ LAST_MESSAGE)
+
+-- this many letters of a word may count
+abbrev pub IsLetters : ℕ → Type 0
+IsLetters n = (5 ≤ n) × (n ≤ 8)
+
+-- a first place, or 0, and a second place, or 0, or -1 for an object that can't be moved
+pub record IsPlacementInRange (p : Placement) : Type 0 where
+  pub first : p.first ≤ LAST_PLACE
+  pub low : negsuc 0 ≤ℤ p.second
+  pub high : p.second ≤ℤ pos LAST_PLACE
+
+-- all values of a map have the property
+abbrev pub HasOnly : {X : Type 0} → (X → Type 0) → map.FinMap nat_cmp X → Type 0
+HasOnly IsSuch m = (n : ℕ) → IfSome (map.get m n) IsSuch
+
+pub record AreInRange (b : Bindings) : Type 0 where
+  pub roles : HasOnly IsMessage b.roles
+  pub places : HasOnly IsPlace b.places
+  pub letters : IfSome b.letters IsLetters

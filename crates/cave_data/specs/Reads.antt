@@ -13,11 +13,11 @@ use Rattle.data_rows.specs.declared.binding.Key.TheVariants.{RoleKey, PlaceKey, 
 use Rattle.cave_data.specs.CaveView.{CaveView}
 use Rattle.data_rows.specs.Rows.{Entry}
 use Rattle.data_rows.specs.BindingGrammar.{HasBindings}
-use Rattle.cave_data.specs.FirstFault.{first_fault}
+use Rattle.cave_data.specs.Steps.{first_fault}
 use Rattle.cave_data.specs.Database.{IsDatabase, Holds}
 use Rattle.data_rows.specs.declared.binding.Binding.{Binding}
 use Rattle.cave_data.specs.Bindings.{value_of, DEFAULT_LETTERS, default_place}
-use Rattle.cave_data.specs.BindingFault.{first_binding_fault}
+use Rattle.cave_data.specs.Faults.{first_binding_fault}
 
 -- after the bindings before, each of these binds a key that none before it binds
 abbrev pub BindAnew : List Binding → List Binding → Type 0

@@ -1,11 +1,9 @@
 //! Reading whole bindings.
 ghost use Rattle.std.specs.Prelude.{◌≡◌, [], None, IfOk, IfErr};
 ghost use Rattle.std.specs.Str.Lines.{lines};
-ghost use Rattle.cave_data.specs.BindingFault.{first_binding_fault};
+ghost use Rattle.cave_data.specs.Faults.{first_binding_fault, FaultIs};
 ghost use Rattle.data_rows.specs.BindingLines.{bindings_of};
-ghost use Rattle.cave_data.specs.BindingSteps.{bound_to, bind_new, bind_line, no_bindings};
-ghost use Rattle.cave_data.specs.BindingSteps.{bindings_from};
-ghost use Rattle.cave_data.specs.Faults.{FaultIs};
+ghost use Rattle.cave_data.specs.Steps.{bound_to, bind_new, bind_line, no_bindings, bindings_from};
 ghost use Rattle.data_rows.specs.Answers.{Leaves};
 
 use crate::database::error_at;
@@ -76,7 +74,7 @@ impl Bindings {
     }
 
     /// Takes the next line.
-    #[tactic(auto, unfolding(crate::specs::BindingSteps::bind_line))]
+    #[tactic(auto, unfolding(crate::specs::Steps::bind_line))]
     fn bind_line(&mut self, line: &[u8]) -> Result<(), Cause>
         ensures { Leaves result self.new (bind_line self.old line.now) }
     {

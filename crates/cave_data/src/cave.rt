@@ -8,14 +8,11 @@ ghost use Rattle.cave_data.specs.CaveView.{name_of, look_of, ways_from, cond_of,
 ghost use Rattle.cave_data.specs.CaveView.{default_message, CaveView, class_of};
 ghost use Rattle.cave_data.specs.Bindings.{default_place};
 ghost use Rattle.cave_data.specs.Bindings as defined;
-ghost use Rattle.cave_data.specs.Faults.{FaultIs, no_memory};
+ghost use Rattle.cave_data.specs.Faults.{FaultIs, no_memory, IsFirstFault};
 ghost use Rattle.cave_data.specs.Cave.{Finished};
-ghost use Rattle.cave_data.specs.Ranges.{IsLetters, IsMessage, IsPlace, IsPlacementInRange};
-ghost use Rattle.cave_data.specs.Ranges.{HasOnly, AreInRange};
-ghost use Rattle.cave_data.specs.Laws.{KeepsLaws};
-ghost use Rattle.cave_data.specs.LowestCause.{ReportsLowest};
-ghost use Rattle.cave_data.specs.FirstFault.{first_fault};
-ghost use Rattle.cave_data.specs.FaultyLine.{IsFirstFault};
+ghost use Rattle.cave_data.specs.Laws.{IsLetters, IsMessage, IsPlace, IsPlacementInRange, HasOnly};
+ghost use Rattle.cave_data.specs.Laws.{AreInRange, KeepsLaws};
+ghost use Rattle.cave_data.specs.Steps.{ReportsLowest, first_fault};
 ghost use Rattle.cave_data.specs.Reads.{AreValidInputs, Reads, fault, size_fault};
 ghost use Rattle.cave_data.specs.Printing.{rating};
 ghost use Rattle.cave_data.specs.Tables.{IsAbove};
@@ -91,8 +88,8 @@ impl Model for Cave {
     ghost use Rattle.cave_data.specs.CaveView.{CaveView, cave_code};
     ghost use Rattle.cave_data.specs.Printing.{printed_texts, printed_class};
     ghost use Rattle.cave_data.specs.Bindings.{with_defaults};
-    ghost use Rattle.cave_data.specs.Ranges.{IsLetters, IsMessage, IsPlace, HasOnly};
-    ghost use Rattle.cave_data.specs.Ranges.{IsPlacementInRange};
+    ghost use Rattle.cave_data.specs.Laws.{IsLetters, IsMessage, IsPlace, HasOnly};
+    ghost use Rattle.cave_data.specs.Laws.{IsPlacementInRange};
 
     ghost Value = { CaveView };
 

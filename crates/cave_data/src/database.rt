@@ -2,9 +2,8 @@
 ghost use Rattle.std.specs.Prelude.{◌≡◌, [], None, IfOk, IfErr};
 ghost use Rattle.std.specs.Str.Lines.{lines};
 ghost use Rattle.cave_data.specs.Faults.{FaultIs, error_at};
-ghost use Rattle.cave_data.specs.FirstFault.{first_fault, site_of_fault};
+ghost use Rattle.cave_data.specs.Steps.{first_fault, site_of_fault, tables_of};
 ghost use Rattle.data_rows.specs.Grammar.{entries};
-ghost use Rattle.cave_data.specs.Steps.{tables_of};
 
 use crate::reader::{DatabaseReader, Tables};
 use base_lines::split_line;

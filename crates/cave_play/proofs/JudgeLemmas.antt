@@ -8,10 +8,9 @@ use Rattle.std.specs.declared.option.Option.{Option}
 use Rattle.std.specs.Str.Lines.{lines}
 use Rattle.std.proofs.lemmas.Result.{IfErr-at_err}
 use Rattle.cave_data.proofs.ReadLemmas.{right_exactly}
-use Rattle.cave_data.specs.BindingFault.{first_binding_fault}
+use Rattle.cave_data.specs.Faults.{first_binding_fault, FaultIs}
 use Rattle.cave_data.specs.CaveView.{CaveView}
-use Rattle.cave_data.specs.Faults.{FaultIs}
-use Rattle.cave_data.specs.FirstFault.{first_fault}
+use Rattle.cave_data.specs.Steps.{first_fault}
 use Rattle.cave_data.specs.Reads.{Reads, fault as cave_fault, too_large_input as cave_too_large}
 use Rattle.data_rows.specs.declared.error.Cause.TheVariants as cause
 use Rattle.data_rows.specs.declared.error.CaveError.{CaveError}

@@ -11,8 +11,8 @@ pub use Rattle.replay_edits.specs.Faults
 pub use Rattle.replay_edits.specs.LineText
 pub use Rattle.play_machine.specs.FinalState
 pub use Rattle.play_machine.specs.Moments
-pub use Rattle.play_machine.specs.Score
-pub use Rattle.play_machine.specs.Steps
+pub use Rattle.play_machine.specs.FinalState
+pub use Rattle.play_machine.specs.Moments
 pub use Rattle.play_machine.specs.Transcript
-pub use Rattle.play_machine.specs.Walk
+pub use Rattle.play_machine.specs.Moments
 pub use Rattle.play_machine.specs.Watch

@@ -6,7 +6,7 @@ use Rattle.std.specs.Fmt.{decimal}
 use Rattle.std.specs.Str.Lines.{lines}
 use Rattle.cave_data.specs.CaveView.{CaveView}
 use Rattle.cave_data.specs.Reads.{Reads}
-use Rattle.data_bindings.specs.Listing.{bindings_text}
+use Rattle.check_tables.specs.Bindings.{bindings_text}
 use Rattle.check_tables.specs.Known.{entry_lines, known_entries, unknown, unmet_text}
 use Rattle.check_tables.specs.Names.{names_table}
 use Rattle.check_tables.specs.Unused.{unused_table}
@@ -18,11 +18,9 @@ use Rattle.play_command.specs.declared.views.PlayView.{PlayView}
 use Rattle.play_command.specs.declared.views.PlayView.TheVariants as play
 use Rattle.replay_edits.specs.Edit.{Game, game_of, log_of}
 use Rattle.turn_ends.specs.Score.{max_score_of}
-use Rattle.play_machine.specs.FinalState.{final_state_text}
-use Rattle.play_machine.specs.Score.{score_text}
-use Rattle.play_machine.specs.Steps.{steps_text}
+use Rattle.play_machine.specs.FinalState.{final_state_text, score_text}
+use Rattle.play_machine.specs.Moments.{steps_text, walk_text}
 use Rattle.play_machine.specs.Transcript.{play_text}
-use Rattle.play_machine.specs.Walk.{walk_text}
 use Rattle.std.specs.Io.KnownBytes.{Appends, Keeps}
 use Rattle.check_doubts.specs.Doubts.{doubts}
 use Rattle.check_doubts.specs.Known.{doubt_entry}

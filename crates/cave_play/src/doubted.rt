@@ -10,8 +10,9 @@ use crate::fault::PlayFault;
 use crate::inputs::{Inputs, OneLog, Sources};
 use crate::judge::{ReadCave, read_cave};
 use crate::output::write_output;
-use check_doubts::{Doubt, DoubtEntries, DoubtFiles, doubts, push_doubts};
-use check_tables::known::{KnownList, push_entries};
+use base_text::Text;
+use check_doubts::{Doubt, DoubtEntries, DoubtFiles, doubts, put_doubts};
+use check_tables::known::{KnownList, put_entries};
 use play_command::Input;
 use std::alloc::{AllocError, Global};
 use std::io::{Read, Write};
@@ -46,11 +47,13 @@ fn left_in(
     let found = doubts(alloc, &read.cave, &read.database, &read.bindings)?;
     let known = KnownList::of(alloc, files.known, list)?;
     let left = known.unknown(alloc, &DoubtEntries, &found)?;
-    let mut entries = Vec::new(alloc);
-    push_entries(alloc, &DoubtEntries, "", &found, &mut entries)?;
-    let mut text = Vec::new(alloc);
-    known.push_unmet(alloc, "no doubt says this", &entries, &mut text)?;
-    push_doubts(alloc, files, &left, &mut text)?;
+    let mut entries = Text::new(alloc);
+    put_entries(&mut entries, &DoubtEntries, "", &found);
+    let entries = entries.finish()?;
+    let mut text = Text::new(alloc);
+    known.put_unmet(&mut text, "no doubt says this", &entries);
+    put_doubts(&mut text, files, &left);
+    let text = text.finish()?;
     Ok(LeftDoubts { left, text })
 }
 

@@ -13,7 +13,7 @@ ghost use Rattle.cave_play.specs.Stages.{large_seed, every_fault, lines_fault, s
 ghost use Rattle.cave_play.specs.Stages.{cave_refusal, inputs_fault, opening_fault, Judges};
 ghost use Rattle.cave_play.specs.Stages.{judging_stage, cave_stages, log_stage, script_stage};
 ghost use Rattle.cave_play.specs.Output.{IsReadOf};
-ghost use Rattle.play_machine.specs.HeldGame.{HoldsGame};
+ghost use Rattle.play_machine.specs.Machine.{HoldsGame};
 ghost use Rattle.play_machine.specs.Moments.{noted_of};
 ghost use Rattle.play_machine.specs.Watch.{IsEndOf, NotesMore};
 

@@ -14,11 +14,11 @@ ghost use Rattle.turn_ends.specs.Score.{max_score_of};
 use crate::fault::PlayFault;
 use crate::inputs::Sources;
 use crate::judge::{ReadCave, watch_play};
+use base_text::Text;
 use cave_data::Cave;
 use check_doubts::{DoubtEntries, doubts};
-use check_tables::known::push_entries;
-use check_tables::{push_names, push_unused, push_words};
-use data_bindings::push_bindings;
+use check_tables::known::put_entries;
+use check_tables::{push_bindings, push_names, push_unused, push_words};
 use play_command::{CheckView, PlayView};
 use play_machine::{
     CaveMachine, StepTable, Transcript, Unwatched, WalkLines, push_play_end, push_state_after,
@@ -65,7 +65,9 @@ fn push_known(alloc: Global, read: &ReadCave, text: &mut Vec<u8>) -> Result<(), 
         OnOk result (text.new.items ≡ text.old.items ++ entry_lines doubt_entry [] all) }
 {
     let found = doubts(alloc, &read.cave, &read.database, &read.bindings)?;
-    push_entries(alloc, &DoubtEntries, "", &found, text)
+    let mut known = Text::after(alloc, text);
+    put_entries(&mut known, &DoubtEntries, "", &found);
+    known.give_to(text)
 }
 
 /// What a view asks for of the play of a log that is read.

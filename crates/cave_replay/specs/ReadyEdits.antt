@@ -1,6 +1,5 @@
 -- Accepted edits, and what is known of them before anything is replayed.
-use Rattle.std.specs.Prelude.{◌≡◌, ℕ, ◌+◌, ◌-◌, ◌≤◌, List, [], length, None}
-use Rattle.std.specs.Prelude.{vec_len, vec_capacity}
+use Rattle.std.specs.Prelude.{◌≡◌, ℕ, ◌+◌, ◌-◌, ◌≤◌, List, [], length, None, vec_len, vec_capacity}
 use Rattle.replay_edits.specs.LineText.{LineText}
 use Rattle.cave_replay.specs.declared.ready_edits.ReadyEdits.{ReadyEdits}
 use Rattle.cave_replay.specs.declared.segment.OldPlay.{OldPlay}

@@ -11,6 +11,6 @@ pub use Rattle.base_lines.specs.Line
 pub use Rattle.turn_scene.specs.Bounds
 pub use Rattle.turn_scene.specs.Rows
 pub use Rattle.turn_scene.specs.Scene
-pub use Rattle.turn_ends.specs.Counting
+pub use Rattle.turn_ends.specs.Score
 pub use Rattle.turn_ends.specs.Score
 pub use Rattle.turn_text.specs.Text

@@ -11,8 +11,7 @@ ghost use Rattle.turn_scene.specs.Effects.{with_charge};
 ghost use Rattle.cave_turn.specs.Answers as defined;
 ghost use Rattle.cave_turn.specs.Answers.{answer_of, answer_in, quit, after_yes, after_no};
 ghost use Rattle.cave_turn.specs.Answers.{after_reply, is_of_hint, after_end_of_answer};
-ghost use Rattle.cave_turn.specs.Answers.{after_answer};
-ghost use Rattle.cave_turn.specs.Answers.{answers, without_question, is_yes};
+ghost use Rattle.cave_turn.specs.Answers.{after_answer, answers, without_question, is_yes};
 
 use crate::dragon::fight;
 use crate::finish::end_turn;
@@ -40,6 +39,7 @@ const INSTRUCTED_CHARGE: i32 = 1000;
 
 /// Takes a line as the answer to the open question.
 #[tactic(auto, unfolding(crate::specs::Answers::after_answer))]
+#[inline(never)]
 pub fn take_answer<N: RowNotes>(
     rules: &Rules<'_>,
     question: &Question,

@@ -274,6 +274,7 @@ fn object_alone<N: RowNotes>(
 
 /// What a word says if no other follows.
 #[tactic(auto, unfolding(crate::specs::Request::word_alone))]
+#[inline(always)]
 fn word_alone<N: RowNotes>(
     rules: &Rules<'_>,
     half: HalfCommand,

@@ -8,9 +8,8 @@ ghost use Rattle.turn_scene.specs.Bounds.{parts_of_end};
 ghost use Rattle.turn_scene.specs.Scene.{scene_of, cave_of};
 ghost use Rattle.cave_world.specs.declared.tables.Table.TheVariants as table;
 ghost use Rattle.turn_scene.specs.Rows.{Does, after_all, deed, by_table};
-ghost use Rattle.cave_turn.specs.Revival.{after_fall, revive};
+ghost use Rattle.cave_turn.specs.Revival.{after_fall, revive, revival_rows, come_back, bury};
 ghost use Rattle.turn_scene.specs.Effects.{for_each_down_from};
-ghost use Rattle.cave_turn.specs.Revival.{revival_rows, come_back, bury};
 
 use cave_words::Named;
 use cave_world::{Ending, LIVES, RowNotes, Table};

@@ -9,13 +9,12 @@ use Rattle.cave_words.specs.declared.named.Named.TheVariants as name
 use Rattle.cave_world.specs.declared.state.State.{State}
 use Rattle.cave_world.specs.Called.{or_no_object, object_called}
 use Rattle.turn_scene.specs.Scene.{thing, is_called}
-use Rattle.turn_scene.specs.Reach.{is_carried, is_near}
-use Rattle.turn_scene.specs.Liquids.{liquid_of, is_liquid}
+use Rattle.turn_scene.specs.Reach.{is_carried, is_near, liquid_of, is_liquid}
 use Rattle.world_objects.specs.Objects.{is_in_hands, is_first_at, spot_of}
 use Rattle.cave_verbs.specs.Verbs.{is_verb}
 use Rattle.cave_verbs.specs.declared.verb.Verb.{Verb}
 use Rattle.cave_verbs.specs.declared.verb.Verb.TheVariants as verb
-use Rattle.cave_verbs.specs.Ranks.{take_rank, drop_rank, throw_rank, bare_rank, rank}
+use Rattle.cave_verbs.specs.Rows.{take_rank, drop_rank, throw_rank, bare_rank, rank}
 
 -- the bottle isn't a liquid
 pub bottle-water : (cave : CaveView) → is_called cave (thing cave name.Bottle) name.Water ≡ false

@@ -1,9 +1,9 @@
 -- What a verb does by its own rules, and by those of the verbs that it goes on with.
-use Rattle.std.specs.Prelude.{ℕ, ◌==◌, if◌then◌else◌, List, suc, zero}
+use Rattle.std.specs.Prelude.{ℕ, ◌==◌, if◌then◌else◌, List, suc, zero, ◌≡◌, []}
 use Rattle.cave_data.specs.CaveView.{CaveView}
-use Rattle.turn_scene.specs.Scene.{Scene}
+use Rattle.turn_scene.specs.Scene.{Scene, MAX_FORCED_MOTIONS}
 use Rattle.turn_scene.specs.Rows.{Deed, Act, deed, noted}
-use Rattle.cave_verbs.specs.Rows.{going_on, VerbRow, first_fitting}
+use Rattle.cave_verbs.specs.Rows.{going_on, VerbRow, first_fitting, task_of}
 use Rattle.cave_verbs.specs.declared.next.Next.{Next}
 use Rattle.cave_verbs.specs.declared.next.Next.TheVariants.{Stay}
 use Rattle.cave_verbs.specs.declared.next.VerbStep.{VerbStep}
@@ -12,22 +12,22 @@ use Rattle.cave_verbs.specs.declared.task.Task.{Task}
 use Rattle.cave_verbs.specs.declared.verb.Verb.{Verb}
 use Rattle.cave_verbs.specs.declared.verb.Verb.TheVariants as verb
 use Rattle.cave_world.specs.declared.tables.Table.TheVariants as table
-use Rattle.cave_verbs.specs.Blasting.{blast_rows}
-use Rattle.cave_verbs.specs.Breaking.{break_rows, wake_rows}
+use Rattle.cave_verbs.specs.Small.{blast_rows, break_rows, wake_rows, on_rows, off_rows, bare_rows}
+use Rattle.cave_verbs.specs.Small.{other_rows, nothing_rows, bare_quit_rows, bare_score_rows}
+use Rattle.cave_verbs.specs.Small.{bare_brief_rows, wave_rows, rub_rows}
 use Rattle.cave_verbs.specs.Dropping.{drop_rows}
 use Rattle.cave_verbs.specs.Feeding.{feed_rows, bare_eat_rows, eat_rows}
 use Rattle.cave_verbs.specs.Finding.{find_rows, bare_inventory_rows}
 use Rattle.cave_verbs.specs.Killing.{bare_kill_rows, kill_rows}
-use Rattle.cave_verbs.specs.Light.{on_rows, off_rows}
 use Rattle.cave_verbs.specs.Magic.{bare_foo_rows}
 use Rattle.cave_verbs.specs.Opening.{bare_open_rows, open_rows}
 use Rattle.cave_verbs.specs.Pouring.{pour_rows, drink_rows, bare_fill_rows, fill_rows}
 use Rattle.cave_verbs.specs.Reading.{bare_read_rows, read_rows}
-use Rattle.cave_verbs.specs.Small.{bare_rows, other_rows, nothing_rows, bare_quit_rows}
-use Rattle.cave_verbs.specs.Small.{bare_score_rows, bare_brief_rows}
 use Rattle.cave_verbs.specs.Taking.{bare_take_rows, take_rows}
 use Rattle.cave_verbs.specs.Throwing.{throw_rows}
-use Rattle.cave_verbs.specs.Waving.{wave_rows, rub_rows}
+use Rattle.cave_world.specs.declared.part.Part.{Part}
+use Rattle.cave_world.specs.declared.state.State.{State}
+use Rattle.cave_verbs.specs.declared.command.Command.{Command}
 
 -- the rows of a verb without an object, and those of the verb with one
 abbrev pub rows_of : Verb → List VerbRow × List VerbRow
@@ -88,3 +88,20 @@ next_of_step (GoOn v x) = Stay
 -- what a command says is done; no verb goes on more than three times
 unfoldable pub act : CaveView → Task → Scene → Act VerbStep
 act cave task p = act_within 3 (deed cave task p)
+
+-- a command is done in a state, after these parts
+abbrev pub act_on_command : CaveView → Command → State → List Part → Act VerbStep
+act_on_command cave command s parts =
+    act cave (task_of command.verb command.object command.word)
+    (record {
+      state = s;
+      parts = parts;
+      rows = [];
+      was_dark = command.was_dark;
+      left = MAX_FORCED_MOTIONS;
+    })
+
+-- what was done leaves this state and these parts, and this follows
+abbrev pub IsDone : Act VerbStep → State → List Part → Next → Type 0
+IsDone acted s parts next =
+    (acted.scene.state ≡ s) × (acted.scene.parts ≡ parts) × (acted.step ≡ Done next)

@@ -3,19 +3,15 @@ use Rattle.std.specs.Prelude.{List, [], ◌∷◌}
 use Rattle.data_rows.specs.declared.role.Role.TheVariants as role
 use Rattle.cave_words.specs.declared.named.Named.TheVariants as name
 use Rattle.cave_world.specs.declared.ending.Ending.TheVariants as ending
-use Rattle.turn_scene.specs.Props.{BATTERIES_FRESH, BIRD_FREE, DRAGON_ALIVE, SNAKE_GONE}
-use Rattle.turn_scene.specs.Props.{TROLL_FLED, VASE_BREAKING, VASE_BROKEN, VASE_ON_PILLOW}
-use Rattle.turn_scene.specs.Props.{VASE_WHOLE}
+use Rattle.turn_scene.specs.Props.{BATTERIES_FRESH, BIRD_FREE, DRAGON_ALIVE, SNAKE_GONE, TROLL_FLED}
+use Rattle.turn_scene.specs.Props.{VASE_BREAKING, VASE_BROKEN, VASE_ON_PILLOW, VASE_WHOLE}
 use Rattle.turn_scene.specs.Effects.{say, look, bring, destroy, fix, set_prop}
-use Rattle.turn_scene.specs.Putting.{put}
-use Rattle.turn_scene.specs.Troll.{troll_goes}
-use Rattle.turn_scene.specs.Losses.{lose_to_snake}
+use Rattle.turn_scene.specs.SharedRules.{put, troll_goes, lose_to_snake}
 use Rattle.turn_scene.specs.Rows.{row_then, otherwise_then}
 use Rattle.turn_scene.specs.Tests.{no, carried, near, is_here, prop, cave_closed, away_from_home}
 use Rattle.cave_verbs.specs.Effects.{default}
-use Rattle.cave_verbs.specs.Rows.{VerbRow, row, ends, does, stays}
+use Rattle.cave_verbs.specs.Rows.{VerbRow, row, ends, does, stays, x, is}
 use Rattle.cave_verbs.specs.declared.verb.Verb.TheVariants as verb
-use Rattle.cave_verbs.specs.Tests.{x, is}
 use Rattle.cave_verbs.specs.Things.{batteries, dragon, pillow, second_rod, snake, troll, vending}
 
 unfoldable pub drop_rows : List VerbRow

@@ -13,9 +13,8 @@ use Rattle.turn_scene.specs.Effects.{change, say, destroy, loosen, set_prop, los
 use Rattle.turn_scene.specs.Rows.{Test, row_then, otherwise_then}
 use Rattle.turn_scene.specs.Tests.{no, either, near, prop, other_prop, cave_closed}
 use Rattle.cave_verbs.specs.Effects.{default, ask_what}
-use Rattle.cave_verbs.specs.Rows.{VerbRow, row, keeps, does, stays}
+use Rattle.cave_verbs.specs.Rows.{VerbRow, row, keeps, does, stays, x, is}
 use Rattle.cave_verbs.specs.declared.verb.Verb.TheVariants as verb
-use Rattle.cave_verbs.specs.Tests.{x, is}
 use Rattle.cave_verbs.specs.declared.task.Task.{Task}
 use Rattle.cave_verbs.specs.Things.{axe, bird, food}
 

@@ -12,9 +12,8 @@ use Rattle.turn_scene.specs.Reach.{is_carried}
 use Rattle.turn_scene.specs.Rows.{Deed, Test, Effect, Row, plain_row, otherwise_then, by_table}
 use Rattle.turn_scene.specs.Effects.{in_scene, say}
 use Rattle.turn_scene.specs.Tests.{carried, is_here, dwarf, cave_closed, in_bottle, in_lake}
-use Rattle.cave_verbs.specs.Rows.{VerbRow, row, stays}
+use Rattle.cave_verbs.specs.Rows.{VerbRow, row, stays, x, is}
 use Rattle.cave_verbs.specs.Effects.{default}
-use Rattle.cave_verbs.specs.Tests.{x, is}
 use Rattle.cave_verbs.specs.declared.task.Task.{Task}
 use Rattle.cave_world.specs.declared.tables.Table.TheVariants as table
 use Rattle.cave_verbs.specs.Things.{bear, bottle}

@@ -7,16 +7,15 @@ use Rattle.cave_world.specs.declared.ending.Question.TheVariants as question
 use Rattle.turn_scene.specs.Props.{BEAR_DEAD, BEAR_WILD, BIRD_FREE, DRAGON_ALIVE}
 use Rattle.turn_scene.specs.Rows.{Deed, Test, row_then, otherwise_then}
 use Rattle.turn_scene.specs.Effects.{say, destroy, set_prop}
-use Rattle.turn_scene.specs.Losses.{lose_to_snake}
+use Rattle.turn_scene.specs.SharedRules.{lose_to_snake}
 use Rattle.turn_scene.specs.Tests.{no, either, both, there_is, near, is_here, prop, dwarf}
 use Rattle.turn_scene.specs.Tests.{cave_closed}
 use Rattle.cave_verbs.specs.Choice.{candidate, objects_meant, several, first}
-use Rattle.cave_verbs.specs.Rows.{VerbRow, row, keeps, poses, ends, does, stays}
+use Rattle.cave_verbs.specs.Rows.{VerbRow, row, keeps, poses, ends, does, stays, x, is}
 use Rattle.cave_verbs.specs.Effects.{default, ask_what}
 use Rattle.cave_verbs.specs.Verbs.{is_verb}
 use Rattle.cave_verbs.specs.declared.verb.Verb.{Verb}
 use Rattle.cave_verbs.specs.declared.verb.Verb.TheVariants as verb
-use Rattle.cave_verbs.specs.Tests.{x, is}
 use Rattle.cave_verbs.specs.declared.task.Task.{Task}
 use Rattle.cave_verbs.specs.Things.{bear, bird, clam, dragon, oyster, snake, troll}
 

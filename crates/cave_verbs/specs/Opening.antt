@@ -7,15 +7,13 @@ use Rattle.turn_scene.specs.Props.{BEAR_DEAD, BEAR_FREE, BEAR_WILD, CHAIN_LOCKED
 use Rattle.turn_scene.specs.Props.{DOOR_OILED, GRATE_LOCKED, GRATE_UNLOCKED}
 use Rattle.turn_scene.specs.Rows.{Deed, Test, Thing, row_then, otherwise_then}
 use Rattle.turn_scene.specs.Effects.{say, bring, destroy, fix, loosen, set_prop, send}
-use Rattle.turn_scene.specs.Putting.{lay_down}
-use Rattle.turn_scene.specs.Panic.{panic}
+use Rattle.turn_scene.specs.SharedRules.{lay_down, panic}
 use Rattle.turn_scene.specs.Tests.{no, either, there_is, carried, near, is_here, prop, other_prop}
 use Rattle.turn_scene.specs.Tests.{cave_closing, away_from_home}
 use Rattle.cave_verbs.specs.Choice.{candidate, objects_meant, first}
-use Rattle.cave_verbs.specs.Rows.{VerbRow, row, keeps, stays}
+use Rattle.cave_verbs.specs.Rows.{VerbRow, row, keeps, stays, x, is}
 use Rattle.cave_verbs.specs.Effects.{default, ask_what}
 use Rattle.cave_verbs.specs.declared.verb.Verb.TheVariants as verb
-use Rattle.cave_verbs.specs.Tests.{x, is}
 use Rattle.cave_verbs.specs.Verbs.{is_verb}
 use Rattle.cave_verbs.specs.declared.next.VerbStep.{VerbStep}
 use Rattle.cave_verbs.specs.declared.next.VerbStep.TheVariants.{GoOn}

@@ -9,7 +9,7 @@ use Rattle.cave_words.specs.declared.named.Named.TheVariants as name
 use Rattle.world_objects.specs.Objects.{prop_of}
 use Rattle.cave_world.specs.declared.state.State.{State}
 use Rattle.turn_scene.specs.Scene.{is_called}
-use Rattle.turn_scene.specs.Liquids.{liquid_of}
+use Rattle.turn_scene.specs.Reach.{liquid_of}
 use Rattle.turn_scene.specs.Props.{BOTTLE_EMPTY, BOTTLE_OF_OIL, BOTTLE_OF_WATER, DOOR_OILED}
 use Rattle.turn_scene.specs.Props.{DOOR_RUSTY, VASE_BROKEN}
 use Rattle.turn_scene.specs.Effects.{say, look, bring, fix, set_prop}
@@ -17,9 +17,8 @@ use Rattle.turn_scene.specs.Rows.{Test, Effect, Thing, row_then, otherwise_then}
 use Rattle.turn_scene.specs.Tests.{no, either, both, there_is, carried, near, is_here, in_bottle}
 use Rattle.turn_scene.specs.Tests.{bottle_full, in_lake, lake}
 use Rattle.cave_verbs.specs.Effects.{default, ask_what}
-use Rattle.cave_verbs.specs.Rows.{VerbRow, row, keeps, again, does, stays}
+use Rattle.cave_verbs.specs.Rows.{VerbRow, row, keeps, again, does, stays, x, no_object, is}
 use Rattle.cave_verbs.specs.declared.verb.Verb.TheVariants as verb
-use Rattle.cave_verbs.specs.Tests.{x, no_object, is}
 use Rattle.cave_verbs.specs.declared.task.Task.{Task}
 use Rattle.cave_verbs.specs.Things.{bottle, door, oil, plant, second_plant, water}
 

@@ -10,10 +10,9 @@ use Rattle.turn_scene.specs.Rows.{Deed, Effect, row_then, otherwise_then, always
 use Rattle.turn_scene.specs.Effects.{tell, say}
 use Rattle.turn_scene.specs.Tests.{there_is, carried, near, cave_closed, in_the_dark, has_hint}
 use Rattle.cave_verbs.specs.Choice.{candidate, objects_meant, only}
-use Rattle.cave_verbs.specs.Rows.{VerbRow, row, keeps, poses, does, stays}
+use Rattle.cave_verbs.specs.Rows.{VerbRow, row, keeps, poses, does, stays, x, is}
 use Rattle.cave_verbs.specs.Effects.{default, ask_what}
 use Rattle.cave_verbs.specs.declared.verb.Verb.TheVariants as verb
-use Rattle.cave_verbs.specs.Tests.{x, is}
 use Rattle.cave_verbs.specs.declared.task.Task.{Task}
 use Rattle.cave_verbs.specs.Things.{magazine, message, oyster, tablet}
 

@@ -1,20 +1,61 @@
 -- Rules of verbs as rows: they are about a command, and say what follows it.
-use Rattle.std.specs.Prelude.{ℕ, ◌+◌, List, drop}
+use Rattle.std.specs.Prelude.{ℕ, suc, ◌==◌, ◌||◌, if◌then◌else◌, ◌+◌, List, drop}
+use Rattle.turn_scene.specs.Bounds.{parts_of_row, parts_of_inventory}
+use Rattle.cave_verbs.specs.declared.next.Next.TheVariants.{Stay}
+use Rattle.cave_verbs.specs.declared.next.VerbStep.{VerbStep}
+use Rattle.cave_verbs.specs.declared.next.VerbStep.TheVariants.{Done, GoOn}
+use Rattle.cave_data.specs.CaveView.{CaveView}
+use Rattle.cave_words.specs.declared.named.Named.TheVariants as name
+use Rattle.turn_scene.specs.Scene.{is_called}
+use Rattle.cave_verbs.specs.declared.verb.Verb.{Verb}
+use Rattle.cave_verbs.specs.declared.verb.Verb.TheVariants as verb
 use Rattle.cave_world.specs.declared.ending.Ending.{Ending}
 use Rattle.cave_world.specs.declared.ending.Question.{Question}
 use Rattle.turn_scene.specs.declared.scene.Scene.{Scene as OpenScene}
 use Rattle.turn_scene.specs.declared.rules.Rules.{Rules}
-use Rattle.turn_scene.specs.Rows.{Deed, Act, Test, Effect, Thing, Row, row_then}
-use Rattle.turn_scene.specs.Rows.{first_fitting_or, nothing_but, noted_from, PlaysBy}
+use Rattle.turn_scene.specs.Rows.{Deed, Act, Test, Effect, Thing, Row, row_then, first_fitting_or}
+use Rattle.turn_scene.specs.Rows.{nothing_but, noted_from, PlaysBy}
 use Rattle.cave_world.specs.declared.tables.RuleRow.{RuleRow}
 use Rattle.cave_world.specs.declared.tables.Table.{Table}
-use Rattle.cave_verbs.specs.Room.{parts_by}
 use Rattle.cave_verbs.specs.declared.next.Next.{Next}
 use Rattle.cave_verbs.specs.declared.next.Next.TheVariants as next_is
-use Rattle.cave_verbs.specs.declared.next.VerbStep.{VerbStep}
-use Rattle.cave_verbs.specs.declared.next.VerbStep.TheVariants.{Done, GoOn}
 use Rattle.cave_verbs.specs.declared.task.Task.{Task}
-use Rattle.cave_verbs.specs.declared.verb.Verb.{Verb}
+use Rattle.cave_words.specs.declared.named.Named.{Named}
+
+-- a row of a verb, by what follows: nothing follows INVENTORY
+abbrev pub parts_by : VerbStep → ℕ
+parts_by (Done Stay) = parts_of_inventory
+parts_by _ = parts_of_row
+
+-- TAKE goes on from no object to one, and from a liquid to the bottle, or to FILL it
+abbrev pub take_rank : CaveView → ℕ → ℕ
+take_rank cave x =
+    if x == 0 then 3 else (if is_called cave x name.Water || is_called cave x name.Oil then 2
+    else 1)
+
+-- DROP goes on from the first rod to the second
+abbrev pub drop_rank : CaveView → ℕ → ℕ
+drop_rank cave x = if is_called cave x name.Rod then 1 else 0
+
+-- THROW goes on from the first rod to the second, and to DROP, FEED or KILL
+abbrev pub throw_rank : CaveView → ℕ → ℕ
+throw_rank cave x = if is_called cave x name.Rod then 3 else 2
+
+-- FEED goes on to nothing, and other verbs only from no object to one
+abbrev pub bare_rank : ℕ → ℕ
+bare_rank x = if x == 0 then 1 else 0
+
+abbrev pub rank : CaveView → Verb → ℕ → ℕ
+rank cave verb.Take x = take_rank cave x
+rank cave verb.Drop x = drop_rank cave x
+rank cave verb.Throw x = throw_rank cave x
+rank cave verb.Feed x = 0
+rank cave _ x = bare_rank x
+
+-- a verb that goes on has a higher rank than what it goes on with
+abbrev pub rank_of : CaveView → VerbStep → ℕ
+rank_of cave (Done next) = 0
+rank_of cave (GoOn v x) = suc (rank cave v x)
 
 -- what a player commands
 abbrev pub task_of : Verb → ℕ → List ℕ → Task
@@ -81,3 +122,15 @@ abbrev pub DoneByRows : {N : Type 0} → (N → List RuleRow) → List VerbRow �
     → OpenScene N → OpenScene N → Next → Type 0
 DoneByRows noted_rows rows rules task old new next =
     ByRows noted_rows rows rules task old new (Done next)
+
+-- the command's object
+abbrev pub x : Thing Task
+x d = d.about.object
+
+-- there is no object in the command
+abbrev pub no_object : Test Task
+no_object d = d.about.object == 0
+
+-- the command's object has a name
+abbrev pub is : Named → Test Task
+is n d = is_called d.cave d.about.object n

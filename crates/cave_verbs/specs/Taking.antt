@@ -11,9 +11,8 @@ use Rattle.turn_scene.specs.Rows.{Thing, row_then, otherwise_then}
 use Rattle.turn_scene.specs.Tests.{no, either, there_is, carried, near, prop, immovable, other_prop}
 use Rattle.turn_scene.specs.Tests.{prop_up_to, dwarf, in_bottle, full_hands}
 use Rattle.cave_verbs.specs.Effects.{default, ask_what}
-use Rattle.cave_verbs.specs.Rows.{VerbRow, row, keeps, does, stays}
+use Rattle.cave_verbs.specs.Rows.{VerbRow, row, keeps, does, stays, x, is}
 use Rattle.cave_verbs.specs.declared.verb.Verb.TheVariants as verb
-use Rattle.cave_verbs.specs.Tests.{x, is}
 use Rattle.cave_verbs.specs.declared.task.Task.{Task}
 use Rattle.cave_verbs.specs.Things.{bear, bird, bottle, cage, rod}
 

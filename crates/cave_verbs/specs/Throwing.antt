@@ -13,12 +13,11 @@ use Rattle.turn_scene.specs.Props.{AXE_BY_BEAR, BEAR_WILD, DRAGON_ALIVE}
 use Rattle.turn_scene.specs.Parts.{with_dwarves}
 use Rattle.turn_scene.specs.Rows.{Test, Effect, row_then, row_by_draw, always, otherwise_then}
 use Rattle.turn_scene.specs.Effects.{in_state, say, bring, destroy, fix, juggle, set_prop}
-use Rattle.turn_scene.specs.Troll.{troll_goes}
+use Rattle.turn_scene.specs.SharedRules.{troll_goes}
 use Rattle.turn_scene.specs.Tests.{no, carried, near, is_here, prop, dwarf, treasure, one_in}
-use Rattle.cave_verbs.specs.Rows.{VerbRow, row, again, does}
+use Rattle.cave_verbs.specs.Rows.{VerbRow, row, again, does, x, is}
 use Rattle.cave_verbs.specs.Effects.{default}
 use Rattle.cave_verbs.specs.declared.verb.Verb.TheVariants as verb
-use Rattle.cave_verbs.specs.Tests.{x, is}
 use Rattle.cave_verbs.specs.declared.task.Task.{Task}
 use Rattle.cave_verbs.specs.Things.{bear, dragon, second_rod, troll}
 

@@ -1,7 +1,7 @@
 ghost use Rattle.std.specs.Prelude.{◌+◌, ◌≤◌};
 ghost use Rattle.arrayvec.specs.ArrayVec.{array_vec_len};
 ghost use Rattle.cave_words.specs.Lexicon.{IsLexiconOf};
-ghost use Rattle.cave_verbs.specs.Command.{IsDone, act_on_command};
+ghost use Rattle.cave_verbs.specs.Acting.{IsDone, act_on_command};
 
 use crate::acting::act_in_scene;
 use crate::next::Next;

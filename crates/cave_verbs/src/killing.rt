@@ -1,10 +1,9 @@
 ghost use Rattle.std.specs.Prelude.{◌≡◌, ◌≤◌};
 ghost use Rattle.turn_scene.specs.Bounds.{HasRoom, parts_of_row};
 ghost use Rattle.turn_scene.specs.Scene.{scene_of, cave_of};
-ghost use Rattle.cave_verbs.specs.Rows.{ByRows, DoneByRows};
+ghost use Rattle.cave_verbs.specs.Rows.{ByRows, DoneByRows, rank_of};
 ghost use Rattle.turn_scene.specs.Rows.{deed, noted};
 ghost use Rattle.cave_world.specs.declared.tables.Table.TheVariants as table;
-ghost use Rattle.cave_verbs.specs.Ranks.{rank_of};
 ghost use Rattle.cave_verbs.specs.Killing.{foes, prey, bare_kill_rows, kill_rows};
 
 use crate::choice::{Meant, add_meant, first, several};

@@ -2,8 +2,6 @@
 #![tactic(auto)]
 
 pub mod acting;
-pub mod blasting;
-pub mod breaking;
 pub mod choice;
 pub mod command;
 pub mod dropping;
@@ -11,7 +9,6 @@ pub mod feeding;
 pub mod finding;
 pub mod killing;
 pub mod laws;
-pub mod light;
 pub mod magic;
 pub mod next;
 pub mod opening;
@@ -22,7 +19,6 @@ pub mod taking;
 pub mod task;
 pub mod throwing;
 pub mod verb;
-pub mod waving;
 
 pub use acting::act_in_scene;
 pub use cave_data::Cave;

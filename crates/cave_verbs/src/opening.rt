@@ -2,12 +2,11 @@ ghost use Rattle.std.specs.Prelude.{◌≡◌, ◌≤◌, ◌||◌, IsTrue};
 ghost use Rattle.cave_words.specs.declared.named.Named.TheVariants as name;
 ghost use Rattle.turn_scene.specs.Scene.{is_called, cave_of, scene_of};
 ghost use Rattle.turn_scene.specs.Bounds.{HasRoom, parts_of_row};
-ghost use Rattle.cave_verbs.specs.Rows.{ByRows, DoneByRows, noted_after};
+ghost use Rattle.cave_verbs.specs.Rows.{ByRows, DoneByRows, noted_after, rank_of};
 ghost use Rattle.turn_scene.specs.Rows.{deed, noted};
 ghost use Rattle.cave_verbs.specs.Verbs.{is_verb};
 ghost use Rattle.cave_verbs.specs.declared.verb.Verb.TheVariants as verb_is;
 ghost use Rattle.cave_world.specs.declared.tables.Table.TheVariants as table;
-ghost use Rattle.cave_verbs.specs.Ranks.{rank_of};
 ghost use Rattle.cave_verbs.specs.Opening.{bare_open_rows, locks, open_rows};
 
 use crate::choice::{Meant, add_meant, first};

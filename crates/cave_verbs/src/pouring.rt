@@ -1,11 +1,10 @@
 ghost use Rattle.std.specs.Prelude.{◌≡◌, ◌≤◌, ◌+ℤ◌, pos, int_div};
 ghost use Rattle.std.specs.Int.{int_rem_euclid};
 ghost use Rattle.turn_scene.specs.Bounds.{HasRoom, parts_of_row};
-ghost use Rattle.cave_verbs.specs.Rows.{ByRows, DoneByRows};
+ghost use Rattle.cave_verbs.specs.Rows.{ByRows, DoneByRows, rank_of};
 ghost use Rattle.turn_scene.specs.Rows.{Does, noted};
 ghost use Rattle.turn_scene.specs.Scene.{cave_of};
 ghost use Rattle.cave_world.specs.declared.tables.Table.TheVariants as table;
-ghost use Rattle.cave_verbs.specs.Ranks.{rank_of};
 ghost use Rattle.cave_verbs.specs.Pouring.{plant_watered, poured_of, pour_rows, drink_rows};
 ghost use Rattle.cave_verbs.specs.Pouring.{bare_fill_rows, fill_rows};
 

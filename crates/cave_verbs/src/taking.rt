@@ -1,10 +1,9 @@
 ghost use Rattle.std.specs.Prelude.{◌≡◌, ◌≤◌};
 ghost use Rattle.turn_scene.specs.Bounds.{HasRoom};
-ghost use Rattle.cave_verbs.specs.Rows.{ByRows, DoneByRows, noted_after};
+ghost use Rattle.cave_verbs.specs.Rows.{ByRows, DoneByRows, noted_after, rank_of, take_rank};
 ghost use Rattle.turn_scene.specs.Scene.{cave_of};
 ghost use Rattle.turn_scene.specs.Rows.{noted};
 ghost use Rattle.cave_world.specs.declared.tables.Table.TheVariants as table;
-ghost use Rattle.cave_verbs.specs.Ranks.{rank_of, take_rank};
 ghost use Rattle.cave_verbs.specs.Taking.{bare_take_rows, take_rows, lone_object};
 
 use crate::next::{Next, VerbStep};

@@ -1,13 +1,12 @@
 ghost use Rattle.std.specs.Prelude.{◌≡◌, ◌≤◌, IsTrue};
 ghost use Rattle.std.specs.List.{position};
 ghost use Rattle.turn_scene.specs.Bounds.{HasRoom, parts_of_row};
-ghost use Rattle.cave_verbs.specs.Rows.{ByRows, DoneByRows, noted_after};
+ghost use Rattle.cave_verbs.specs.Rows.{ByRows, DoneByRows, noted_after, rank_of, throw_rank};
 ghost use Rattle.turn_scene.specs.Effects.{Changes};
 ghost use Rattle.turn_scene.specs.Scene.{cave_of};
 ghost use Rattle.turn_scene.specs.Reach.{is_dwarf_at, is_dwarf_here};
 ghost use Rattle.turn_scene.specs.Rows.{noted};
 ghost use Rattle.cave_world.specs.declared.tables.Table.TheVariants as table;
-ghost use Rattle.cave_verbs.specs.Ranks.{rank_of, throw_rank};
 ghost use Rattle.cave_verbs.specs.Throwing.{with_one_killed, throw_rows};
 
 use crate::next::{Next, VerbStep};

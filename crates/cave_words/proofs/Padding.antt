@@ -7,7 +7,7 @@ use Rattle.std.proofs.lemmas.List.{take_more, map-append, length-map, length-tak
 use Rattle.std.proofs.Math.Seq.{set-append_seam}
 use Rattle.std.specs.Char.{to_ascii_uppercase}
 use Rattle.std.specs.List.{list_all}
-use Rattle.base_lines.specs.Prefixes.{prefix_while-append}
+use Rattle.base_lines.proofs.Prefixes.{prefix_while-append}
 use Rattle.base_lines.specs.Bytes.{is_nonblank, prefix_while}
 use Rattle.cave_words.specs.Words.{letters_that_count, with_padding, word_of, MAX_LETTERS}
 

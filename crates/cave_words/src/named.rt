@@ -1,6 +1,6 @@
 //! The objects that rules name by a word.
 ghost use Rattle.std.specs.Prelude.{◌≡◌, ◌<◌};
-ghost use Rattle.cave_words.specs.Named.{name_number, word_of_name, is_second};
+ghost use Rattle.cave_words.specs.Named.{each_name, is_second, name_number, word_of_name};
 ghost use Rattle.cave_words.specs.Named as defined;
 
 /// An object that rules name by a word of the cave.
@@ -60,64 +60,48 @@ pub enum Named {
 /// How many names there are.
 pub const NAME_COUNT: usize = 46;
 
-/// Each name, in the order of their numbers.
-pub const EACH_NAME: [Named; NAME_COUNT] = [
-    Named::Keys,
-    Named::Lamp,
-    Named::Grate,
-    Named::Cage,
-    Named::Rod,
-    Named::Steps,
-    Named::Bird,
-    Named::Door,
-    Named::Pillow,
-    Named::Snake,
-    Named::Fissure,
-    Named::Tablet,
-    Named::Clam,
-    Named::Oyster,
-    Named::Magazine,
-    Named::Dwarf,
-    Named::Knife,
-    Named::Food,
-    Named::Bottle,
-    Named::Water,
-    Named::Oil,
-    Named::Plant,
-    Named::Axe,
-    Named::Mirror,
-    Named::Dragon,
-    Named::Chasm,
-    Named::Troll,
-    Named::Bear,
-    Named::Message,
-    Named::Vending,
-    Named::Batteries,
-    Named::Gold,
-    Named::Coins,
-    Named::Chest,
-    Named::Eggs,
-    Named::Trident,
-    Named::Vase,
-    Named::Emerald,
-    Named::Pyramid,
-    Named::Pearl,
-    Named::Rug,
-    Named::Spices,
-    Named::Chain,
-    Named::SecondRod,
-    Named::SecondPlant,
-    Named::SecondTroll,
-];
+/// Hands all names, in their order, to a macro: the variant of each, and the word that names it.
+macro_rules! all_names {
+    ($write:ident) => {
+        $write! {
+            Keys b"KEYS" Lamp b"LAMP" Grate b"GRATE" Cage b"CAGE" Rod b"ROD" Steps b"STEPS"
+            Bird b"BIRD" Door b"DOOR" Pillow b"PILLO" Snake b"SNAKE" Fissure b"FISSU"
+            Tablet b"TABLE" Clam b"CLAM" Oyster b"OYSTE" Magazine b"MAGAZ" Dwarf b"DWARF"
+            Knife b"KNIFE" Food b"FOOD" Bottle b"BOTTL" Water b"WATER" Oil b"OIL" Plant b"PLANT"
+            Axe b"AXE" Mirror b"MIRRO" Dragon b"DRAGO" Chasm b"CHASM" Troll b"TROLL" Bear b"BEAR"
+            Message b"MESSA" Vending b"VENDI" Batteries b"BATTE" Gold b"GOLD" Coins b"COINS"
+            Chest b"CHEST" Eggs b"EGGS" Trident b"TRIDE" Vase b"VASE" Emerald b"EMERA"
+            Pyramid b"PYRAM" Pearl b"PEARL" Rug b"RUG" Spices b"SPICE" Chain b"CHAIN"
+            SecondRod b"ROD" SecondPlant b"PLANT" SecondTroll b"TROLL"
+        }
+    };
+}
 
-/// The words that name them, in the order of `Named`.
-pub const NAMES: [&[u8]; NAME_COUNT] = [
-    b"KEYS", b"LAMP", b"GRATE", b"CAGE", b"ROD", b"STEPS", b"BIRD", b"DOOR", b"PILLO", b"SNAKE",
-    b"FISSU", b"TABLE", b"CLAM", b"OYSTE", b"MAGAZ", b"DWARF", b"KNIFE", b"FOOD", b"BOTTL",
-    b"WATER", b"OIL", b"PLANT", b"AXE", b"MIRRO", b"DRAGO", b"CHASM", b"TROLL", b"BEAR", b"MESSA",
-    b"VENDI", b"BATTE", b"GOLD", b"COINS", b"CHEST", b"EGGS", b"TRIDE", b"VASE", b"EMERA",
-    b"PYRAM", b"PEARL", b"RUG", b"SPICE", b"CHAIN", b"ROD", b"PLANT", b"TROLL",
-];
+macro_rules! variants {
+    ($($name:ident $word:literal)*) => {
+        [$(Named::$name),*]
+    };
+}
+
+macro_rules! words {
+    ($($name:ident $word:literal)*) => {
+        [$($word),*]
+    };
+}
+
+/// Each name, in the order of their numbers.
+pub const EACH_NAME: [Named; NAME_COUNT] = all_names!(variants);
+
+/// The words that name them, in the same order.
+pub const NAMES: [&[u8]; NAME_COUNT] = all_names!(words);
+
+/// All names, in the order of their numbers.
+#[tactic(auto, unfolding(crate::specs::Named::each_name))]
+pub fn each_name() -> &'static [Named]
+    ensures { result.now ≡ each_name }
+{
+    &EACH_NAME
+}
 
 impl Named {
     /// Its place in the tables of names, from 0.

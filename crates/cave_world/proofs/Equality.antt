@@ -7,9 +7,10 @@ use Rattle.std.specs.Cmp.{unsigned_Decides, signed_Decides, booleans_Decides}
 use Rattle.std.specs.Cmp.Lexicographic.{pointwise_decides}
 use Rattle.std.proofs.lemmas.Bool.{false≢true}
 use Rattle.std.proofs.lemmas.Bool.Decides.{Decides-and, Decides-like}
-use Rattle.world_objects.specs.SameObjects.{objects_decides}
+use Rattle.world_objects.proofs.SameObjects.{objects_decides}
 use Rattle.world_objects.specs.Lists.{AreLists}
-use Rattle.cave_world.specs.SameGame.{IsSameGame, same_state}
+use Rattle.cave_world.proofs.SameGame.{same_state}
+use Rattle.cave_world.specs.SameGame.{IsSameGame}
 use Rattle.cave_world.specs.declared.dwarves.Knife.{Knife}
 use Rattle.cave_world.specs.declared.ending.Question.{Question}
 use Rattle.cave_world.specs.declared.ending.Ending.{Ending}

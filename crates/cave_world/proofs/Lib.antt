@@ -1,3 +1,4 @@
+pub mod SameGame
 pub mod Equality
 pub mod Made
 pub mod Numbered

@@ -1,6 +1,5 @@
 -- The motions that rules name, and their numbers in a database.
-use Rattle.std.specs.Prelude.{◌≡◌, ℕ, ◌==◌, List, [], ◌∷◌, Option, Some, None, Result}
-use Rattle.std.specs.Prelude.{MatchResult}
+use Rattle.std.specs.Prelude.{◌≡◌, ℕ, ◌==◌, List, [], ◌∷◌, Option, Some, None, Result, MatchResult}
 use Rattle.std.specs.List.{find}
 use Rattle.cave_world.specs.declared.motion.Motion.{Motion}
 use Rattle.cave_world.specs.declared.motion.Motion.TheVariants as motion

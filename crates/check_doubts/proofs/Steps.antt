@@ -5,7 +5,7 @@ use Rattle.std.proofs.lemmas.List.{append_assoc, drop_more, take_more}
 use Rattle.cave_data.specs.CaveView.{CaveView}
 use Rattle.check_doubts.specs.Doubts.{doubts_from, doubts_of_row}
 use Rattle.check_doubts.specs.declared.flaw.Doubt.{Doubt}
-use Rattle.data_bindings.specs.declared.mark.MarkedRow.{MarkedRow}
+use Rattle.data_lines.specs.declared.mark.MarkedRow.{MarkedRow}
 
 -- the doubts of one more row
 pub doubts_more : (cave : CaveView) (so_far : List Doubt) (rows : List MarkedRow) (i : ℕ)

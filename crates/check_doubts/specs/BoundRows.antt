@@ -13,6 +13,7 @@ use Rattle.check_doubts.specs.Messages.{place_has_text}
 use Rattle.check_doubts.specs.declared.bound.BoundRow.{BoundRow}
 use Rattle.check_doubts.specs.declared.flaw.CaveFlaw.{CaveFlaw}
 use Rattle.check_doubts.specs.declared.flaw.CaveFlaw.TheVariants as flaw
+use Rattle.check_doubts.specs.declared.flaw.Subject.TheVariants as subject
 
 -- the binding that a line states, if it states one
 abbrev pub binding_in : List ℕ → Option Binding
@@ -30,7 +31,7 @@ bound_rows number (line ∷ lines) =
 
 -- the message that a role is bound to has no text, or one that prints nothing
 abbrev pub message_flaw : ℕ → ℕ → Option (List ℕ) → Option CaveFlaw
-message_flaw role message None = Some (flaw.RoleTextless role message)
+message_flaw role message None = Some (flaw.Textless (subject.MessageRole role) message)
 message_flaw role message (Some text) = if length text == 0
     then Some (flaw.RoleSilent role message) else None
 
@@ -38,7 +39,7 @@ module _ (cave : CaveView) where
   abbrev pub key_flaw : Key → ℕ → Option CaveFlaw
   key_flaw (RoleKey role) value = message_flaw role value (map.get cave.messages value)
   key_flaw (PlaceKey role) value = if place_has_text cave value then None
-      else Some (flaw.PlaceTextless role value)
+      else Some (flaw.Textless (subject.PlaceRole role) value)
   key_flaw LettersKey value = None
 
   abbrev pub bound_flaw : BoundRow → Option CaveFlaw

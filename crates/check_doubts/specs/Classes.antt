@@ -3,10 +3,10 @@ use Rattle.std.specs.Prelude.{ℕ, Bool, ◌&&◌, not, is_some, if◌then◌els
 use Rattle.std.specs.List.{list_any}
 use Rattle.cave_data.specs.CaveView.{CaveView, class_of}
 use Rattle.turn_ends.specs.Score.{max_score_of}
-use Rattle.data_bindings.specs.Marks.{is_class_from}
+use Rattle.data_lines.specs.Marks.{is_class_from}
 use Rattle.check_doubts.specs.declared.flaw.CaveFlaw.{CaveFlaw}
 use Rattle.check_doubts.specs.declared.flaw.CaveFlaw.TheVariants as flaw
-use Rattle.data_bindings.specs.declared.mark.MarkedRow.{MarkedRow}
+use Rattle.data_lines.specs.declared.mark.MarkedRow.{MarkedRow}
 
 -- an earlier class has all scores up to this one
 abbrev pub is_taken : ℕ → List MarkedRow → Bool

@@ -14,15 +14,15 @@ use Rattle.check_doubts.specs.Flaws.{first_flaw, second_flaw}
 use Rattle.check_doubts.specs.Needs.{need_flaw, needs, passage_flaw, voice_flaw}
 use Rattle.check_doubts.specs.Ways.{way_of_row}
 use Rattle.check_doubts.specs.Written.{written_flaw_at}
-use Rattle.data_bindings.specs.Marks.{is_name, marked_rows}
-use Rattle.data_bindings.specs.declared.mark.RowMark.{RowMark}
-use Rattle.data_bindings.specs.declared.mark.RowMark.TheVariants as mark
+use Rattle.data_lines.specs.Marks.{is_name, marked_rows}
+use Rattle.data_lines.specs.declared.mark.RowMark.{RowMark}
+use Rattle.data_lines.specs.declared.mark.RowMark.TheVariants as mark
 use Rattle.check_doubts.specs.declared.bound.BoundRow.{BoundRow}
 use Rattle.check_doubts.specs.declared.flaw.Doubt.{Doubt}
 use Rattle.check_doubts.specs.declared.flaw.CaveFlaw.{CaveFlaw}
 use Rattle.check_doubts.specs.declared.flaw.Source.{Source}
 use Rattle.check_doubts.specs.declared.flaw.Source.TheVariants.{Database, Bindings}
-use Rattle.data_bindings.specs.declared.mark.MarkedRow.{MarkedRow}
+use Rattle.data_lines.specs.declared.mark.MarkedRow.{MarkedRow}
 
 abbrev pub doubt_of : Source → ℕ → Option CaveFlaw → List Doubt
 doubt_of source line None = []

@@ -4,16 +4,16 @@ use Rattle.cave_data.specs.CaveView.{CaveView}
 use Rattle.check_doubts.specs.Classes.{class_flaw, is_taken}
 use Rattle.check_doubts.specs.Hints.{gift_flaw, is_wordless, question_flaw}
 use Rattle.check_doubts.specs.Messages.{lacks_text}
-use Rattle.check_doubts.specs.Needs.{is_missing, start_flaw}
-use Rattle.check_doubts.specs.Places.{is_unreached_long, is_unreached_short}
+use Rattle.check_doubts.specs.Needs.{is_missing, start_flaw, is_unreached_long, is_unreached_short}
 use Rattle.check_doubts.specs.Treasures.{is_nameless, is_nowhere}
 use Rattle.check_doubts.specs.Ways.{is_never_taken, way_flaw, way_of_row}
 use Rattle.check_doubts.specs.Words.{is_hidden, word_of_row}
 use Rattle.check_doubts.specs.declared.flaw.CaveFlaw.{CaveFlaw}
 use Rattle.check_doubts.specs.declared.flaw.CaveFlaw.TheVariants as flaw
-use Rattle.data_bindings.specs.declared.mark.RowMark.{RowMark}
-use Rattle.data_bindings.specs.declared.mark.RowMark.TheVariants as mark
-use Rattle.data_bindings.specs.declared.mark.MarkedRow.{MarkedRow}
+use Rattle.check_doubts.specs.declared.flaw.Subject.TheVariants as subject
+use Rattle.data_lines.specs.declared.mark.RowMark.{RowMark}
+use Rattle.data_lines.specs.declared.mark.RowMark.TheVariants as mark
+use Rattle.data_lines.specs.declared.mark.MarkedRow.{MarkedRow}
 
 abbrev pub flaw_if : Bool → CaveFlaw → Option CaveFlaw
 flaw_if holds found = if holds then Some found else None
@@ -31,7 +31,7 @@ module _ (cave : CaveView) (before : List MarkedRow) where
   first_flaw (mark.Placement object) =
       flaw_if (is_nameless cave object) (flaw.Nameless object)
   first_flaw (mark.Default action message) =
-      flaw_if (lacks_text cave message) (flaw.SaysTextless action message)
+      flaw_if (lacks_text cave message) (flaw.Textless (subject.Action action) message)
   first_flaw (mark.Class bound) = flaw_if (is_taken bound before) flaw.TakenClass
   first_flaw (mark.Hint hint question text) = question_flaw cave hint question
 

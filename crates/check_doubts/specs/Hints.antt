@@ -7,6 +7,7 @@ use Rattle.data_rows.specs.Rows.{ACTION_WORDS}
 use Rattle.check_doubts.specs.Messages.{lacks_text}
 use Rattle.check_doubts.specs.declared.flaw.CaveFlaw.{CaveFlaw}
 use Rattle.check_doubts.specs.declared.flaw.CaveFlaw.TheVariants as flaw
+use Rattle.check_doubts.specs.declared.flaw.Subject.TheVariants as subject
 
 -- hints from 4 on are given at places, and the others by rules of their own
 abbrev pub is_placed_hint : ℕ → Bool
@@ -18,12 +19,12 @@ lacks_message hint message = is_placed_hint hint && message == 0
 
 abbrev pub question_flaw : CaveView → ℕ → ℕ → Option CaveFlaw
 question_flaw cave hint question =
-    if lacks_text cave question then Some (flaw.AsksTextless hint question)
+    if lacks_text cave question then Some (flaw.Textless (subject.Asking hint) question)
     else (if lacks_message hint question then Some (flaw.AsksNothing hint) else None)
 
 abbrev pub gift_flaw : CaveView → ℕ → ℕ → Option CaveFlaw
 gift_flaw cave hint text =
-    if lacks_text cave text then Some (flaw.GivesTextless hint text)
+    if lacks_text cave text then Some (flaw.Textless (subject.Giving hint) text)
     else (if lacks_message hint text then Some (flaw.GivesNothing hint) else None)
 
 -- the action is possible, and no word means it

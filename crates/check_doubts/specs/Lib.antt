@@ -7,7 +7,6 @@ pub mod Known
 pub mod Listing
 pub mod Messages
 pub mod Needs
-pub mod Places
 pub mod Treasures
 pub mod Ways
 pub mod Words

@@ -8,6 +8,8 @@ use Rattle.check_doubts.specs.declared.flaw.Doubt.{Doubt}
 use Rattle.check_doubts.specs.declared.flaw.CaveFlaw.{CaveFlaw}
 use Rattle.check_doubts.specs.declared.flaw.CaveFlaw.TheVariants as flaw
 use Rattle.check_doubts.specs.declared.flaw.Source.{Source}
+use Rattle.check_doubts.specs.declared.flaw.Subject.{Subject}
+use Rattle.check_doubts.specs.declared.flaw.Subject.TheVariants as subject
 use Rattle.check_doubts.specs.declared.flaw.Source.TheVariants.{Database, Bindings}
 use Rattle.check_doubts.specs.declared.listing.DoubtFiles.{DoubtFiles}
 
@@ -17,14 +19,27 @@ role_name role = slice_index_or ROLE_NAMES role []
 abbrev pub place_role_name : ℕ → List ℕ
 place_role_name role = slice_index_or PLACE_NAMES role []
 
-abbrev pub textless : ℕ → List ℕ
-textless number = decimal number ++ codes ", which has no text"
+-- what is said of what names a place or a message
+abbrev pub subject_words : Subject → List ℕ
+subject_words subject.WayTo = codes "the way leads to place"
+subject_words subject.WaySays = codes "the way says message"
+subject_words (subject.Treasure object) =
+    codes "treasure " ++ (decimal object ++ codes " begins at place")
+subject_words (subject.Needed object) =
+    codes "object " ++ (decimal object ++ codes ", which players need, begins at place")
+subject_words (subject.Action action) =
+    codes "action " ++ (decimal action ++ codes " says message")
+subject_words (subject.Asking hint) = codes "hint " ++ (decimal hint ++ codes " asks by message")
+subject_words (subject.Giving hint) = codes "hint " ++ (decimal hint ++ codes " gives message")
+subject_words (subject.MessageRole role) = codes "msg." ++ (role_name role ++ codes " is message")
+subject_words (subject.PlaceRole role) =
+    codes "place." ++ (place_role_name role ++ codes " is place")
 
 -- what is said about each kind of doubt
 abbrev pub words : CaveFlaw → List ℕ
 words (flaw.NoWayTo place) = codes "no way leads to place " ++ decimal place
-words (flaw.LeadsToTextless place) = codes "the way leads to place " ++ textless place
-words (flaw.WaySaysTextless message) = codes "the way says message " ++ textless message
+words (flaw.Textless subject number) =
+    subject_words subject ++ (codes " " ++ (decimal number ++ codes ", which has no text"))
 words (flaw.HasNoRule number) =
     codes "the way leads to " ++ (decimal number ++ codes ", for which there is no rule")
 words flaw.NeverTaken = codes "no player takes this way: an earlier one is always taken"
@@ -32,11 +47,6 @@ words flaw.Hidden = codes "an earlier row of this word hides it"
 words (flaw.Nowhere object) = codes "no place holds treasure " ++ decimal object
 words (flaw.Nameless object) =
     codes "treasure " ++ (decimal object ++ codes " has no inventory text")
-words (flaw.BeginsTextless object place) =
-    codes "treasure " ++ (decimal object ++ (codes " begins at place " ++ textless place))
-words (flaw.NeededTextless object place) =
-    codes "object " ++ (decimal object
-    ++ (codes ", which players need, begins at place " ++ textless place))
 words (flaw.Unplaced object) =
     codes "no place holds object " ++ (decimal object ++ codes ", which players need")
 words (flaw.PropTextless object prop) =
@@ -48,16 +58,10 @@ words (flaw.PlaceUnbound role object) =
 words (flaw.EndUnbound role) =
     codes "the way leads to 301, which needs place." ++ (place_role_name role
     ++ codes ", which is unbound")
-words (flaw.SaysTextless action message) =
-    codes "action " ++ (decimal action ++ (codes " says message " ++ textless message))
 words (flaw.Wordless action) = codes "no word means action " ++ decimal action
 words flaw.TakenClass = codes "an earlier class takes its scores"
 words flaw.UnscoredClass = codes "no score reaches this class"
 words (flaw.Classless score) = codes "no class has the greatest score, " ++ decimal score
-words (flaw.AsksTextless hint message) =
-    codes "hint " ++ (decimal hint ++ (codes " asks by message " ++ textless message))
-words (flaw.GivesTextless hint message) =
-    codes "hint " ++ (decimal hint ++ (codes " gives message " ++ textless message))
 words (flaw.AsksNothing hint) = codes "hint " ++ (decimal hint ++ codes " asks by no message")
 words (flaw.GivesNothing hint) = codes "hint " ++ (decimal hint ++ codes " gives no message")
 words (flaw.Rowless hint) =
@@ -65,16 +69,12 @@ words (flaw.Rowless hint) =
 words flaw.TextOfBlanks = codes "no tab is before this text, and it begins with blanks"
 words flaw.TabPrinted = codes "a blank is before this text's tab, which is printed"
 words flaw.NotSilent = codes "this is printed, since more than >$< is there"
-words (flaw.RoleTextless role message) =
-    codes "msg." ++ (role_name role ++ (codes " is message " ++ textless message))
 words (flaw.RoleSilent role message) =
     codes "msg." ++ (role_name role
     ++ (codes " is message " ++ (decimal message ++ codes ", whose text prints nothing")))
 words (flaw.SaidNowhere role place) =
     codes "msg." ++ (role_name role
     ++ (codes " is said at place." ++ (place_role_name place ++ codes ", which is unbound")))
-words (flaw.PlaceTextless role place) =
-    codes "place." ++ (place_role_name role ++ (codes " is place " ++ textless place))
 
 abbrev pub file_of : DoubtFiles → Source → List ℕ
 file_of files Database = files.database.now

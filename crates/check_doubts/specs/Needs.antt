@@ -1,11 +1,10 @@
 -- What rules ask of the objects that they name: a place where it is at first, texts for its props,
 -- and places of the bindings. A way through the narrow passage and a message need such places, too.
 use Rattle.std.specs.Prelude.{ℕ, Bool, true, false, ◌==◌, ◌&&◌, ◌||◌, not, is_some, if◌then◌else◌}
-use Rattle.std.specs.Prelude.{List, [], ◌∷◌}
-use Rattle.std.specs.Prelude.{Option, Some, None}
+use Rattle.std.specs.Prelude.{List, [], ◌∷◌, Option, Some, None, ◌+◌, ◌*◌, pos, ◌+ℤ◌, int_lt}
 use Rattle.std.specs.FinMap as map
 use Rattle.std.specs.List.{list_any}
-use Rattle.cave_data.specs.CaveView.{CaveView, look_of, placement_of}
+use Rattle.cave_data.specs.CaveView.{CaveView, look_of, placement_of, ways_from}
 use Rattle.cave_words.specs.Named.{object_named}
 use Rattle.cave_words.specs.declared.named.Named.{Named}
 use Rattle.cave_words.specs.declared.named.Named.TheVariants as name
@@ -22,15 +21,18 @@ use Rattle.data_rows.specs.declared.targets.Destination.TheVariants as destinati
 use Rattle.data_rows.specs.declared.targets.Special.TheVariants.{Squeeze}
 use Rattle.cave_world.specs.Travel.{row_destination}
 use Rattle.turn_scene.specs.Treasures.{is_treasure}
-use Rattle.check_tables.specs.Unused.{is_number}
+use Rattle.check_tables.specs.Unused.{is_number, place_numbers}
 use Rattle.check_doubts.specs.Treasures.{is_placed}
 use Rattle.check_doubts.specs.Ways.{is_textless_end}
 use Rattle.check_doubts.specs.declared.flaw.CaveFlaw.{CaveFlaw}
 use Rattle.check_doubts.specs.declared.flaw.CaveFlaw.TheVariants as flaw
+use Rattle.check_doubts.specs.declared.flaw.Subject.TheVariants as subject
 use Rattle.check_doubts.specs.declared.needs.Need.{Need}
 use Rattle.check_doubts.specs.declared.needs.Need.TheVariants.{Brought, Found, Placed, Prop, Role}
-use Rattle.data_bindings.specs.Marks.{is_name}
-use Rattle.data_bindings.specs.declared.mark.MarkedRow.{MarkedRow}
+use Rattle.data_lines.specs.Marks.{is_name, is_long_text, is_short_text}
+use Rattle.data_lines.specs.declared.mark.MarkedRow.{MarkedRow}
+use Rattle.std.specs.Ordering.{int_eq}
+use Rattle.data_rows.specs.Targets.{destination_of, leads_to_place}
 
 -- the props that rules set, as what is seen of the object, or whose texts they print; and the places
 -- to which they bring it or at which they look for it: the store of a closed cave has the rods of
@@ -72,8 +74,8 @@ is_squeezed None = false
 is_squeezed (Some way) = is_squeeze (row_destination way)
 
 abbrev pub begins_at : ℕ → ℕ → CaveFlaw
-begins_at object place = if is_treasure object then flaw.BeginsTextless object place
-    else flaw.NeededTextless object place
+begins_at object place =
+    flaw.Textless (if is_treasure object then subject.Treasure object else subject.Needed object) place
 
 module _ (cave : CaveView) where
   abbrev pub is_bound : PlaceRole → Bool
@@ -133,3 +135,62 @@ module _ (cave : CaveView) where
   voice_flaw (RoleKey said) = if said == role_number Hollow && not (is_bound role.Y2)
       then Some (flaw.SaidNowhere said (place_number role.Y2)) else None
   voice_flaw _ = None
+
+abbrev pub leads_to : ℕ → Going → Bool
+leads_to place row = leads_to_place place (destination_of row.target)
+
+module _ (cave : CaveView) (place : ℕ) where
+  -- a way leads to the place from another one
+  abbrev pub is_led_to_from : ℕ → Bool
+  is_led_to_from other =
+      not (other == place) && list_any (leads_to place) (ways_from cave other)
+
+  abbrev pub is_led_to : Bool
+  is_led_to = list_any is_led_to_from place_numbers
+
+  abbrev pub has_role : PlaceRole → Bool
+  has_role role = is_number place (map.get cave.places (place_number role))
+
+  -- rules bring a player there: as the game begins, after a death, as the cave closes, and through
+  -- the narrow passage
+  abbrev pub is_brought_to : Bool
+  is_brought_to =
+      has_role role.Start || has_role role.Building || has_role role.Ne || has_role role.Alcove
+      || has_role role.Plover
+
+  -- an object is there as a game begins, by one of its halves
+  abbrev pub holds_at_first : Option ℕ → Bool
+  holds_at_first None = false
+  holds_at_first (Some object) =
+      (placement_of cave object).first == place
+      || int_eq (placement_of cave object).second (pos place)
+
+  -- the bridge leads from one place of the troll to the other
+  abbrev pub is_bridge_end : Bool
+  is_bridge_end = holds_at_first (object_named cave name.Troll)
+
+  -- half-way between the two places where an object is as a game begins
+  abbrev pub is_midway : Option ℕ → Bool
+  is_midway None = false
+  is_midway (Some object) =
+      let at = placement_of cave object in
+      let sum = pos at.first +ℤ at.second in
+      not (at.first == 0) && int_lt (pos 0) at.second
+      && (int_eq sum (pos (2 * place)) || int_eq sum (pos (2 * place + 1)))
+
+  -- a player who kills the dragon stands half-way between its places
+  abbrev pub is_lair : Bool
+  is_lair = is_midway (object_named cave name.Dragon)
+
+  abbrev pub is_come_to : Bool
+  is_come_to = is_led_to || is_brought_to || is_bridge_end || is_lair
+
+  -- a row is the first line of the place's long text, after these rows
+  abbrev pub is_unreached_long : List MarkedRow → Bool
+  is_unreached_long before = not (list_any (is_long_text place) before) && not is_come_to
+
+  -- or of its short text, if it has no long one
+  abbrev pub is_unreached_short : List MarkedRow → Bool
+  is_unreached_short before =
+      not (is_some (map.get cave.long place)) && not (list_any (is_short_text place) before)
+      && not is_come_to

@@ -6,8 +6,8 @@ use Rattle.cave_data.specs.CaveView.{CaveView, placement_of}
 use Rattle.cave_words.specs.Named.{object_named}
 use Rattle.cave_words.specs.declared.named.Named.TheVariants as name
 use Rattle.turn_scene.specs.Treasures.{is_known, is_treasure}
-use Rattle.data_bindings.specs.Marks.{is_name}
-use Rattle.data_bindings.specs.declared.mark.MarkedRow.{MarkedRow}
+use Rattle.data_lines.specs.Marks.{is_name}
+use Rattle.data_lines.specs.declared.mark.MarkedRow.{MarkedRow}
 
 module _ (cave : CaveView) (object : ℕ) where
   -- a place has one of its halves as a game begins

@@ -9,11 +9,12 @@ use Rattle.data_rows.specs.declared.targets.Destination.{Destination}
 use Rattle.data_rows.specs.declared.targets.Destination.TheVariants as destination
 use Rattle.cave_world.specs.Travel.{row_destination}
 use Rattle.check_tables.specs.Reach.{may_be_taken}
-use Rattle.data_bindings.specs.WayLines.{way_index}
+use Rattle.data_lines.specs.WayLines.{way_index}
 use Rattle.check_doubts.specs.Messages.{lacks_text, place_has_text}
 use Rattle.check_doubts.specs.declared.flaw.CaveFlaw.{CaveFlaw}
 use Rattle.check_doubts.specs.declared.flaw.CaveFlaw.TheVariants as flaw
-use Rattle.data_bindings.specs.declared.mark.MarkedRow.{MarkedRow}
+use Rattle.check_doubts.specs.declared.flaw.Subject.TheVariants as subject
+use Rattle.data_lines.specs.declared.mark.MarkedRow.{MarkedRow}
 
 abbrev pub is_never_taken_after : List Going → Option Going → Bool
 is_never_taken_after before None = false
@@ -30,9 +31,9 @@ is_textless_end cave place = nat_lt 0 place && not (place_has_text cave place)
 -- which there is no rule
 abbrev pub end_flaw : CaveView → ℕ → Destination → Option CaveFlaw
 end_flaw cave target (destination.Place place) =
-    if is_textless_end cave place then Some (flaw.LeadsToTextless place) else None
+    if is_textless_end cave place then Some (flaw.Textless subject.WayTo place) else None
 end_flaw cave target (destination.Message message) =
-    if lacks_text cave message then Some (flaw.WaySaysTextless message) else None
+    if lacks_text cave message then Some (flaw.Textless subject.WaySays message) else None
 end_flaw cave target destination.NoWay = Some (flaw.HasNoRule (target % 1000))
 end_flaw cave target _ = None
 

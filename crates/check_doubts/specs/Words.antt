@@ -13,8 +13,8 @@ use Rattle.cave_words.specs.declared.meaning.Meaning.{Meaning}
 use Rattle.cave_words.specs.declared.named.Named.{Named}
 use Rattle.cave_words.specs.declared.named.Named.TheVariants as name
 use Rattle.data_rows.specs.Rows.{WordEntry}
-use Rattle.data_bindings.specs.Marks.{is_word_row}
-use Rattle.data_bindings.specs.declared.mark.MarkedRow.{MarkedRow}
+use Rattle.data_lines.specs.Marks.{is_word_row}
+use Rattle.data_lines.specs.declared.mark.MarkedRow.{MarkedRow}
 
 abbrev pub is_meant : Option Meaning → Meaning → Bool
 is_meant None meaning = false

@@ -4,7 +4,7 @@ ghost use Rattle.std.specs.Prelude.{◌≡◌, IfOk, option_map};
 ghost use Rattle.std.specs.Str.Lines.{lines};
 ghost use Rattle.check_doubts.specs.BoundRows.{binding_in, bound_flaw, bound_rows, message_flaw};
 
-use crate::flaw::CaveFlaw;
+use crate::flaw::{CaveFlaw, Subject};
 use crate::messages::place_has_text;
 use base_lines::{is_skipped, split_line};
 use cave_data::Cave;
@@ -58,7 +58,7 @@ fn message_flaw(role: u16, message: u16, text: Option<&[u8]>) -> Option<CaveFlaw
     match text {
         Some(text) if text.is_empty() => Some(CaveFlaw::RoleSilent(role, message)),
         Some(_) => None,
-        None => Some(CaveFlaw::RoleTextless(role, message)),
+        None => Some(CaveFlaw::Textless(Subject::MessageRole(role), message)),
     }
 }
 
@@ -73,7 +73,7 @@ pub(crate) fn bound_flaw(cave: &Cave, row: &BoundRow) -> Option<CaveFlaw>
             if place_has_text(cave, value) {
                 None
             } else {
-                Some(CaveFlaw::PlaceTextless(role, value))
+                Some(CaveFlaw::Textless(Subject::PlaceRole(role), value))
             }
         }
         Key::LettersKey => None,

@@ -7,7 +7,7 @@ ghost use Rattle.check_doubts.specs.Classes.{scores_flaw};
 
 use crate::flaw::CaveFlaw;
 use cave_data::Cave;
-use data_bindings::MarkedRow;
+use data_lines::MarkedRow;
 use turn_ends::max_score;
 use turn_scene::Rules;
 

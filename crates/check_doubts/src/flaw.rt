@@ -6,15 +6,36 @@ use data_rows::place_role::PLACE_NAMES;
 use data_rows::role::ROLE_NAMES;
 use std::fmt;
 
+/// What names a place or a message.
+#[derive(Clone, Copy, Debug, PartialEq, Eq)]
+pub enum Subject {
+    /// The way leads to the place.
+    WayTo,
+    /// The way says the message.
+    WaySays,
+    /// The treasure begins at the place.
+    Treasure(u16),
+    /// The object, which players need, begins at the place.
+    Needed(u16),
+    /// The action says the message.
+    Action(u16),
+    /// The hint asks by the message.
+    Asking(u16),
+    /// The hint gives the message.
+    Giving(u16),
+    /// The role of a message is bound to it.
+    MessageRole(u16),
+    /// The role of a place is bound to it.
+    PlaceRole(u16),
+}
+
 /// What is doubtful about a row. Places, objects, actions, hints and messages have their numbers.
 #[derive(Clone, Copy, Debug, PartialEq, Eq)]
 pub enum CaveFlaw {
     /// No way leads to the place.
     NoWayTo(u16),
-    /// The way leads to a place that has no text.
-    LeadsToTextless(u16),
-    /// The way says a message that has no text.
-    WaySaysTextless(u16),
+    /// The place or the message that something names has no text.
+    Textless(Subject, u16),
     /// The way has a special number for which there is no rule.
     HasNoRule(u16),
     /// A player never gets to the way.
@@ -25,10 +46,6 @@ pub enum CaveFlaw {
     Nowhere(u16),
     /// The treasure has no inventory text.
     Nameless(u16),
-    /// The treasure begins at a place that has no text.
-    BeginsTextless(u16, u16),
-    /// An object that players need begins at a place that has no text.
-    NeededTextless(u16, u16),
     /// No place holds an object that players need.
     Unplaced(u16),
     /// The object has no text for a prop that rules set.
@@ -37,8 +54,6 @@ pub enum CaveFlaw {
     PlaceUnbound(u16, u16),
     /// The role of a place at an end of the narrow passage is unbound.
     EndUnbound(u16),
-    /// The action says a message that has no text.
-    SaysTextless(u16, u16),
     /// No word means the action.
     Wordless(u16),
     /// An earlier class has all its scores.
@@ -47,10 +62,6 @@ pub enum CaveFlaw {
     UnscoredClass,
     /// No class has the greatest score.
     Classless(u32),
-    /// The hint asks by a message that has no text.
-    AsksTextless(u16, u16),
-    /// The hint gives a message that has no text.
-    GivesTextless(u16, u16),
     /// The hint has no message to ask by.
     AsksNothing(u16),
     /// The hint has no message to give.
@@ -63,14 +74,10 @@ pub enum CaveFlaw {
     TabPrinted,
     /// The text has more than `>$<`.
     NotSilent,
-    /// The role of a message is bound to one that has no text.
-    RoleTextless(u16, u16),
     /// The role of a message is bound to one whose text prints nothing.
     RoleSilent(u16, u16),
     /// The message of the role is said at a place whose role is unbound.
     SaidNowhere(u16, u16),
-    /// The role of a place is bound to one that has no text.
-    PlaceTextless(u16, u16),
 }
 
 /// The name at a place of a table.
@@ -83,6 +90,35 @@ fn name_at<'a>(names: &[&'a str], number: u16) -> &'a str
     }
 }
 
+impl fmt::Display for Subject {
+    ghost use Rattle.std.specs.Prelude.{Some};
+    ghost use Rattle.check_doubts.specs.Listing.{subject_words};
+
+    ghost output = { λ subject. Some (subject_words subject) };
+
+    fn fmt<W: fmt::Write>(&self, f: &mut fmt::Formatter<W>) -> fmt::Result {
+        match *self {
+            Subject::WayTo => write!(f, "the way leads to place"),
+            Subject::WaySays => write!(f, "the way says message"),
+            Subject::Treasure(object) => write!(f, "treasure {object} begins at place"),
+            Subject::Needed(object) => {
+                write!(f, "object {object}, which players need, begins at place")
+            }
+            Subject::Action(action) => write!(f, "action {action} says message"),
+            Subject::Asking(hint) => write!(f, "hint {hint} asks by message"),
+            Subject::Giving(hint) => write!(f, "hint {hint} gives message"),
+            Subject::MessageRole(role) => {
+                let name = name_at(&ROLE_NAMES, role);
+                write!(f, "msg.{name} is message")
+            }
+            Subject::PlaceRole(role) => {
+                let name = name_at(&PLACE_NAMES, role);
+                write!(f, "place.{name} is place")
+            }
+        }
+    }
+}
+
 impl fmt::Display for CaveFlaw {
     ghost use Rattle.std.specs.Prelude.{Some};
     ghost use Rattle.check_doubts.specs.Listing.{words};
@@ -92,11 +128,8 @@ impl fmt::Display for CaveFlaw {
     fn fmt<W: fmt::Write>(&self, f: &mut fmt::Formatter<W>) -> fmt::Result {
         match *self {
             CaveFlaw::NoWayTo(place) => write!(f, "no way leads to place {place}"),
-            CaveFlaw::LeadsToTextless(place) => {
-                write!(f, "the way leads to place {place}, which has no text")
-            }
-            CaveFlaw::WaySaysTextless(message) => {
-                write!(f, "the way says message {message}, which has no text")
+            CaveFlaw::Textless(subject, number) => {
+                write!(f, "{subject} {number}, which has no text")
             }
             CaveFlaw::HasNoRule(number) => {
                 write!(f, "the way leads to {number}, for which there is no rule")
@@ -110,18 +143,6 @@ impl fmt::Display for CaveFlaw {
             CaveFlaw::Hidden => write!(f, "an earlier row of this word hides it"),
             CaveFlaw::Nowhere(object) => write!(f, "no place holds treasure {object}"),
             CaveFlaw::Nameless(object) => write!(f, "treasure {object} has no inventory text"),
-            CaveFlaw::BeginsTextless(object, place) => {
-                write!(
-                    f,
-                    "treasure {object} begins at place {place}, which has no text"
-                )
-            }
-            CaveFlaw::NeededTextless(object, place) => {
-                write!(
-                    f,
-                    "object {object}, which players need, begins at place {place}, which has no text"
-                )
-            }
             CaveFlaw::Unplaced(object) => {
                 write!(f, "no place holds object {object}, which players need")
             }
@@ -145,25 +166,10 @@ impl fmt::Display for CaveFlaw {
                     "the way leads to 301, which needs place.{name}, which is unbound"
                 )
             }
-            CaveFlaw::SaysTextless(action, message) => {
-                write!(
-                    f,
-                    "action {action} says message {message}, which has no text"
-                )
-            }
             CaveFlaw::Wordless(action) => write!(f, "no word means action {action}"),
             CaveFlaw::TakenClass => write!(f, "an earlier class takes its scores"),
             CaveFlaw::UnscoredClass => write!(f, "no score reaches this class"),
             CaveFlaw::Classless(score) => { write!(f, "no class has the greatest score, {score}") }
-            CaveFlaw::AsksTextless(hint, message) => {
-                write!(
-                    f,
-                    "hint {hint} asks by message {message}, which has no text"
-                )
-            }
-            CaveFlaw::GivesTextless(hint, message) => {
-                write!(f, "hint {hint} gives message {message}, which has no text")
-            }
             CaveFlaw::AsksNothing(hint) => write!(f, "hint {hint} asks by no message"),
             CaveFlaw::GivesNothing(hint) => write!(f, "hint {hint} gives no message"),
             CaveFlaw::Rowless(hint) => {
@@ -176,10 +182,6 @@ impl fmt::Display for CaveFlaw {
                 write!(f, "a blank is before this text's tab, which is printed")
             }
             CaveFlaw::NotSilent => write!(f, "this is printed, since more than >$< is there"),
-            CaveFlaw::RoleTextless(role, message) => {
-                let name = name_at(&ROLE_NAMES, role);
-                write!(f, "msg.{name} is message {message}, which has no text")
-            }
             CaveFlaw::RoleSilent(role, message) => {
                 let name = name_at(&ROLE_NAMES, role);
                 write!(
@@ -191,10 +193,6 @@ impl fmt::Display for CaveFlaw {
                 let name = name_at(&ROLE_NAMES, role);
                 let place = name_at(&PLACE_NAMES, place);
                 write!(f, "msg.{name} is said at place.{place}, which is unbound")
-            }
-            CaveFlaw::PlaceTextless(role, place) => {
-                let name = name_at(&PLACE_NAMES, role);
-                write!(f, "place.{name} is place {place}, which has no text")
             }
         }
     }

@@ -4,7 +4,7 @@ ghost use Rattle.std.specs.Prelude.{◌≡◌};
 ghost use Rattle.check_doubts.specs.Hints.{gift_flaw, is_placed_hint, is_wordless, lacks_message};
 ghost use Rattle.check_doubts.specs.Hints.{question_flaw};
 
-use crate::flaw::CaveFlaw;
+use crate::flaw::{CaveFlaw, Subject};
 use crate::messages::lacks_text;
 use base_lines::numbers::LAST_ACTION;
 use cave_data::Cave;
@@ -35,7 +35,7 @@ pub(crate) fn question_flaw(cave: &Cave, hint: u16, question: u16) -> Option<Cav
     ensures { result ≡ question_flaw cave.now hint question }
 {
     if lacks_text(cave, question) {
-        return Some(CaveFlaw::AsksTextless(hint, question));
+        return Some(CaveFlaw::Textless(Subject::Asking(hint), question));
     }
     if lacks_message(hint, question) {
         return Some(CaveFlaw::AsksNothing(hint));
@@ -48,7 +48,7 @@ pub(crate) fn gift_flaw(cave: &Cave, hint: u16, text: u16) -> Option<CaveFlaw>
     ensures { result ≡ gift_flaw cave.now hint text }
 {
     if lacks_text(cave, text) {
-        return Some(CaveFlaw::GivesTextless(hint, text));
+        return Some(CaveFlaw::Textless(Subject::Giving(hint), text));
     }
     if lacks_message(hint, text) {
         return Some(CaveFlaw::GivesNothing(hint));

@@ -4,8 +4,8 @@ ghost use Rattle.std.specs.Prelude.{◌≡◌};
 ghost use Rattle.check_doubts.specs.Known.{doubt_entry, source_name};
 
 use crate::flaw::{Doubt, Source};
+use base_text::Text;
 use check_tables::known::Entries;
-use std::alloc::{AllocError, Global};
 
 /// What entries call the input that a doubt is about.
 fn source_name(source: Source) -> &'static str
@@ -26,14 +26,8 @@ impl Entries for DoubtEntries {
 
     ghost entry = { λ _. doubt_entry };
 
-    fn push_entry(
-        &self,
-        alloc: Global,
-        doubt: Doubt,
-        text: &mut Vec<u8>,
-    ) -> Result<(), AllocError> {
+    fn put_entry(&self, doubt: Doubt, text: &mut Text) {
         let (name, flaw) = (source_name(doubt.source), doubt.flaw);
-        let entry = format!(in alloc; "{name}: {flaw}")?;
-        text.extend_from_slice(entry.as_bytes())
+        write!(text, "{name}: {flaw}");
     }
 }

@@ -20,4 +20,4 @@ mod written;
 pub use cave_doubts::doubts;
 pub use flaw::{Doubt, Source};
 pub use known::DoubtEntries;
-pub use listing::{DoubtFiles, push_doubts};
+pub use listing::{DoubtFiles, put_doubts};

@@ -1,11 +1,12 @@
 //! The list of what is doubtful about a cave, as a text.
 
-ghost use Rattle.std.specs.Prelude.{◌≡◌, ◌++◌, OnOk};
+ghost use Rattle.std.specs.Prelude.{◌≡◌};
 ghost use Rattle.std.specs.List.{flat_map};
-ghost use Rattle.check_doubts.specs.Listing.{doubt_line, doubts_text, file_of};
+ghost use Rattle.base_text.specs.Text.{Tells};
+ghost use Rattle.check_doubts.specs.Listing.{doubt_line, doubts_text, file_of, sum_line};
 
 use crate::flaw::{Doubt, Source};
-use std::alloc::{AllocError, Global};
+use base_text::Text;
 
 /// The names of the files that doubts are about, and of the list of those that are known.
 #[derive(Clone, Copy)]
@@ -24,50 +25,37 @@ fn file_of<'a>(files: &DoubtFiles<'a>, source: Source) -> &'a str
     }
 }
 
-/// Appends the line of a doubt.
-fn push_doubt_line(
-    alloc: Global,
-    files: &DoubtFiles<'_>,
-    doubt: &Doubt,
-    text: &mut Vec<u8>,
-) -> Result<(), AllocError>
-    ensures { OnOk result (text.new.items ≡ text.old.items ++ doubt_line files.now doubt.now) }
+/// Writes the line of a doubt.
+fn put_doubt_line(text: &mut Text, files: &DoubtFiles<'_>, doubt: &Doubt)
+    ensures { Tells (doubt_line files.now doubt.now) text.old text.new }
 {
     let (file, line, flaw) = (file_of(files, doubt.source), doubt.line, doubt.flaw);
-    let told = format!(in alloc; "{file}:{line}: {flaw}\n")?;
-    text.extend_from_slice(told.as_bytes())
+    write!(text, "{file}:{line}: {flaw}\n");
 }
 
-fn push_doubt_lines(
-    alloc: Global,
-    files: &DoubtFiles<'_>,
-    doubts: &[Doubt],
-    text: &mut Vec<u8>,
-) -> Result<(), AllocError>
-    ensures { OnOk result
-        (text.new.items ≡ text.old.items ++ flat_map (doubt_line files.now) doubts.now) }
+fn put_doubt_lines(text: &mut Text, files: &DoubtFiles<'_>, doubts: &[Doubt])
+    ensures { Tells (flat_map (doubt_line files.now) doubts.now) text.old text.new }
 {
     for doubt in doubts {
-        push_doubt_line(alloc, files, doubt, text)?;
+        put_doubt_line(text, files, doubt);
     }
-    Ok(())
 }
 
-/// Appends a line for each doubt, and how many there are.
-#[tactic(auto, unfolding(crate::specs::Listing::doubts_text))]
-pub fn push_doubts(
-    alloc: Global,
-    files: &DoubtFiles<'_>,
-    doubts: &[Doubt],
-    text: &mut Vec<u8>,
-) -> Result<(), AllocError>
-    ensures { OnOk result (text.new.items ≡ text.old.items ++ doubts_text files.now doubts.now) }
+fn put_sum_line(text: &mut Text, count: usize)
+    ensures { Tells (sum_line count) text.old text.new }
 {
-    push_doubt_lines(alloc, files, doubts, text)?;
-    let count = doubts.len();
     if count == 1 {
-        return text.extend_from_slice(b"-- 1 doubt\n");
+        text.put(b"-- 1 doubt\n");
+    } else {
+        write!(text, "-- {count} doubts\n");
     }
-    let sum = format!(in alloc; "-- {count} doubts\n")?;
-    text.extend_from_slice(sum.as_bytes())
+}
+
+/// Writes a line for each doubt, and how many there are.
+#[tactic(auto, unfolding(crate::specs::Listing::doubts_text))]
+pub fn put_doubts(text: &mut Text, files: &DoubtFiles<'_>, doubts: &[Doubt])
+    ensures { Tells (doubts_text files.now doubts.now) text.old text.new }
+{
+    put_doubt_lines(text, files, doubts);
+    put_sum_line(text, doubts.len());
 }

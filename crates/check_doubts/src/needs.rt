@@ -7,14 +7,14 @@ ghost use Rattle.check_doubts.specs.Needs.{begins_at, is_squeeze, is_squeezed, n
 ghost use Rattle.check_doubts.specs.Needs.{passage_flaw, prop_flaw, start_flaw, voice_flaw};
 ghost use Rattle.data_rows.specs.RowViews.{going};
 
-use crate::flaw::CaveFlaw;
+use crate::flaw::{CaveFlaw, Subject};
 use crate::treasures::{is_placed, is_treasure};
 use crate::ways::is_textless_end;
 use cave_data::Cave;
 use cave_words::{Lexicon, Named};
 use check_tables::is_number;
-use data_bindings::MarkedRow;
-use data_bindings::mark::any_name;
+use data_lines::MarkedRow;
+use data_lines::mark::any_name;
 use data_rows::binding::Key;
 use data_rows::{Destination, PlaceRole, Role, Row, Special};
 
@@ -182,11 +182,12 @@ pub(crate) fn is_missing(cave: &Cave, lexicon: &Lexicon, object: u16, before: &[
 fn begins_at(object: u16, place: u16) -> CaveFlaw
     ensures { result ≡ begins_at object place }
 {
-    if is_treasure(object) {
-        CaveFlaw::BeginsTextless(object, place)
+    let subject = if is_treasure(object) {
+        Subject::Treasure(object)
     } else {
-        CaveFlaw::NeededTextless(object, place)
-    }
+        Subject::Needed(object)
+    };
+    CaveFlaw::Textless(subject, place)
 }
 
 /// What is doubtful about the first place of an object.

@@ -4,17 +4,17 @@ ghost use Rattle.std.specs.Prelude.{◌≡◌, map};
 ghost use Rattle.std.specs.List.{list_any};
 ghost use Rattle.cave_words.specs.Lexicon.{IsLexiconOf};
 ghost use Rattle.data_rows.specs.RowViews.{going};
-ghost use Rattle.check_doubts.specs.Places.{has_role, holds_at_first, is_bridge_end, is_lair};
-ghost use Rattle.check_doubts.specs.Places.{is_midway};
-ghost use Rattle.check_doubts.specs.Places.{is_brought_to, is_come_to, is_led_to, is_led_to_from};
-ghost use Rattle.check_doubts.specs.Places.{is_unreached_long, is_unreached_short, leads_to};
+ghost use Rattle.check_doubts.specs.Needs.{has_role, holds_at_first, is_bridge_end, is_lair};
+ghost use Rattle.check_doubts.specs.Needs.{is_midway};
+ghost use Rattle.check_doubts.specs.Needs.{is_brought_to, is_come_to, is_led_to, is_led_to_from};
+ghost use Rattle.check_doubts.specs.Needs.{is_unreached_long, is_unreached_short, leads_to};
 
 use base_lines::numbers::LAST_PLACE;
 use cave_data::Cave;
 use cave_words::{Lexicon, Named};
 use check_tables::is_number;
-use data_bindings::MarkedRow;
-use data_bindings::mark::{any_long_text, any_short_text};
+use data_lines::MarkedRow;
+use data_lines::mark::{any_long_text, any_short_text};
 use data_rows::{PlaceRole, Row};
 
 fn leads_to(row: &Row, place: u16) -> bool

@@ -5,7 +5,7 @@ ghost use Rattle.turn_scene.specs.Scene.{cave_of};
 ghost use Rattle.check_doubts.specs.Flaws.{first_flaw, flaw_if, second_flaw};
 
 use crate::classes::{class_flaw, is_taken};
-use crate::flaw::CaveFlaw;
+use crate::flaw::{CaveFlaw, Subject};
 use crate::hints::{gift_flaw, is_wordless, question_flaw};
 use crate::messages::lacks_text;
 use crate::needs::{is_missing, start_flaw};
@@ -13,7 +13,7 @@ use crate::places::{is_unreached_long, is_unreached_short};
 use crate::treasures::{is_nameless, is_nowhere};
 use crate::ways::{is_never_taken, way_flaw, way_of_row};
 use crate::words::is_hidden;
-use data_bindings::{MarkedRow, RowMark};
+use data_lines::{MarkedRow, RowMark};
 use turn_scene::Rules;
 
 fn flaw_if(holds: bool, found: CaveFlaw) -> Option<CaveFlaw>
@@ -55,7 +55,7 @@ pub(crate) fn first_flaw(rules: &Rules<'_>, before: &[MarkedRow], mark: RowMark)
         RowMark::Default(action, message) => {
             flaw_if(
                 lacks_text(cave, message),
-                CaveFlaw::SaysTextless(action, message),
+                CaveFlaw::Textless(Subject::Action(action), message),
             )
         }
         RowMark::Class(bound) => flaw_if(is_taken(u32::from(bound), before), CaveFlaw::TakenClass),

@@ -3,14 +3,13 @@
 ghost use Rattle.std.specs.Prelude.{◌≡◌};
 ghost use Rattle.cave_words.specs.Lexicon.{IsLexiconOf};
 ghost use Rattle.turn_scene.specs.Treasures.{is_treasure};
-ghost use Rattle.check_doubts.specs.Treasures.{is_nameless, is_nowhere, is_placed};
-ghost use Rattle.check_doubts.specs.Treasures.{is_put_by_rules};
+ghost use Rattle.check_doubts.specs.Treasures.{is_nameless, is_nowhere, is_placed, is_put_by_rules};
 
 use cave_data::Cave;
 use cave_words::{Lexicon, Named};
 use check_tables::is_number;
-use data_bindings::MarkedRow;
-use data_bindings::mark::any_name;
+use data_lines::MarkedRow;
+use data_lines::mark::any_name;
 use turn_scene::treasures::{FIRST_TREASURE, LAST_TREASURE};
 
 pub(crate) fn is_treasure(object: u16) -> bool

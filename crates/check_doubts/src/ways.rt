@@ -5,11 +5,11 @@ ghost use Rattle.data_rows.specs.RowViews.{going};
 ghost use Rattle.check_doubts.specs.Ways.{end_flaw, is_never_taken, is_never_taken_at};
 ghost use Rattle.check_doubts.specs.Ways.{is_textless_end, way_flaw, way_of_row};
 
-use crate::flaw::CaveFlaw;
+use crate::flaw::{CaveFlaw, Subject};
 use crate::messages::{lacks_text, place_has_text};
 use cave_data::Cave;
 use check_tables::reach::may_be_taken;
-use data_bindings::{MarkedRow, way_index};
+use data_lines::{MarkedRow, way_index};
 use data_rows::{Destination, Row};
 
 /// Which way of its place a row is, by the rows before it.
@@ -50,10 +50,10 @@ fn end_flaw(cave: &Cave, target: u32, destination: Destination) -> Option<CaveFl
 {
     match destination {
         Destination::Place(place) if is_textless_end(cave, place) => {
-            Some(CaveFlaw::LeadsToTextless(place))
+            Some(CaveFlaw::Textless(Subject::WayTo, place))
         }
         Destination::Message(message) if lacks_text(cave, message) => {
-            Some(CaveFlaw::WaySaysTextless(message))
+            Some(CaveFlaw::Textless(Subject::WaySays, message))
         }
         Destination::NoWay => Some(CaveFlaw::HasNoRule((target % 1000) as u16)),
         _ => None,

@@ -4,7 +4,7 @@ ghost use Rattle.std.specs.Prelude.{◌≡◌, Some, length};
 ghost use Rattle.std.specs.List.{filter, slice_get};
 ghost use Rattle.cave_words.specs.Lexicon.{IsLexiconOf};
 ghost use Rattle.data_rows.specs.RowViews.{word_entry};
-ghost use Rattle.data_bindings.specs.Marks.{is_word_row};
+ghost use Rattle.data_lines.specs.Marks.{is_word_row};
 ghost use Rattle.check_doubts.specs.Words.{are_named, is_found, is_hidden, is_hidden_word};
 ghost use Rattle.check_doubts.specs.Words.{is_looked_up, is_meant, is_pair, is_second_of};
 ghost use Rattle.check_doubts.specs.Words.{word_of_row};
@@ -12,7 +12,7 @@ ghost use Rattle.check_doubts.specs.Words.{word_of_row};
 use cave_data::Cave;
 use cave_words::{Class, Lexicon, Meaning, Named, Word};
 use check_tables::is_number;
-use data_bindings::MarkedRow;
+use data_lines::MarkedRow;
 use data_rows::WordRow;
 
 fn is_meant(found: Option<Meaning>, meaning: Meaning) -> bool

@@ -1,5 +1,5 @@
 -- Tests of rows and of roles in the code are tests of what these say.
-use Rattle.std.proofs.Common.{◌≡◌, ℕ, Bool, List, [], ◌∷◌, map, refl, sym, ap, ◌∙◌}
+use Rattle.std.proofs.Common.{◌≡◌, Bool, List, [], ◌∷◌, map, refl, sym, ap, ◌∙◌}
 use Rattle.std.specs.Prelude.{◌||◌}
 use Rattle.std.specs.List.{list_any}
 
@@ -12,10 +12,3 @@ list_any-map p f (x ∷ xs) = ap (λ b. p (f x) || b) (list_any-map p f xs)
 pub any_mapped : {A B : Type 0} (p : B → Bool) (f : A → B) (xs : List A) (answer : Bool)
     → answer ≡ list_any (λ x. p (f x)) xs → answer ≡ list_any p (map f xs)
 any_mapped p f xs answer is = is ∙ sym (list_any-map p f xs)
-
--- an answer about roles, for their numbers
-pub any_of_keys : {A : Type 0} (p : ℕ → Bool) (number : A → ℕ) (roles : List A) (keys : List ℕ)
-    (answer : Bool) → map number roles ≡ keys → answer ≡ list_any (λ role. p (number role)) roles
-    → answer ≡ list_any p keys
-any_of_keys p number roles keys answer same is =
-    any_mapped p number roles answer is ∙ ap (list_any p) same

@@ -1,3 +1,4 @@
+pub mod Bindings
 pub mod Names
 pub mod Unused
 pub mod Clues
@@ -5,8 +6,6 @@ pub mod NearKey
 pub mod Known
 pub mod TextKinds
 pub mod WayWords
-pub mod TravelWords
-pub mod WaysByPlace
 pub mod Words
 pub mod Reach
 pub mod Marks

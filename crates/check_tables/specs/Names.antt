@@ -1,25 +1,12 @@
 -- The objects that rules name by a word of the cave: which object each name has there.
-use Rattle.std.specs.Prelude.{ℕ, if◌then◌else◌, List, [], ◌∷◌, ◌++◌, codes, Option, Some, None}
+use Rattle.std.specs.Prelude.{ℕ, if◌then◌else◌, List, [], ◌++◌, codes, Option, Some, None}
 use Rattle.std.specs.Prelude.{unwrap_or}
 use Rattle.std.specs.Fmt.{decimal}
 use Rattle.std.specs.List.{flat_map}
-use Rattle.cave_words.specs.Named.{is_second, object_named, word_of_name}
+use Rattle.cave_words.specs.Named.{each_name, is_second, object_named, word_of_name}
 use Rattle.cave_words.specs.declared.named.Named.{Named}
-use Rattle.cave_words.specs.declared.named.Named.TheVariants as name
-use Rattle.data_bindings.specs.Listing.{first_line}
+use Rattle.base_lines.specs.Line.{first_line}
 use Rattle.cave_data.specs.CaveView.{CaveView, name_of}
-
--- each name, in the order in which rules number them
-unfoldable pub each_name : List Named
-each_name =
-    name.Keys ∷ name.Lamp ∷ name.Grate ∷ name.Cage ∷ name.Rod ∷ name.Steps ∷ name.Bird
-    ∷ name.Door ∷ name.Pillow ∷ name.Snake ∷ name.Fissure ∷ name.Tablet ∷ name.Clam
-    ∷ name.Oyster ∷ name.Magazine ∷ name.Dwarf ∷ name.Knife ∷ name.Food ∷ name.Bottle
-    ∷ name.Water ∷ name.Oil ∷ name.Plant ∷ name.Axe ∷ name.Mirror ∷ name.Dragon ∷ name.Chasm
-    ∷ name.Troll ∷ name.Bear ∷ name.Message ∷ name.Vending ∷ name.Batteries ∷ name.Gold
-    ∷ name.Coins ∷ name.Chest ∷ name.Eggs ∷ name.Trident ∷ name.Vase ∷ name.Emerald
-    ∷ name.Pyramid ∷ name.Pearl ∷ name.Rug ∷ name.Spices ∷ name.Chain ∷ name.SecondRod
-    ∷ name.SecondPlant ∷ name.SecondTroll ∷ []
 
 -- a name as it is listed: its word, followed by a 2 if the name is of the object after the one that
 -- the word names

@@ -4,7 +4,7 @@ use Rattle.std.specs.Prelude.{Option, None, Some, option_map}
 use Rattle.std.specs.Fmt.{decimal}
 use Rattle.std.specs.FinMap as map
 use Rattle.cave_data.specs.CaveView.{CaveView, Rated, class_of, look_of, name_of}
-use Rattle.data_bindings.specs.Listing.{first_line}
+use Rattle.base_lines.specs.Line.{first_line}
 use Rattle.data_rows.specs.Role.{ROLE_NAMES}
 use Rattle.check_tables.specs.declared.text_kinds.TextKind.{TextKind}
 use Rattle.check_tables.specs.declared.text_kinds.TextKind.TheVariants as kind

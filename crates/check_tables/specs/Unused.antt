@@ -4,9 +4,10 @@ use Rattle.std.specs.Prelude.{[], ◌++◌, codes, Option, Some, None, unwrap_or
 use Rattle.std.specs.Fmt.{decimal}
 use Rattle.std.specs.FinMap as map
 use Rattle.std.specs.List.{filter, flat_map, list_any, range_with_len}
-use Rattle.data_bindings.specs.Listing.{first_line, message_keys}
+use Rattle.base_lines.specs.Line.{first_line}
 use Rattle.cave_data.specs.CaveView.{CaveView, default_message, first_word, ways_from}
 use Rattle.base_lines.specs.Numbers.{LAST_ACTION, LAST_HINT, LAST_MESSAGE, LAST_PLACE}
+use Rattle.data_rows.specs.Role.{each_role, role_number}
 use Rattle.data_rows.specs.Rows.{Going, SPECIAL_WORDS}
 use Rattle.data_rows.specs.Targets.{destination_of}
 use Rattle.data_rows.specs.declared.rows.Hint.{Hint}
@@ -45,7 +46,8 @@ hint_says number (Some hint) = hint.question == number || hint.text == number
 -- What can say the message of a number.
 module _ (cave : CaveView) (number : ℕ) where
   abbrev pub role_says : Bool
-  role_says = list_any (λ role. is_number number (map.get cave.roles role)) message_keys
+  role_says =
+      list_any (λ role. is_number number (map.get cave.roles (role_number role))) each_role
 
   abbrev pub way_says : Bool
   way_says = list_any (λ place. list_any (row_says number) (ways_from cave place)) place_numbers

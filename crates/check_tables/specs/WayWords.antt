@@ -1,12 +1,36 @@
 -- What is said about ways: the names of motions and objects, and conditions.
-use Rattle.std.specs.Prelude.{ℕ, ◌+◌, ◌%◌, Bool, ◌==◌, if◌then◌else◌, List, [], ◌++◌, codes}
-use Rattle.std.specs.Prelude.{length, unwrap_or}
+use Rattle.std.specs.Prelude.{ℕ, Bool, ◌==◌, List, [], ◌∷◌, ◌++◌, codes, ◌+◌, ◌%◌, if◌then◌else◌}
+use Rattle.std.specs.Prelude.{length, unwrap_or, false, Option, None, Some}
 use Rattle.std.specs.Fmt.{decimal}
-use Rattle.cave_data.specs.CaveView.{CaveView, first_word}
-use Rattle.data_rows.specs.Rows.{WORDS_PER_CLASS}
+use Rattle.std.specs.List.{filter, flat_map, range_with_len, slice_get}
+use Rattle.base_lines.specs.Numbers.{LAST_PLACE}
+use Rattle.data_lines.specs.declared.by_line.WayLine.{WayLine}
+use Rattle.cave_data.specs.CaveView.{CaveView, first_word, ways_from}
+use Rattle.data_rows.specs.Rows.{WORDS_PER_CLASS, Going}
 use Rattle.data_rows.specs.declared.targets.Condition.{Condition}
 use Rattle.data_rows.specs.declared.targets.Condition.TheVariants as condition
 use Rattle.cave_world.specs.Motions.{any_motion}
+use Rattle.data_rows.specs.declared.targets.Destination.{Destination}
+use Rattle.data_rows.specs.declared.targets.Destination.TheVariants as destination
+use Rattle.data_rows.specs.declared.targets.Special.TheVariants as special
+use Rattle.cave_world.specs.Travel.{row_condition, row_destination}
+
+abbrev pub is_from : ℕ → WayLine → Bool
+is_from place way = way.place == place
+
+abbrev pub ways_at : List WayLine → ℕ → List WayLine
+ways_at ways place = filter (is_from place) ways
+
+-- rows by their places in ascending order, and those of a place in the order of their lines
+unfoldable pub by_place : List WayLine → List WayLine
+by_place ways = flat_map (ways_at ways) (range_with_len 1 LAST_PLACE)
+
+abbrev pub line_names : List WayLine → List ℕ
+line_names ways = flat_map (λ way. codes " " ++ decimal way.line) ways
+
+abbrev pub never_taken : List WayLine → List ℕ
+never_taken [] = []
+never_taken (first ∷ others) = codes ", never line" ++ line_names (first ∷ others)
 
 abbrev pub number_of_object : ℕ → ℕ
 number_of_object object = WORDS_PER_CLASS + object
@@ -47,3 +71,26 @@ mark_of_text later text =
 
 abbrev pub condition_mark : CaveView → Bool → Condition → List ℕ
 condition_mark cave later condition = mark_of_text later (condition_text cave condition)
+
+-- where a row leads: to a place, a message or a rule of its own
+abbrev pub end_words : Destination → List ℕ
+end_words (destination.Place place) = codes " to " ++ decimal place
+end_words (destination.Message message) = codes " to message " ++ decimal message
+end_words (destination.Special special.Squeeze) = codes " to the narrow passage"
+end_words (destination.Special special.Bridge) = codes " to the troll's bridge"
+end_words destination.PutsEmeraldDown = codes " to put EMERALD down"
+end_words destination.NoWay = codes " to no rule"
+
+-- from where a row leads by which motions, where it leads, and on which condition
+abbrev pub row_words : CaveView → ℕ → Going → List ℕ
+row_words cave place row =
+    codes "from " ++ (decimal place ++ (codes " by" ++ (flat_map (motion_name cave) row.motions
+    ++ (end_words (row_destination row) ++ condition_mark cave false (row_condition row)))))
+
+abbrev pub words_of_way : CaveView → ℕ → Option Going → List ℕ
+words_of_way cave place None = []
+words_of_way cave place (Some row) = row_words cave place row
+
+-- the words of the row at a line of the database
+abbrev pub way_words : CaveView → WayLine → List ℕ
+way_words cave way = words_of_way cave way.place (slice_get (ways_from cave way.place) way.index)

@@ -1,14 +1,16 @@
 //! Lists of what is known: what one has, what it leaves, and what is said of each of its lines that
 //! nothing says any more.
 
-ghost use Rattle.std.specs.Prelude.{◌≡◌, ℕ, List, ◌≤◌, ◌++◌, IfOk, OnOk, length};
+ghost use Rattle.std.specs.Prelude.{◌≡◌, ℕ, List, [], ◌≤◌, if◌then◌else◌, IfOk, length};
 ghost use Rattle.std.specs.Str.Lines.{lines};
+ghost use Rattle.base_text.specs.Text.{Tells};
 ghost use Rattle.check_tables.specs.Known.{entry_lines, has_entry, is_known, is_unmet};
 ghost use Rattle.check_tables.specs.Known.{known_entries, unknown, unmet_line, unmet_lines};
 ghost use Rattle.check_tables.specs.Known.{unmet_text};
 
 use base_lines::bytes::skip_blanks;
 use base_lines::{is_skipped, split_line};
+use base_text::Text;
 use std::alloc::{AllocError, Global};
 use std::marker::Model;
 
@@ -20,33 +22,20 @@ pub trait Entries {
     /// Its entry, without the end of the line.
     ghost entry: { Self → Self.Thing → List ℕ };
 
-    /// Appends the entry of a thing.
-    fn push_entry(
-        &self,
-        alloc: Global,
-        thing: Self::Thing,
-        text: &mut Vec<u8>,
-    ) -> Result<(), AllocError>
-        ensures { OnOk result (text.new.items ≡ text.old.items ++ entry self.now thing) };
+    /// Writes the entry of a thing.
+    fn put_entry(&self, thing: Self::Thing, text: &mut Text)
+        ensures { Tells (entry self.now thing) text.old text.new };
 }
 
-/// Appends the entries of things, each as a line after this.
-pub fn push_entries<T: Entries>(
-    alloc: Global,
-    of: &T,
-    indent: &str,
-    things: &[T::Thing],
-    text: &mut Vec<u8>,
-) -> Result<(), AllocError>
-    ensures { OnOk result (text.new.items
-        ≡ text.old.items ++ entry_lines (T.entry of.now) indent.now things.now) }
+/// Writes the entries of things, each as a line after this.
+pub fn put_entries<T: Entries>(text: &mut Text, of: &T, indent: &str, things: &[T::Thing])
+    ensures { Tells (entry_lines (T.entry of.now) indent.now things.now) text.old text.new }
 {
     for thing in things {
-        text.extend_from_slice(indent.as_bytes())?;
-        of.push_entry(alloc, *thing, text)?;
-        text.extend_from_slice(b"\n")?;
+        text.put(indent.as_bytes());
+        of.put_entry(*thing, text);
+        text.put(b"\n");
     }
-    Ok(())
 }
 
 /// Whether a text has an entry. The blanks that begin a line don't count.
@@ -71,42 +60,35 @@ fn is_unmet(entries: &[u8], line: &[u8]) -> bool
     !is_skipped(entry) && !has_entry(entries, entry)
 }
 
-/// Appends these words about a line of a file.
-fn push_unmet_line(
-    alloc: Global,
-    file: &str,
-    words: &str,
-    number: usize,
-    text: &mut Vec<u8>,
-) -> Result<(), AllocError>
-    ensures { OnOk result (text.new.items ≡ text.old.items ++ unmet_line file.now words.now number) }
-{
-    let told = format!(in alloc; "{file}:{number}: {words}\n")?;
-    text.extend_from_slice(told.as_bytes())
-}
-
-/// Appends these words about each line of a list, which is in a file, that is none of the entries.
-fn push_unmet_lines(
-    alloc: Global,
+/// Writes these words about a line of a file, if it is none of the entries.
+fn put_if_unmet(
+    text: &mut Text,
     file: &str,
     words: &str,
     entries: &[u8],
-    list: &[u8],
-    text: &mut Vec<u8>,
-) -> Result<(), AllocError>
-    ensures { OnOk result (text.new.items
-        ≡ text.old.items ++ unmet_lines file.now words.now entries.now 1 (lines list.now)) }
+    number: usize,
+    line: &[u8],
+)
+    ensures { Tells (if is_unmet entries.now line.now then unmet_line file.now words.now number
+        else []) text.old text.new }
+{
+    if is_unmet(entries, line) {
+        write!(text, "{file}:{number}: {words}\n");
+    }
+}
+
+/// Writes these words about each line of a list, which is in a file, that is none of the entries.
+fn put_unmet_lines(text: &mut Text, file: &str, words: &str, entries: &[u8], list: &[u8])
+    ensures { Tells (unmet_lines file.now words.now entries.now 1 (lines list.now)) text.old
+        text.new }
 {
     let mut rest = list;
     let mut number = 0usize;
     while let Some((line, after)) = split_line(rest) {
         number += 1;
-        if is_unmet(entries, line) {
-            push_unmet_line(alloc, file, words, number, text)?;
-        }
+        put_if_unmet(text, file, words, entries, number, line);
         rest = after;
     }
-    Ok(())
 }
 
 /// A list of what is known, and the name of its file.
@@ -138,9 +120,9 @@ impl KnownList {
     fn has<T: Entries>(&self, alloc: Global, of: &T, thing: T::Thing) -> Result<bool, AllocError>
         ensures { IfOk result (λ known. known ≡ is_known self.now (T.entry of.now thing)) }
     {
-        let mut entry = Vec::new(alloc);
-        of.push_entry(alloc, thing, &mut entry)?;
-        Ok(has_entry(&self.list, &entry))
+        let mut entry = Text::new(alloc);
+        of.put_entry(thing, &mut entry);
+        Ok(has_entry(&self.list, &entry.finish()?))
     }
 
     /// The things that the list doesn't know.
@@ -163,18 +145,11 @@ impl KnownList {
         Ok(left)
     }
 
-    /// Appends these words about each line of the list that says something and is none of the
+    /// Writes these words about each line of the list that says something and is none of the
     /// entries.
-    pub fn push_unmet(
-        &self,
-        alloc: Global,
-        words: &str,
-        entries: &[u8],
-        text: &mut Vec<u8>,
-    ) -> Result<(), AllocError>
-        ensures { OnOk result (text.new.items
-            ≡ text.old.items ++ unmet_text self.now words.now entries.now) }
+    pub fn put_unmet(&self, text: &mut Text, words: &str, entries: &[u8])
+        ensures { Tells (unmet_text self.now words.now entries.now) text.old text.new }
     {
-        push_unmet_lines(alloc, &self.file, words, entries, &self.list, text)
+        put_unmet_lines(text, &self.file, words, entries, &self.list);
     }
 }

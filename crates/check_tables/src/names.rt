@@ -3,22 +3,15 @@
 ghost use Rattle.std.specs.Prelude.{◌≡◌, ◌++◌, OnOk};
 ghost use Rattle.std.specs.List.{flat_map};
 ghost use Rattle.cave_words.specs.Lexicon.{IsLexiconOf};
-ghost use Rattle.check_tables.specs.Names.{each_name, inventory_line, label, name_row};
+ghost use Rattle.cave_words.specs.Named.{each_name};
+ghost use Rattle.check_tables.specs.Names.{inventory_line, label, name_row};
 ghost use Rattle.check_tables.specs.Names.{names_header, names_table, object_columns};
 
+use base_lines::first_line;
 use cave_data::Cave;
-use cave_words::named::EACH_NAME;
+use cave_words::named::each_name;
 use cave_words::{Lexicon, Named};
-use data_bindings::first_line;
 use std::alloc::{AllocError, Global};
-
-/// All names.
-#[tactic(auto, unfolding(crate::specs::Names::each_name))]
-fn each_name() -> &'static [Named]
-    ensures { result.now ≡ each_name }
-{
-    &EACH_NAME
-}
 
 /// The first line of an object's inventory text.
 fn inventory_line(cave: &Cave, object: u16) -> &[u8]

@@ -1,12 +1,13 @@
 //! The kinds of texts of a cave, and what each text is called.
 
-ghost use Rattle.std.specs.Prelude.{◌≡◌, [], ◌++◌, map, OnOk, option_map, slice_index_or};
+ghost use Rattle.std.specs.Prelude.{◌≡◌, [], map, option_map, slice_index_or};
+ghost use Rattle.base_text.specs.Text.{Tells};
 ghost use Rattle.check_tables.specs.TextKinds.{first_line_shown, heading_of_kind, kind_number};
 ghost use Rattle.check_tables.specs.TextKinds.{text_at, word_of_kind};
 
+use base_lines::first_line;
+use base_text::Text;
 use cave_data::Cave;
-use data_bindings::first_line;
-use std::alloc::AllocError;
 
 /// The number of a look is that of its object times this, and its prop.
 pub const PROPS_PER_OBJECT: u16 = 100;
@@ -98,17 +99,17 @@ pub fn text_at(cave: &Cave, kind: TextKind, number: u16) -> Option<&[u8]>
     }
 }
 
-/// Appends the first line of a text, if there is one.
-pub fn push_first_line(found: Option<&[u8]>, text: &mut Vec<u8>) -> Result<(), AllocError>
-    ensures { OnOk result (text.new.items
-        ≡ text.old.items ++ first_line_shown (option_map (λ found. found.now) found.entry)) }
+/// Writes the first line of a text, if there is one.
+pub fn put_first_line(found: Option<&[u8]>, text: &mut Text)
+    ensures { Tells (first_line_shown (option_map (λ found. found.now) found.entry)) text.old
+        text.new }
 {
     match found {
         Some(found) => {
-            text.extend_from_slice(b": ")?;
-            text.extend_from_slice(first_line(found))
+            text.put(b": ");
+            text.put(first_line(found));
         }
-        None => Ok(()),
+        None => {}
     }
 }
 

@@ -1,20 +1,19 @@
 //! The words of travel rows.
 
-ghost use Rattle.std.specs.Prelude.{◌≡◌, ◌++◌, OnOk, option_map};
+ghost use Rattle.std.specs.Prelude.{◌≡◌, option_map};
 ghost use Rattle.std.specs.List.{flat_map, slice_get};
 ghost use Rattle.base_text.specs.Text.{Tells};
 ghost use Rattle.cave_data.specs.CaveView.{ways_from};
 ghost use Rattle.data_rows.specs.RowViews.{going};
-ghost use Rattle.check_tables.specs.TravelWords.{end_words, row_words, way_words, words_of_way};
+ghost use Rattle.check_tables.specs.WayWords.{end_words, row_words, way_words, words_of_way};
 ghost use Rattle.check_tables.specs.WayWords.{motion_name};
 
 use crate::known::Entries;
 use crate::way_words::{put_condition_mark, put_motion};
 use base_text::Text;
 use cave_data::Cave;
-use data_bindings::WayLine;
+use data_lines::WayLine;
 use data_rows::{Destination, Row, Special};
-use std::alloc::{AllocError, Global};
 
 /// Appends where a row leads.
 fn put_end_words(destination: Destination, text: &mut Text)
@@ -72,18 +71,11 @@ fn put_words_of_way(cave: &Cave, place: u16, row: Option<&Row>, text: &mut Text)
     }
 }
 
-/// Appends the words of the row at a line of the database.
-pub fn push_way_words(
-    alloc: Global,
-    cave: &Cave,
-    way: &WayLine,
-    text: &mut Vec<u8>,
-) -> Result<(), AllocError>
-    ensures { OnOk result (text.new.items ≡ text.old.items ++ way_words cave.now way.now) }
+/// Writes the words of the row at a line of the database.
+pub fn put_way_words(cave: &Cave, way: &WayLine, text: &mut Text)
+    ensures { Tells (way_words cave.now way.now) text.old text.new }
 {
-    let mut words = Text::after(alloc, text);
-    put_words_of_way(cave, way.place, row_of_way(cave, way), &mut words);
-    words.give_to(text)
+    put_words_of_way(cave, way.place, row_of_way(cave, way), text);
 }
 
 /// The travel rows of a cave, as lists of what is known have them.
@@ -97,12 +89,7 @@ impl Entries for TravelEntries<'_> {
 
     ghost entry = { λ rows. way_words rows.cave.now };
 
-    fn push_entry(
-        &self,
-        alloc: Global,
-        way: WayLine,
-        text: &mut Vec<u8>,
-    ) -> Result<(), AllocError> {
-        push_way_words(alloc, self.cave, &way, text)
+    fn put_entry(&self, way: WayLine, text: &mut Text) {
+        put_way_words(self.cave, &way, text);
     }
 }

@@ -8,12 +8,12 @@ ghost use Rattle.data_rows.specs.RowViews.{going};
 ghost use Rattle.check_tables.specs.Unused.{hint_says, is_number, is_said, is_unused, role_says};
 ghost use Rattle.check_tables.specs.Unused.{row_says, some_hint_says, special_word_says};
 ghost use Rattle.check_tables.specs.Unused.{unused_header, unused_messages, unused_row};
-ghost use Rattle.check_tables.specs.Unused.{unused_table};
-ghost use Rattle.check_tables.specs.Unused.{verb_says, way_says};
+ghost use Rattle.check_tables.specs.Unused.{unused_table, verb_says, way_says};
 
+use base_lines::first_line;
 use base_lines::numbers::{LAST_ACTION, LAST_HINT, LAST_MESSAGE, LAST_PLACE};
 use cave_data::Cave;
-use data_bindings::{first_line, message_keys};
+use data_rows::role::each_role;
 use data_rows::{Destination, Hint, Role, Row, WORDS_PER_CLASS};
 use std::alloc::{AllocError, Global};
 
@@ -42,7 +42,7 @@ fn any_bound(cave: &Cave, roles: &[Role], number: u16) -> bool
 fn role_says(cave: &Cave, number: u16) -> bool
     ensures { result ≡ role_says cave.now number }
 {
-    any_bound(cave, message_keys(), number)
+    any_bound(cave, each_role(), number)
 }
 
 /// Whether a row of travel says a message.

@@ -2,9 +2,8 @@
 
 ghost use Rattle.std.specs.Prelude.{◌≡◌, ◌++◌, IfOk, OnOk};
 ghost use Rattle.std.specs.List.{flat_map};
-ghost use Rattle.check_tables.specs.Words.{class_name, is_meant, meant_numbers};
-ghost use Rattle.check_tables.specs.Words.{word_column, word_columns, words_header, words_row};
-ghost use Rattle.check_tables.specs.Words.{words_table};
+ghost use Rattle.check_tables.specs.Words.{class_name, is_meant, meant_numbers, word_column};
+ghost use Rattle.check_tables.specs.Words.{word_columns, words_header, words_row, words_table};
 ghost use Rattle.data_rows.specs.RowViews.{word_entry};
 
 use cave_data::{Cave, WordTable};

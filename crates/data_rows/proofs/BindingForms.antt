@@ -1,9 +1,7 @@
 -- A line is one of bindings exactly if it is read as one.
 use Rattle.std.proofs.Common.{◌≡◌, ℕ, ◌≤◌, Bool, true, false, cond, ◌&&◌, nat_eq, nat_le, List, []}
-use Rattle.std.proofs.Common.{◌∷◌}
-use Rattle.std.proofs.Common.{◌++◌, length, drop, codes, Option, Some, None, Result, Ok, Err}
-use Rattle.std.proofs.Common.{IsTrue}
-use Rattle.std.proofs.Common.{refl, sym, ap, subst, ◌∙◌, arith}
+use Rattle.std.proofs.Common.{◌∷◌, ◌++◌, length, drop, codes, Option, Some, None, Result, Ok, Err}
+use Rattle.std.proofs.Common.{IsTrue, refl, sym, ap, subst, ◌∙◌, arith}
 use Rattle.std.specs.Option.{ok_or}
 use Rattle.std.specs.List.{starts_with}
 use Rattle.std.specs.Str.{bytes_eq}
@@ -22,12 +20,11 @@ use Rattle.data_rows.specs.Fields.{fields, natural}
 use Rattle.data_rows.specs.Role.{ROLE_NAMES}
 use Rattle.data_rows.specs.PlaceRole.{PLACE_NAMES}
 use Rattle.data_rows.specs.BindingLines.{two_fields, bound_within, role_binding}
-use Rattle.data_rows.specs.BindingGrammar.{position_of_name}
+use Rattle.data_rows.specs.BindingGrammar.{position_of_name, IsKey, role_key, place_key}
+use Rattle.data_rows.specs.BindingGrammar.{letters_key, IsValueOf, IsBindingLine}
 use Rattle.data_rows.specs.BindingLines.{place_binding, letters_binding, binding_of, binding_row}
 use Rattle.data_rows.specs.RowParts.{WritesNatural}
 use Rattle.data_rows.specs.RowGrammar.{IsBetween}
-use Rattle.data_rows.specs.BindingGrammar.{IsKey, role_key, place_key, letters_key, IsValueOf}
-use Rattle.data_rows.specs.BindingGrammar.{IsBindingLine}
 use Rattle.data_rows.proofs.PartLemmas.{natural-written, written-natural}
 use Rattle.data_rows.proofs.ReadParts.{in_steps, same_ok, fields-begins, fields-all, ahead_begins}
 use Rattle.data_rows.proofs.ReadParts.{none_ahead_blank, nonblank-field}

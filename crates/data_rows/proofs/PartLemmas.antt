@@ -1,23 +1,21 @@
 -- The parts of a row, as their bytes define them, are what reading gives.
 use Rattle.std.proofs.Common.{◌≡◌, ℕ, ◌≤◌, Bool, true, false, cond, not, ◌==◌, ◌&&◌, nat_lt, nat_le}
 use Rattle.std.proofs.Common.{List, [], ◌∷◌, ◌++◌, length, Option, Some, None, option_map, IsTrue}
-use Rattle.std.proofs.Common.{unwrap_or}
-use Rattle.std.proofs.Common.{refl, sym, ap, subst, ◌∙◌, arith}
+use Rattle.std.proofs.Common.{unwrap_or, refl, sym, ap, subst, ◌∙◌, arith}
 use Rattle.std.specs.List.{list_all}
 use Rattle.std.proofs.lemmas.Bool.{and_parts, eqb-true}
 use Rattle.std.proofs.lemmas.Bool.Decides.{nat_tests}
 use Rattle.std.proofs.lemmas.List.{append-nil}
 use Rattle.base_lines.specs.Bytes.{is_blank, is_nonblank, is_all_blank, is_digit, number_of}
 use Rattle.base_lines.specs.Bytes.{prefix_while}
-use Rattle.base_lines.specs.Prefixes.{prefix_while-append-after_prefix, list_all-prefix_while}
-use Rattle.base_lines.specs.Prefixes.{after_prefix-append, prefix_while-append}
+use Rattle.base_lines.proofs.Prefixes.{prefix_while-append-after_prefix, list_all-prefix_while}
+use Rattle.base_lines.proofs.Prefixes.{after_prefix-append, prefix_while-append}
 use Rattle.data_rows.specs.declared.number.Number.{Number}
 use Rattle.data_rows.specs.declared.number.Number.TheVariants.{Natural}
 use Rattle.data_rows.specs.Fields.{after_blanks, field, after_field, is_numeral}
-use Rattle.data_rows.specs.RowParts.{ends_field, negative}
+use Rattle.data_rows.specs.RowParts.{ends_field, negative, BeginsWithField, WritesNatural}
+use Rattle.data_rows.specs.RowParts.{WritesNumber, unsigned, signed, BeginsWithNumber}
 use Rattle.data_rows.specs.Fields.{natural, number_of_field, number_at}
-use Rattle.data_rows.specs.RowParts.{BeginsWithField, WritesNatural, WritesNumber, unsigned, signed}
-use Rattle.data_rows.specs.RowParts.{BeginsWithNumber}
 use Rattle.data_rows.proofs.FieldLemmas.{none_ahead, field-blank, after_field-blank}
 
 -- ---- fields

@@ -1,9 +1,8 @@
 -- The parts of a row, as their bytes define them, are what reading gives, or the cause that it
 -- gives.
-use Rattle.std.proofs.Common.{◌≡◌, ℕ, ◌≤◌, Bool, true, false, cond}
-use Rattle.std.proofs.Common.{◌==◌, ◌&&◌, nat_lt, nat_le, List, [], ◌∷◌, ◌++◌, length, map, drop}
-use Rattle.std.proofs.Common.{Option, Some, None, option_map, Result, Ok, Err, IsTrue, refl, sym}
-use Rattle.std.proofs.Common.{ap, subst, ◌∙◌, arith}
+use Rattle.std.proofs.Common.{◌≡◌, ℕ, ◌≤◌, Bool, true, false, cond, ◌==◌, ◌&&◌, nat_lt, nat_le}
+use Rattle.std.proofs.Common.{List, [], ◌∷◌, ◌++◌, length, map, drop, Option, Some, None}
+use Rattle.std.proofs.Common.{option_map, Result, Ok, Err, IsTrue, refl, sym, ap, subst, ◌∙◌, arith}
 use Rattle.std.specs.Option.{ok_or}
 use Rattle.std.specs.List.{All}
 use Rattle.std.proofs.lemmas.Bool.{and_parts, eqb-true, ne_eqb, false≢true}
@@ -11,21 +10,20 @@ use Rattle.std.proofs.lemmas.Bool.Decides.{nat_tests}
 use Rattle.std.proofs.lemmas.List.{append-nil}
 use Rattle.std.proofs.lemmas.List.Elements.{All-nil, All-cons, All-head, All-tail}
 use Rattle.base_lines.specs.Bytes.{is_blank, is_all_blank, prefix_while}
-use Rattle.base_lines.specs.Prefixes.{prefix_while-append-after_prefix, list_all-prefix_while}
-use Rattle.base_lines.specs.Prefixes.{after_prefix-append}
+use Rattle.base_lines.proofs.Prefixes.{prefix_while-append-after_prefix, list_all-prefix_while}
+use Rattle.base_lines.proofs.Prefixes.{after_prefix-append}
 use Rattle.data_rows.specs.declared.error.Cause.{Cause}
 use Rattle.data_rows.specs.declared.error.Cause.TheVariants.{BadNumber, OutOfRange, TooManyRows}
 use Rattle.data_rows.specs.declared.number.Number.{Number}
 use Rattle.data_rows.specs.declared.number.Number.TheVariants.{Natural, Negative}
 use Rattle.data_rows.specs.Fields.{after_blanks, field, after_field, fields}
-use Rattle.data_rows.specs.RowParts.{ends_field}
+use Rattle.data_rows.specs.RowParts.{ends_field, BeginsWithField, BeginsWithNumber}
+use Rattle.data_rows.specs.RowParts.{MayBeginWithNumber, left_out, written, IsNumberList, line_ends}
+use Rattle.data_rows.specs.RowParts.{zero_ends, goes_on, IsTextAfter}
 use Rattle.data_rows.specs.Fields.{number_of_field, number_at}
 use Rattle.data_rows.specs.Rows.{◌>>=◌, number_or_cause, within, is_zero, before_zero, list_in}
 use Rattle.data_rows.specs.Rows.{numbers_to_zero, all_within, some_of, few_of, text_or_cause}
 use Rattle.data_rows.specs.Rows.{word_or_cause, number_or_zero}
-use Rattle.data_rows.specs.RowParts.{BeginsWithField, BeginsWithNumber, MayBeginWithNumber}
-use Rattle.data_rows.specs.RowParts.{left_out, written, IsNumberList, line_ends, zero_ends, goes_on}
-use Rattle.data_rows.specs.RowParts.{IsTextAfter}
 use Rattle.data_rows.specs.RowGrammar.{IsBetween}
 use Rattle.data_rows.proofs.FieldLemmas.{field-cons, fields_none, fields_first}
 use Rattle.data_rows.proofs.PartLemmas.{after_blanks-begins, field-begins, after_field-begins}

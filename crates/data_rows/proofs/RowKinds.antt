@@ -1,16 +1,14 @@
 -- The numbers that the rows of words, of objects and of their places begin with or have.
-use Rattle.std.proofs.Common.{◌≡◌, ◌⊎◌, inl, inr, ℕ, ℤ, pos, negsuc, ◌/◌, ◌%◌, ◌≤◌, Bool}
-use Rattle.std.proofs.Common.{true, false, cond, ◌==◌, ◌&&◌, ◌||◌, nat_le}
-use Rattle.std.proofs.Common.{Result, Ok, Err, refl, sym, ap, subst}
-use Rattle.std.proofs.Common.{arith}
+use Rattle.std.proofs.Common.{◌≡◌, ◌⊎◌, inl, inr, ℕ, ℤ, pos, negsuc, ◌/◌, ◌%◌, ◌≤◌, Bool, true}
+use Rattle.std.proofs.Common.{false, cond, ◌==◌, ◌&&◌, ◌||◌, nat_le, Result, Ok, Err, refl, sym, ap}
+use Rattle.std.proofs.Common.{subst, arith}
 use Rattle.std.proofs.lemmas.Bool.{and_parts, eqb-true}
 use Rattle.std.proofs.lemmas.Bool.Decides.{nat_tests}
 use Rattle.data_rows.specs.declared.error.Cause.{Cause}
 use Rattle.data_rows.specs.declared.error.Cause.TheVariants.{OutOfRange}
 use Rattle.data_rows.specs.declared.number.Number.{Number}
 use Rattle.data_rows.specs.declared.number.Number.TheVariants.{Natural, Negative}
-use Rattle.data_rows.specs.Rows.{object_or_prop, is_word_number}
-use Rattle.data_rows.specs.Rows.{word_number, second_place}
+use Rattle.data_rows.specs.Rows.{object_or_prop, is_word_number, word_number, second_place}
 use Rattle.data_rows.specs.RowGrammar.{IsWordNumber}
 use Rattle.data_rows.specs.RowGrammar.{IsObjectOrProp, IsSecondPlace, is_place, is_immovable}
 

@@ -1,18 +1,13 @@
 -- A line is a row of a section exactly if it is read as one.
-use Rattle.std.proofs.Common.{◌≡◌, ℕ}
-use Rattle.std.proofs.Common.{List}
-use Rattle.std.proofs.Common.{Ok, refl, subst}
+use Rattle.std.proofs.Common.{◌≡◌, ℕ, List, Ok, refl, subst}
 use Rattle.data_rows.specs.declared.error.Section.{Section}
 use Rattle.data_rows.specs.declared.error.Section.TheVariants as section
-use Rattle.data_rows.specs.Rows.{Entry, LongLine, ShortLine, Way}
-use Rattle.data_rows.specs.Rows.{Word, ObjectLine, MessageLine, PlacementRow, DefaultRow}
-use Rattle.data_rows.specs.Rows.{ConditionRow, ClassLine, HintRow, MagicLine}
-use Rattle.data_rows.specs.Rows.{text_line, object_line, way_row}
-use Rattle.data_rows.specs.Rows.{word_row}
+use Rattle.data_rows.specs.Rows.{Entry, LongLine, ShortLine, Way, Word, ObjectLine, MessageLine}
+use Rattle.data_rows.specs.Rows.{PlacementRow, DefaultRow, ConditionRow, ClassLine, HintRow}
+use Rattle.data_rows.specs.Rows.{MagicLine, text_line, object_line, way_row, word_row}
 use Rattle.data_rows.specs.Rows.{placement_row, default_row, condition_row, hint_row, entry_in}
-use Rattle.data_rows.specs.RowGrammar.{IsRow}
-use Rattle.data_rows.specs.RowGrammar.{in_1, in_2, in_3, in_4, in_5, in_6, in_7, in_8, in_9, in_10}
-use Rattle.data_rows.specs.RowGrammar.{in_11, in_12}
+use Rattle.data_rows.specs.RowGrammar.{IsRow, in_1, in_2, in_3, in_4, in_5, in_6, in_7, in_8, in_9}
+use Rattle.data_rows.specs.RowGrammar.{in_10, in_11, in_12}
 use Rattle.data_rows.proofs.ReadParts.{in_steps, same_ok}
 use Rattle.data_rows.proofs.SectionRows.{text_row-read, read-text_row, object_line-read}
 use Rattle.data_rows.proofs.SectionRows.{read-object_line, way-read, read-way, default-read}

@@ -1,30 +1,26 @@
 -- A line is a row of a section's form exactly if it is read as one.
-use Rattle.std.proofs.Common.{◌≡◌, ℕ, ◌≤◌}
-use Rattle.std.proofs.Common.{List, [], ◌∷◌, length, map}
-use Rattle.std.proofs.Common.{Ok, refl, sym, ap, subst, ◌∙◌}
+use Rattle.std.proofs.Common.{◌≡◌, ℕ, ◌≤◌, List, [], ◌∷◌, length, map, Ok, refl, sym, ap, subst}
+use Rattle.std.proofs.Common.{◌∙◌}
 use Rattle.std.specs.List.{All}
 use Rattle.std.proofs.lemmas.List.{length-map}
 use Rattle.data_rows.specs.declared.number.Number.{Number}
 use Rattle.data_rows.specs.declared.number.Number.TheVariants.{Natural}
 use Rattle.data_rows.specs.declared.rows.Placement.{Placement}
 use Rattle.data_rows.specs.declared.rows.Hint.{Hint}
-use Rattle.data_rows.specs.Rows.{TextLine, Going, WordEntry}
-use Rattle.data_rows.specs.Rows.{number_or_cause}
-use Rattle.data_rows.specs.Rows.{within, list_in, all_within, some_of, few_of, text_or_cause}
-use Rattle.data_rows.specs.Rows.{text_line, object_or_prop, object_line, way_row}
-use Rattle.data_rows.specs.Rows.{word_number, word_or_cause, word_row, number_or_zero, second_place}
-use Rattle.data_rows.specs.Rows.{placement_row, default_row, condition_row, hint_row}
+use Rattle.data_rows.specs.Rows.{TextLine, Going, WordEntry, number_or_cause, within, list_in}
+use Rattle.data_rows.specs.Rows.{all_within, some_of, few_of, text_or_cause, text_line}
+use Rattle.data_rows.specs.Rows.{object_or_prop, object_line, way_row, word_number, word_or_cause}
+use Rattle.data_rows.specs.Rows.{word_row, number_or_zero, second_place, placement_row, default_row}
+use Rattle.data_rows.specs.Rows.{condition_row, hint_row}
 use Rattle.data_rows.specs.Fields.{after_blanks, after_field}
 use Rattle.data_rows.specs.RowParts.{BeginsWithNumber, BeginsWithNumbers, no_number}
 use Rattle.data_rows.specs.RowParts.{number_then, MayBeginWithNumber, IsNumberList}
-use Rattle.data_rows.specs.RowGrammar.{IsBetween, IsTextRow, IsWayRow, IsWordRow}
-use Rattle.data_rows.specs.RowGrammar.{IsObjectOrProp}
+use Rattle.data_rows.specs.RowGrammar.{IsBetween, IsTextRow, IsWayRow, IsWordRow, IsObjectOrProp}
 use Rattle.data_rows.specs.RowGrammar.{IsPlacementRow, IsDefaultRow, IsConditionRow, IsHintRow}
-use Rattle.data_rows.proofs.ReadParts.{in_steps, same_ok, number-read, read-number}
-use Rattle.data_rows.proofs.ReadParts.{within-read, read-within}
-use Rattle.data_rows.proofs.ReadParts.{may-read, read-may, list-read, read-list, all-read, read-all}
-use Rattle.data_rows.proofs.ReadParts.{some-read, read-some, few-read, read-few, text-read}
-use Rattle.data_rows.proofs.ReadParts.{read-text, word-read, read-word}
+use Rattle.data_rows.proofs.ReadParts.{in_steps, same_ok, number-read, read-number, within-read}
+use Rattle.data_rows.proofs.ReadParts.{read-within, may-read, read-may, list-read, read-list}
+use Rattle.data_rows.proofs.ReadParts.{all-read, read-all, some-read, read-some, few-read, read-few}
+use Rattle.data_rows.proofs.ReadParts.{text-read, read-text, word-read, read-word}
 use Rattle.data_rows.proofs.RowKinds.{object_or_prop-read, read-object_or_prop, word_number-read}
 use Rattle.data_rows.proofs.RowKinds.{read-word_number, second-read, read-second}
 

@@ -1,50 +1,32 @@
 -- The places that rules name by what they are for.
-use Rattle.std.specs.Prelude.{ℕ, List, [], ◌∷◌, codes}
+use Rattle.std.specs.Prelude.{ℕ, List, [], ◌∷◌, codes, map, slice_index_or}
+use denote.Enum.Declared.{tag_of}
+use Rattle.data_rows.specs.contracts.place_role.PlaceRole.{the_type}
 use Rattle.data_rows.specs.declared.place_role.PlaceRole.{PlaceRole}
 use Rattle.data_rows.specs.declared.place_role.PlaceRole.TheVariants as place
 
--- the names that bindings use, in the order of their numbers
-abbrev pub PLACE_NAMES : List (List ℕ)
-PLACE_NAMES =
-    codes "start"
-    ∷ codes "building"
-    ∷ codes "outside"
-    ∷ codes "deep"
-    ∷ codes "alcove"
-    ∷ codes "plover"
-    ∷ codes "y2"
-    ∷ codes "chest"
-    ∷ codes "message"
-    ∷ codes "dwarfalt"
-    ∷ codes "dwarf1"
-    ∷ codes "dwarf2"
-    ∷ codes "dwarf3"
-    ∷ codes "dwarf4"
-    ∷ codes "dwarf5"
-    ∷ codes "culdesac"
-    ∷ codes "witt"
-    ∷ codes "ne"
-    ∷ codes "sw"
-    ∷ []
+-- each with the name that bindings use, in the order of their numbers
+abbrev pub PLACE_ROWS : List (PlaceRole × List ℕ)
+PLACE_ROWS =
+    (place.Start, codes "start") ∷ (place.Building, codes "building")
+    ∷ (place.Outside, codes "outside") ∷ (place.Deep, codes "deep")
+    ∷ (place.Alcove, codes "alcove") ∷ (place.Plover, codes "plover") ∷ (place.Y2, codes "y2")
+    ∷ (place.Chest, codes "chest") ∷ (place.Message, codes "message")
+    ∷ (place.Dwarfalt, codes "dwarfalt") ∷ (place.Dwarf1, codes "dwarf1")
+    ∷ (place.Dwarf2, codes "dwarf2") ∷ (place.Dwarf3, codes "dwarf3")
+    ∷ (place.Dwarf4, codes "dwarf4") ∷ (place.Dwarf5, codes "dwarf5")
+    ∷ (place.Culdesac, codes "culdesac") ∷ (place.Witt, codes "witt") ∷ (place.Ne, codes "ne")
+    ∷ (place.Sw, codes "sw") ∷ []
 
--- its place in the table of names
+abbrev pub each_place_role : List PlaceRole
+each_place_role = map (λ row. row.0) PLACE_ROWS
+
+abbrev pub PLACE_NAMES : List (List ℕ)
+PLACE_NAMES = map (λ row. row.1) PLACE_ROWS
+
+-- its place among all, from 0, which is that of its variant
 abbrev pub place_number : PlaceRole → ℕ
-place_number place.Start = 0
-place_number place.Building = 1
-place_number place.Outside = 2
-place_number place.Deep = 3
-place_number place.Alcove = 4
-place_number place.Plover = 5
-place_number place.Y2 = 6
-place_number place.Chest = 7
-place_number place.Message = 8
-place_number place.Dwarfalt = 9
-place_number place.Dwarf1 = 10
-place_number place.Dwarf2 = 11
-place_number place.Dwarf3 = 12
-place_number place.Dwarf4 = 13
-place_number place.Dwarf5 = 14
-place_number place.Culdesac = 15
-place_number place.Witt = 16
-place_number place.Ne = 17
-place_number place.Sw = 18
+place_number p = tag_of the_type p
+
+abbrev pub place_name : PlaceRole → List ℕ
+place_name p = slice_index_or PLACE_NAMES (place_number p) []

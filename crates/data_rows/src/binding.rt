@@ -2,10 +2,9 @@
 ghost use Rattle.std.specs.Prelude.{◌≡◌, ◌<◌, ◌^◌, nat_eq, map, drop, length, option_map, Some};
 ghost use Rattle.std.specs.Prelude.{None, if◌then◌else◌};
 ghost use Rattle.std.specs.List.{starts_with};
-ghost use Rattle.data_rows.specs.BindingLines.{two_fields, bound_within};
+ghost use Rattle.data_rows.specs.BindingLines.{two_fields, bound_within, binding_of, binding_row};
+ghost use Rattle.data_rows.specs.BindingLines.{role_binding, place_binding, letters_binding};
 ghost use Rattle.data_rows.specs.BindingGrammar.{position_of_name};
-ghost use Rattle.data_rows.specs.BindingLines.{binding_of, binding_row, role_binding};
-ghost use Rattle.data_rows.specs.BindingLines.{place_binding, letters_binding};
 ghost use Rattle.data_rows.specs.Fields.{fields};
 ghost use Rattle.data_rows.specs.Answers.{Answers};
 

@@ -1,8 +1,7 @@
 //! What the target of a way says: under which condition the way is taken, and where it leads.
 ghost use Rattle.std.specs.Prelude.{◌≡◌};
-ghost use Rattle.data_rows.specs.Targets.{condition_of, destination_of};
-ghost use Rattle.data_rows.specs.Targets.{IsConditionWithin, leads_to_place};
-ghost use Rattle.data_rows.specs.Targets.{EndsWithin};
+ghost use Rattle.data_rows.specs.Targets.{condition_of, destination_of, IsConditionWithin};
+ghost use Rattle.data_rows.specs.Targets.{leads_to_place, EndsWithin};
 
 /// The condition under which a way is taken. Objects have their numbers.
 #[derive(Clone, Copy, Debug, PartialEq, Eq)]

@@ -4,10 +4,9 @@ use Rattle.std.specs.Prelude.{◌==◌, ◌&&◌, not, codes}
 use Rattle.std.specs.Fmt.{decimal}
 use Rattle.cave_data.specs.CaveView.{CaveView}
 use Rattle.cave_world.specs.Sight.{LIGHT_BIT, has_condition, forced}
-use Rattle.map_graph.specs.Edges.{edge_opening, edge_parts, edge_strength, edge_text, head}
-use Rattle.map_graph.specs.Edges.{head_at, head_back, is_edge_taken, is_taken, label_look}
-use Rattle.map_graph.specs.Edges.{labelled_edge, part_from_label, part_to_label, plain_edge}
-use Rattle.map_graph.specs.Edges.{plain_opening}
+use Rattle.map_graph.specs.Edges.{edge_opening, edge_parts, edge_strength, edge_text, head, head_at}
+use Rattle.map_graph.specs.Edges.{head_back, is_edge_taken, is_taken, label_look, labelled_edge}
+use Rattle.map_graph.specs.Edges.{part_from_label, part_to_label, plain_edge, plain_opening}
 use Rattle.map_ways.specs.Labels.{label_of, is_one_line, is_within_line}
 use Rattle.map_graph.specs.Map.{EdgesAreLines, NodesAreLines}
 use Rattle.map_graph.specs.Places.{look_of_place, node, node_opening, node_end, node_text}

@@ -1,14 +1,14 @@
 -- The node of a place.
 use Rattle.std.specs.Prelude.{ℕ, pos, Bool, false, ◌==◌, ◌||◌, if◌then◌else◌, List, [], ◌++◌, codes}
-use Rattle.std.specs.Prelude.{Option, None, Some, slice_index_or}
+use Rattle.std.specs.Prelude.{Option, None, Some}
 use Rattle.std.specs.Fmt.{decimal}
 use Rattle.std.specs.List.{filter, flat_map, range_with_len}
 use Rattle.std.specs.FinMap as map
 use Rattle.std.specs.Ordering.{int_eq}
-use Rattle.data_bindings.specs.Listing.{place_keys}
 use Rattle.cave_data.specs.CaveView.{CaveView, placement_of}
 use Rattle.base_lines.specs.Numbers.{LAST_OBJECT}
-use Rattle.data_rows.specs.PlaceRole.{PLACE_NAMES}
+use Rattle.data_rows.specs.PlaceRole.{each_place_role, place_name, place_number}
+use Rattle.data_rows.specs.declared.place_role.PlaceRole.{PlaceRole}
 use Rattle.cave_world.specs.Sight.{LIGHT_BIT, has_condition, forced}
 use Rattle.map_ways.specs.Labels.{label_of}
 use Rattle.check_tables.specs.WayWords.{word_or_number, number_of_object}
@@ -33,10 +33,10 @@ abbrev pub is_number : Option ℕ → ℕ → Bool
 is_number None number = false
 is_number (Some found) number = found == number
 
-abbrev pub role_label_line : CaveView → ℕ → ℕ → List ℕ
+abbrev pub role_label_line : CaveView → ℕ → PlaceRole → List ℕ
 role_label_line cave place role =
-    if is_number (map.get cave.places role) place
-    then codes "= " ++ (slice_index_or PLACE_NAMES role [] ++ codes "\n") else []
+    if is_number (map.get cave.places (place_number role)) place
+    then codes "= " ++ (place_name role ++ codes "\n") else []
 
 abbrev pub visits_label_line : ℕ → List ℕ
 visits_label_line count =
@@ -50,7 +50,7 @@ unfoldable pub stay_text : CaveView → List ℕ → Stops → ℕ → List ℕ
 stay_text cave mapped stops place =
     title_line cave mapped place
     ++ (flat_map (object_label_line cave) (objects_beginning cave place)
-    ++ (flat_map (role_label_line cave place) place_keys
+    ++ (flat_map (role_label_line cave place) each_place_role
     ++ visits_label_line (stops.visits place)))
 
 -- what is written at a node, which for a place of a forced motion is only its number

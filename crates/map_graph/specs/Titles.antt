@@ -4,7 +4,7 @@ use Rattle.std.specs.Prelude.{nat_lt, if◌then◌else◌}
 use Rattle.std.specs.Prelude.{List, [], ◌∷◌, ◌++◌, Option, None, Some, unwrap_or, length, bytes_eq}
 use Rattle.std.specs.FinMap as map
 use Rattle.map_ways.specs.Regions.{is_one_of}
-use Rattle.data_bindings.specs.Listing.{first_line}
+use Rattle.base_lines.specs.Line.{first_line}
 use Rattle.cave_data.specs.CaveView.{CaveView}
 use Rattle.cave_words.specs.Words.{after_first_run, first_word_of}
 use Rattle.map_ways.specs.Labels.{BLANK, LINE_FEED}

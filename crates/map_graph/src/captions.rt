@@ -3,10 +3,9 @@
 ghost use Rattle.std.specs.Prelude.{◌≡◌, ◌++◌};
 ghost use Rattle.base_text.specs.Text.{Tells};
 ghost use Rattle.map_graph.specs.Captions.{around_words, caption, caption_opening, cave_legend};
-ghost use Rattle.map_graph.specs.Captions.{distance_words, heading};
-ghost use Rattle.map_graph.specs.Captions.{legend_opening, logs_legend};
-ghost use Rattle.map_graph.specs.Captions.{part_words, plural, seen_legend, seen_only_words, seen_words};
-ghost use Rattle.map_graph.specs.Captions.{title_of_map, words_legend};
+ghost use Rattle.map_graph.specs.Captions.{distance_words, heading, legend_opening, logs_legend};
+ghost use Rattle.map_graph.specs.Captions.{part_words, plural, seen_legend, seen_only_words};
+ghost use Rattle.map_graph.specs.Captions.{seen_words, title_of_map, words_legend};
 
 use crate::parts::DrawnPart;
 use base_text::Text;

@@ -8,9 +8,8 @@ ghost use Rattle.map_ways.specs.Labels.{label_of};
 ghost use Rattle.map_graph.specs.Edges.{drawn_edge, edge_opening, edge_parts, edge_strength};
 ghost use Rattle.map_graph.specs.Edges.{count_drawn, edge_text, edges, head, head_at, head_back};
 ghost use Rattle.map_graph.specs.Edges.{is_crowded, is_drawn_between, is_edge_taken, is_shown};
-ghost use Rattle.map_graph.specs.Edges.{is_taken, label_look};
-ghost use Rattle.map_graph.specs.Edges.{labelled_edge, part_from_label, part_to_label, plain_edge};
-ghost use Rattle.map_graph.specs.Edges.{plain_opening};
+ghost use Rattle.map_graph.specs.Edges.{is_taken, label_look, labelled_edge, part_from_label};
+ghost use Rattle.map_graph.specs.Edges.{part_to_label, plain_edge, plain_opening};
 
 use crate::nodes::strength;
 use crate::sights::Sights;

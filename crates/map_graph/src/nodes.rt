@@ -5,8 +5,7 @@ ghost use Rattle.std.specs.List.{flat_map};
 ghost use Rattle.base_lines.specs.Numbers.{LAST_PLACE};
 ghost use Rattle.base_lines.specs.Numbers as defined;
 ghost use Rattle.base_text.specs.Text.{Tells};
-ghost use Rattle.data_bindings.specs.Listing.{place_keys};
-ghost use Rattle.data_rows.specs.PlaceRole.{place_number};
+ghost use Rattle.data_rows.specs.PlaceRole.{each_place_role};
 ghost use Rattle.map_graph.specs.Stops.{stops_of};
 ghost use Rattle.map_ways.specs.Labels.{label_of};
 ghost use Rattle.map_graph.specs.Places.{begins_at, look_of_place, node, node_end, node_opening};
@@ -23,8 +22,8 @@ use cave_data::Cave;
 use cave_world::sight::LIGHT_BIT;
 use cave_world::{forced, has_condition};
 use check_tables::way_words::{number_of_object, put_word_or_number};
-use data_bindings::place_keys;
 use data_rows::PlaceRole;
+use data_rows::place_role::each_place_role;
 use map_ways::{count_nowhere, put_label};
 use std::alloc::{AllocError, Global};
 use world_objects::Place;
@@ -68,7 +67,7 @@ fn put_objects(cave: &Cave, objects: &[u16], text: &mut Text)
 
 /// Appends the line of a role, if a place has it.
 fn put_role_label_line(cave: &Cave, place: u16, role: PlaceRole, text: &mut Text)
-    ensures { Tells (role_label_line cave.now place (place_number role)) text.old text.new }
+    ensures { Tells (role_label_line cave.now place role) text.old text.new }
 {
     match cave.place(role) {
         Some(found) if found == place => {
@@ -82,8 +81,7 @@ fn put_role_label_line(cave: &Cave, place: u16, role: PlaceRole, text: &mut Text
 
 /// Appends the lines of those of these roles that a place has.
 fn put_roles(cave: &Cave, place: u16, roles: &[PlaceRole], text: &mut Text)
-    ensures { Tells (flat_map (λ role. role_label_line cave.now place (place_number role))
-        roles.now) text.old text.new }
+    ensures { Tells (flat_map (role_label_line cave.now place) roles.now) text.old text.new }
 {
     for role in roles {
         put_role_label_line(cave, place, *role, text);
@@ -91,9 +89,10 @@ fn put_roles(cave: &Cave, place: u16, roles: &[PlaceRole], text: &mut Text)
 }
 
 fn put_roles_of_place(cave: &Cave, place: u16, text: &mut Text)
-    ensures { Tells (flat_map (role_label_line cave.now place) place_keys) text.old text.new }
+    ensures { Tells (flat_map (role_label_line cave.now place) each_place_role) text.old
+        text.new }
 {
-    put_roles(cave, place, place_keys(), text);
+    put_roles(cave, place, each_place_role(), text);
 }
 
 fn put_visits_label_line(count: usize, text: &mut Text)

@@ -3,15 +3,14 @@
 ghost use Rattle.std.specs.Prelude.{◌≡◌, ◌≤◌};
 ghost use Rattle.base_text.specs.Text.{Tells};
 ghost use Rattle.map_graph.specs.Titles.{count_shared, first_words, greater_of, or_other};
-ghost use Rattle.map_graph.specs.Titles.{parts_from};
-ghost use Rattle.map_graph.specs.Titles.{text_for_title, title, title_source, word_start};
-ghost use Rattle.map_graph.specs.Titles.{words_as_shown, words_of_line, words_telling};
+ghost use Rattle.map_graph.specs.Titles.{parts_from, text_for_title, title, title_source};
+ghost use Rattle.map_graph.specs.Titles.{word_start, words_as_shown, words_of_line, words_telling};
 ghost use Rattle.map_graph.specs.Titles.{words_telling_all};
 
 use base_lines::bytes::{skip_blanks, split_word};
+use base_lines::first_line;
 use base_text::Text;
 use cave_data::Cave;
-use data_bindings::first_line;
 
 /// How many words a title has, if these tell it from the others.
 const WORDS_SHOWN: usize = 8;

@@ -10,8 +10,7 @@ use Rattle.clap.specs.declared.error.Error.{Error}
 use Rattle.clap.specs.declared.error.kind.ErrorKind.TheVariants.{OutOfMemory}
 use Rattle.clap.specs.declared.parser.matches.ArgMatches.{ArgMatches}
 use Rattle.clap.proofs.OnLiterals.{clap_on_literals}
-use Rattle.play_command.specs.Asked.{check_views, cover_views, edit_views, play_views}
-use Rattle.play_command.specs.Asked.{report_views}
+use Rattle.play_command.specs.Asked.{check_views, cover_views, edit_views, play_views, report_views}
 use Rattle.play_command.specs.Commands.{IsCave, Names, ViewNames, cave_app}
 use Rattle.play_command.specs.Line.{IsParse, IsParseBy}
 

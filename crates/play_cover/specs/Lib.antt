@@ -2,9 +2,7 @@ pub mod Coverage
 pub mod MoreLogs
 pub mod Plays
 pub mod RowMarks
-pub mod RowReport
 pub mod RuleTables
-pub mod TextReport
 pub mod Texts
 pub mod TravelRows
-pub mod Unshown
+pub mod Reports

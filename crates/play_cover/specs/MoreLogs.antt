@@ -2,7 +2,7 @@
 use Rattle.std.specs.Prelude.{ℕ, Bool, List, [], ◌∷◌, ◌++◌}
 use Rattle.cave_data.specs.CaveView.{CaveView}
 use Rattle.cave_world.specs.declared.tables.Table.{Table}
-use Rattle.data_bindings.specs.declared.by_line.WayLine.{WayLine}
+use Rattle.data_lines.specs.declared.by_line.WayLine.{WayLine}
 use Rattle.play_command.specs.declared.views.CoverView.{CoverView}
 use Rattle.play_command.specs.declared.views.CoverView.TheVariants.{Rules, Said}
 use Rattle.play_command.specs.declared.views.TextView.{TextView}

@@ -11,7 +11,7 @@ use Rattle.cave_world.specs.declared.part.Part.{Part}
 use Rattle.cave_world.specs.declared.state.State.{State}
 use Rattle.cave_world.specs.declared.tables.RuleRow.TheVariants.{OfTable}
 use Rattle.cave_world.specs.declared.tables.Table.TheVariants as table
-use Rattle.data_bindings.specs.WayLines.{way_lines}
+use Rattle.data_lines.specs.WayLines.{way_lines}
 use Rattle.play_command.specs.declared.views.CoverView.{CoverView}
 use Rattle.play_command.specs.declared.views.CoverView.TheVariants.{Known, Rules, Said}
 use Rattle.cave_play.specs.Logs.{first_stages}
@@ -20,10 +20,8 @@ use Rattle.replay_edits.specs.Edit.{Game, game_of}
 use Rattle.check_tables.specs.Known.{KnownEntries}
 use Rattle.check_tables.specs.Marks.{is_among}
 use Rattle.play_cover.specs.RowMarks.{mark_of_row}
-use Rattle.play_cover.specs.RowReport.{row_report, rows_left}
-use Rattle.play_cover.specs.TextReport.{text_report, texts_left}
+use Rattle.play_cover.specs.Reports.{row_report, rows_left, text_report, texts_left, unshown}
 use Rattle.play_cover.specs.Texts.{said_by_all}
-use Rattle.play_cover.specs.Unshown.{unshown}
 use Rattle.check_tables.specs.declared.marks.Mark.{Mark}
 
 -- ---- what a play covers

@@ -3,11 +3,10 @@ use Rattle.std.specs.Prelude.{ℕ, Bool, true, false, not, if◌then◌else◌, 
 use Rattle.std.specs.Fmt.{decimal}
 use Rattle.std.specs.List.{filter, flat_map}
 use Rattle.cave_data.specs.CaveView.{CaveView}
-use Rattle.data_bindings.specs.declared.by_line.WayLine.{WayLine}
+use Rattle.data_lines.specs.declared.by_line.WayLine.{WayLine}
 use Rattle.cave_world.specs.declared.tables.RuleRow.TheVariants.{OfPlace}
 use Rattle.check_tables.specs.Known.{KnownEntries, unknown}
-use Rattle.check_tables.specs.TravelWords.{way_words}
-use Rattle.check_tables.specs.WaysByPlace.{by_place, never_taken}
+use Rattle.check_tables.specs.WayWords.{way_words, by_place, never_taken}
 use Rattle.play_cover.specs.RowMarks.{mark_of_row}
 use Rattle.check_tables.specs.declared.marks.Mark.{Mark}
 

@@ -6,10 +6,12 @@ ghost use Rattle.play_cover.specs.Coverage.{detail_text, groups_text, left, in_l
 ghost use Rattle.play_cover.specs.Coverage.{left_count, logs_word, line_with, missing, names};
 ghost use Rattle.play_cover.specs.Coverage.{never, present_count};
 ghost use Rattle.std.specs.List.{filter};
+ghost use Rattle.base_text.specs.Text.{Tells};
 ghost use Rattle.check_tables.specs.Known.{entry_lines};
 ghost use Rattle.check_tables.specs.Marks.{is_marked, mark};
 
-use check_tables::known::{Entries, KnownList, push_entries};
+use base_text::Text;
+use check_tables::known::{Entries, KnownList, put_entries};
 use check_tables::marks::{Mark, MarkSet};
 use std::alloc::{AllocError, Global};
 
@@ -20,13 +22,12 @@ fn logs_word(logs: usize) -> &'static str
     if logs == 1 { "log" } else { "logs" }
 }
 
-/// Appends how the last line of a report on this many logs ends.
-pub fn push_in_logs(alloc: Global, logs: usize, text: &mut Vec<u8>) -> Result<(), AllocError>
-    ensures { OnOk result (text.new.items ≡ text.old.items ++ in_logs logs) }
+/// Writes how the last line of a report on this many logs ends.
+pub fn put_in_logs(text: &mut Text, logs: usize)
+    ensures { Tells (in_logs logs) text.old text.new }
 {
     let word = logs_word(logs);
-    let ending = format!(in alloc; " in {logs} {word}\n")?;
-    text.extend_from_slice(ending.as_bytes())
+    write!(text, " in {logs} {word}\n");
 }
 
 /// Groups of things that may be covered.
@@ -56,31 +57,17 @@ pub trait Groups {
             numbers.items ≡ (catalogue self.now).present group) }
         ensures few { IfOk result (λ numbers. length numbers.items ≤ 2 ^ 16) };
 
-    /// Appends a blank and the name of a thing.
-    fn push_name(
-        &self,
-        alloc: Global,
-        group: Self::Group,
-        number: u16,
-        text: &mut Vec<u8>,
-    ) -> Result<(), AllocError>
-        ensures { OnOk result (text.new.items
-            ≡ text.old.items ++ (codes " " ++ (catalogue self.now).name group number)) };
+    /// Writes a blank and the name of a thing.
+    fn put_name(&self, group: Self::Group, number: u16, text: &mut Text)
+        ensures { Tells (codes " " ++ (catalogue self.now).name group number) text.old text.new };
 
     /// What the line of a thing that isn't covered begins with.
     fn indent(&self) -> &'static str
         ensures { result.now ≡ (catalogue self.now).indent };
 
-    /// Appends the entry of a thing that isn't covered.
-    fn push_entry(
-        &self,
-        alloc: Global,
-        group: Self::Group,
-        number: u16,
-        text: &mut Vec<u8>,
-    ) -> Result<(), AllocError>
-        ensures { OnOk result (text.new.items
-            ≡ text.old.items ++ (catalogue self.now).words group number) };
+    /// Writes the entry of a thing that isn't covered.
+    fn put_entry(&self, group: Self::Group, number: u16, text: &mut Text)
+        ensures { Tells ((catalogue self.now).words group number) text.old text.new };
 }
 
 /// The things of a group, as lists of what is known have them.
@@ -95,8 +82,8 @@ impl<T: Groups> Entries for InGroup<'_, T> {
 
     ghost entry = { λ things. (T.catalogue things.of.now).words things.group };
 
-    fn push_entry(&self, alloc: Global, number: u16, text: &mut Vec<u8>) -> Result<(), AllocError> {
-        self.of.push_entry(alloc, self.group, number, text)
+    fn put_entry(&self, number: u16, text: &mut Text) {
+        self.of.put_entry(self.group, number, text);
     }
 }
 
@@ -198,95 +185,64 @@ fn find<T: Groups>(
     })
 }
 
-fn push_names<T: Groups>(
-    alloc: Global,
-    of: &T,
-    group: T::Group,
-    numbers: &[u16],
-    text: &mut Vec<u8>,
-) -> Result<(), AllocError>
-    ensures { OnOk result (text.new.items
-        ≡ text.old.items ++ names (T.catalogue of.now) group numbers.now) }
+fn put_names<T: Groups>(text: &mut Text, of: &T, group: T::Group, numbers: &[u16])
+    ensures { Tells (names (T.catalogue of.now) group numbers.now) text.old text.new }
 {
     for number in numbers {
-        of.push_name(alloc, group, *number, text)?;
+        of.put_name(group, *number, text);
     }
-    Ok(())
 }
 
-/// Appends the names of what isn't covered, if there is anything.
-fn push_never<T: Groups>(
-    alloc: Global,
-    of: &T,
-    group: T::Group,
-    missing: &[u16],
-    text: &mut Vec<u8>,
-) -> Result<(), AllocError>
-    ensures { OnOk result (text.new.items
-        ≡ text.old.items ++ never (T.catalogue of.now) group missing.now) }
+/// Writes the names of what isn't covered, if there is anything.
+fn put_never<T: Groups>(text: &mut Text, of: &T, group: T::Group, missing: &[u16])
+    ensures { Tells (never (T.catalogue of.now) group missing.now) text.old text.new }
 {
-    if missing.is_empty() {
-        return Ok(());
+    if !missing.is_empty() {
+        text.put(b", never");
+        put_names(text, of, group, missing);
     }
-    text.extend_from_slice(b", never")?;
-    push_names(alloc, of, group, missing, text)
 }
 
-/// Appends the line of a group.
-fn push_line<T: Groups>(
-    alloc: Global,
-    of: &T,
-    group: T::Group,
-    found: &Found,
-    text: &mut Vec<u8>,
-) -> Result<(), AllocError>
-    ensures { OnOk result (text.new.items ≡ text.old.items ++ line_with (T.catalogue of.now) group
-        found.now.covered found.now.present found.now.missing.items) }
+/// Writes the line of a group.
+fn put_line<T: Groups>(text: &mut Text, of: &T, group: T::Group, found: &Found)
+    ensures { Tells (line_with (T.catalogue of.now) group found.now.covered found.now.present
+        found.now.missing.items) text.old text.new }
 {
     let heading = of.heading(group);
     let (covered, present) = (found.covered, found.present);
-    let counted = format!(in alloc; "{heading}: {covered} of {present}")?;
-    text.extend_from_slice(counted.as_bytes())?;
-    push_never(alloc, of, group, &found.missing, text)?;
-    text.extend_from_slice(b"\n")
+    write!(text, "{heading}: {covered} of {present}");
+    put_never(text, of, group, &found.missing);
+    text.put(b"\n");
 }
 
-/// Appends what is written about a group.
-fn push_detail<T: Groups>(
-    alloc: Global,
-    of: &T,
-    detail: Detail,
-    group: T::Group,
-    found: &Found,
-    text: &mut Vec<u8>,
-) -> Result<(), AllocError>
-    ensures { OnOk result (text.new.items ≡ text.old.items
-        ++ detail_text (T.catalogue of.now) detail group (line_with (T.catalogue of.now) group
-        found.now.covered found.now.present found.now.missing.items) found.now.left.items) }
+/// Writes what is told about a group.
+fn put_detail<T: Groups>(text: &mut Text, of: &T, detail: Detail, group: T::Group, found: &Found)
+    ensures { Tells (detail_text (T.catalogue of.now) detail group (line_with (T.catalogue of.now)
+        group found.now.covered found.now.present found.now.missing.items) found.now.left.items)
+        text.old text.new }
 {
     let things = InGroup { of, group };
     match detail {
-        Detail::Counts => push_line(alloc, of, group, found, text),
-        Detail::Missing => push_entries(alloc, &things, of.indent(), &found.left, text),
+        Detail::Counts => put_line(text, of, group, found),
+        Detail::Missing => put_entries(text, &things, of.indent(), &found.left),
         Detail::Both => {
-            push_line(alloc, of, group, found, text)?;
-            push_entries(alloc, &things, of.indent(), &found.left, text)
+            put_line(text, of, group, found);
+            put_entries(text, &things, of.indent(), &found.left);
         }
     }
 }
 
-/// Appends what is written about all groups, and returns how many of their things are covered, how
-/// many there are, and how many are left.
-pub fn push_groups<T: Groups>(
-    alloc: Global,
+/// Writes what is told about all groups, and returns how many of their things are covered, how many
+/// there are, and how many are left.
+pub fn put_groups<T: Groups>(
+    text: &mut Text,
     of: &T,
     marks: &MarkSet,
     known: &KnownList,
     detail: Detail,
-    text: &mut Vec<u8>,
 ) -> Result<CoverTotals, AllocError>
-    ensures told { OnOk result (text.new.items ≡ text.old.items
-        ++ groups_text (T.catalogue of.now) (is_marked marks.now) known.now detail) }
+    ensures told { OnOk result (Tells (groups_text (T.catalogue of.now) (is_marked marks.now)
+        known.now detail) text.old text.new) }
     ensures covered { IfOk result (λ totals. totals.covered
         ≡ covered_count (T.catalogue of.now) (is_marked marks.now)) }
     ensures present { IfOk result (λ totals.
@@ -301,8 +257,8 @@ pub fn push_groups<T: Groups>(
         left: 0,
     };
     for group in of.groups() {
-        let found = find(alloc, of, marks, known, *group)?;
-        push_detail(alloc, of, detail, *group, &found, text)?;
+        let found = find(text.alloc(), of, marks, known, *group)?;
+        put_detail(text, of, detail, *group, &found);
         totals.covered += found.covered;
         totals.present += found.present;
         totals.left += found.left.len();
@@ -310,37 +266,35 @@ pub fn push_groups<T: Groups>(
     Ok(totals)
 }
 
-/// Appends the entries of what isn't covered of a group, a line each.
+/// Writes the entries of what isn't covered of a group, a line each.
 #[tactic(auto, unfolding(crate::specs::Coverage::missing))]
-fn push_missing_entry_lines<T: Groups>(
-    alloc: Global,
+fn put_missing_entry_lines<T: Groups>(
+    text: &mut Text,
     of: &T,
     marks: &MarkSet,
     group: T::Group,
-    text: &mut Vec<u8>,
 ) -> Result<(), AllocError>
-    ensures { OnOk result (text.new.items ≡ text.old.items
-        ++ entry_lines ((T.catalogue of.now).words group) []
-        (missing (T.catalogue of.now) (is_marked marks.now) group)) }
+    ensures { OnOk result (Tells (entry_lines ((T.catalogue of.now).words group) []
+        (missing (T.catalogue of.now) (is_marked marks.now) group)) text.old text.new) }
 {
-    let numbers = of.present(alloc, group)?;
+    let numbers = of.present(text.alloc(), group)?;
     let number = of.number(group);
-    let found = missing(alloc, marks, number, &numbers)?;
-    push_entries(alloc, &InGroup { of, group }, "", &found, text)
+    let found = missing(text.alloc(), marks, number, &numbers)?;
+    put_entries(text, &InGroup { of, group }, "", &found);
+    Ok(())
 }
 
-/// Appends the entries of all things that aren't covered, a line each.
-pub fn push_all_entries<T: Groups>(
-    alloc: Global,
+/// Writes the entries of all things that aren't covered, a line each.
+pub fn put_all_entries<T: Groups>(
+    text: &mut Text,
     of: &T,
     marks: &MarkSet,
-    text: &mut Vec<u8>,
 ) -> Result<(), AllocError>
-    ensures { OnOk result (text.new.items
-        ≡ text.old.items ++ all_entries (T.catalogue of.now) (is_marked marks.now)) }
+    ensures { OnOk result
+        (Tells (all_entries (T.catalogue of.now) (is_marked marks.now)) text.old text.new) }
 {
     for group in of.groups() {
-        push_missing_entry_lines(alloc, of, marks, *group, text)?;
+        put_missing_entry_lines(text, of, marks, *group)?;
     }
     Ok(())
 }

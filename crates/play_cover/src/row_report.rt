@@ -1,19 +1,21 @@
 //! The report on the rules, some of whose rows applied.
 
-ghost use Rattle.std.specs.Prelude.{◌≡◌, ◌++◌, IfOk, OnOk};
+ghost use Rattle.std.specs.Prelude.{◌≡◌, IfOk, OnOk};
+ghost use Rattle.base_text.specs.Text.{Tells};
 ghost use Rattle.check_tables.specs.Marks.{is_marked};
-ghost use Rattle.play_cover.specs.RowReport.{row_report, row_sums, rows_left};
+ghost use Rattle.play_cover.specs.Reports.{row_report, row_sums, rows_left};
 
-use crate::coverage::{CoverTotals, Detail, Groups, push_groups, push_in_logs};
+use crate::coverage::{CoverTotals, Detail, Groups, put_groups, put_in_logs};
 use crate::each_table::each_table;
 use crate::rule_tables::{row_count, row_group, table_name, words_of_row};
-use crate::travel_report::{count_noted_ways, push_travel};
-use crate::unshown::push_unmet_rows;
+use crate::travel_report::{count_noted_ways, put_travel};
+use crate::unshown::put_unmet_rows;
+use base_text::Text;
 use cave_data::Cave;
 use cave_world::Table;
 use check_tables::known::KnownList;
 use check_tables::marks::MarkSet;
-use data_bindings::WayLine;
+use data_lines::WayLine;
 use std::alloc::{AllocError, Global};
 
 /// The tables of the rules.
@@ -48,53 +50,31 @@ impl Groups for RuleTables {
         Ok(numbers)
     }
 
-    fn push_name(
-        &self,
-        alloc: Global,
-        _table: Table,
-        number: u16,
-        text: &mut Vec<u8>,
-    ) -> Result<(), AllocError> {
-        let name = format!(in alloc; " {number}")?;
-        text.extend_from_slice(name.as_bytes())
+    fn put_name(&self, _table: Table, number: u16, text: &mut Text) {
+        write!(text, " {number}");
     }
 
     fn indent(&self) -> &'static str {
         "    "
     }
 
-    fn push_entry(
-        &self,
-        alloc: Global,
-        table: Table,
-        number: u16,
-        text: &mut Vec<u8>,
-    ) -> Result<(), AllocError> {
+    fn put_entry(&self, table: Table, number: u16, text: &mut Text) {
         let (name, words) = (table_name(table), words_of_row(table, number));
-        let entry = format!(in alloc; "{name} {number}  {words}")?;
-        text.extend_from_slice(entry.as_bytes())
+        write!(text, "{name} {number}  {words}");
     }
 }
 
-/// Appends the line that sums up: how many of the rows, and of the travel rows, applied, and how
+/// Writes the line that sums up: how many of the rows, and of the travel rows, applied, and how
 /// many there are.
-fn push_row_sums(
-    alloc: Global,
-    rows: CoverTotals,
-    taken: usize,
-    all: usize,
-    logs: usize,
-    text: &mut Vec<u8>,
-) -> Result<(), AllocError>
-    ensures { OnOk result (text.new.items
-        ≡ text.old.items ++ row_sums rows.covered rows.present taken all logs) }
+fn put_row_sums(text: &mut Text, rows: CoverTotals, taken: usize, all: usize, logs: usize)
+    ensures { Tells (row_sums rows.covered rows.present taken all logs) text.old text.new }
 {
     let (covered, present) = (rows.covered, rows.present);
-    let counts = format!(in alloc;
+    write!(
+        text,
         "-- {covered} of {present} rows and {taken} of {all} travel rows"
-    )?;
-    text.extend_from_slice(counts.as_bytes())?;
-    push_in_logs(alloc, logs, text)
+    );
+    put_in_logs(text, logs);
 }
 
 /// The travel rows of a cave, with their lines in its database.
@@ -104,27 +84,26 @@ pub struct CaveWays<'a> {
     pub ways: &'a [WayLine],
 }
 
-/// Appends the report on the rules, and on the travel rows of a cave, some of which were noted in
+/// Writes the report on the rules, and on the travel rows of a cave, some of which were noted in
 /// this many logs, and returns how many are left that a list doesn't know.
-#[tactic(auto, unfolding(crate::specs::RowReport::row_report))]
-pub fn push_row_report(
-    alloc: Global,
+#[tactic(auto, unfolding(crate::specs::Reports::row_report))]
+pub fn put_row_report(
+    text: &mut Text,
     noted: &MarkSet,
     of: &CaveWays<'_>,
     known: &KnownList,
     logs: usize,
-    text: &mut Vec<u8>,
 ) -> Result<usize, AllocError>
-    ensures told { OnOk result (text.new.items ≡ text.old.items ++ row_report (is_marked noted.now)
-        of.now.cave.now known.now of.now.ways.now logs) }
+    ensures told { OnOk result (Tells (row_report (is_marked noted.now) of.now.cave.now known.now
+        of.now.ways.now logs) text.old text.new) }
     ensures left { IfOk result (λ left. left ≡ rows_left (is_marked noted.now) of.now.cave.now
         known.now of.now.ways.now) }
 {
     let CaveWays { cave, ways } = *of;
-    push_unmet_rows(alloc, known, of, noted, text)?;
-    let rows = push_groups(alloc, &RuleTables, noted, known, Detail::Both, text)?;
-    let left = push_travel(alloc, noted, cave, known, ways, text)?;
+    put_unmet_rows(text, known, of, noted)?;
+    let rows = put_groups(text, &RuleTables, noted, known, Detail::Both)?;
+    let left = put_travel(text, noted, cave, known, ways)?;
     let taken = count_noted_ways(noted, ways, true);
-    push_row_sums(alloc, rows, taken, ways.len(), logs, text)?;
+    put_row_sums(text, rows, taken, ways.len(), logs);
     Ok(rows.left + left)
 }

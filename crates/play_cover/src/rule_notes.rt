@@ -4,14 +4,15 @@ ghost use Rattle.std.specs.Prelude.{OnOk, map};
 ghost use Rattle.check_tables.specs.Marks.{Notes};
 ghost use Rattle.play_cover.specs.RowMarks.{mark_of_row};
 
-use crate::row_report::{CaveWays, push_row_report};
+use crate::row_report::{CaveWays, put_row_report};
 use crate::rule_tables::row_mark;
+use base_text::Text;
 use cave_data::Cave;
 use cave_play::logs::PlayNotes;
 use cave_world::{RuleRow, State, Table};
 use check_tables::known::KnownList;
 use check_tables::marks::MarkSet;
-use data_bindings::way_lines;
+use data_lines::way_lines;
 use play_machine::{Begun, NotedRows, SeenLine, Watch};
 use std::alloc::{AllocError, Global};
 
@@ -101,7 +102,9 @@ impl PlayNotes for RuleNotes {
     ) -> Result<usize, AllocError> {
         let ways = way_lines(alloc, database)?;
         let of = CaveWays { cave, ways: &ways };
-        let left = push_row_report(alloc, &self.marks, &of, known, logs, text)?;
+        let mut told = Text::after(alloc, text);
+        let left = put_row_report(&mut told, &self.marks, &of, known, logs)?;
+        told.give_to(text)?;
         Ok(left)
     }
 }

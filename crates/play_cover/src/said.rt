@@ -2,12 +2,13 @@
 
 use crate::cave_texts::CaveTexts;
 use crate::parts::note_parts;
-use crate::text_report::{TextsAsked, push_text_report};
+use crate::text_report::{TextsAsked, put_text_report};
+use base_text::Text;
 use cave_data::Cave;
 use cave_play::logs::PlayNotes;
 use cave_world::{State, Unnoted};
 use check_tables::marks::MarkSet;
-use data_bindings::way_lines;
+use data_lines::way_lines;
 use play_machine::{Begun, SeenLine, Watch};
 use std::alloc::{AllocError, Global};
 
@@ -86,7 +87,9 @@ impl PlayNotes for SaidTexts {
     ) -> Result<usize, AllocError> {
         let ways = way_lines(alloc, database)?;
         let texts = CaveTexts::of(cave);
-        let left = push_text_report(alloc, &texts, &ways, &self.marks, asked, logs, text)?;
+        let mut told = Text::after(alloc, text);
+        let left = put_text_report(&mut told, &texts, &ways, &self.marks, asked, logs)?;
+        told.give_to(text)?;
         Ok(left)
     }
 }

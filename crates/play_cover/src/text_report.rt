@@ -1,20 +1,21 @@
 //! The report on the texts of a cave, some of which were said.
 
-ghost use Rattle.std.specs.Prelude.{◌≡◌, ◌++◌, IfOk, OnOk};
+ghost use Rattle.std.specs.Prelude.{◌≡◌, IfOk, OnOk};
+ghost use Rattle.base_text.specs.Text.{Tells};
 ghost use Rattle.check_tables.specs.Marks.{is_marked};
-ghost use Rattle.play_cover.specs.TextReport.{detail_of, text_report, text_sums};
-ghost use Rattle.play_cover.specs.TextReport.{texts_left};
+ghost use Rattle.play_cover.specs.Reports.{detail_of, text_report, text_sums, texts_left};
 
 use crate::cave_texts::CaveTexts;
-use crate::coverage::{Detail, Groups, push_groups, push_in_logs};
-use crate::unshown::push_unmet_texts;
+use crate::coverage::{Detail, Groups, put_groups, put_in_logs};
+use crate::unshown::put_unmet_texts;
+use base_text::Text;
 use check_tables::known::KnownList;
 use check_tables::marks::MarkSet;
 use check_tables::text_kinds::{
-    KINDS, PROPS_PER_OBJECT, TextKind, heading_of_kind, name_at, push_first_line, text_at,
+    KINDS, PROPS_PER_OBJECT, TextKind, heading_of_kind, name_at, put_first_line, text_at,
     word_of_kind,
 };
-use data_bindings::WayLine;
+use data_lines::WayLine;
 use data_rows::role::ROLE_NAMES;
 use play_command::TextView;
 use std::alloc::{AllocError, Global};
@@ -55,41 +56,30 @@ impl<'a> Groups for CaveTexts<'a> {
             .collect(alloc)
     }
 
-    fn push_name(
-        &self,
-        alloc: Global,
-        kind: TextKind,
-        number: u16,
-        text: &mut Vec<u8>,
-    ) -> Result<(), AllocError> {
-        let name = match kind {
+    fn put_name(&self, kind: TextKind, number: u16, text: &mut Text) {
+        match kind {
             TextKind::Look => {
                 let (object, prop) = (number / PROPS_PER_OBJECT, number % PROPS_PER_OBJECT);
-                format!(in alloc; " {object}:{prop}")?
+                write!(text, " {object}:{prop}");
             }
             TextKind::Role => {
                 let name = name_at(&ROLE_NAMES, number);
-                format!(in alloc; " {name}")?
+                write!(text, " {name}");
             }
-            _ => format!(in alloc; " {number}")?,
-        };
-        text.extend_from_slice(name.as_bytes())
+            _ => {
+                write!(text, " {number}");
+            }
+        }
     }
 
     fn indent(&self) -> &'static str {
         ""
     }
 
-    fn push_entry(
-        &self,
-        alloc: Global,
-        kind: TextKind,
-        number: u16,
-        text: &mut Vec<u8>,
-    ) -> Result<(), AllocError> {
-        text.extend_from_slice(word_of_kind(kind).as_bytes())?;
-        self.push_name(alloc, kind, number, text)?;
-        push_first_line(text_at(self.cave(), kind, number), text)
+    fn put_entry(&self, kind: TextKind, number: u16, text: &mut Text) {
+        text.put(word_of_kind(kind).as_bytes());
+        self.put_name(kind, number, text);
+        put_first_line(text_at(self.cave(), kind, number), text);
     }
 }
 
@@ -102,42 +92,33 @@ fn detail_of(view: TextView) -> Detail
     }
 }
 
-/// Appends the line that sums up.
-fn push_text_sums(
-    alloc: Global,
-    covered: usize,
-    present: usize,
-    logs: usize,
-    text: &mut Vec<u8>,
-) -> Result<(), AllocError>
-    ensures { OnOk result (text.new.items ≡ text.old.items ++ text_sums covered present logs) }
+/// Writes the line that sums up.
+fn put_text_sums(text: &mut Text, covered: usize, present: usize, logs: usize)
+    ensures { Tells (text_sums covered present logs) text.old text.new }
 {
-    let counts = format!(in alloc; "-- {covered} of {present} texts")?;
-    text.extend_from_slice(counts.as_bytes())?;
-    push_in_logs(alloc, logs, text)
+    write!(text, "-- {covered} of {present} texts");
+    put_in_logs(text, logs);
 }
 
-/// Appends what the view asks for about a cave, some of whose texts were said in this many logs,
+/// Writes what the view asks for about a cave, some of whose texts were said in this many logs,
 /// and returns how many are left that a list doesn't know.
-#[tactic(auto, unfolding(crate::specs::TextReport::text_report))]
-pub fn push_text_report(
-    alloc: Global,
+#[tactic(auto, unfolding(crate::specs::Reports::text_report))]
+pub fn put_text_report(
+    text: &mut Text,
     cave: &CaveTexts<'_>,
     ways: &[WayLine],
     said: &MarkSet,
     asked: &TextsAsked,
     logs: usize,
-    text: &mut Vec<u8>,
 ) -> Result<usize, AllocError>
-    ensures told { OnOk result (text.new.items ≡ text.old.items
-        ++ text_report cave.now (is_marked said.now) asked.now.known asked.now.view ways.now
-        logs) }
+    ensures told { OnOk result (Tells (text_report cave.now (is_marked said.now) asked.now.known
+        asked.now.view ways.now logs) text.old text.new) }
     ensures left { IfOk result (λ left.
         left ≡ texts_left cave.now (is_marked said.now) asked.now.known) }
 {
-    push_unmet_texts(alloc, &asked.known, cave, ways, said, text)?;
+    put_unmet_texts(text, &asked.known, cave, ways, said)?;
     let detail = detail_of(asked.view);
-    let totals = push_groups(alloc, cave, said, &asked.known, detail, text)?;
-    push_text_sums(alloc, totals.covered, totals.present, logs, text)?;
+    let totals = put_groups(text, cave, said, &asked.known, detail)?;
+    put_text_sums(text, totals.covered, totals.present, logs);
     Ok(totals.left)
 }

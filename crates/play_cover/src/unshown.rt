@@ -1,107 +1,109 @@
 //! What isn't shown, as a list of what is known has it, and which plays show what.
 
-ghost use Rattle.std.specs.Prelude.{◌≡◌, ◌++◌, OnOk, map};
+ghost use Rattle.std.specs.Prelude.{◌++◌, OnOk, map};
+ghost use Rattle.base_text.specs.Text.{Tells};
 ghost use Rattle.play_cover.specs.Coverage.{unmet_entries};
 ghost use Rattle.check_tables.specs.Marks.{Notes, is_marked};
 ghost use Rattle.play_cover.specs.RowMarks.{mark_of_row};
 ghost use Rattle.play_cover.specs.Texts.{said_by_all};
-ghost use Rattle.play_cover.specs.Unshown.{none_shown, unshown};
+ghost use Rattle.play_cover.specs.Reports.{none_shown, unshown};
 
 use crate::cave_texts::CaveTexts;
-use crate::coverage::push_all_entries;
+use crate::coverage::put_all_entries;
 use crate::parts::note_parts;
 use crate::row_report::{CaveWays, RuleTables};
 use crate::rule_notes::note_rows;
 use crate::travel_report::missing_ways;
+use base_text::Text;
 use cave_data::Cave;
 use cave_play::logs::PlayNotes;
 use cave_world::{Part, RuleRow, State, Table};
-use check_tables::known::{KnownList, push_entries};
+use check_tables::known::{KnownList, put_entries};
 use check_tables::marks::MarkSet;
 use check_tables::travel_words::TravelEntries;
-use data_bindings::{WayLine, way_lines};
+use data_lines::{WayLine, way_lines};
 use play_machine::{Begun, NotedRows, SeenLine, Watch};
 use std::alloc::{AllocError, Global};
 
-/// Appends the entries of all texts that weren't said and of all rows that never applied, a line
+/// Writes the entries of all texts that weren't said and of all rows that never applied, a line
 /// each.
-fn push_unshown(
-    alloc: Global,
+#[tactic(auto, unfolding(crate::specs::Reports::unshown))]
+fn put_unshown(
+    text: &mut Text,
     of: &CaveWays<'_>,
     said: &MarkSet,
     noted: &MarkSet,
-    text: &mut Vec<u8>,
 ) -> Result<(), AllocError>
-    ensures { OnOk result (text.new.items ≡ text.old.items
-        ++ unshown of.now.cave.now of.now.ways.now (is_marked said.now) (is_marked noted.now)) }
+    ensures { OnOk result (Tells (unshown of.now.cave.now of.now.ways.now (is_marked said.now)
+        (is_marked noted.now)) text.old text.new) }
 {
-    let missing = missing_ways(alloc, noted, of.ways)?;
-    push_all_entries(alloc, &CaveTexts::of(of.cave), said, text)?;
-    push_all_entries(alloc, &RuleTables, noted, text)?;
-    push_entries(alloc, &TravelEntries { cave: of.cave }, "", &missing, text)
+    let missing = missing_ways(text.alloc(), noted, of.ways)?;
+    put_all_entries(text, &CaveTexts::of(of.cave), said)?;
+    put_all_entries(text, &RuleTables, noted)?;
+    put_entries(text, &TravelEntries { cave: of.cave }, "", &missing);
+    Ok(())
 }
 
-/// Appends a line for each line of a list that says something, and is the entry neither of a text
+/// Writes a line for each line of a list that says something, and is the entry neither of a text
 /// that wasn't said nor of a row that never applied.
-fn push_unmet(
-    alloc: Global,
+fn put_unmet(
+    text: &mut Text,
     known: &KnownList,
     of: &CaveWays<'_>,
     said: &MarkSet,
     noted: &MarkSet,
-    text: &mut Vec<u8>,
 ) -> Result<(), AllocError>
-    ensures { OnOk result (text.new.items ≡ text.old.items ++ unmet_entries known.now
-        (unshown of.now.cave.now of.now.ways.now (is_marked said.now) (is_marked noted.now))) }
+    ensures { OnOk result (Tells (unmet_entries known.now (unshown of.now.cave.now of.now.ways.now
+        (is_marked said.now) (is_marked noted.now))) text.old text.new) }
 {
     let words = "nothing that is never shown says this";
-    let mut entries = Vec::new(alloc);
-    push_unshown(alloc, of, said, noted, &mut entries)?;
-    known.push_unmet(alloc, words, &entries, text)
+    let mut entries = text.beside();
+    put_unshown(&mut entries, of, said, noted)?;
+    known.put_unmet(text, words, &entries.finish()?);
+    Ok(())
 }
 
 /// The same of texts that weren't said; no entry of a row is told.
-fn push_unmet_said(
-    alloc: Global,
+fn put_unmet_said(
+    text: &mut Text,
     known: &KnownList,
     of: &CaveWays<'_>,
     said: &MarkSet,
-    text: &mut Vec<u8>,
 ) -> Result<(), AllocError>
-    ensures { OnOk result (text.new.items ≡ text.old.items ++ unmet_entries known.now
-        (unshown of.now.cave.now of.now.ways.now (is_marked said.now) none_shown)) }
+    ensures { OnOk result (Tells (unmet_entries known.now (unshown of.now.cave.now of.now.ways.now
+        (is_marked said.now) none_shown)) text.old text.new) }
 {
-    push_unmet(alloc, known, of, said, &MarkSet::new(alloc), text)
+    let none = MarkSet::new(text.alloc());
+    put_unmet(text, known, of, said, &none)
 }
 
 /// The same of the texts of a cave.
-pub(crate) fn push_unmet_texts(
-    alloc: Global,
+pub(crate) fn put_unmet_texts(
+    text: &mut Text,
     known: &KnownList,
     texts: &CaveTexts<'_>,
     ways: &[WayLine],
     said: &MarkSet,
-    text: &mut Vec<u8>,
 ) -> Result<(), AllocError>
-    ensures { OnOk result (text.new.items ≡ text.old.items ++ unmet_entries known.now
-        (unshown texts.now ways.now (is_marked said.now) none_shown)) }
+    ensures { OnOk result (Tells (unmet_entries known.now (unshown texts.now ways.now
+        (is_marked said.now) none_shown)) text.old text.new) }
 {
     let cave = texts.cave();
-    push_unmet_said(alloc, known, &CaveWays { cave, ways }, said, text)
+    put_unmet_said(text, known, &CaveWays { cave, ways }, said)
 }
 
 /// The same of rows that never applied; no entry of a text is told.
-pub(crate) fn push_unmet_rows(
-    alloc: Global,
+pub(crate) fn put_unmet_rows(
+    text: &mut Text,
     known: &KnownList,
     of: &CaveWays<'_>,
     noted: &MarkSet,
-    text: &mut Vec<u8>,
 ) -> Result<(), AllocError>
-    ensures { OnOk result (text.new.items ≡ text.old.items ++ unmet_entries known.now
-        (unshown of.now.cave.now of.now.ways.now none_shown (is_marked noted.now))) }
+    ensures { OnOk result (Tells (unmet_entries known.now (unshown of.now.cave.now of.now.ways.now
+        none_shown (is_marked noted.now))) text.old text.new) }
 {
-    push_unmet(alloc, known, of, &MarkSet::new(alloc), noted, text)
+    let none = MarkSet::new(text.alloc());
+    put_unmet(text, known, of, &none, noted)
 }
 
 /// Marks what parts say, and rows.
@@ -197,7 +199,9 @@ impl PlayNotes for ShownThings {
     ) -> Result<usize, AllocError> {
         let ways = way_lines(alloc, database)?;
         let of = CaveWays { cave, ways: &ways };
-        push_unshown(alloc, &of, &self.marks, &self.marks, text)?;
+        let mut told = Text::after(alloc, text);
+        put_unshown(&mut told, &of, &self.marks, &self.marks)?;
+        told.give_to(text)?;
         Ok(0)
     }
 }

@@ -23,7 +23,7 @@ use Rattle.play_edits.specs.Undo.{asks_backs, back_by, backs_of, if_asked}
 use Rattle.play_edits.specs.ViewText.{guarded_before, state_before, text_after, text_at_end}
 use Rattle.play_edits.specs.ViewText.{text_of_item}
 use Rattle.play_edits.specs.declared.refusal.Refusal.{Refusal}
-use Rattle.play_machine.specs.Piece.{Piece}
+use Rattle.play_machine.specs.Machine.{Piece}
 use Rattle.play_machine.specs.declared.machine.CaveMachine.{CaveMachine}
 use Rattle.replay_edits.specs.Edit.{Game}
 use Rattle.replay_scripts.specs.Script.{Applied}

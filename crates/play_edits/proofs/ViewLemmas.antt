@@ -20,7 +20,7 @@ use Rattle.play_edits.specs.Ends.{EndsOfLog}
 use Rattle.play_edits.specs.Undo.{backs_of, if_asked}
 use Rattle.play_edits.specs.ViewText.{text_of_item, view_text}
 use Rattle.play_edits.specs.declared.items.MadeEdit.{MadeEdit}
-use Rattle.play_machine.specs.Piece.{Piece}
+use Rattle.play_machine.specs.Machine.{Piece}
 use Rattle.play_machine.specs.declared.machine.CaveMachine.{CaveMachine}
 use Rattle.replay_checkpoints.specs.Spacing.{IsSpaced}
 use Rattle.replay_edits.specs.Edit.{IsGame, Game}
@@ -35,11 +35,9 @@ use Rattle.play_edits.specs.Accounts.{text_of_items}
 use Rattle.play_edits.specs.Items.{game_after_item, game_after_items, item_report, reports}
 use Rattle.play_edits.specs.Outcome.{AreOutcomes, ItemOutcome}
 use Rattle.play_tables.specs.ItemRow.{item_head_row}
-use Rattle.play_machine.specs.FinalState.{final_state_text}
-use Rattle.play_machine.specs.Score.{score_text}
-use Rattle.play_machine.specs.Steps.{steps_text}
+use Rattle.play_machine.specs.FinalState.{final_state_text, score_text}
+use Rattle.play_machine.specs.Moments.{steps_text, walk_text}
 use Rattle.play_machine.specs.Transcript.{play_text}
-use Rattle.play_machine.specs.Walk.{walk_text}
 use Rattle.replay_scripts.specs.ScriptText.{Back, script_text}
 
 -- what is written of items for a transcript are their reports

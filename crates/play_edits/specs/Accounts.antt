@@ -11,7 +11,7 @@ use Rattle.replay_edits.specs.declared.fault.EditFault.{EditFault}
 use Rattle.replay_edits.specs.declared.fault.EditFault.TheVariants as cause
 use Rattle.replay_scripts.specs.Script.{Applied}
 use Rattle.play_tables.specs.ItemRow.{met_column, accepted_row, item_head_row, refused_row}
-use Rattle.play_tables.specs.Columns.{ending_column}
+use Rattle.play_state_text.specs.Words.{ending_word}
 use Rattle.play_edits.specs.Items.{game_after_item}
 use Rattle.play_edits.specs.Outcome.{ItemOutcome, lines_in, played_in, standing_of}
 use Rattle.play_edits.specs.Refusal.{refusal_line, refusal_number, shown_kept_line}
@@ -57,7 +57,7 @@ refusal_said (OtherLine at line expected) =
 -- how a game has ended, if it has
 abbrev pub ending_text : Option Ending → List ℕ
 ending_text None = []
-ending_text (Some ending) = codes ", ended: " ++ ending_column (Some ending)
+ending_text (Some ending) = codes ", ended: " ++ ending_word ending
 
 -- where a game is after its last line: its score, the greatest one, its turns, the player's place,
 -- and how it has ended

@@ -14,8 +14,7 @@ use Rattle.play_edits.specs.Undo.{backs_of, if_asked}
 use Rattle.play_edits.specs.ViewText.{view_text}
 use Rattle.play_edits.specs.declared.items.MadeEdit.{MadeEdit}
 use Rattle.play_edits.specs.declared.refusal.Refusal.{Refusal}
-use Rattle.play_machine.specs.HeldGame.{HoldsGame}
-use Rattle.play_machine.specs.Piece.{Piece}
+use Rattle.play_machine.specs.Machine.{HoldsGame, Piece}
 use Rattle.play_machine.specs.declared.machine.CaveMachine.{CaveMachine}
 use Rattle.replay_edits.specs.Edit.{Game, changes_of}
 use Rattle.replay_edits.specs.Faults.{fault_of_all}

@@ -9,11 +9,9 @@ use Rattle.play_edits.specs.Accounts.{account_by, text_of_items, totals_line, la
 use Rattle.play_edits.specs.Undo.{guarded_group, text_if_done}
 use Rattle.play_edits.specs.Items.{game_after_item, game_after_items, item_report_by}
 use Rattle.play_edits.specs.Outcome.{ItemOutcome, lines_in, played_in, refusal_in, standing_of}
-use Rattle.play_machine.specs.FinalState.{final_state_text}
-use Rattle.play_machine.specs.Score.{score_text}
-use Rattle.play_machine.specs.Steps.{steps_text}
+use Rattle.play_machine.specs.FinalState.{final_state_text, score_text}
+use Rattle.play_machine.specs.Moments.{steps_text, walk_text}
 use Rattle.play_machine.specs.Transcript.{play_text}
-use Rattle.play_machine.specs.Walk.{walk_text}
 use Rattle.play_tables.specs.ItemRow.{item_head_row}
 use Rattle.replay_edits.specs.Edit.{Game}
 use Rattle.replay_scripts.specs.Script.{Applied}

@@ -17,11 +17,9 @@ use Rattle.play_edits.specs.Items.{game_after_items, refusals, reports}
 use Rattle.play_edits.specs.Outcome.{AreOutcomes, ItemOutcome, played_in}
 use Rattle.play_edits.specs.declared.items.MadeEdit.{MadeEdit}
 use Rattle.play_edits.specs.declared.refusal.Refusal.{Refusal}
-use Rattle.play_machine.specs.FinalState.{final_state_text}
-use Rattle.play_machine.specs.Score.{score_text}
-use Rattle.play_machine.specs.Steps.{steps_text}
+use Rattle.play_machine.specs.FinalState.{final_state_text, score_text}
+use Rattle.play_machine.specs.Moments.{steps_text, walk_text}
 use Rattle.play_machine.specs.Transcript.{play_text}
-use Rattle.play_machine.specs.Walk.{walk_text}
 use Rattle.replay_checkpoints.specs.Spacing.{IsSpaced}
 use Rattle.replay_edits.specs.Edit.{Game, game_of}
 use Rattle.replay_scripts.specs.Guards.{IsScriptBy, script_by}

@@ -12,11 +12,12 @@ ghost use Rattle.play_edits.specs.Outcome.{refusal_in, standing_of};
 
 use crate::outcome::{Standing, Totals, standing_of};
 use crate::refusal::{EditWords, ExpectedLine, KeptLine, Refusal};
+use base_text::Text;
 use cave_replay::{GroupReport, Session};
 use cave_world::{Ending, State};
 use play_machine::CaveMachine;
-use play_tables::columns::ending_column;
-use play_tables::{push_item_columns, push_refused_row, push_replay_columns, push_state_columns};
+use play_state_text::words::ending_word;
+use play_tables::{put_item_columns, put_refused_row, put_replay_columns, put_state_columns};
 use replay_scripts::Item;
 use std::alloc::{AllocError, Global};
 
@@ -73,8 +74,8 @@ fn ending_text(alloc: Global, ending: Option<Ending>) -> Result<String, AllocErr
 {
     match ending {
         None => Ok(String::new(alloc)),
-        Some(_) => {
-            let word = ending_column(ending);
+        Some(ending) => {
+            let word = ending_word(ending);
             format!(in alloc; ", ended: {word}")
         }
     }
@@ -240,15 +241,15 @@ pub(crate) fn push_row(
         ++ row_by (applied_item item.now) outcome.now before.now
         (standing_of cave session.now.game) last) }
 {
+    let mut row = Text::after(alloc, text);
     match outcome {
         Ok(done) => {
             let Standing { score, turns, .. } = standing_of(session);
-            push_item_columns(alloc, text, item.line, &item.edits, &done.inverse)?;
-            push_replay_columns(alloc, text, done.from, done.met, done.played)?;
-            push_state_columns(alloc, text, score, turns, before, last_state(session))
+            put_item_columns(&mut row, item.line, &item.edits, &done.inverse);
+            put_replay_columns(&mut row, done.from, done.met, done.played);
+            put_state_columns(&mut row, score, turns, before, last_state(session));
         }
-        Err(refusal) => {
-            push_refused_row(alloc, text, refusal.line(), &item.edits, refusal.number())
-        }
+        Err(refusal) => put_refused_row(&mut row, refusal.line(), &item.edits, refusal.number()),
     }
+    row.give_to(text)
 }

@@ -22,10 +22,10 @@ use Rattle.data_rows.specs.declared.position.Position.TheVariants.{Outside, Insi
 use Rattle.data_rows.proofs.LineLemmas.{begins-row, closes-minus_one, closes-natural, heading-end}
 use Rattle.data_rows.proofs.LineLemmas.{heading-section, nonblank_line}
 use Rattle.data_rows.proofs.RowLemmas.{entry-read}
-use Rattle.data_bindings.specs.Marks.{is_class_from, mark_at, mark_of, marked_rows, with_marked_row}
-use Rattle.data_bindings.specs.declared.mark.MarkedRow.{MarkedRow}
-use Rattle.data_bindings.specs.declared.mark.RowMark.{RowMark}
-use Rattle.data_bindings.specs.declared.mark.RowMark.TheVariants as mark
+use Rattle.data_lines.specs.Marks.{is_class_from, mark_at, mark_of, marked_rows, with_marked_row}
+use Rattle.data_lines.specs.declared.mark.MarkedRow.{MarkedRow}
+use Rattle.data_lines.specs.declared.mark.RowMark.{RowMark}
+use Rattle.data_lines.specs.declared.mark.RowMark.TheVariants as mark
 use Rattle.turn_ends.specs.Score.{max_score_of}
 use Rattle.check_doubts.specs.Classes.{has_class, is_first_class, is_taken}
 use Rattle.check_doubts.specs.declared.flaw.CaveFlaw.TheVariants.{Classless, UnscoredClass}

@@ -10,10 +10,10 @@ use Rattle.replay_scripts.specs.Guards.{guarded_script_of, read_guarded_from}
 use Rattle.replay_scripts.specs.Line.{nothing, begin, end, edit}
 use Rattle.replay_scripts.specs.Script.{Applied, Expectation, group_at_line, group_of}
 use Rattle.replay_scripts.specs.Script.{group_with_change, guarded_by, single}
-use Rattle.play_laws.specs.GuardedScripts.{guard_on_line, IsGuardedLead, lead_done, lead_skips}
-use Rattle.play_laws.specs.GuardedScripts.{lead_guards, IsGuardedBody, inner_done, inner_skips}
-use Rattle.play_laws.specs.GuardedScripts.{inner_guards, inner_spells, IsGuardedScript, script_done}
-use Rattle.play_laws.specs.GuardedScripts.{script_spells, script_groups}
+use Rattle.play_laws.specs.GuardLaws.{guard_on_line, IsGuardedLead, lead_done, lead_skips}
+use Rattle.play_laws.specs.GuardLaws.{lead_guards, IsGuardedBody, inner_done, inner_skips}
+use Rattle.play_laws.specs.GuardLaws.{inner_guards, inner_spells, IsGuardedScript, script_done}
+use Rattle.play_laws.specs.GuardLaws.{script_spells, script_groups}
 use Rattle.play_laws.proofs.GuardedLines.{blank_kind, no_guard}
 
 -- the group with more changes, on the lines of these numbers

@@ -14,11 +14,10 @@ use Rattle.replay_scripts.specs.Line.{IsKind, IsWord, expected_in, kind_of_scrip
 use Rattle.replay_scripts.specs.Script.{Applied, Expectation, group_at_line, group_of}
 use Rattle.replay_scripts.specs.Script.{group_with_change, guarded_by, onward, reading_in_group}
 use Rattle.replay_scripts.specs.Script.{reading_after_line, reading_outside_group, single}
-use Rattle.play_laws.specs.GuardedScripts.{guard_on_line, GuardsBelongToItems, IsGuardedLead}
-use Rattle.play_laws.specs.GuardedScripts.{lead_done, lead_skips, lead_guards, IsGuardedBody}
-use Rattle.play_laws.specs.GuardedScripts.{inner_done, inner_skips, inner_guards, inner_spells}
-use Rattle.play_laws.specs.GuardedScripts.{IsGuardedScript, script_done, script_spells}
-use Rattle.play_laws.specs.GuardedScripts.{script_groups}
+use Rattle.play_laws.specs.GuardLaws.{guard_on_line, GuardsBelongToItems, IsGuardedLead, lead_done}
+use Rattle.play_laws.specs.GuardLaws.{lead_skips, lead_guards, IsGuardedBody, inner_done}
+use Rattle.play_laws.specs.GuardLaws.{inner_skips, inner_guards, inner_spells, IsGuardedScript}
+use Rattle.play_laws.specs.GuardLaws.{script_done, script_spells, script_groups}
 use Rattle.play_laws.proofs.GuardedLines.{blank_kind}
 use Rattle.play_laws.proofs.GuardedReading.{extended, extended_none, extended_joined}
 use Rattle.play_laws.proofs.GuardedReading.{guarded_script_of-spelled, guards_followed}

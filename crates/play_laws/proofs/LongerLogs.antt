@@ -16,14 +16,13 @@ use Rattle.cave_turn.specs.Turns.{silent_turn, turn_on_line}
 use Rattle.cave_world.specs.declared.part.Part.{Part}
 use Rattle.cave_world.specs.declared.state.State.{State}
 use Rattle.play_edits.specs.Outcome.{standing_of}
-use Rattle.play_machine.specs.FinalState.{final_state_text, state_text_after}
+use Rattle.play_machine.specs.FinalState.{final_state_text, state_text_after, score_text}
 use Rattle.play_machine.specs.Machine.{cave_rules, rendering_of}
 use Rattle.play_machine.specs.Moments.{Moment, moment_at, moments_from, moments_of, noted_of}
-use Rattle.play_machine.specs.Score.{score_text}
-use Rattle.play_machine.specs.Steps.{moment_row, steps_text}
+use Rattle.play_machine.specs.Moments.{moment_row, steps_text}
 use Rattle.play_machine.specs.Transcript.{is_shown, last_line, play_text, shown_line, shown_moment}
 use Rattle.play_machine.specs.Transcript.{ticks, transcript_line}
-use Rattle.play_machine.specs.Walk.{moment_object, opening_object, walk_text}
+use Rattle.play_machine.specs.Moments.{moment_object, opening_object, walk_text}
 use Rattle.play_tables.specs.ScoreTable.{score_table}
 use Rattle.play_walk.specs.Step.{step_head_row}
 use Rattle.replay_edits.specs.Edit.{Game, game_of}

@@ -22,11 +22,9 @@ use Rattle.play_command.specs.declared.views.EditView.{EditView}
 use Rattle.play_command.specs.declared.views.EditView.TheVariants as asked
 use Rattle.play_edits.specs.Items.{game_after_items}
 use Rattle.play_edits.specs.Outcome.{AreOutcomes, ItemOutcome}
-use Rattle.play_machine.specs.FinalState.{final_state_text}
-use Rattle.play_machine.specs.Score.{score_text}
-use Rattle.play_machine.specs.Steps.{steps_text}
+use Rattle.play_machine.specs.FinalState.{final_state_text, score_text}
+use Rattle.play_machine.specs.Moments.{steps_text, walk_text}
 use Rattle.play_machine.specs.Transcript.{play_text}
-use Rattle.play_machine.specs.Walk.{walk_text}
 use Rattle.replay_edits.specs.Edit.{Game, game_of}
 use Rattle.replay_scripts.proofs.Grammar.{script_of-only}
 use Rattle.replay_scripts.proofs.GuardedGrammar.{IsScriptBy-script_by}
@@ -36,7 +34,7 @@ use Rattle.replay_scripts.specs.Line.{expected_in, number_after_word}
 use Rattle.replay_scripts.specs.Script.{Applied, IsScript}
 use Rattle.play_laws.proofs.MetItems.{GiveTheSame, give_the_same, outcomes_from, outcomes_to}
 use Rattle.play_laws.proofs.MetItems.{turned}
-use Rattle.play_laws.specs.MetGuards.{IsBlanked, MetGuardsNoOtherRun, PrintsItSo}
+use Rattle.play_laws.specs.GuardLaws.{IsBlanked, MetGuardsNoOtherRun, PrintsItSo}
 
 -- ---- what is printed
 

@@ -4,7 +4,7 @@ use Rattle.std.specs.Prelude.{not}
 use Rattle.std.specs.List.{slice_get}
 use Rattle.std.proofs.lemmas.Bool.{false≢true}
 use Rattle.cave_data.specs.CaveView.{ways_from}
-use Rattle.data_bindings.specs.WayLines.{way_index}
+use Rattle.data_lines.specs.WayLines.{way_index}
 use Rattle.data_rows.specs.Rows.{Going}
 use Rattle.check_tables.specs.Reach.{may_be_taken}
 use Rattle.check_tables.proofs.Journeys.{tried_may_be_taken}

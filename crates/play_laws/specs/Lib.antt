@@ -1,13 +1,11 @@
 pub mod ApartEdits
 pub mod Bytes
 pub mod DrawsMade
-pub mod GuardLaws
-pub mod GuardedScripts
 pub mod Held
 pub mod JoinedScripts
 pub mod ListedDifferences
 pub mod LongerLogs
-pub mod MetGuards
+pub mod GuardLaws
 pub mod NeverTaken
 pub mod Redo
 pub mod RunLaws

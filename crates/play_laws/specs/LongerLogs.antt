@@ -4,11 +4,9 @@ use Rattle.base_lines.specs.LogLine.{IsLogLine}
 use Rattle.base_lines.specs.declared.log_line.LogLine.TheVariants.{Blank, Comment}
 use Rattle.cave_data.specs.CaveView.{CaveView}
 use Rattle.play_edits.specs.Outcome.{standing_of}
-use Rattle.play_machine.specs.FinalState.{final_state_text}
-use Rattle.play_machine.specs.Score.{score_text}
-use Rattle.play_machine.specs.Steps.{steps_text}
+use Rattle.play_machine.specs.FinalState.{final_state_text, score_text}
+use Rattle.play_machine.specs.Moments.{steps_text, walk_text}
 use Rattle.play_machine.specs.Transcript.{last_line, play_text}
-use Rattle.play_machine.specs.Walk.{walk_text}
 use Rattle.replay_edits.specs.Edit.{Game, game_of}
 
 -- the last line of the transcript of a game: its score, the greatest one and its turns

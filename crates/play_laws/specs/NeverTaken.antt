@@ -4,8 +4,8 @@ use Rattle.cave_data.specs.CaveView.{CaveView}
 use Rattle.cave_world.specs.Travel.{rows_tried_from}
 use Rattle.cave_world.specs.declared.state.State.{State}
 use Rattle.cave_world.specs.declared.tables.RuleRow.TheVariants.{OfPlace}
-use Rattle.data_bindings.specs.WayLines.{way_index}
-use Rattle.data_bindings.specs.declared.mark.MarkedRow.{MarkedRow}
+use Rattle.data_lines.specs.WayLines.{way_index}
+use Rattle.data_lines.specs.declared.mark.MarkedRow.{MarkedRow}
 use Rattle.check_doubts.specs.Ways.{is_never_taken}
 
 -- from a state a motion tries the way at an index of a place, whether it applies or fails

@@ -5,10 +5,10 @@ use Rattle.std.specs.Str.Lines.{lines}
 use Rattle.cave_data.specs.CaveView.{CaveView, Rated, class_of}
 use Rattle.cave_data.specs.Reads.{Reads}
 use Rattle.data_rows.specs.declared.position.Position.TheVariants.{Outside}
-use Rattle.data_bindings.specs.Marks.{marked_rows}
-use Rattle.data_bindings.specs.declared.mark.MarkedRow.{MarkedRow}
-use Rattle.data_bindings.specs.declared.mark.RowMark.{RowMark}
-use Rattle.data_bindings.specs.declared.mark.RowMark.TheVariants as mark
+use Rattle.data_lines.specs.Marks.{marked_rows}
+use Rattle.data_lines.specs.declared.mark.MarkedRow.{MarkedRow}
+use Rattle.data_lines.specs.declared.mark.RowMark.{RowMark}
+use Rattle.data_lines.specs.declared.mark.RowMark.TheVariants as mark
 use Rattle.turn_ends.specs.Score.{max_score_of}
 use Rattle.check_doubts.specs.Classes.{class_flaw}
 use Rattle.check_doubts.specs.declared.flaw.CaveFlaw.TheVariants.{UnscoredClass}

@@ -2,7 +2,7 @@
 //! cites others.
 
 ghost use Rattle.play_laws.specs.ApartEdits.{ApartEditsCommute};
-ghost use Rattle.play_laws.specs.GuardedScripts.{GuardsBelongToItems};
+ghost use Rattle.play_laws.specs.GuardLaws.{GuardsBelongToItems};
 ghost use Rattle.play_laws.specs.JoinedScripts.{ScriptsJoin};
 ghost use Rattle.play_laws.specs.Redo.{RedoGivesTheEdits};
 

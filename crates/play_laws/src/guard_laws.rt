@@ -1,8 +1,7 @@
 //! Laws about guards: `--guarded` changes nothing if there are none, or if all are met.
 
 ghost use Rattle.play_laws.specs.GuardLaws.{MetGuardsNoOtherLog, NoGuardsNoOtherOutput};
-ghost use Rattle.play_laws.specs.GuardLaws.{NoGuardsNoOtherScript};
-ghost use Rattle.play_laws.specs.MetGuards.{MetGuardsNoOtherRun};
+ghost use Rattle.play_laws.specs.GuardLaws.{NoGuardsNoOtherScript, MetGuardsNoOtherRun};
 
 /// A script without guards gives the same items, or the same refusal, whether or not it may have
 /// some.

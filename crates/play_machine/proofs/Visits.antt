@@ -3,7 +3,7 @@ use Rattle.std.proofs.Common.{◌≡◌, ℕ, ◌+◌, ◌-◌, ◌≤◌, List,
 use Rattle.std.proofs.Common.{arith}
 use Rattle.std.specs.Prelude.{replicate}
 use Rattle.std.proofs.lemmas.List.{replicate-append-replicate, append_assoc, take-append-drop}
-use Rattle.play_machine.specs.Packed.{visits_from}
+use Rattle.play_machine.specs.Machine.{visits_from}
 
 -- the length alone says that this many zeros follow
 pub zeros_joined : (first : List ℕ) (k m : ℕ)

@@ -12,12 +12,10 @@ use Rattle.play_tables.specs.ScoreTable.{score_table}
 use Rattle.play_walk.specs.Step.{step_head_row}
 use Rattle.replay_edits.specs.Edit.{Game}
 use Rattle.turn_ends.specs.Score.{max_score_of, score_of}
-use Rattle.play_machine.specs.FinalState.{final_state_text, state_text_after}
+use Rattle.play_machine.specs.FinalState.{final_state_text, state_text_after, score_text}
 use Rattle.play_machine.specs.Machine.{cave_rules, rendering_of}
-use Rattle.play_machine.specs.Moments.{moments_from, noted_of}
-use Rattle.play_machine.specs.Score.{score_text}
-use Rattle.play_machine.specs.Steps.{moment_row, steps_text}
-use Rattle.play_machine.specs.Walk.{moment_object, opening_object, walk_text}
+use Rattle.play_machine.specs.Moments.{moments_from, noted_of, moment_row, steps_text}
+use Rattle.play_machine.specs.Moments.{moment_object, opening_object, walk_text}
 use Rattle.play_machine.specs.Transcript.{last_line, play_text, shown_line, shown_moment, ticks}
 use Rattle.play_machine.specs.Transcript.{transcript_line}
 use Rattle.play_machine.specs.Watch.{IsEndOf}

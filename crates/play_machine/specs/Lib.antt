@@ -1,12 +1,6 @@
-pub mod FinalState
-pub mod HeldGame
+pub mod Head
 pub mod Machine
-pub mod Moments
-pub mod Packed
-pub mod Piece
-pub mod PieceParts
-pub mod Score
-pub mod Steps
+pub mod FinalState
 pub mod Transcript
-pub mod Walk
+pub mod Moments
 pub mod Watch

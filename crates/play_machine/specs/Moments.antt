@@ -7,7 +7,9 @@ use Rattle.cave_world.specs.declared.state.State.{State}
 use Rattle.cave_world.specs.declared.tables.RuleRow.{RuleRow}
 use Rattle.cave_turn.specs.Turns.{rows_on_line, turn_on_line}
 use Rattle.replay_edits.specs.Edit.{Game}
-use Rattle.play_machine.specs.Machine.{cave_rules}
+use Rattle.play_machine.specs.Machine.{cave_rules, rendering_of}
+use Rattle.play_walk.specs.Walk.{walk_line, walk_opening}
+use Rattle.play_walk.specs.Step.{step_head_row, step_row}
 
 -- a line of a play: its place in the log, the turns up to and including it, whether it takes one
 -- itself, the states before and after it, what is said at it, and the rows of the rules that are
@@ -54,3 +56,28 @@ noted_of first_facts facts cave game =
     let rules = cave_rules cave in
     first_facts cave (rules.begun game.seed) (rules.greeting game.seed)
     ++ flat_map (facts cave) (moments_of cave game)
+
+-- the object of the opening
+abbrev pub opening_object : CaveView → State → List Part → List ℕ
+opening_object cave begun greeting = walk_opening cave (rendering_of cave greeting 0) begun
+
+-- the object of a line
+abbrev pub moment_object : CaveView → Moment → List ℕ
+moment_object cave moment =
+    walk_line cave moment.place moment.line (rendering_of cave moment.parts moment.turns)
+    moment.turns moment.before moment.after
+
+-- the opening, and then the lines of playing the game, from its first line to its last
+unfoldable pub walk_text : CaveView → Game → List ℕ
+walk_text cave game = noted_of opening_object moment_object cave game
+
+-- the row of a line
+abbrev pub moment_row : CaveView → Moment → List ℕ
+moment_row cave moment =
+    step_row cave moment.place moment.line moment.turns moment.before moment.after
+
+-- the names of the columns, and then the rows of the lines of playing the game, from its first line
+-- to its last
+unfoldable pub steps_text : CaveView → Game → List ℕ
+steps_text cave game =
+    noted_of (λ cave (begun : State) (greeting : List Part). step_head_row) moment_row cave game

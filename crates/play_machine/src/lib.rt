@@ -4,6 +4,7 @@
 
 pub mod course;
 pub mod final_state;
+pub mod head;
 pub mod machine;
 mod noted_rows;
 pub mod packed_state;

@@ -42,7 +42,7 @@ impl Model for PackedState {
     ghost use Rattle.std.specs.Prelude.{◌≤◌, length};
     ghost use Rattle.base_lines.specs.Numbers.{LAST_PLACE};
     ghost use Rattle.cave_world.specs.declared.state.State.{State};
-    ghost use Rattle.play_machine.specs.Packed.{state_of_fields};
+    ghost use Rattle.play_machine.specs.Machine.{state_of_fields};
 
     ghost Value = { State };
 

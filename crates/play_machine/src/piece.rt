@@ -25,11 +25,11 @@ pub struct Piece {
 }
 
 impl Model for Piece {
-    ghost use Rattle.play_machine.specs.Piece.{Piece as Said};
+    ghost use Rattle.play_machine.specs.Machine.{Piece as Said};
 
     ghost Value = { Said };
 
-    ghost use Rattle.play_machine.specs.PieceParts.{piece_in};
+    ghost use Rattle.play_machine.specs.Machine.{piece_in};
 
     ghost view = { λ piece. piece_in piece.parts };
 }

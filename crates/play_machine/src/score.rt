@@ -1,7 +1,7 @@
 //! The score of a play as a table.
 
 ghost use Rattle.std.specs.Prelude.{◌≡◌, ◌++◌, OnOk};
-ghost use Rattle.play_machine.specs.Score.{score_text};
+ghost use Rattle.play_machine.specs.FinalState.{score_text};
 
 use crate::machine::CaveMachine;
 use cave_replay::Session;
@@ -9,7 +9,7 @@ use play_tables::push_score_table;
 use std::alloc::{AllocError, Global};
 
 /// Appends the table of the score to which the play of a session of the machine leads.
-#[tactic(auto, unfolding(crate::specs::Score::score_text))]
+#[tactic(auto, unfolding(crate::specs::FinalState::score_text))]
 pub fn push_score(
     alloc: Global,
     session: &Session<CaveMachine<'_>>,

@@ -1,7 +1,7 @@
 //! The table of the lines of a play.
 
 ghost use Rattle.std.specs.Prelude.{◌≡◌, ◌++◌, OnOk};
-ghost use Rattle.play_machine.specs.Steps.{steps_text};
+ghost use Rattle.play_machine.specs.Moments.{steps_text};
 
 use crate::course::watch_session;
 use crate::machine::CaveMachine;
@@ -21,7 +21,7 @@ pub struct StepTable {
 impl Watch for StepTable {
     ghost use Rattle.std.specs.Prelude.{◌≡◌, ℕ};
     ghost use Rattle.play_walk.specs.Step.{step_head_row};
-    ghost use Rattle.play_machine.specs.Steps.{moment_row};
+    ghost use Rattle.play_machine.specs.Moments.{moment_row};
 
     type Before = State;
 
@@ -63,7 +63,7 @@ impl Watch for StepTable {
 }
 
 /// Appends the table of the lines of the play that a session of the machine holds.
-#[tactic(auto, unfolding(crate::specs::Steps::steps_text))]
+#[tactic(auto, unfolding(crate::specs::Moments::steps_text))]
 pub fn push_steps(
     alloc: Global,
     session: &Session<CaveMachine<'_>>,

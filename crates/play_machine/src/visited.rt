@@ -1,6 +1,6 @@
 ghost use Rattle.std.specs.Prelude.{◌≡◌, ◌≤◌, ◌↔◌, IsTrue, length};
 ghost use Rattle.base_lines.specs.Numbers.{LAST_PLACE};
-ghost use Rattle.play_machine.specs.Packed.{IsUnvisitedAfter, unvisited_block, visits_from};
+ghost use Rattle.play_machine.specs.Machine.{IsUnvisitedAfter, unvisited_block, visits_from};
 
 use cave_world::{Count, Visits};
 use world_objects::place::PLACES;

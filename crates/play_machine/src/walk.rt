@@ -1,7 +1,7 @@
 //! The lines of a play as JSON.
 
 ghost use Rattle.std.specs.Prelude.{◌≡◌, ◌++◌, OnOk};
-ghost use Rattle.play_machine.specs.Walk.{walk_text};
+ghost use Rattle.play_machine.specs.Moments.{walk_text};
 
 use crate::course::watch_session;
 use crate::machine::CaveMachine;
@@ -35,7 +35,7 @@ impl WalkLines {
 
 impl Watch for WalkLines {
     ghost use Rattle.std.specs.Prelude.{◌≡◌, ℕ};
-    ghost use Rattle.play_machine.specs.Walk.{opening_object, moment_object};
+    ghost use Rattle.play_machine.specs.Moments.{opening_object, moment_object};
 
     type Before = State;
 
@@ -81,7 +81,7 @@ impl Watch for WalkLines {
 }
 
 /// Appends the lines of the play that a session of the machine holds.
-#[tactic(auto, unfolding(crate::specs::Walk::walk_text))]
+#[tactic(auto, unfolding(crate::specs::Moments::walk_text))]
 pub fn push_walk(
     alloc: Global,
     session: &Session<CaveMachine<'_>>,

@@ -1,8 +1,7 @@
 //! What the program says apart from its output, and the status with which it ends if that is why.
 
 ghost use Rattle.std.specs.Prelude.{◌≡◌, None};
-ghost use Rattle.play_program.specs.Calls.{is_silent, out_of_memory, status_told};
-ghost use Rattle.play_program.specs.Calls.{told_of};
+ghost use Rattle.play_program.specs.Calls.{is_silent, out_of_memory, status_told, told_of};
 ghost use Rattle.play_program.specs.Calls.Told.{faulty};
 ghost use Rattle.play_program.specs.Files.{fault_told};
 

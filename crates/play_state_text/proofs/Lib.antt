@@ -1,7 +1,9 @@
-pub mod AppendLemmas
 pub mod DwarfLemmas
 pub mod EntryLemmas
+pub mod FactEquality
 pub mod FactLemmas
+pub mod FactsRead
+pub mod LineLemmas
 pub mod HintLemmas
 pub mod ListedLemmas
 pub mod ObjectLemmas

@@ -23,14 +23,12 @@ use Rattle.play_state_text.specs.Within.{IsThingWithin}
 use Rattle.play_state_text.proofs.EntryLemmas.{IsPast, entries_read}
 use Rattle.play_state_text.proofs.Reading.{GoesOn, number_read, signed_step, after_name, both_true}
 use Rattle.play_state_text.proofs.Reading.{differ, peel}
-use Rattle.play_state_text.specs.Words.{word_of_object}
+use Rattle.play_state_text.specs.Words.{named_line, word_of_object}
 use Rattle.play_state_text.proofs.WordLemmas.{object_beside}
 use Rattle.play_state_text.proofs.ListedLemmas.{listed, not_zero}
-use Rattle.play_state_text.specs.Facts.{numbered_text, signed_line}
 
 spot_read : (p q : Spot) (s t : List ℕ) → IsSpotWithin p → IsSpotWithin q → GoesOn s → GoesOn t
     → spot_text p ++ s ≡ spot_text q ++ t → (p ≡ q) × (s ≡ t)
-unfolding numbered_text
 spot_read spot.Away spot.Away s t hp hq g h e = (refl, append_cancel_left (codes " away") s t e)
 spot_read spot.InHands spot.InHands s t hp hq g h e =
     (refl, append_cancel_left (codes " carried") s t e)
@@ -47,7 +45,6 @@ prop_text s = codes ", prop " ++ s
 
 anchor_read : (p q : Anchor) (s t : List ℕ) → IsAnchorWithin p → IsAnchorWithin q
     → anchor_text p ++ prop_text s ≡ anchor_text q ++ prop_text t → (p ≡ q) × (s ≡ t)
-unfolding numbered_text
 anchor_read anchor.Loose anchor.Loose s t hp hq e =
     (refl, append_cancel_left (codes ", prop ") s t e)
 anchor_read anchor.Fixed anchor.Fixed s t hp hq e =
@@ -60,19 +57,18 @@ anchor_read (anchor.At m) (anchor.At n) s t hp hq e =
 anchor_read _ _ s t hp hq e = absurd (false≢true (differ 2 _ _ e))
 
 anchor_goes_on : (p : Anchor) (s : List ℕ) → GoesOn (anchor_text p ++ prop_text s)
-unfolding numbered_text
 anchor_goes_on anchor.Loose s = refl
 anchor_goes_on anchor.Fixed s = refl
 anchor_goes_on (anchor.At place) s = refl
 
-abbrev AreSameThings : Layout → Layout → ℕ → Type 0
+abbrev pub AreSameThings : Layout → Layout → ℕ → Type 0
 AreSameThings o p x =
     (spot_of o x ≡ spot_of p x) × ((anchor_of o x ≡ anchor_of p x) × (prop_of o x ≡ prop_of p x))
 
 thing_read : (cave : CaveView) (o p : Layout) (x : ℕ) → IsThingWithin o x → IsThingWithin p x
     → (s t : List ℕ) → thing_text cave o x ++ s ≡ thing_text cave p x ++ t
     → AreSameThings o p x × (s ≡ t)
-unfolding thing_text signed_line
+unfolding thing_text named_line
 thing_read cave o p x ho hp s t e =
     let word = after_name (word_of_object cave x) _ _ s t e in
     let rest = after_name (codes ":") _ _ s t word in
@@ -100,7 +96,7 @@ unfolding thing_text
 thing_goes_on cave o x u =
     let rest =
     codes ":" ++ (spot_text (spot_of o x)
-    ++ (anchor_text (anchor_of o x) ++ signed_line (codes ", prop ") (prop_of o x))) in
+    ++ (anchor_text (anchor_of o x) ++ named_line (codes ", prop") (signed_decimal (prop_of o x)))) in
     let whole = append_assoc (word_of_object cave x) rest u in
     subst GoesOn (sym whole) (object_beside cave x (rest ++ u) refl)
 

@@ -3,7 +3,7 @@ use Rattle.std.proofs.Common.{◌≡◌, ℕ, suc, ℤ, pos, negsuc, ◌<◌, Bo
 use Rattle.std.proofs.Common.{◌++◌, refl, sym, ap, ◌∙◌, arith, append_assoc, length, get_or}
 use Rattle.std.specs.Prelude.{⊤, ◌==◌, ◌&&◌, ◌||◌, codes}
 use Rattle.std.proofs.lemmas.List.{append_cancel_left}
-use Rattle.play_state_text.specs.Facts.{yes_or_no}
+use Rattle.play_state_text.specs.Words.{yes_or_no}
 use Rattle.std.specs.Char.{is_ascii_digit}
 use Rattle.std.specs.Str.{all_ascii_digits}
 use Rattle.std.specs.Fmt.{decimal, signed_decimal}

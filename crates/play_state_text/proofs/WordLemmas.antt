@@ -2,15 +2,17 @@
 use Rattle.std.proofs.Common.{◌≡◌, ℕ, Bool, true, false, cond, List, [], ◌++◌, Option, Some, None}
 use Rattle.std.proofs.Common.{refl, sym, ap, ◌∙◌, ◌+◌, append_assoc}
 use Rattle.std.specs.Prelude.{codes, nat_lt}
+use Rattle.std.proofs.lemmas.Bool.{false≢true}
 use Rattle.std.proofs.lemmas.List.{append_cancel_left}
 use Rattle.base_lines.specs.Numbers.{LAST_ACTION}
 use Rattle.data_rows.specs.Rows.{OBJECT_WORDS, ACTION_WORDS}
 use Rattle.cave_data.specs.CaveView.{CaveView, first_word}
 use Rattle.std.specs.Fmt.{decimal}
-use Rattle.play_state_text.specs.Within.{IsWide}
+use Rattle.play_state_text.specs.Within.{IsVerbWithin, IsWide}
 use Rattle.play_state_text.specs.Words.{after_blank, word_of_object, word_of_verb, named_object}
-use Rattle.play_state_text.specs.Words.{line_with_object, line_with_half_verb}
-use Rattle.play_state_text.proofs.Reading.{GoesOn, number_read, number_step}
+use Rattle.play_state_text.specs.Words.{named_line, verb_line}
+use Rattle.play_state_text.proofs.LineLemmas.{words_read}
+use Rattle.play_state_text.proofs.Reading.{GoesOn, differ, number_read}
 
 -- what follows a number goes on, even with a word before it
 abbrev pub Beside : (ℕ → List ℕ) → Type 0
@@ -56,28 +58,33 @@ object_read cave m n s t hm hn g h e =
 -- lines
 beside_line_read : (word : ℕ → List ℕ) → Beside word
     → (name : List ℕ) (m n : ℕ) (s t : List ℕ) → IsWide m → IsWide n
-    → (name ++ (decimal m ++ (word m ++ codes "\n"))) ++ s
-    ≡ (name ++ (decimal n ++ (word n ++ codes "\n"))) ++ t
+    → named_line name (decimal m ++ word m) ++ s ≡ named_line name (decimal n ++ word n) ++ t
     → (m ≡ n) × (s ≡ t)
 beside_line_read word beside name m n s t hm hn e =
-    let goes : (k : ℕ) (u : List ℕ) → GoesOn ((word k ++ codes "\n") ++ u) =
-    λ k u. rw (append_assoc (word k) (codes "\n") u) (beside k (codes "\n" ++ u) refl) in
+    let words = words_read name (decimal m ++ word m) (decimal n ++ word n) s t e in
+    let split : (k : ℕ) (u : List ℕ) → ((decimal k ++ word k) ++ codes "\n") ++ u
+    ≡ decimal k ++ (word k ++ (codes "\n" ++ u)) =
+    λ k u. append_assoc (decimal k ++ word k) (codes "\n") u
+    ∙ append_assoc (decimal k) (word k) (codes "\n" ++ u) in
     let number =
-    number_step name m n (word m ++ codes "\n") (word n ++ codes "\n") s t hm hn (goes m s) (goes n t)
-    e in
-    let same : (word m ++ codes "\n") ++ s ≡ (word m ++ codes "\n") ++ t =
-    number.1 ∙ ap (λ k. (word k ++ codes "\n") ++ t) (sym number.0) in
-    (number.0, append_cancel_left (word m ++ codes "\n") s t same)
+    beside_read word beside m n (codes "\n" ++ s) (codes "\n" ++ t) hm hn refl refl
+    (sym (split m s) ∙ (words ∙ split n t)) in
+    (number.0, append_cancel_left (codes "\n") s t number.1)
 
 pub object_line_read : (cave : CaveView) (name : List ℕ) (m n : ℕ) (s t : List ℕ) → IsWide m
-    → IsWide n → line_with_object cave name m ++ s ≡ line_with_object cave name n ++ t
+    → IsWide n → named_line name (named_object cave m) ++ s ≡ named_line name (named_object cave n) ++ t
     → (m ≡ n) × (s ≡ t)
-unfolding line_with_object
+unfolding named_object
 object_line_read cave name m n s t hm hn e =
     beside_line_read (word_of_object cave) (object_beside cave) name m n s t hm hn e
 
-pub half_verb_line_read : (cave : CaveView) (m n : ℕ) (s t : List ℕ) → IsWide m → IsWide n
-    → line_with_half_verb cave m ++ s ≡ line_with_half_verb cave n ++ t → (m ≡ n) × (s ≡ t)
-unfolding line_with_half_verb
-half_verb_line_read cave m n s t hm hn e =
-    beside_line_read (word_of_verb cave) (verb_beside cave) (codes "half verb ") m n s t hm hn e
+pub verb_line_read : (cave : CaveView) (p q : Option ℕ) (s t : List ℕ) → IsVerbWithin p
+    → IsVerbWithin q → verb_line cave p ++ s ≡ verb_line cave q ++ t → (p ≡ q) × (s ≡ t)
+unfolding named_line
+verb_line_read cave None None s t hp hq e =
+    (refl, append_cancel_left (codes "half command none\n") s t e)
+verb_line_read cave (Some m) (Some n) s t hp hq e =
+    let number =
+    beside_line_read (word_of_verb cave) (verb_beside cave) (codes "half verb") m n s t hp hq e in
+    (λ i. Some (number.0 i), number.1)
+verb_line_read cave _ _ s t hp hq e = absurd (false≢true (differ 5 _ _ e))

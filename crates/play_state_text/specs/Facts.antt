@@ -1,110 +1,113 @@
--- Lines for what a state has once.
-use Rattle.std.specs.Prelude.{ℕ, ℤ, Bool, true, false, List, ◌++◌, codes, decimal, Option, None}
-use Rattle.std.specs.Prelude.{Some}
-use Rattle.std.specs.Fmt.{signed_decimal}
-use Rattle.cave_data.specs.CaveView.{CaveView}
+-- The facts of a state: one list, from which its text is made, by which two states are compared, and
+-- by which no two states have the same text.
+use Rattle.std.specs.Prelude.{ℕ, ℤ, ◌==◌, Bool, false, List, [], ◌∷◌, ◌++◌, codes, Option}
+use Rattle.std.proofs.Math.Bool.{beq}
+use Rattle.std.specs.Option.{option_eq}
+use Rattle.std.specs.Ordering.{int_eq}
+use Rattle.std.specs.Cmp.Lexicographic.{pointwise}
+use Rattle.world_objects.specs.Objects.{Layout}
+use Rattle.world_objects.specs.contracts.objects.ObjectsPartialEq.TheImpl as objects_eq
+use Rattle.cave_world.specs.contracts.dwarves.DwarfPartialEq.TheImpl as dwarf_eq
+use Rattle.cave_world.specs.contracts.dwarves.KnifePartialEq.TheImpl as knife_eq
+use Rattle.cave_world.specs.contracts.ending.EndingPartialEq.TheImpl as ending_eq
+use Rattle.cave_world.specs.contracts.ending.QuestionPartialEq.TheImpl as question_eq
+use Rattle.cave_world.specs.contracts.hints.HintsPartialEq.TheImpl as hints_eq
+use Rattle.cave_world.specs.declared.dwarves.Dwarf.{Dwarf}
 use Rattle.cave_world.specs.declared.dwarves.Knife.{Knife}
-use Rattle.cave_world.specs.declared.dwarves.Knife.TheVariants.{Unthrown, At, Vanished}
-use Rattle.cave_world.specs.declared.ending.Question.{Question}
-use Rattle.cave_world.specs.declared.ending.Question.TheVariants as question
 use Rattle.cave_world.specs.declared.ending.Ending.{Ending}
-use Rattle.cave_world.specs.declared.ending.Ending.TheVariants as ending
-use Rattle.cave_world.specs.declared.state.Trail.{Trail}
-use Rattle.cave_world.specs.declared.state.Tallies.{Tallies}
-use Rattle.cave_world.specs.declared.lamp.Lamp.{Lamp}
-use Rattle.cave_world.specs.declared.closing.Closing.{Closing}
-use Rattle.cave_world.specs.declared.talk.Talk.{Talk}
-use Rattle.cave_world.specs.declared.dwarves.Dwarves.{Dwarves}
-use Rattle.play_state_text.specs.Words.{line_with_half_verb, line_with_object}
+use Rattle.cave_world.specs.declared.ending.Question.{Question}
+use Rattle.cave_world.specs.declared.hints.Hints.{Hints}
+use Rattle.cave_world.specs.declared.state.State.{State}
+use Rattle.play_state_text.specs.declared.kind.FactKind.{FactKind}
+use Rattle.play_state_text.specs.declared.kind.FactKind.TheVariants as kind
 
-abbrev pub yes_or_no : Bool → List ℕ
-yes_or_no true = codes "yes"
-yes_or_no false = codes "no"
+-- what a fact is
+pub data StateFact : Type 0 where
+  Number : ℕ → StateFact
+  Signed : ℤ → StateFact
+  Answer : Bool → StateFact
+  Asked : Option Question → StateFact
+  Ended : Option Ending → StateFact
+  Verb : Option ℕ → StateFact
+  Thing : ℕ → StateFact
+  Thrown : Knife → StateFact
+  AllObjects : Layout → StateFact
+  AllDwarves : List Dwarf → StateFact
+  AllHints : Hints → StateFact
+  AllVisits : List ℕ → StateFact
 
-unfoldable pub numbered_text : List ℕ → ℕ → List ℕ
-numbered_text before n = before ++ decimal n
+-- ---- the table, in the order of the text of a state: what a kind is called, and what a state has
 
-unfoldable pub numbered_line : List ℕ → ℕ → List ℕ
-numbered_line before n = before ++ (decimal n ++ codes "\n")
+abbrev pub fact : FactKind → List ℕ × (State → StateFact)
+fact kind.Here = (codes "here", λ s. Number s.trail.here)
+fact kind.Last = (codes "last", λ s. Number s.trail.last)
+fact kind.Older = (codes "older", λ s. Number s.trail.older)
+fact kind.Question = (codes "question", λ s. Asked s.question)
+fact kind.Ended = (codes "ended", λ s. Ended s.ending)
+fact kind.Lamp = (codes "lamp", λ s. Signed s.lamp.charge)
+fact kind.LampWarned = (codes "lamp warned", λ s. Answer s.lamp.is_warned)
+fact kind.FirstClock = (codes "first clock", λ s. Signed s.closing.first_clock)
+fact kind.SecondClock = (codes "second clock", λ s. Signed s.closing.second_clock)
+fact kind.Closing = (codes "closing", λ s. Answer s.closing.is_closing)
+fact kind.Closed = (codes "closed", λ s. Answer s.closing.is_closed)
+fact kind.Panic = (codes "panic", λ s. Answer s.closing.is_panicking)
+fact kind.UnseenTreasures = (codes "unseen treasures", λ s. Number s.tallies.unseen)
+fact kind.LostTreasures = (codes "lost treasures", λ s. Number s.tallies.lost)
+fact kind.Deaths = (codes "deaths", λ s. Number s.tallies.deaths)
+fact kind.Objects = (codes "objects", λ s. AllObjects s.objects)
+fact kind.HalfCommand = (codes "half command", λ s. Verb s.talk.verb)
+fact kind.HalfObject = (codes "half object", λ s. Thing s.talk.object)
+fact kind.LastObject = (codes "last object", λ s. Thing s.talk.last)
+fact kind.Brief = (codes "brief", λ s. Answer s.talk.is_brief)
+fact kind.Details = (codes "details", λ s. Number s.talk.details)
+fact kind.Magic = (codes "magic", λ s. Signed s.talk.magic)
+fact kind.Anger = (codes "anger", λ s. Number s.dwarves.anger)
+fact kind.Kills = (codes "kills", λ s. Number s.dwarves.kills)
+fact kind.Dwarves = (codes "dwarves", λ s. AllDwarves s.dwarves.each)
+fact kind.Knife = (codes "knife", λ s. Thrown s.dwarves.knife)
+fact kind.Hints = (codes "hints", λ s. AllHints s.hints)
+fact kind.Stream = (codes "stream", λ s. Number s.stream)
+fact kind.Visits = (codes "visits", λ s. AllVisits s.visits)
 
--- a line with a number that may be below 0
-unfoldable pub signed_line : List ℕ → ℤ → List ℕ
-signed_line before z = before ++ (signed_decimal z ++ codes "\n")
+abbrev pub kinds_before_places : List FactKind
+kinds_before_places =
+    kind.Here ∷ kind.Last ∷ kind.Older ∷ kind.Question ∷ kind.Ended ∷ kind.Lamp
+    ∷ kind.LampWarned ∷ kind.FirstClock ∷ kind.SecondClock ∷ kind.Closing ∷ kind.Closed
+    ∷ kind.Panic ∷ kind.UnseenTreasures ∷ kind.LostTreasures ∷ kind.Deaths ∷ kind.Objects
+    ∷ kind.HalfCommand ∷ kind.HalfObject ∷ kind.LastObject ∷ kind.Brief ∷ kind.Details
+    ∷ kind.Magic ∷ []
 
-unfoldable pub answer_line : List ℕ → Bool → List ℕ
-answer_line before answer = before ++ (yes_or_no answer ++ codes "\n")
+abbrev pub kinds_after_places : List FactKind
+kinds_after_places =
+    kind.Anger ∷ kind.Kills ∷ kind.Dwarves ∷ kind.Knife ∷ kind.Hints ∷ kind.Stream
+    ∷ kind.Visits ∷ []
 
-unfoldable pub counts_text : ℕ → ℕ → List ℕ
-counts_text turns score =
-    numbered_line (codes "turns ") turns ++ numbered_line (codes "score ") score
+abbrev pub each_kind : List FactKind
+each_kind = kinds_before_places ++ kinds_after_places
 
--- where the player is, where the player came from, and where the player came from before that
-unfoldable pub trail_text : Trail → List ℕ
-trail_text trail =
-    numbered_line (codes "here ") trail.here
-    ++ (numbered_line (codes "last ") trail.last ++ numbered_line (codes "older ") trail.older)
+abbrev pub kind_name : FactKind → List ℕ
+kind_name kind = (fact kind).0
 
--- the question that is open
-abbrev pub question_text : Option Question → List ℕ
-question_text None = codes "question none\n"
-question_text (Some question.Welcome) = codes "question welcome\n"
-question_text (Some question.Quit) = codes "question quit\n"
-question_text (Some question.ScoreQuit) = codes "question score, quit\n"
-question_text (Some question.Die) = codes "question revive\n"
-question_text (Some (question.Hint number)) = numbered_line (codes "question hint ") number
-question_text (Some (question.Take number)) = numbered_line (codes "question take hint ") number
-question_text (Some question.Oyster) = codes "question oyster\n"
-question_text (Some question.Dragon) = codes "question dragon\n"
+-- the fact of a kind in a state
+abbrev pub fact_in : FactKind → State → StateFact
+fact_in kind s = (fact kind).1 s
 
--- how the game has ended
-abbrev pub end_line : Option Ending → List ℕ
-end_line None = codes "ended no\n"
-end_line (Some ending.Quit) = codes "ended quit\n"
-end_line (Some ending.Killed) = codes "ended killed\n"
-end_line (Some ending.Klutz) = codes "ended klutz\n"
-end_line (Some ending.WrongWay) = codes "ended wrong way\n"
-end_line (Some ending.Success) = codes "ended success\n"
+-- ---- how two are compared
 
--- the turns that the lamp still burns, and whether the player has been warned
-unfoldable pub lamp_text : Lamp → List ℕ
-lamp_text lamp =
-    signed_line (codes "lamp ") lamp.charge ++ answer_line (codes "lamp warned ") lamp.is_warned
+abbrev pub are_equal : StateFact → StateFact → Bool
+are_equal (Number a) (Number b) = a == b
+are_equal (Signed a) (Signed b) = int_eq a b
+are_equal (Answer a) (Answer b) = beq a b
+are_equal (Asked a) (Asked b) = option_eq question_eq.eq-value.it a b
+are_equal (Ended a) (Ended b) = option_eq ending_eq.eq-value.it a b
+are_equal (Verb a) (Verb b) = option_eq (λ (x y : ℕ). x == y) a b
+are_equal (Thing a) (Thing b) = a == b
+are_equal (Thrown a) (Thrown b) = knife_eq.eq-value.it a b
+are_equal (AllObjects a) (AllObjects b) = objects_eq.eq-value.it a b
+are_equal (AllDwarves a) (AllDwarves b) = pointwise dwarf_eq.eq-value.it a b
+are_equal (AllHints a) (AllHints b) = hints_eq.eq-value.it a b
+are_equal (AllVisits a) (AllVisits b) = pointwise (λ (x y : ℕ). x == y) a b
+are_equal _ _ = false
 
--- the two clocks, and how far the cave is closed
-unfoldable pub closing_text : Closing → List ℕ
-closing_text closing =
-    signed_line (codes "first clock ") closing.first_clock
-    ++ (signed_line (codes "second clock ") closing.second_clock
-    ++ (answer_line (codes "closing ") closing.is_closing
-    ++ (answer_line (codes "closed ") closing.is_closed
-    ++ answer_line (codes "panic ") closing.is_panicking)))
-
-unfoldable pub tallies_text : Tallies → List ℕ
-tallies_text tallies =
-    numbered_line (codes "unseen treasures ") tallies.unseen
-    ++ (numbered_line (codes "lost treasures ") tallies.lost
-    ++ numbered_line (codes "deaths ") tallies.deaths)
-
-abbrev pub verb_text : CaveView → Option ℕ → List ℕ
-verb_text cave None = codes "half command none\n"
-verb_text cave (Some verb) = line_with_half_verb cave verb
-
--- what is remembered of what was said
-unfoldable pub talk_text : CaveView → Talk → List ℕ
-talk_text cave talk =
-    verb_text cave talk.verb
-    ++ (line_with_object cave (codes "half object ") talk.object
-    ++ (line_with_object cave (codes "last object ") talk.last
-    ++ (answer_line (codes "brief ") talk.is_brief
-    ++ (numbered_line (codes "details ") talk.details
-    ++ signed_line (codes "magic ") talk.magic))))
-
-unfoldable pub anger_text : Dwarves → List ℕ
-anger_text dwarves =
-    numbered_line (codes "anger ") dwarves.anger ++ numbered_line (codes "kills ") dwarves.kills
-
--- the knife that a dwarf threw
-abbrev pub knife_text : Knife → List ℕ
-knife_text Unthrown = codes "knife none\n"
-knife_text (At place) = numbered_line (codes "knife at ") place
-knife_text Vanished = codes "knife vanished\n"
+abbrev pub is_same_in : FactKind → State → State → Bool
+is_same_in kind s t = are_equal (fact_in kind s) (fact_in kind t)

@@ -1,6 +1,7 @@
 -- Lines for what a state has more than once: objects, places, dwarves, hints.
 use Rattle.std.specs.Prelude.{ℕ, ◌+◌, ◌-◌, Bool, false, ◌==◌, ◌&&◌, not, List, [], ◌∷◌, ◌++◌, codes}
 use Rattle.std.specs.Prelude.{slice_index_or, zero, suc, if◌then◌else◌, decimal}
+use Rattle.std.specs.Fmt.{signed_decimal}
 use Rattle.std.specs.Ordering.{int_eq}
 use Rattle.std.specs.Cmp.Lexicographic.{pointwise}
 use Rattle.cave_data.specs.CaveView.{CaveView}
@@ -15,11 +16,14 @@ use Rattle.world_objects.specs.declared.spot.Anchor.TheVariants as anchor
 use Rattle.world_objects.specs.contracts.object.HalfPartialEq.TheImpl as half_eq
 use Rattle.world_objects.specs.contracts.spot.SpotPartialEq.TheImpl as spot_eq
 use Rattle.world_objects.specs.contracts.spot.AnchorPartialEq.TheImpl as anchor_eq
-use Rattle.cave_world.specs.State.{no_dwarf, visits_of, turns_in_area, is_hint_taken}
+use Rattle.cave_world.specs.State.{no_dwarf}
 use Rattle.cave_world.specs.declared.dwarves.Dwarf.{Dwarf}
-use Rattle.cave_world.specs.declared.state.State.{State}
-use Rattle.play_state_text.specs.Facts.{numbered_text, numbered_line, signed_line, answer_line}
-use Rattle.play_state_text.specs.Words.{named_object, word_of_object}
+use Rattle.cave_world.specs.declared.hints.Hints.{Hints}
+use Rattle.play_state_text.specs.Words.{named_line, named_object, word_of_object, yes_or_no}
+
+-- what a list has at a number, where numbers begin with 1
+abbrev pub item_at : {A : Type 0} → A → List A → ℕ → A
+item_at other items number = slice_index_or items (number - 1) other
 
 -- the line of a number, or nothing if it is left out
 abbrev pub entry : List ℕ → Bool → ℕ → List ℕ → List ℕ
@@ -36,12 +40,12 @@ text_up_to text (suc last) = text_up_to text last ++ text (suc last)
 abbrev pub spot_text : Spot → List ℕ
 spot_text spot.Away = codes " away"
 spot_text spot.InHands = codes " carried"
-spot_text (spot.At place) = numbered_text (codes " at ") place
+spot_text (spot.At place) = codes " at " ++ decimal place
 
 abbrev pub anchor_text : Anchor → List ℕ
 anchor_text anchor.Loose = []
 anchor_text anchor.Fixed = codes ", fixed"
-anchor_text (anchor.At place) = numbered_text (codes ", also at ") place
+anchor_text (anchor.At place) = codes ", also at " ++ decimal place
 
 -- an object is as it is in another layout
 abbrev pub is_as_in : Layout → Layout → ℕ → Bool
@@ -53,7 +57,7 @@ is_as_in begun o x =
 unfoldable pub thing_text : CaveView → Layout → ℕ → List ℕ
 thing_text cave o x =
     word_of_object cave x ++ (codes ":" ++ (spot_text (spot_of o x)
-    ++ (anchor_text (anchor_of o x) ++ signed_line (codes ", prop ") (prop_of o x))))
+    ++ (anchor_text (anchor_of o x) ++ named_line (codes ", prop") (signed_decimal (prop_of o x)))))
 
 -- an object, if it isn't as it was when the game began
 unfoldable pub thing_line : CaveView → Layout → Layout → ℕ → List ℕ
@@ -85,31 +89,30 @@ place_line cave begun o place =
     (halves_text cave (halves_at place o.lists))
 
 -- how often a place was described, if it was
-unfoldable pub visits_line : State → ℕ → List ℕ
-visits_line s place =
-    entry (codes "visits ") (visits_of s place == 0) place
-    (numbered_line (codes ": ") (visits_of s place))
+unfoldable pub visits_line : List ℕ → ℕ → List ℕ
+visits_line visits place =
+    let count = item_at 0 visits place in
+    entry (codes "visits ") (count == 0) place (named_line (codes ":") (decimal count))
 
 -- ---- dwarves and hints
 
-abbrev pub dwarf_numbered : State → ℕ → Dwarf
-dwarf_numbered s number = slice_index_or s.dwarves.each (number - 1) no_dwarf
-
 unfoldable pub dwarf_text : Dwarf → List ℕ
 dwarf_text dwarf =
-    numbered_text (codes ": at ") dwarf.place
-    ++ (numbered_text (codes ", was at ") dwarf.last
-    ++ answer_line (codes ", has seen the player ") dwarf.has_seen)
+    codes ": at " ++ (decimal dwarf.place ++ (codes ", was at " ++ (decimal dwarf.last
+    ++ (codes ", has seen the player " ++ (yes_or_no dwarf.has_seen ++ codes "\n")))))
 
-unfoldable pub dwarf_line : State → ℕ → List ℕ
-dwarf_line s number = entry (codes "dwarf ") false number (dwarf_text (dwarf_numbered s number))
+unfoldable pub dwarf_line : List Dwarf → ℕ → List ℕ
+dwarf_line dwarves number =
+    entry (codes "dwarf ") false number (dwarf_text (item_at no_dwarf dwarves number))
 
 unfoldable pub hint_text : ℕ → Bool → List ℕ
 hint_text turns is_taken =
-    numbered_text (codes ": waited ") turns ++ answer_line (codes ", taken ") is_taken
+    codes ": waited " ++ (decimal turns
+    ++ (codes ", taken " ++ (yes_or_no is_taken ++ codes "\n")))
 
 -- a hint that was waited for or taken
-unfoldable pub hint_line : State → ℕ → List ℕ
-hint_line s hint =
-    entry (codes "hint ") (turns_in_area s hint == 0 && not (is_hint_taken s hint)) hint
-    (hint_text (turns_in_area s hint) (is_hint_taken s hint))
+unfoldable pub hint_line : Hints → ℕ → List ℕ
+hint_line hints hint =
+    let turns = item_at 0 hints.turns hint in
+    let is_taken = item_at false hints.is_taken hint in
+    entry (codes "hint ") (turns == 0 && not is_taken) hint (hint_text turns is_taken)

@@ -1,5 +1,5 @@
 -- The numbers of a state are within the range of written numbers.
-use Rattle.std.specs.Prelude.{◌≡◌, ℕ, ⊤, length, Option, None, Some, ℤ, ◌≤◌, ◌<◌, ◌^◌}
+use Rattle.std.specs.Prelude.{◌≡◌, ℕ, ⊤, List, length, Option, None, Some, ℤ, ◌≤◌, ◌<◌, ◌^◌}
 use Rattle.base_lines.specs.Numbers.{LAST_HINT, LAST_OBJECT, LAST_PLACE}
 use Rattle.world_objects.specs.Objects.{Layout, spot_of, anchor_of, prop_of}
 use Rattle.world_objects.specs.Lists.{AreLists}
@@ -9,18 +9,20 @@ use Rattle.world_objects.specs.declared.spot.Spot.TheVariants as spot
 use Rattle.world_objects.specs.declared.spot.Anchor.{Anchor}
 use Rattle.world_objects.specs.declared.spot.Anchor.TheVariants as anchor
 use Rattle.cave_world.specs.Limits.{dwarf_count}
-use Rattle.cave_world.specs.State.{turns_in_area, visits_of}
-use Rattle.cave_world.specs.declared.closing.Closing.{Closing}
+use Rattle.cave_world.specs.State.{no_dwarf}
 use Rattle.cave_world.specs.declared.dwarves.Dwarf.{Dwarf}
 use Rattle.cave_world.specs.declared.dwarves.Knife.{Knife}
 use Rattle.cave_world.specs.declared.dwarves.Knife.TheVariants.{At}
 use Rattle.cave_world.specs.declared.ending.Question.{Question}
 use Rattle.cave_world.specs.declared.ending.Question.TheVariants as question
+use Rattle.cave_world.specs.declared.hints.Hints.{Hints}
 use Rattle.cave_world.specs.declared.state.State.{State}
-use Rattle.cave_world.specs.declared.state.Tallies.{Tallies}
-use Rattle.cave_world.specs.declared.state.Trail.{Trail}
-use Rattle.cave_world.specs.declared.talk.Talk.{Talk}
-use Rattle.play_state_text.specs.Things.{dwarf_numbered}
+use Rattle.play_state_text.specs.Facts.{StateFact, Number, Signed, Answer, Asked, Ended, Verb}
+use Rattle.play_state_text.specs.Facts.{Thing, Thrown, AllObjects, AllDwarves, AllHints, AllVisits}
+use Rattle.play_state_text.specs.Facts.{fact_in}
+use Rattle.play_state_text.specs.Things.{item_at}
+use Rattle.play_state_text.specs.declared.kind.FactKind.{FactKind}
+use Rattle.std.specs.List.{AllByRecursion}
 use Rattle.std.specs.Int.Signed.{mag}
 
 -- the number has at most sixty-four bits
@@ -34,29 +36,14 @@ IsSigned z = mag z < 2 ^ 63
 abbrev pub IsUpTo : ℕ → ℕ → Type 0
 IsUpTo last n = (1 ≤ n) × (n ≤ last)
 
-abbrev pub IsTrailWithin : Trail → Type 0
-IsTrailWithin trail = IsWide trail.here × (IsWide trail.last × IsWide trail.older)
-
 abbrev pub IsQuestionWithin : Option Question → Type 0
 IsQuestionWithin (Some (question.Hint number)) = IsWide number
 IsQuestionWithin (Some (question.Take number)) = IsWide number
 IsQuestionWithin _ = ⊤
 
-abbrev pub IsClosingWithin : Closing → Type 0
-IsClosingWithin closing = IsSigned closing.first_clock × IsSigned closing.second_clock
-
-abbrev pub AreTalliesWithin : Tallies → Type 0
-AreTalliesWithin tallies =
-    IsWide tallies.unseen × (IsWide tallies.lost × IsWide tallies.deaths)
-
 abbrev pub IsVerbWithin : Option ℕ → Type 0
 IsVerbWithin None = ⊤
 IsVerbWithin (Some verb) = IsWide verb
-
-abbrev pub IsTalkWithin : Talk → Type 0
-IsTalkWithin talk =
-    IsVerbWithin talk.verb × (IsWide talk.object × (IsWide talk.last
-    × (IsWide talk.details × IsSigned talk.magic)))
 
 abbrev pub IsKnifeWithin : Knife → Type 0
 IsKnifeWithin (At place) = IsWide place
@@ -86,36 +73,38 @@ pub record AreObjectsWithin (o : Layout) : Type 0 where
   pub lists : AreLists o.lists
   pub entries : AreEntriesWithin o.lists
 
--- what a state has once
-pub record AreFactsWithin (s : State) : Type 0 where
-  pub trail : IsTrailWithin s.trail
-  pub question : IsQuestionWithin s.question
-  pub lamp : IsSigned s.lamp.charge
-  pub closing : IsClosingWithin s.closing
-  pub tallies : AreTalliesWithin s.tallies
-  pub talk : IsTalkWithin s.talk
-  pub anger : IsWide s.dwarves.anger
-  pub kills : IsWide s.dwarves.kills
-  pub knife : IsKnifeWithin s.dwarves.knife
-  pub stream : IsWide s.stream
-
 -- how often places were described
-pub record AreVisitsWithin (s : State) : Type 0 where
-  pub all : length s.visits ≡ LAST_PLACE
-  pub each : (place : ℕ) → IsUpTo LAST_PLACE place → IsWide (visits_of s place)
+pub record AreVisitsWithin (visits : List ℕ) : Type 0 where
+  pub all : length visits ≡ LAST_PLACE
+  pub each : (place : ℕ) → IsUpTo LAST_PLACE place → IsWide (item_at 0 visits place)
 
-pub record AreDwarvesWithin (s : State) : Type 0 where
-  pub all : length s.dwarves.each ≡ dwarf_count
-  pub each : (number : ℕ) → IsUpTo dwarf_count number → IsDwarfWithin (dwarf_numbered s number)
+pub record AreDwarvesWithin (dwarves : List Dwarf) : Type 0 where
+  pub all : length dwarves ≡ dwarf_count
+  pub each : (number : ℕ) → IsUpTo dwarf_count number
+      → IsDwarfWithin (item_at no_dwarf dwarves number)
 
-pub record AreHintsWithin (s : State) : Type 0 where
-  pub all_turns : length s.hints.turns ≡ LAST_HINT
-  pub all_taken : length s.hints.is_taken ≡ LAST_HINT
-  pub each : (hint : ℕ) → IsUpTo LAST_HINT hint → IsWide (turns_in_area s hint)
+pub record AreHintsWithin (hints : Hints) : Type 0 where
+  pub all_turns : length hints.turns ≡ LAST_HINT
+  pub all_taken : length hints.is_taken ≡ LAST_HINT
+  pub each : (hint : ℕ) → IsUpTo LAST_HINT hint → IsWide (item_at 0 hints.turns hint)
 
-pub record IsStateWithin (s : State) : Type 0 where
-  pub facts : AreFactsWithin s
-  pub objects : AreObjectsWithin s.objects
-  pub visits : AreVisitsWithin s
-  pub dwarves : AreDwarvesWithin s
-  pub hints : AreHintsWithin s
+abbrev pub IsFactWithin : StateFact → Type 0
+IsFactWithin (Number n) = IsWide n
+IsFactWithin (Signed z) = IsSigned z
+IsFactWithin (Answer answer) = ⊤
+IsFactWithin (Asked question) = IsQuestionWithin question
+IsFactWithin (Ended ending) = ⊤
+IsFactWithin (Verb verb) = IsVerbWithin verb
+IsFactWithin (Thing x) = IsWide x
+IsFactWithin (Thrown knife) = IsKnifeWithin knife
+IsFactWithin (AllObjects o) = AreObjectsWithin o
+IsFactWithin (AllDwarves dwarves) = AreDwarvesWithin dwarves
+IsFactWithin (AllHints hints) = AreHintsWithin hints
+IsFactWithin (AllVisits visits) = AreVisitsWithin visits
+
+abbrev pub IsWithin : State → FactKind → Type 0
+IsWithin s kind = IsFactWithin (fact_in kind s)
+
+-- the facts of these kinds
+abbrev pub AreFactsWithin : State → List FactKind → Type 0
+AreFactsWithin s kinds = AllByRecursion (IsWithin s) kinds

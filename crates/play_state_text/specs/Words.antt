@@ -1,9 +1,58 @@
--- The words that stand beside numbers.
-use Rattle.std.specs.Prelude.{ℕ, ◌+◌, nat_lt, if◌then◌else◌, List, [], ◌++◌, codes, decimal, Option}
-use Rattle.std.specs.Prelude.{Some, None}
+-- The words of facts, and those that stand beside numbers.
+use Rattle.std.specs.Prelude.{ℕ, ◌+◌, nat_lt, if◌then◌else◌, Bool, true, false, List, [], ◌++◌, codes}
+use Rattle.std.specs.Prelude.{decimal, Option, Some, None}
 use Rattle.base_lines.specs.Numbers.{LAST_ACTION}
 use Rattle.data_rows.specs.Rows.{OBJECT_WORDS, ACTION_WORDS}
 use Rattle.cave_data.specs.CaveView.{CaveView, first_word}
+use Rattle.cave_world.specs.declared.dwarves.Knife.{Knife}
+use Rattle.cave_world.specs.declared.dwarves.Knife.TheVariants.{Unthrown, At, Vanished}
+use Rattle.cave_world.specs.declared.ending.Ending.{Ending}
+use Rattle.cave_world.specs.declared.ending.Ending.TheVariants as ending
+use Rattle.cave_world.specs.declared.ending.Question.{Question}
+use Rattle.cave_world.specs.declared.ending.Question.TheVariants as question
+
+-- a line: a name, a blank, and words
+unfoldable pub named_line : List ℕ → List ℕ → List ℕ
+named_line name words = name ++ (codes " " ++ (words ++ codes "\n"))
+
+abbrev pub yes_or_no : Bool → List ℕ
+yes_or_no true = codes "yes"
+yes_or_no false = codes "no"
+
+abbrev pub question_word : Question → List ℕ
+question_word question.Welcome = codes "welcome"
+question_word question.Quit = codes "quit"
+question_word question.ScoreQuit = codes "score, quit"
+question_word question.Die = codes "revive"
+question_word (question.Hint number) = codes "hint " ++ decimal number
+question_word (question.Take number) = codes "take hint " ++ decimal number
+question_word question.Oyster = codes "oyster"
+question_word question.Dragon = codes "dragon"
+
+-- the question that is open
+abbrev pub question_text : Option Question → List ℕ
+question_text None = codes "none"
+question_text (Some question) = question_word question
+
+abbrev pub ending_word : Ending → List ℕ
+ending_word ending.Quit = codes "quit"
+ending_word ending.Killed = codes "killed"
+ending_word ending.Klutz = codes "klutz"
+ending_word ending.WrongWay = codes "wrong way"
+ending_word ending.Success = codes "success"
+
+-- how the game has ended
+abbrev pub end_words : Option Ending → List ℕ
+end_words None = codes "no"
+end_words (Some ended) = ending_word ended
+
+-- the knife that a dwarf threw
+abbrev pub knife_text : Knife → List ℕ
+knife_text Unthrown = codes "none"
+knife_text (At place) = codes "at " ++ decimal place
+knife_text Vanished = codes "vanished"
+
+-- ---- with words of a cave
 
 -- a word after a blank, or nothing if there is none
 abbrev pub after_blank : Option (List ℕ) → List ℕ
@@ -24,10 +73,7 @@ word_of_verb cave verb =
 unfoldable pub named_object : CaveView → ℕ → List ℕ
 named_object cave x = decimal x ++ word_of_object cave x
 
--- lines with an object, or with a verb
-unfoldable pub line_with_object : CaveView → List ℕ → ℕ → List ℕ
-line_with_object cave before x = before ++ (decimal x ++ (word_of_object cave x ++ codes "\n"))
-
-unfoldable pub line_with_half_verb : CaveView → ℕ → List ℕ
-line_with_half_verb cave verb =
-    codes "half verb " ++ (decimal verb ++ (word_of_verb cave verb ++ codes "\n"))
+-- the verb of half a command
+abbrev pub verb_line : CaveView → Option ℕ → List ℕ
+verb_line cave None = named_line (codes "half command") (codes "none")
+verb_line cave (Some verb) = named_line (codes "half verb") (decimal verb ++ word_of_verb cave verb)

@@ -1,54 +1,69 @@
 //! Lines for hints.
 
-ghost use Rattle.std.specs.Prelude.{◌≡◌, ◌++◌, OnOk};
+ghost use Rattle.std.specs.Prelude.{◌≤◌};
 ghost use Rattle.base_lines.specs.Numbers.{LAST_HINT};
-ghost use Rattle.play_state_text.specs.Things.{text_up_to, hint_text, hint_line};
+ghost use Rattle.base_text.specs.Text.{Tells};
+ghost use Rattle.play_state_text.specs.Facts.{AllHints};
+ghost use Rattle.play_state_text.specs.Things.{hint_line, item_at, text_up_to};
+ghost use Rattle.play_state_text.specs.Within.{AreHintsWithin, IsWide};
 
-use crate::facts::{push_answer, push_numbered};
+use crate::value::{FactValue, Setting, has_all, yes_or_no};
+use base_text::Text;
+use cave_world::Hints;
 use cave_world::hints::HINTS;
-use cave_world::{HintNumber, State};
-use std::alloc::{AllocError, Global};
 
-#[tactic(auto, unfolding(crate::specs::Things::hint_text))]
-fn push_hint_text(
-    alloc: Global,
-    text: &mut Vec<u8>,
-    turns: u16,
-    is_taken: bool,
-) -> Result<(), AllocError>
-    ensures { OnOk result (text.new.items ≡ text.old.items ++ hint_text turns is_taken) }
+/// Writes the line of a hint, if it was waited for or taken.
+#[tactic(auto, unfolding(crate::specs::Things::hint_line, crate::specs::Things::hint_text))]
+fn put_hint(text: &mut Text, hints: &Hints, hint: u8)
+    requires some { 1 ≤ hint }
+    requires within { hint ≤ LAST_HINT }
+    ensures { Tells (hint_line hints.now hint) text.old text.new }
 {
-    push_numbered(alloc, text, ": waited ", u32::from(turns))?;
-    push_answer(alloc, text, ", taken ", is_taken)
-}
-
-/// Appends the line of a hint that was waited for or taken.
-#[tactic(auto, unfolding(crate::specs::Things::hint_line, crate::specs::Facts::numbered_text))]
-fn push_hint(
-    alloc: Global,
-    text: &mut Vec<u8>,
-    state: &State,
-    hint: HintNumber,
-) -> Result<(), AllocError>
-    ensures { OnOk result (text.new.items ≡ text.old.items ++ hint_line state.now hint) }
-{
-    let turns = state.hints.turns[usize::from(hint.number()) - 1].number();
-    let is_taken = state.is_hint_taken(hint);
+    let turns = hints.turns[usize::from(hint) - 1].number();
+    let is_taken = hints.is_taken[usize::from(hint) - 1];
     if turns == 0 && !is_taken {
-        return Ok(());
+        return;
     }
-    push_numbered(alloc, text, "hint ", u32::from(hint.number()))?;
-    push_hint_text(alloc, text, turns, is_taken)
+    let taken = yes_or_no(is_taken);
+    write!(text, "hint {hint}: waited {turns}, taken {taken}\n");
 }
 
-/// Appends the lines of hints that were waited for or taken.
+/// Writes the lines of hints that were waited for or taken.
 #[tactic(auto, using(crate::proofs::EntryLemmas::no_lines))]
-pub(crate) fn push_hints(alloc: Global, text: &mut Vec<u8>, state: &State) -> Result<(), AllocError>
-    ensures { OnOk result (text.new.items
-        ≡ text.old.items ++ text_up_to (hint_line state.now) LAST_HINT) }
+fn put_hints(text: &mut Text, hints: &Hints)
+    ensures { Tells (text_up_to (hint_line hints.now) LAST_HINT) text.old text.new }
 {
     for before in 0..HINTS as u8 {
-        push_hint(alloc, text, state, HintNumber::new(before + 1))?;
+        put_hint(text, hints, before + 1);
     }
-    Ok(())
+}
+
+fn is_hint_within(hints: &Hints, hint: u8)
+    requires some { 1 ≤ hint }
+    requires within { hint ≤ LAST_HINT }
+    ensures { IsWide (item_at 0 hints.now.turns hint) }
+{
+    let _ = hints.turns[usize::from(hint) - 1].number();
+}
+
+fn are_hints_within(hints: &Hints)
+    ensures { AreHintsWithin hints.now }
+{
+    has_all(&hints.turns);
+    has_all(&hints.is_taken);
+    for before in 0..HINTS as u8 {
+        is_hint_within(hints, before + 1);
+    }
+}
+
+impl FactValue for Hints {
+    ghost fact = { λ hints. AllHints hints };
+
+    fn put(&self, text: &mut Text, setting: Setting<'_>, name: &str) {
+        put_hints(text, self);
+    }
+
+    fn is_within(&self) {
+        are_hints_within(self);
+    }
 }

@@ -2,7 +2,7 @@
 
 ghost use Rattle.play_state_text.specs.StateText.{AreToldApart};
 
-use crate::within::is_within;
+use crate::kind::are_facts_within;
 use cave_data::Cave;
 use cave_world::State;
 use world_objects::Objects;
@@ -11,6 +11,6 @@ use world_objects::Objects;
 pub fn are_told_apart(cave: &Cave, begun: &Objects, first: &State, second: &State)
     ensures { AreToldApart cave.now begun.now first.now second.now }
 {
-    is_within(first);
-    is_within(second);
+    are_facts_within(first);
+    are_facts_within(second);
 }

@@ -2,13 +2,14 @@
 #![tactic(auto)]
 
 pub mod dwarves;
-pub mod facts;
 pub mod hints;
+pub mod kind;
 pub mod laws;
 pub mod objects;
 pub mod places;
 pub mod state_text;
-pub mod within;
-mod words;
+pub mod value;
+pub mod visits;
+pub mod words;
 
 pub use state_text::{Counts, push_state};

@@ -1,35 +1,43 @@
 //! Lines for objects.
 
-ghost use Rattle.std.specs.Prelude.{◌≡◌, ◌++◌, OnOk};
+ghost use Rattle.std.specs.Prelude.{◌≡◌};
 ghost use Rattle.base_lines.specs.Numbers.{LAST_OBJECT};
-ghost use Rattle.play_state_text.specs.Things.{text_up_to, spot_text, anchor_text};
-ghost use Rattle.play_state_text.specs.Things.{is_as_in, thing_text, thing_line};
+ghost use Rattle.base_text.specs.Text.{Tells};
+ghost use Rattle.play_state_text.specs.Facts.{AllObjects};
+ghost use Rattle.play_state_text.specs.Things.{anchor_text, is_as_in, spot_text, text_up_to};
+ghost use Rattle.play_state_text.specs.Things.{thing_line, thing_text};
+ghost use Rattle.play_state_text.specs.Within.{AreObjectsWithin, IsAnchorWithin, IsSpotWithin};
+ghost use Rattle.play_state_text.specs.Within.{IsThingWithin};
 
-use crate::facts::{push_numbered, push_signed};
-use crate::words::push_word_of_object;
+use crate::value::{FactValue, Setting, put_signed};
+use crate::words::put_word_of_object;
+use base_text::Text;
 use cave_data::Cave;
-use std::alloc::{AllocError, Global};
 use world_objects::object::OBJECTS;
 use world_objects::{Anchor, Object, Objects, Spot};
 
-fn push_spot(alloc: Global, text: &mut Vec<u8>, spot: Spot) -> Result<(), AllocError>
-    ensures { OnOk result (text.new.items ≡ text.old.items ++ spot_text spot) }
+fn put_spot(text: &mut Text, spot: Spot)
+    ensures { Tells (spot_text spot) text.old text.new }
 {
     match spot {
-        Spot::Away => text.extend_from_slice(b" away"),
-        Spot::InHands => text.extend_from_slice(b" carried"),
-        Spot::At(site) => { push_numbered(alloc, text, " at ", u32::from(site.place().number())) }
+        Spot::Away => text.put(b" away"),
+        Spot::InHands => text.put(b" carried"),
+        Spot::At(site) => {
+            let number = site.place().number();
+            write!(text, " at {number}");
+        }
     }
 }
 
-fn push_anchor(alloc: Global, text: &mut Vec<u8>, anchor: Anchor) -> Result<(), AllocError>
-    ensures { OnOk result (text.new.items ≡ text.old.items ++ anchor_text anchor) }
+fn put_anchor(text: &mut Text, anchor: Anchor)
+    ensures { Tells (anchor_text anchor) text.old text.new }
 {
     match anchor {
-        Anchor::Loose => Ok(()),
-        Anchor::Fixed => text.extend_from_slice(b", fixed"),
+        Anchor::Loose => {}
+        Anchor::Fixed => text.put(b", fixed"),
         Anchor::At(site) => {
-            push_numbered(alloc, text, ", also at ", u32::from(site.place().number()))
+            let number = site.place().number();
+            write!(text, ", also at {number}");
         }
     }
 }
@@ -43,64 +51,85 @@ fn is_as_in(begun: &Objects, objects: &Objects, object: Object) -> bool
         && objects.prop(object).value() == begun.prop(object).value()
 }
 
-/// Appends the word of an object, where it is, what holds it there, and its prop.
+/// Writes the word of an object, where it is, what holds it there, and its prop.
 #[tactic(auto, unfolding(crate::specs::Things::thing_text))]
-fn push_thing(
-    alloc: Global,
-    text: &mut Vec<u8>,
-    cave: &Cave,
-    objects: &Objects,
-    object: Object,
-) -> Result<(), AllocError>
-    ensures { OnOk result (text.new.items ≡ text.old.items
-        ++ thing_text cave.now objects.now object) }
+fn put_thing(text: &mut Text, cave: &Cave, objects: &Objects, object: Object)
+    ensures { Tells (thing_text cave.now objects.now object) text.old text.new }
 {
-    push_word_of_object(text, cave, object)?;
-    text.extend_from_slice(b":")?;
-    push_spot(alloc, text, objects.spot(object))?;
-    push_anchor(alloc, text, objects.anchor(object))?;
-    push_signed(
-        alloc,
-        text,
-        ", prop ",
-        i32::from(objects.prop(object).value()),
-    )
+    put_word_of_object(text, cave, object);
+    text.put(b":");
+    put_spot(text, objects.spot(object));
+    put_anchor(text, objects.anchor(object));
+    put_signed(text, ", prop", i32::from(objects.prop(object).value()));
 }
 
-/// Appends the line of an object, if it isn't as it was when the game began.
-#[tactic(auto, unfolding(crate::specs::Things::thing_line, crate::specs::Facts::numbered_text))]
-fn push_thing_line(
-    alloc: Global,
-    text: &mut Vec<u8>,
-    cave: &Cave,
-    begun: &Objects,
-    objects: &Objects,
-    object: Object,
-) -> Result<(), AllocError>
-    ensures { OnOk result (text.new.items ≡ text.old.items
-        ++ thing_line cave.now begun.now objects.now object) }
+/// Writes the line of an object, if it isn't as it was when the game began.
+#[tactic(auto, unfolding(crate::specs::Things::thing_line))]
+fn put_thing_line(text: &mut Text, setting: Setting<'_>, objects: &Objects, object: Object)
+    ensures { Tells (thing_line setting.entry.cave.now setting.entry.begun.now objects.now object)
+        text.old text.new }
 {
-    if is_as_in(begun, objects, object) {
-        return Ok(());
+    if !is_as_in(setting.begun, objects, object) {
+        let number = object.number();
+        write!(text, "object {number}");
+        put_thing(text, setting.cave, objects, object);
     }
-    push_numbered(alloc, text, "object ", u32::from(object.number()))?;
-    push_thing(alloc, text, cave, objects, object)
 }
 
-/// Appends the lines of objects that aren't as they were when the game began.
+/// Writes the lines of objects that aren't as they were when the game began.
 #[tactic(auto, using(crate::proofs::EntryLemmas::no_lines))]
-pub(crate) fn push_objects(
-    alloc: Global,
-    text: &mut Vec<u8>,
-    cave: &Cave,
-    begun: &Objects,
-    objects: &Objects,
-) -> Result<(), AllocError>
-    ensures { OnOk result (text.new.items ≡ text.old.items
-        ++ text_up_to (thing_line cave.now begun.now objects.now) LAST_OBJECT) }
+fn put_objects(text: &mut Text, setting: Setting<'_>, objects: &Objects)
+    ensures { Tells (text_up_to (thing_line setting.entry.cave.now setting.entry.begun.now objects.now)
+        LAST_OBJECT) text.old text.new }
 {
     for before in 0..OBJECTS as u8 {
-        push_thing_line(alloc, text, cave, begun, objects, Object::new(before + 1))?;
+        put_thing_line(text, setting, objects, Object::new(before + 1));
     }
-    Ok(())
+}
+
+fn is_spot_within(spot: Spot)
+    ensures { IsSpotWithin spot }
+{
+    if let Spot::At(site) = spot {
+        let _ = site.place().number();
+    }
+}
+
+fn is_anchor_within(anchor: Anchor)
+    ensures { IsAnchorWithin anchor }
+{
+    if let Anchor::At(site) = anchor {
+        let _ = site.place().number();
+    }
+}
+
+#[tactic(auto, using(crate::proofs::WithinLemmas::within))]
+fn is_thing_within(objects: &Objects, object: Object)
+    ensures { IsThingWithin objects.now object }
+{
+    is_spot_within(objects.spot(object));
+    is_anchor_within(objects.anchor(object));
+    let _ = objects.prop(object).value();
+}
+
+fn are_objects_within(objects: &Objects)
+    ensures { AreObjectsWithin objects.now }
+{
+    objects.are_complete();
+    objects.lists_are_in_order();
+    for before in 0..OBJECTS as u8 {
+        is_thing_within(objects, Object::new(before + 1));
+    }
+}
+
+impl FactValue for Objects {
+    ghost fact = { λ objects. AllObjects objects };
+
+    fn put(&self, text: &mut Text, setting: Setting<'_>, name: &str) {
+        put_objects(text, setting, self);
+    }
+
+    fn is_within(&self) {
+        are_objects_within(self);
+    }
 }

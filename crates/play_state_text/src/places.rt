@@ -1,138 +1,77 @@
-//! Lines for what is at places, and for how often they were described.
+//! Lines for what is at places.
 
-ghost use Rattle.std.specs.Prelude.{◌≡◌, ◌++◌, OnOk};
 ghost use Rattle.base_lines.specs.Numbers.{LAST_PLACE};
-ghost use Rattle.play_state_text.specs.Things.{text_up_to, half_text, halves_text};
-ghost use Rattle.play_state_text.specs.Things.{more_halves_text, place_line, visits_line};
+ghost use Rattle.base_text.specs.Text.{Tells};
+ghost use Rattle.play_state_text.specs.Things.{half_text, halves_text, more_halves_text};
+ghost use Rattle.play_state_text.specs.Things.{place_line, text_up_to};
 
-use crate::facts::{push_numbered, push_numbered_line};
-use crate::words::push_named_object;
+use crate::value::Setting;
+use crate::words::put_named_object;
+use base_text::Text;
 use cave_data::Cave;
-use cave_world::State;
-use std::alloc::{AllocError, Global};
 use world_objects::place::PLACES;
 use world_objects::{Half, Objects, Place};
 
-fn push_half(alloc: Global, text: &mut Vec<u8>, cave: &Cave, half: Half) -> Result<(), AllocError>
-    ensures { OnOk result (text.new.items ≡ text.old.items ++ half_text cave.now half) }
+fn put_half(text: &mut Text, cave: &Cave, half: Half)
+    ensures { Tells (half_text cave.now half) text.old text.new }
 {
     match half {
         Half::First(object) => {
-            text.extend_from_slice(b" ")?;
-            push_named_object(alloc, text, cave, object)
+            text.put(b" ");
+            put_named_object(text, cave, object);
         }
         Half::Second(object) => {
-            text.extend_from_slice(b" also ")?;
-            push_named_object(alloc, text, cave, object)
+            text.put(b" also ");
+            put_named_object(text, cave, object);
         }
     }
 }
 
-/// Appends halves, each after a comma.
-fn push_more_halves(
-    alloc: Global,
-    text: &mut Vec<u8>,
-    cave: &Cave,
-    halves: &[Half],
-) -> Result<(), AllocError>
-    ensures { OnOk result
-        (text.new.items ≡ text.old.items ++ more_halves_text cave.now halves.now) }
+/// Writes halves, each after a comma.
+fn put_more_halves(text: &mut Text, cave: &Cave, halves: &[Half])
+    ensures { Tells (more_halves_text cave.now halves.now) text.old text.new }
 {
     for half in halves {
-        text.extend_from_slice(b",")?;
-        push_half(alloc, text, cave, *half)?;
+        text.put(b",");
+        put_half(text, cave, *half);
     }
-    Ok(())
 }
 
-fn push_halves(
-    alloc: Global,
-    text: &mut Vec<u8>,
-    cave: &Cave,
-    halves: &[Half],
-) -> Result<(), AllocError>
-    ensures { OnOk result (text.new.items ≡ text.old.items ++ halves_text cave.now halves.now) }
+fn put_halves(text: &mut Text, cave: &Cave, halves: &[Half])
+    ensures { Tells (halves_text cave.now halves.now) text.old text.new }
 {
     match halves {
-        [] => text.extend_from_slice(b": nothing\n"),
+        [] => text.put(b": nothing\n"),
         [first, more @ ..] => {
-            text.extend_from_slice(b":")?;
-            push_half(alloc, text, cave, *first)?;
-            push_more_halves(alloc, text, cave, more)?;
-            text.extend_from_slice(b"\n")
+            text.put(b":");
+            put_half(text, cave, *first);
+            put_more_halves(text, cave, more);
+            text.put(b"\n");
         }
     }
 }
 
-/// Appends the list of a place, if it isn't as it was when the game began.
-#[tactic(auto, unfolding(crate::specs::Things::place_line, crate::specs::Facts::numbered_text))]
-fn push_place(
-    alloc: Global,
-    text: &mut Vec<u8>,
-    cave: &Cave,
-    begun: &Objects,
-    objects: &Objects,
-    place: Place,
-) -> Result<(), AllocError>
-    ensures { OnOk result (text.new.items ≡ text.old.items
-        ++ place_line cave.now begun.now objects.now place) }
+/// Writes the list of a place, if it isn't as it was when the game began.
+#[tactic(auto, unfolding(crate::specs::Things::place_line))]
+fn put_place(text: &mut Text, setting: Setting<'_>, objects: &Objects, place: Place)
+    ensures { Tells (place_line setting.entry.cave.now setting.entry.begun.now objects.now place)
+        text.old text.new }
 {
-    let (halves, begun_halves) = (objects.at(place), begun.at(place));
-    if halves.as_slice() == begun_halves.as_slice() {
-        return Ok(());
+    let (halves, begun_halves) = (objects.at(place), setting.begun.at(place));
+    if halves.as_slice() != begun_halves.as_slice() {
+        let number = place.number();
+        write!(text, "place {number}");
+        put_halves(text, setting.cave, halves.as_slice());
     }
-    push_numbered(alloc, text, "place ", u32::from(place.number()))?;
-    push_halves(alloc, text, cave, halves.as_slice())
 }
 
-/// Appends the lists of places that aren't as they were when the game began.
+/// Writes the lists of places that aren't as they were when the game began.
 #[tactic(auto, using(crate::proofs::EntryLemmas::no_lines))]
-pub(crate) fn push_places(
-    alloc: Global,
-    text: &mut Vec<u8>,
-    cave: &Cave,
-    begun: &Objects,
-    objects: &Objects,
-) -> Result<(), AllocError>
-    ensures { OnOk result (text.new.items ≡ text.old.items
-        ++ text_up_to (place_line cave.now begun.now objects.now) LAST_PLACE) }
+pub(crate) fn put_places(text: &mut Text, setting: Setting<'_>, objects: &Objects)
+    ensures { Tells (text_up_to (place_line setting.entry.cave.now setting.entry.begun.now objects.now)
+        LAST_PLACE) text.old text.new }
 {
     for before in 0..PLACES as u16 {
-        push_place(alloc, text, cave, begun, objects, Place::new(before + 1))?;
+        put_place(text, setting, objects, Place::new(before + 1));
     }
-    Ok(())
-}
-
-/// Appends how often a place was described, if it was.
-#[tactic(auto, unfolding(crate::specs::Things::visits_line, crate::specs::Facts::numbered_text))]
-fn push_visits_of(
-    alloc: Global,
-    text: &mut Vec<u8>,
-    state: &State,
-    place: Place,
-) -> Result<(), AllocError>
-    ensures { OnOk result (text.new.items ≡ text.old.items ++ visits_line state.now place) }
-{
-    let visits = state.visits(place).number();
-    if visits == 0 {
-        return Ok(());
-    }
-    push_numbered(alloc, text, "visits ", u32::from(place.number()))?;
-    push_numbered_line(alloc, text, ": ", u32::from(visits))
-}
-
-/// Appends how often each place was described, for those that were.
-#[tactic(auto, using(crate::proofs::EntryLemmas::no_lines))]
-pub(crate) fn push_visits(
-    alloc: Global,
-    text: &mut Vec<u8>,
-    state: &State,
-) -> Result<(), AllocError>
-    ensures { OnOk result (text.new.items ≡ text.old.items
-        ++ text_up_to (visits_line state.now) LAST_PLACE) }
-{
-    for before in 0..PLACES as u16 {
-        push_visits_of(alloc, text, state, Place::new(before + 1))?;
-    }
-    Ok(())
 }

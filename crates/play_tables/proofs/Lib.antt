@@ -3,4 +3,3 @@ pub mod Walking
 pub mod Others
 pub mod Summing
 pub mod ScoreWalking
-mod Alike

@@ -3,8 +3,7 @@ use Rattle.std.proofs.Common.{◌≡◌, ◌++◌, [], codes, refl}
 use Rattle.std.specs.List.{flat_map}
 use Rattle.cave_data.specs.CaveView.{CaveView}
 use Rattle.cave_world.specs.declared.state.State.{State}
-use Rattle.turn_ends.specs.Counting.{score_row}
-use Rattle.turn_ends.specs.Score.{life_points, has_other_end, has_dwarves_up, is_closing}
+use Rattle.turn_ends.specs.Score.{score_row, life_points, has_other_end, has_dwarves_up, is_closing}
 use Rattle.turn_ends.specs.Score.{closed_points, has_magazine_there, score_rows}
 use Rattle.play_tables.specs.ScoreRows.{other_rows_of}
 use Rattle.play_tables.specs.ScoreTable.{row_text, other_text}

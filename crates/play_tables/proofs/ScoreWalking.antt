@@ -1,14 +1,14 @@
 -- The rows of the treasures and of the hints one after another.
 use Rattle.std.proofs.Common.{◌≡◌, ℕ, suc, ◌+◌, ◌-◌, ◌<◌, ◌≤◌, Bool, cond, true, false, List, []}
 use Rattle.std.proofs.Common.{◌∷◌, ◌++◌, map, refl, sym, ap, ◌∙◌, append_assoc, append-nil, arith}
+use Rattle.std.proofs.Common.{if◌then◌else◌}
 use Rattle.std.specs.List.{filter, flat_map, range_with_len}
 use Rattle.std.proofs.lemmas.List.Concat.{flat_map-cons}
 use Rattle.cave_data.specs.CaveView.{CaveView}
 use Rattle.cave_world.specs.declared.state.State.{State}
 use Rattle.turn_scene.specs.Treasures.{is_known, treasures, known_treasures}
 use Rattle.play_tables.specs.ScoreRows.{TableRow, treasure_row, treasure_rows_of, cave_has_hint}
-use Rattle.play_tables.specs.ScoreRows.{hints_in}
-use Rattle.play_tables.specs.ScoreRows.{hint_score_row, hint_rows_of}
+use Rattle.play_tables.specs.ScoreRows.{hints_in, hint_score_row, hint_rows_of}
 use Rattle.play_tables.specs.ScoreTable.{row_text}
 
 -- the rows of those numbers from one on, up to an end, of which something holds
@@ -30,19 +30,13 @@ rows_more holds row n end h =
     chosen false xs = refl
 
 module _ (holds : ℕ → Bool) (row : ℕ → TableRow) (n end : ℕ) (text : List ℕ) where
-  rows_shown : n < end → holds n ≡ true
+  rows_told : n < end
       → text ++ rows_from holds row n end
-      ≡ (text ++ row_text (row n)) ++ rows_from holds row (n + 1) end
-  rows_shown h is =
-      ap (λ t. text ++ t) (rows_more holds row n end h
-      ∙ ap (λ b. cond b (row_text (row n)) [] ++ rows_from holds row (n + 1) end) is)
-      ∙ sym (append_assoc text (row_text (row n)) (rows_from holds row (n + 1) end))
-
-  rows_hidden : n < end → holds n ≡ false
-      → text ++ rows_from holds row n end ≡ text ++ rows_from holds row (n + 1) end
-  rows_hidden h is =
-      ap (λ t. text ++ t) (rows_more holds row n end h
-      ∙ ap (λ b. cond b (row_text (row n)) [] ++ rows_from holds row (n + 1) end) is)
+      ≡ (text ++ (if holds n then row_text (row n) else [])) ++ rows_from holds row (n + 1) end
+  rows_told h =
+      ap (λ t. text ++ t) (rows_more holds row n end h)
+      ∙ sym (append_assoc text (cond (holds n) (row_text (row n)) [])
+      (rows_from holds row (n + 1) end))
 
   rows_none : end ≤ n → text ++ rows_from holds row n end ≡ text
   rows_none h =
@@ -62,18 +56,14 @@ module _ (cave : CaveView) (s : State) (n : ℕ) (text : List ℕ) where
   unfolding treasures_from
   treasures_none h = rows_none (is_known cave) (treasure_row cave s) n 80 text h
 
-  pub treasure_shown : n < 80 → is_known cave n ≡ true
+  pub treasure_told : n < 80
       → text ++ treasures_from cave s n
-      ≡ (text ++ row_text (treasure_row cave s n)) ++ treasures_from cave s (n + 1)
+      ≡ (text ++ (if is_known cave n then row_text (treasure_row cave s n) else []))
+      ++ treasures_from cave s (n + 1)
   unfolding treasures_from
-  treasure_shown h is = rows_shown (is_known cave) (treasure_row cave s) n 80 text h is
+  treasure_told h = rows_told (is_known cave) (treasure_row cave s) n 80 text h
 
-  pub treasure_hidden : n < 80 → is_known cave n ≡ false
-      → text ++ treasures_from cave s n ≡ text ++ treasures_from cave s (n + 1)
-  unfolding treasures_from
-  treasure_hidden h is = rows_hidden (is_known cave) (treasure_row cave s) n 80 text h is
-
-pub ruleset treasures_walked = (treasures_all, treasures_none, treasure_shown, treasure_hidden)
+pub ruleset treasures_walked = (treasures_all, treasures_none, treasure_told)
 
 -- the rows of the cave's hints from a number on
 unfoldable pub hints_from : CaveView → State → ℕ → List ℕ
@@ -89,15 +79,11 @@ module _ (cave : CaveView) (s : State) (n : ℕ) (text : List ℕ) where
   unfolding hints_from
   hints_none h = rows_none (cave_has_hint cave) (hint_score_row cave s) n 21 text h
 
-  pub hint_shown : n < 21 → cave_has_hint cave n ≡ true
+  pub hint_told : n < 21
       → text ++ hints_from cave s n
-      ≡ (text ++ row_text (hint_score_row cave s n)) ++ hints_from cave s (n + 1)
+      ≡ (text ++ (if cave_has_hint cave n then row_text (hint_score_row cave s n) else []))
+      ++ hints_from cave s (n + 1)
   unfolding hints_from
-  hint_shown h is = rows_shown (cave_has_hint cave) (hint_score_row cave s) n 21 text h is
+  hint_told h = rows_told (cave_has_hint cave) (hint_score_row cave s) n 21 text h
 
-  pub hint_hidden : n < 21 → cave_has_hint cave n ≡ false
-      → text ++ hints_from cave s n ≡ text ++ hints_from cave s (n + 1)
-  unfolding hints_from
-  hint_hidden h is = rows_hidden (cave_has_hint cave) (hint_score_row cave s) n 21 text h is
-
-pub ruleset hints_walked = (hints_all, hints_none, hint_shown, hint_hidden)
+pub ruleset hints_walked = (hints_all, hints_none, hint_told)

@@ -16,10 +16,8 @@ use Rattle.data_rows.specs.declared.rows.Hint.{Hint}
 use Rattle.cave_world.specs.State.{is_hint_taken}
 use Rattle.cave_world.specs.declared.state.State.{State}
 use Rattle.turn_scene.specs.Treasures.{known_treasures}
-use Rattle.turn_ends.specs.Counting.{points_by}
-use Rattle.turn_ends.specs.Treasures.{treasure_rows}
-use Rattle.turn_ends.specs.Score.{score_rows, price_in, price_of, hints_taken, hint_costs}
-use Rattle.turn_ends.specs.Score.{score_of}
+use Rattle.turn_ends.specs.Score.{points_by, treasure_rows, score_rows, price_in, price_of}
+use Rattle.turn_ends.specs.Score.{hints_taken, hint_costs, score_of}
 use Rattle.play_tables.specs.ScoreRows.{TableRow, treasure_row, other_rows_of, hint_score_row}
 use Rattle.play_tables.specs.ScoreRows.{cave_has_hint, hints_in}
 use Rattle.play_tables.specs.ScoreRows.{treasure_rows_of, hint_rows_of, table_rows, sum_of, AddUp}

@@ -1,7 +1,7 @@
 -- Columns that several tables have.
 use Rattle.std.specs.Prelude.{ℕ, ◌==◌, if◌then◌else◌, List, codes, map, Option, None, Some}
 use Rattle.cave_world.specs.declared.ending.Ending.{Ending}
-use Rattle.cave_world.specs.declared.ending.Ending.TheVariants as ending
+use Rattle.play_state_text.specs.Words.{ending_word}
 
 -- a tab of a line is shown as a blank, since a tab ends a column
 abbrev pub without_tab : ℕ → ℕ
@@ -13,8 +13,4 @@ without_tabs line = map without_tab line
 -- how the game has ended
 abbrev pub ending_column : Option Ending → List ℕ
 ending_column None = codes "-"
-ending_column (Some ending.Quit) = codes "quit"
-ending_column (Some ending.Killed) = codes "killed"
-ending_column (Some ending.Klutz) = codes "klutz"
-ending_column (Some ending.WrongWay) = codes "wrong way"
-ending_column (Some ending.Success) = codes "success"
+ending_column (Some ended) = ending_word ended

@@ -2,7 +2,7 @@
 use Rattle.std.specs.Prelude.{ℕ, Bool, true, false, ◌==◌, ◌&&◌, ◌||◌, not, nat_lt, nat_le, List}
 use Rattle.std.specs.Prelude.{[], ◌∷◌, codes, Option, None, Some}
 use Rattle.std.specs.List.{list_any, range_with_len}
-use Rattle.turn_ends.specs.Treasures.{is_seen, is_safe}
+use Rattle.turn_ends.specs.Score.{is_seen, is_safe}
 use Rattle.cave_data.specs.CaveView.{CaveView}
 use Rattle.base_lines.specs.Numbers.{LAST_HINT}
 use Rattle.data_rows.specs.declared.place_role.PlaceRole.TheVariants as landmark

@@ -4,7 +4,7 @@ use Rattle.std.specs.Fmt.{decimal}
 use Rattle.play_tables.specs.Columns.{without_tabs, ending_column}
 use Rattle.cave_world.specs.declared.state.State.{State}
 use Rattle.replay_edits.specs.Edit.{Change, inserts, deletes, replaces, reseeds, own_line}
-use Rattle.play_tables.specs.Kinds.{differences_text}
+use Rattle.play_tables.specs.Differences.{differences_text}
 
 -- the names of the columns
 unfoldable pub item_head_row : List ℕ

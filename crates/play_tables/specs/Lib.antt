@@ -3,5 +3,5 @@ pub mod Draws
 pub mod Events
 pub mod ScoreRows
 pub mod ScoreTable
-pub mod Kinds
+pub mod Differences
 pub mod ItemRow

@@ -5,15 +5,14 @@ use Rattle.std.specs.Fmt.{decimal}
 use Rattle.std.specs.Int.{int_max}
 use Rattle.std.specs.List.{filter, range_with_len, zip}
 use Rattle.std.specs.FinMap as table
-use Rattle.data_bindings.specs.Listing.{first_line}
+use Rattle.base_lines.specs.Line.{first_line}
 use Rattle.cave_data.specs.CaveView.{CaveView, name_of}
 use Rattle.base_lines.specs.Numbers.{LAST_HINT}
 use Rattle.cave_world.specs.State.{is_hint_taken}
 use Rattle.cave_world.specs.declared.state.State.{State}
 use Rattle.turn_scene.specs.Treasures.{known_treasures}
-use Rattle.turn_ends.specs.Counting.{ScoreRow, points_by, most_by}
-use Rattle.turn_ends.specs.Treasures.{treasure_rows}
-use Rattle.turn_ends.specs.Score.{score_rows, price_of, score_of}
+use Rattle.turn_ends.specs.Score.{ScoreRow, points_by, most_by, treasure_rows, score_rows, price_of}
+use Rattle.turn_ends.specs.Score.{score_of}
 use Rattle.play_tables.specs.Columns.{without_tabs}
 
 -- a row: its name, what its parts count if it has two, what it counts, and the most that it can

@@ -40,20 +40,22 @@ unfoldable pub class_line : Option Rated → List ℕ
 class_line class = class_name class ++ codes "\t-\t-\t-\t-\n"
 
 -- the points that are missing for the next class, if there is one
-abbrev pub points_wanted_text : ℕ → Option Rated → List ℕ
-points_wanted_text score None = codes "-"
-points_wanted_text score (Some rated) =
-    if rated.is_followed then decimal (rated.bound + 1 - score) else codes "-"
+abbrev pub points_wanted : ℕ → Option Rated → Option ℕ
+points_wanted score None = None
+points_wanted score (Some rated) =
+    if rated.is_followed then Some (rated.bound + 1 - score) else None
 
-unfoldable pub next_class_text : ℕ → Option Rated → List ℕ
-next_class_text score class =
-    codes "next class\t-\t-\t" ++ (points_wanted_text score class ++ codes "\t-\n")
+-- the row of the next class, for which this many points are missing
+unfoldable pub next_class_text : Option ℕ → List ℕ
+next_class_text None = codes "next class\t-\t-\t-\t-\n"
+next_class_text (Some wanted) = codes "next class\t-\t-\t" ++ (decimal wanted ++ codes "\t-\n")
 
 -- the score, its class, and what is missing for the next one
 unfoldable pub end_text : CaveView → ℕ → List ℕ
 end_text cave score =
     score_row_text score (max_score_of cave)
-    ++ (class_line (class_of cave score) ++ next_class_text score (class_of cave score))
+    ++ (class_line (class_of cave score)
+    ++ next_class_text (points_wanted score (class_of cave score)))
 
 -- the names of the columns, the rows, and what they add up to
 unfoldable pub score_table : CaveView → State → List ℕ

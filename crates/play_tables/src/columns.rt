@@ -1,10 +1,12 @@
 //! Columns that several tables have.
 
-ghost use Rattle.std.specs.Prelude.{◌≡◌, ◌++◌, OnOk};
+ghost use Rattle.std.specs.Prelude.{◌≡◌};
+ghost use Rattle.base_text.specs.Text.{Tells};
 ghost use Rattle.play_tables.specs.Columns.{ending_column, without_tab, without_tabs};
 
+use base_text::Text;
 use cave_world::Ending;
-use std::alloc::AllocError;
+use play_state_text::words::ending_word;
 
 fn without_tab(byte: u8) -> u8
     ensures { result ≡ without_tab byte }
@@ -12,14 +14,13 @@ fn without_tab(byte: u8) -> u8
     if byte == b'\t' { b' ' } else { byte }
 }
 
-/// Appends a line, with a blank in the place of each tab.
-pub fn push_without_tabs(text: &mut Vec<u8>, line: &[u8]) -> Result<(), AllocError>
-    ensures { OnOk result (text.new.items ≡ text.old.items ++ without_tabs line.now) }
+/// Writes a line, with a blank in the place of each tab.
+pub fn put_without_tabs(text: &mut Text, line: &[u8])
+    ensures { Tells (without_tabs line.now) text.old text.new }
 {
     for byte in line {
-        text.push(without_tab(*byte))?;
+        text.put(&[without_tab(*byte)]);
     }
-    Ok(())
 }
 
 /// How the game has ended.
@@ -28,10 +29,6 @@ pub fn ending_column(ending: Option<Ending>) -> &'static str
 {
     match ending {
         None => "-",
-        Some(Ending::Quit) => "quit",
-        Some(Ending::Killed) => "killed",
-        Some(Ending::Klutz) => "klutz",
-        Some(Ending::WrongWay) => "wrong way",
-        Some(Ending::Success) => "success",
+        Some(ended) => ending_word(ended),
     }
 }

@@ -8,8 +8,7 @@ ghost use Rattle.turn_scene.specs.Treasures.{treasures};
 ghost use Rattle.play_tables.specs.Events.{asks_revival, is_ended_killed, is_dead, is_hint_new};
 ghost use Rattle.play_tables.specs.Events.{are_dwarves_woken, is_dwarf_new, is_dwarf_killed};
 ghost use Rattle.play_tables.specs.Events.{is_new_at, is_hoard_richer, is_treasure_found};
-ghost use Rattle.play_tables.specs.Events.{is_brought_home};
-ghost use Rattle.play_tables.specs.Events.{each_event, event_happens, event_name};
+ghost use Rattle.play_tables.specs.Events.{is_brought_home, each_event, event_happens, event_name};
 
 use cave_world::hints::HINTS;
 use cave_world::{Ending, HintNumber, Question, State};

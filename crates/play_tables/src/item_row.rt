@@ -1,16 +1,18 @@
 //! The row of an item of a script.
 
-ghost use Rattle.std.specs.Prelude.{◌≡◌, ◌++◌, IfOk, OnOk, string_bytes, []};
+ghost use Rattle.std.specs.Prelude.{◌≡◌, ◌++◌, OnOk, []};
+ghost use Rattle.base_text.specs.Text.{Tells};
 ghost use Rattle.replay_edits.specs.Edit.{change_of, changes_of, own_line};
 ghost use Rattle.play_tables.specs.ItemRow.{edit_words, item_head_row, item_columns};
 ghost use Rattle.play_tables.specs.ItemRow.{item_text, item_words, met_column, refused_row};
 ghost use Rattle.play_tables.specs.ItemRow.{replay_columns, state_columns, text_of_change};
 
-use crate::columns::{ending_column, push_without_tabs};
-use crate::differences::push_differences;
+use crate::columns::{ending_column, put_without_tabs};
+use crate::differences::put_differences;
+use base_text::Text;
 use cave_world::State;
 use replay_edits::Edit;
-use std::alloc::{AllocError, Global};
+use std::alloc::AllocError;
 
 /// Appends the names of the columns.
 #[tactic(auto, unfolding(crate::specs::ItemRow::item_head_row))]
@@ -22,26 +24,26 @@ pub fn push_item_head_row(text: &mut Vec<u8>) -> Result<(), AllocError>
     )
 }
 
-fn edit_words(alloc: Global, edit: &Edit) -> Result<String, AllocError>
-    ensures { IfOk result (λ words. string_bytes words ≡ edit_words (change_of edit.now)) }
+fn put_edit_words(text: &mut Text, edit: &Edit)
+    ensures { Tells (edit_words (change_of edit.now)) text.old text.new }
 {
     match edit {
-        Edit::Insert(place, _) => format!(in alloc; "insert {place}"),
-        Edit::Delete(place) => format!(in alloc; "delete {place}"),
-        Edit::Replace(place, _) => format!(in alloc; "replace {place}"),
-        Edit::Reseed(seed) => format!(in alloc; "seed {seed}"),
+        Edit::Insert(place, _) => write!(text, "insert {place}"),
+        Edit::Delete(place) => write!(text, "delete {place}"),
+        Edit::Replace(place, _) => write!(text, "replace {place}"),
+        Edit::Reseed(seed) => write!(text, "seed {seed}"),
     }
 }
 
-/// The edit of an item in words, or how many its group has.
-fn item_words(alloc: Global, edits: &[Edit]) -> Result<String, AllocError>
-    ensures { IfOk result (λ words. string_bytes words ≡ item_words (changes_of edits.now)) }
+/// Writes the edit of an item in words, or how many its group has.
+fn put_item_words(text: &mut Text, edits: &[Edit])
+    ensures { Tells (item_words (changes_of edits.now)) text.old text.new }
 {
     match edits {
-        [edit] => edit_words(alloc, edit),
+        [edit] => put_edit_words(text, edit),
         _ => {
             let size = edits.len();
-            format!(in alloc; "group of {size}")
+            write!(text, "group of {size}");
         }
     }
 }
@@ -77,86 +79,57 @@ fn item_text<'a>(edits: &'a [Edit], inverse: &'a [Edit]) -> &'a [u8]
     }
 }
 
-/// Appends what an item is: its line, its edits, and the text that they inserted or deleted.
+/// Writes what an item is: its line, its edits, and the text that they inserted or deleted.
 #[tactic(auto, unfolding(crate::specs::ItemRow::item_columns))]
-pub fn push_item_columns(
-    alloc: Global,
-    text: &mut Vec<u8>,
-    line: usize,
-    edits: &[Edit],
-    inverse: &[Edit],
-) -> Result<(), AllocError>
-    ensures { OnOk result (text.new.items ≡ text.old.items
-        ++ item_columns line (changes_of edits.now) (changes_of inverse.now)) }
+pub fn put_item_columns(text: &mut Text, line: usize, edits: &[Edit], inverse: &[Edit])
+    ensures { Tells (item_columns line (changes_of edits.now) (changes_of inverse.now)) text.old
+        text.new }
 {
-    let words = item_words(alloc, edits)?;
-    let first = format!(in alloc; "{line}\t{words}\t")?;
-    text.extend_from_slice(first.as_bytes())?;
-    push_without_tabs(text, item_text(edits, inverse))?;
-    text.extend_from_slice(b"\t")
+    write!(text, "{line}\t");
+    put_item_words(text, edits);
+    text.put(b"\t");
+    put_without_tabs(text, item_text(edits, inverse));
+    text.put(b"\t");
 }
 
-fn met_column(alloc: Global, met: Option<u32>) -> Result<String, AllocError>
-    ensures { IfOk result (λ told. string_bytes told ≡ met_column met) }
+fn put_met_column(text: &mut Text, met: Option<u32>)
+    ensures { Tells (met_column met) text.old text.new }
 {
     match met {
-        None => String::from_str(alloc, "none"),
-        Some(place) => format!(in alloc; "{place}"),
+        None => text.put(b"none"),
+        Some(place) => write!(text, "{place}"),
     }
 }
 
-/// Appends where the replay of an item began and met the old play, and how many lines it played.
+/// Writes where the replay of an item began and met the old play, and how many lines it played.
 #[tactic(auto, unfolding(crate::specs::ItemRow::replay_columns))]
-pub fn push_replay_columns(
-    alloc: Global,
-    text: &mut Vec<u8>,
-    from: u32,
-    met: Option<u32>,
-    played: u32,
-) -> Result<(), AllocError>
-    ensures { OnOk result (text.new.items ≡ text.old.items ++ replay_columns from met played) }
+pub fn put_replay_columns(text: &mut Text, from: u32, met: Option<u32>, played: u32)
+    ensures { Tells (replay_columns from met played) text.old text.new }
 {
-    let met = met_column(alloc, met)?;
-    let columns = format!(in alloc; "ok\t{from}\t{met}\t{played}\t")?;
-    text.extend_from_slice(columns.as_bytes())
+    write!(text, "ok\t{from}\t");
+    put_met_column(text, met);
+    write!(text, "\t{played}\t");
 }
 
-/// Appends the score and the turns of the edited log, and how its last state differs from the one
+/// Writes the score and the turns of the edited log, and how its last state differs from the one
 /// before.
 #[tactic(auto, unfolding(crate::specs::ItemRow::state_columns))]
-pub fn push_state_columns(
-    alloc: Global,
-    text: &mut Vec<u8>,
-    score: u32,
-    turns: u32,
-    before: &State,
-    after: &State,
-) -> Result<(), AllocError>
-    ensures { OnOk result (text.new.items ≡ text.old.items
-        ++ state_columns score turns before.now after.now) }
+pub fn put_state_columns(text: &mut Text, score: u32, turns: u32, before: &State, after: &State)
+    ensures { Tells (state_columns score turns before.now after.now) text.old text.new }
 {
     let place = after.trail.here.number();
-    let counts = format!(in alloc; "{score}\t{turns}\t{place}\t")?;
-    text.extend_from_slice(counts.as_bytes())?;
-    text.extend_from_slice(ending_column(after.ending).as_bytes())?;
-    text.extend_from_slice(b"\t")?;
-    push_differences(alloc, text, before, after)?;
-    text.extend_from_slice(b"\n")
+    write!(text, "{score}\t{turns}\t{place}\t");
+    text.put(ending_column(after.ending).as_bytes());
+    text.put(b"\t");
+    put_differences(text, before, after);
+    text.put(b"\n");
 }
 
-/// Appends the row of an item that was refused, with the number of the reason.
+/// Writes the row of an item that was refused, with the number of the reason.
 #[tactic(auto, unfolding(crate::specs::ItemRow::refused_row))]
-pub fn push_refused_row(
-    alloc: Global,
-    text: &mut Vec<u8>,
-    line: usize,
-    edits: &[Edit],
-    number: u8,
-) -> Result<(), AllocError>
-    ensures { OnOk result (text.new.items
-        ≡ text.old.items ++ refused_row line (changes_of edits.now) number) }
+pub fn put_refused_row(text: &mut Text, line: usize, edits: &[Edit], number: u8)
+    ensures { Tells (refused_row line (changes_of edits.now) number) text.old text.new }
 {
-    push_item_columns(alloc, text, line, edits, &[])?;
-    let rest = format!(in alloc; "refused {number}\t-\t-\t-\t-\t-\t-\t-\t-\n")?;
-    text.extend_from_slice(rest.as_bytes())
+    put_item_columns(text, line, edits, &[]);
+    write!(text, "refused {number}\t-\t-\t-\t-\t-\t-\t-\t-\n");
 }

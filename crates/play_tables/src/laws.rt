@@ -2,7 +2,7 @@
 
 ghost use Rattle.std.specs.Prelude.{◌≡◌};
 ghost use Rattle.cave_world.specs.declared.state.State.{State};
-ghost use Rattle.play_tables.specs.Kinds.{AreAlike};
+ghost use Rattle.play_tables.specs.Differences.{AreAlike};
 
 /// States that differ in no kind of facts are the same.
 pub fn alike_states_are_the_same()

@@ -7,7 +7,6 @@ pub mod differences;
 pub mod draws;
 pub mod events;
 pub mod item_row;
-pub mod kinds;
 pub mod laws;
 pub mod score_ends;
 pub mod score_names;
@@ -15,7 +14,6 @@ pub mod score_rows;
 pub mod score_table;
 
 pub use item_row::{
-    push_item_columns, push_item_head_row, push_refused_row, push_replay_columns,
-    push_state_columns,
+    push_item_head_row, put_item_columns, put_refused_row, put_replay_columns, put_state_columns,
 };
 pub use score_table::push_score_table;

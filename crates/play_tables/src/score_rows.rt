@@ -1,20 +1,21 @@
 //! The rows of what counts and what costs.
 
-ghost use Rattle.std.specs.Prelude.{◌≡◌, ◌-◌, ◌≤◌, ◌++◌, OnOk};
+ghost use Rattle.std.specs.Prelude.{◌≡◌, ◌-◌, ◌≤◌, [], if◌then◌else◌};
 ghost use Rattle.std.specs.List.{flat_map};
+ghost use Rattle.base_text.specs.Text.{Tells};
 ghost use Rattle.turn_scene.specs.Scene.{cave_of};
-ghost use Rattle.turn_ends.specs.Counting.{most_by, score_row};
-ghost use Rattle.turn_ends.specs.Treasures.{is_seen, is_safe, treasure_rows, worth};
+ghost use Rattle.turn_scene.specs.Treasures.{is_known};
+ghost use Rattle.turn_ends.specs.Score.{most_by, score_row, is_seen, is_safe, treasure_rows, worth};
 ghost use Rattle.play_tables.specs.ScoreRows.{treasure_row, treasure_rows_of, other_rows_of};
 ghost use Rattle.play_tables.specs.ScoreRows.{hint_cost, hint_score_row, cave_has_hint};
 ghost use Rattle.play_tables.specs.ScoreRows.{hint_rows_of};
 ghost use Rattle.play_tables.specs.ScoreTable.{row_text, other_text};
 
-use crate::score_names::{name_of, push_named_text};
+use crate::score_names::{name_of, put_named_text};
+use base_text::Text;
 use cave_data::Cave;
 use cave_world::hints::HINTS;
 use cave_world::{HintNumber, LIVES, State};
-use std::alloc::{AllocError, Global};
 use turn_ends::Scorer;
 use turn_ends::scores::{
     POINTS_OF_CLOSING, POINTS_OF_DWARVES, POINTS_OF_ENDING, POINTS_OF_LIFE, POINTS_OF_MAGAZINE,
@@ -52,69 +53,57 @@ fn home_points(rules: &Rules<'_>, state: &State, treasure: Object) -> u32
 }
 
 /// The most that a treasure counts.
-#[tactic(auto, unfolding(turn_ends::specs::Treasures::treasure_rows))]
+#[tactic(auto, unfolding(turn_ends::specs::Score::treasure_rows))]
 fn most_points(rules: &Rules<'_>, treasure: Object) -> u32
     ensures { result ≡ most_by (treasure_rows (cave_of rules.now) treasure) }
 {
     worth(&Scorer::of(rules), treasure)
 }
 
-/// Appends the row of a treasure.
-#[tactic(auto, unfolding(turn_ends::specs::Treasures::treasure_rows))]
-fn push_treasure(
-    alloc: Global,
-    text: &mut Vec<u8>,
-    rules: &Rules<'_>,
-    state: &State,
-    treasure: Object,
-) -> Result<(), AllocError>
-    ensures { OnOk result (text.new.items ≡ text.old.items
-        ++ row_text (treasure_row (cave_of rules.now) state.now treasure)) }
+/// Writes the row of a treasure.
+#[tactic(auto, unfolding(turn_ends::specs::Score::treasure_rows))]
+fn put_treasure(text: &mut Text, rules: &Rules<'_>, state: &State, treasure: Object)
+    ensures { Tells (row_text (treasure_row (cave_of rules.now) state.now treasure)) text.old
+        text.new }
 {
     let name = name_of(rules.cave, treasure);
-    push_named_text(alloc, text, "treasure ", u16::from(treasure.number()), name)?;
+    put_named_text(text, "treasure ", u16::from(treasure.number()), name);
     let found = found_points(state, treasure);
     let home = home_points(rules, state, treasure);
     let points = found + home;
     let most = most_points(rules, treasure);
-    let columns = format!(in alloc; "\t{found}\t{home}\t{points}\t{most}\n")?;
-    text.extend_from_slice(columns.as_bytes())
+    write!(text, "\t{found}\t{home}\t{points}\t{most}\n");
 }
 
-/// Appends the rows of the treasures that the cave knows.
+/// Writes the row of a treasure, if the cave knows it.
+fn put_if_known(text: &mut Text, rules: &Rules<'_>, state: &State, treasure: Object)
+    ensures { Tells (if is_known (cave_of rules.now) treasure
+        then row_text (treasure_row (cave_of rules.now) state.now treasure) else []) text.old
+        text.new }
+{
+    if is_known(rules.cave, treasure) {
+        put_treasure(text, rules, state, treasure);
+    }
+}
+
+/// Writes the rows of the treasures that the cave knows.
 #[tactic(auto, using(crate::proofs::ScoreWalking::treasures_walked))]
-pub(crate) fn push_treasures(
-    alloc: Global,
-    text: &mut Vec<u8>,
-    rules: &Rules<'_>,
-    state: &State,
-) -> Result<(), AllocError>
-    ensures { OnOk result (text.new.items ≡ text.old.items
-        ++ flat_map row_text (treasure_rows_of (cave_of rules.now) state.now)) }
+pub(crate) fn put_treasures(text: &mut Text, rules: &Rules<'_>, state: &State)
+    ensures { Tells (flat_map row_text (treasure_rows_of (cave_of rules.now) state.now)) text.old
+        text.new }
 {
     for number in FIRST_TREASURE..LAST_TREASURE + 1 {
         let treasure = Object::new(number);
-        if is_known(rules.cave, treasure) {
-            push_treasure(alloc, text, rules, state, treasure)?;
-        }
+        put_if_known(text, rules, state, treasure);
     }
-    Ok(())
 }
 
-/// Appends a row without parts.
+/// Writes a row without parts.
 #[tactic(auto, unfolding(crate::specs::ScoreTable::other_text))]
-pub(crate) fn push_other(
-    alloc: Global,
-    text: &mut Vec<u8>,
-    name: &str,
-    points: u32,
-    most: u32,
-) -> Result<(), AllocError>
-    ensures { OnOk result
-        (text.new.items ≡ text.old.items ++ other_text name.now points most) }
+pub(crate) fn put_other(text: &mut Text, name: &str, points: u32, most: u32)
+    ensures { Tells (other_text name.now points most) text.old text.new }
 {
-    let row = format!(in alloc; "{name}\t-\t-\t{points}\t{most}\n")?;
-    text.extend_from_slice(row.as_bytes())
+    write!(text, "{name}\t-\t-\t{points}\t{most}\n");
 }
 
 /// What the lives count if no death has taken one.
@@ -124,29 +113,19 @@ fn most_life_points() -> u32
     u32::from(LIVES) * POINTS_OF_LIFE
 }
 
-/// Appends the rows of what counts apart from treasures.
-pub(crate) fn push_others(
-    alloc: Global,
-    text: &mut Vec<u8>,
-    rules: &Rules<'_>,
-    state: &State,
-) -> Result<(), AllocError>
-    ensures { OnOk result (text.new.items ≡ text.old.items
-        ++ flat_map row_text (other_rows_of (cave_of rules.now) state.now)) }
+/// Writes the rows of what counts apart from treasures.
+pub(crate) fn put_others(text: &mut Text, rules: &Rules<'_>, state: &State)
+    ensures { Tells (flat_map row_text (other_rows_of (cave_of rules.now) state.now)) text.old
+        text.new }
 {
-    let lives = life_points(state);
-    push_other(alloc, text, "lives", lives, most_life_points())?;
-    let ending = ending_points(state);
-    push_other(alloc, text, "ending", ending, POINTS_OF_ENDING)?;
-    let dwarves = dwarf_points(state);
-    push_other(alloc, text, "dwarves", dwarves, POINTS_OF_DWARVES)?;
-    let closing = closing_points(state);
-    push_other(alloc, text, "closing", closing, POINTS_OF_CLOSING)?;
-    let closed = closed_points(state);
-    push_other(alloc, text, "closed", closed, POINTS_OF_SUCCESS)?;
+    put_other(text, "lives", life_points(state), most_life_points());
+    put_other(text, "ending", ending_points(state), POINTS_OF_ENDING);
+    put_other(text, "dwarves", dwarf_points(state), POINTS_OF_DWARVES);
+    put_other(text, "closing", closing_points(state), POINTS_OF_CLOSING);
+    put_other(text, "closed", closed_points(state), POINTS_OF_SUCCESS);
     let magazine = magazine_points(&Scorer::of(rules), state);
-    push_other(alloc, text, "magazine", magazine, POINTS_OF_MAGAZINE)?;
-    push_other(alloc, text, "playing", POINTS_OF_PLAYING, POINTS_OF_PLAYING)
+    put_other(text, "magazine", magazine, POINTS_OF_MAGAZINE);
+    put_other(text, "playing", POINTS_OF_PLAYING, POINTS_OF_PLAYING);
 }
 
 /// What a hint costs if it was taken.
@@ -161,47 +140,33 @@ fn hint_cost(cave: &Cave, state: &State, hint: HintNumber) -> u32
     }
 }
 
-/// Appends the row of a hint.
-fn push_hint(
-    alloc: Global,
-    text: &mut Vec<u8>,
-    cave: &Cave,
-    state: &State,
-    hint: HintNumber,
-) -> Result<(), AllocError>
-    ensures { OnOk result (text.new.items ≡ text.old.items
-        ++ row_text (hint_score_row cave.now state.now hint)) }
+/// Writes the row of a hint.
+fn put_hint(text: &mut Text, cave: &Cave, state: &State, hint: HintNumber)
+    ensures { Tells (row_text (hint_score_row cave.now state.now hint)) text.old text.new }
 {
     let number = hint.number();
     let points = -i64::from(hint_cost(cave, state, hint));
     let most = -i64::from(price_of(cave, u16::from(number)));
-    let row = format!(in alloc; "hint {number}\t-\t-\t{points}\t{most}\n")?;
-    text.extend_from_slice(row.as_bytes())
+    write!(text, "hint {number}\t-\t-\t{points}\t{most}\n");
 }
 
-/// Whether the cave has a hint.
-fn has_hint(cave: &Cave, hint: HintNumber) -> bool
-    ensures { result ≡ cave_has_hint cave.now hint }
+/// Writes the row of a hint, if the cave has it.
+fn put_if_any(text: &mut Text, cave: &Cave, state: &State, hint: HintNumber)
+    ensures { Tells (if cave_has_hint cave.now hint
+        then row_text (hint_score_row cave.now state.now hint) else []) text.old text.new }
 {
-    cave.hint(u16::from(hint.number())).is_some()
+    if cave.hint(u16::from(hint.number())).is_some() {
+        put_hint(text, cave, state, hint);
+    }
 }
 
-/// Appends the rows of the hints that the cave has.
+/// Writes the rows of the hints that the cave has.
 #[tactic(auto, using(crate::proofs::ScoreWalking::hints_walked))]
-pub(crate) fn push_hints(
-    alloc: Global,
-    text: &mut Vec<u8>,
-    cave: &Cave,
-    state: &State,
-) -> Result<(), AllocError>
-    ensures { OnOk result (text.new.items ≡ text.old.items
-        ++ flat_map row_text (hint_rows_of cave.now state.now)) }
+pub(crate) fn put_hints(text: &mut Text, cave: &Cave, state: &State)
+    ensures { Tells (flat_map row_text (hint_rows_of cave.now state.now)) text.old text.new }
 {
     for number in 1..HINTS as u8 + 1 {
         let hint = HintNumber::new(number);
-        if has_hint(cave, hint) {
-            push_hint(alloc, text, cave, state, hint)?;
-        }
+        put_if_any(text, cave, state, hint);
     }
-    Ok(())
 }

@@ -5,11 +5,8 @@ use Rattle.std.specs.Prelude.{length, Option, Some, None, option_map}
 use Rattle.std.specs.Fmt.{decimal, signed_decimal}
 use Rattle.std.specs.List.{filter, flat_map}
 use Rattle.cave_data.specs.CaveView.{CaveView}
-use Rattle.cave_world.specs.declared.ending.Ending.{Ending}
-use Rattle.cave_world.specs.declared.ending.Question.{Question}
-use Rattle.cave_world.specs.declared.ending.Question.TheVariants as question
 use Rattle.cave_world.specs.declared.state.State.{State}
-use Rattle.play_tables.specs.Columns.{ending_column}
+use Rattle.play_state_text.specs.Words.{ending_word, question_word}
 use Rattle.play_tables.specs.Draws.{draws_at}
 use Rattle.play_tables.specs.Events.{each_event, event_happens, event_name}
 use Rattle.play_tables.specs.declared.events.Event.{Event}
@@ -67,21 +64,6 @@ abbrev pub figure_member : List ℕ × Figure → Member
 figure_member (key, figure) = (key, value_in Members figure)
 
 -- ---- what the figures are
-
--- the question that is open
-abbrev pub question_word : Question → List ℕ
-question_word question.Welcome = codes "welcome"
-question_word question.Quit = codes "quit"
-question_word question.ScoreQuit = codes "score, quit"
-question_word question.Die = codes "revive"
-question_word (question.Hint number) = codes "hint " ++ decimal number
-question_word (question.Take number) = codes "take hint " ++ decimal number
-question_word question.Oyster = codes "oyster"
-question_word question.Dragon = codes "dragon"
-
--- how the game has ended
-abbrev pub ending_word : Ending → List ℕ
-ending_word ended = ending_column (Some ended)
 
 -- the name of an event that happened, after a comma
 unfoldable pub next_event : Form → CaveView → State → State → Event → List ℕ

@@ -1,14 +1,15 @@
 //! The figures of a line, as columns of a table or as members of an object of JSON.
 
-ghost use Rattle.std.specs.Prelude.{◌≡◌, ◌++◌, codes, decimal, drop, None, option_map};
+ghost use Rattle.std.specs.Prelude.{◌≡◌, codes, drop, None, option_map};
 ghost use Rattle.std.specs.List.{flat_map};
 ghost use Rattle.base_text.specs.Text.{Tells};
 ghost use Rattle.turn_scene.specs.Scene.{cave_of};
 ghost use Rattle.world_objects.specs.Objects.{objects_in_hands};
+ghost use Rattle.play_state_text.specs.Words.{ending_word, question_word};
 ghost use Rattle.play_walk.specs.Figures.{Count, OneWord, Signed, SomeObjects, SomeWords};
-ghost use Rattle.play_walk.specs.Figures.{chance_figures, count_figures, ending_word, figure_in};
+ghost use Rattle.play_walk.specs.Figures.{chance_figures, count_figures, figure_in};
 ghost use Rattle.play_walk.specs.Figures.{figures, happened_words, key_in, listed_in, next_event};
-ghost use Rattle.play_walk.specs.Figures.{outcome_figures, place_figures, question_word, word_in};
+ghost use Rattle.play_walk.specs.Figures.{outcome_figures, place_figures, word_in};
 ghost use Rattle.play_walk.specs.Figures.{word_or_none};
 ghost use Rattle.play_walk.specs.Json.{next_value};
 ghost use Rattle.play_walk.specs.Objects.{listed_object};
@@ -17,8 +18,8 @@ use crate::json::{put_next_key, put_number, put_signed};
 use crate::objects::put_object_list;
 use base_text::Text;
 use cave_data::Cave;
-use cave_world::{Ending, HintNumber, Question, State};
-use play_tables::columns::ending_column;
+use cave_world::{Ending, Question, State};
+use play_state_text::words::{ending_word, put_question_word};
 use play_tables::draws::draws_at;
 use play_tables::events::{Event, each_event, event_name, happens};
 use turn_ends::{Scorer, score_by};
@@ -128,28 +129,6 @@ fn put_carried(form: Form, text: &mut Text, cave: &Cave, state: &State)
     }
 }
 
-fn put_hint(text: &mut Text, words: &[u8], hint: HintNumber)
-    ensures { Tells (words.now ++ decimal hint) text.old text.new }
-{
-    text.put(words);
-    put_number(text, u32::from(hint.number()));
-}
-
-fn put_question_word(text: &mut Text, question: Question)
-    ensures { Tells (question_word question) text.old text.new }
-{
-    match question {
-        Question::Welcome => text.put(b"welcome"),
-        Question::Quit => text.put(b"quit"),
-        Question::ScoreQuit => text.put(b"score, quit"),
-        Question::Die => text.put(b"revive"),
-        Question::Hint(hint) => put_hint(text, b"hint ", hint),
-        Question::Take(hint) => put_hint(text, b"take hint ", hint),
-        Question::Oyster => text.put(b"oyster"),
-        Question::Dragon => text.put(b"dragon"),
-    }
-}
-
 /// Appends the question that is open.
 #[tactic(auto, unfolding(crate::specs::Figures::figure_in))]
 fn put_question(form: Form, text: &mut Text, question: Option<Question>)
@@ -177,7 +156,7 @@ fn put_ended(form: Form, text: &mut Text, ending: Option<Ending>)
     put_key(form, text, "ended");
     match ending {
         None => put_word_or_none(form, text, None),
-        Some(ended) => put_word(form, text, ending_column(Some(ended)).as_bytes()),
+        Some(ended) => put_word(form, text, ending_word(ended).as_bytes()),
     }
 }
 

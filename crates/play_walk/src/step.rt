@@ -1,15 +1,13 @@
 //! The row of a line of a log in the table of lines.
 
 ghost use Rattle.std.specs.Prelude.{◌≡◌, ◌++◌, OnOk};
-ghost use Rattle.base_text.specs.Text.{Tells};
-ghost use Rattle.play_tables.specs.Columns.{without_tabs};
 ghost use Rattle.turn_scene.specs.Scene.{cave_of};
 ghost use Rattle.play_walk.specs.Step.{step_head_row, step_row};
 
 use crate::figures::{Form, StepRow, put_figures};
 use crate::json::put_number;
 use base_text::Text;
-use play_tables::columns::push_without_tabs;
+use play_tables::columns::put_without_tabs;
 use std::alloc::{AllocError, Global};
 use turn_scene::Rules;
 
@@ -22,15 +20,6 @@ pub fn push_step_head_row(text: &mut Vec<u8>) -> Result<(), AllocError>
         b"place\tline\tfrom\tto\tturns\tscore\tlamp\tcarried\tdraws\tstream\tquestion\tended\t",
     )?;
     text.extend_from_slice(b"happened\n")
-}
-
-/// Appends a line, with a blank in the place of each tab.
-fn put_without_tabs(text: &mut Text, line: &[u8])
-    ensures { Tells (without_tabs line.now) text.old text.new }
-{
-    if push_without_tabs(&mut text.bytes, line).is_err() {
-        text.fail();
-    }
 }
 
 /// Appends the row of a line that was played in the cave.

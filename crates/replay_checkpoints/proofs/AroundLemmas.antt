@@ -1,14 +1,12 @@
 -- An item of a list and those around it.
 use Rattle.std.proofs.Common.{◌≡◌, ℕ, ◌+◌, ◌<◌, ◌≤◌, List, [], ◌∷◌, ◌++◌, length, get_or, take}
 use Rattle.std.proofs.Common.{drop, insert, remove, set, suc, sym, ap, ◌∙◌, arith}
-use Rattle.std.proofs.Math.Seq.{set-append_seam, take-set-lt, take-append-add}
-use Rattle.std.proofs.Math.Seq.{drop-append-add}
+use Rattle.std.proofs.Math.Seq.{set-append_seam, take-set-lt, take-append-add, drop-append-add}
 use Rattle.std.specs.List.{splice}
-use Rattle.std.proofs.lemmas.List.{append_assoc, drop_more}
-use Rattle.std.proofs.lemmas.List.{take_more_set, drop-set-lt, take-append-drop}
-use Rattle.std.proofs.lemmas.List.{length-take-le}
-use Rattle.std.proofs.lemmas.List.{get_or-take, get_or_append_left, set-append_left}
-use Rattle.std.proofs.lemmas.List.{take-append-le, drop-append-le}
+use Rattle.std.proofs.lemmas.List.{append_assoc, drop_more, take_more_set, drop-set-lt}
+use Rattle.std.proofs.lemmas.List.{take-append-drop, length-take-le, get_or-take}
+use Rattle.std.proofs.lemmas.List.{get_or_append_left, set-append_left, take-append-le}
+use Rattle.std.proofs.lemmas.List.{drop-append-le}
 
 module _ {X : Type 0} (xs : List X) (i : ℕ) where
   -- the list around what is read in it

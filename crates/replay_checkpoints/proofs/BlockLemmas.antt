@@ -4,16 +4,13 @@ use Rattle.std.proofs.Common.{drop, insert, remove, set, map, suc, refl, sym, ap
 use Rattle.std.proofs.Common.{subst, zero-add, add-zero, add-one, inl, inr}
 use Rattle.std.proofs.Math.Seq.{get_or-append_seam}
 use Rattle.std.specs.List.{splice}
-use Rattle.std.proofs.lemmas.List.{append-nil, append_assoc, length-append, drop_more}
-use Rattle.std.proofs.lemmas.List.{take_more, drop-set-lt}
-use Rattle.std.proofs.lemmas.List.{length-take-le, length-set, get_or-append_right}
-use Rattle.std.proofs.lemmas.List.{get_or_append_left, set-append_left}
-use Rattle.std.proofs.lemmas.List.{set-append_right, take_all}
+use Rattle.std.proofs.lemmas.List.{append-nil, append_assoc, length-append, drop_more, take_more}
+use Rattle.std.proofs.lemmas.List.{drop-set-lt, length-take-le, length-set, get_or-append_right}
+use Rattle.std.proofs.lemmas.List.{get_or_append_left, set-append_left, set-append_right, take_all}
 use Rattle.std.proofs.lemmas.Bool.{cases_lt}
 use Rattle.std.proofs.lemmas.List.Concat.{flat_map-append}
 use Rattle.replay_checkpoints.specs.declared.block.Block.{Block}
-use Rattle.replay_checkpoints.specs.Blocks.{items_in, start_at, AreLaid, IsBlockOf}
-use Rattle.replay_checkpoints.specs.Blocks.{moved_block}
+use Rattle.replay_checkpoints.specs.Blocks.{items_in, start_at, AreLaid, IsBlockOf, moved_block}
 use Rattle.replay_checkpoints.proofs.AroundLemmas.{insert_form, later_form, read_form, remove_form}
 use Rattle.replay_checkpoints.proofs.AroundLemmas.{reset_form, set_form, splice_between}
 

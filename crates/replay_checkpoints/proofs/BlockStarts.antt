@@ -1,19 +1,13 @@
 -- Where blocks begin after one of them has other items, and the stretch that lies in one.
 use Rattle.std.proofs.Common.{◌≡◌, ℕ, ◌+◌, ◌-◌, ◌<◌, ◌≤◌, List, [], ◌∷◌, ◌++◌, length, get_or, take}
-use Rattle.std.proofs.Common.{drop, set, map, suc, zero, refl, sym, ap, ◌∙◌, arith}
-use Rattle.std.proofs.Common.{subst, add-zero}
+use Rattle.std.proofs.Common.{drop, set, map, suc, zero, refl, sym, ap, ◌∙◌, arith, subst, add-zero}
 use Rattle.std.specs.Prelude.{Option, None, Some, IfSome}
-use Rattle.std.proofs.lemmas.List.{length-append}
-use Rattle.std.proofs.lemmas.List.{take-append-drop}
-use Rattle.std.proofs.lemmas.List.{length-take-le, length-map, length-set, get_or-append_right}
-use Rattle.std.proofs.lemmas.List.{get_or-drop}
-use Rattle.std.proofs.lemmas.List.{take-take}
+use Rattle.std.proofs.lemmas.List.{length-append, take-append-drop, length-take-le, length-map}
+use Rattle.std.proofs.lemmas.List.{length-set, get_or-append_right, get_or-drop, take-take}
 use Rattle.replay_checkpoints.specs.declared.block.Block.{Block}
 use Rattle.replay_checkpoints.specs.declared.blocks.Stretch.{Stretch}
-use Rattle.replay_checkpoints.specs.Blocks.{items_in, start_at, HasRoom}
-use Rattle.replay_checkpoints.specs.Blocks.{HoldsStretch, moved_block}
-use Rattle.replay_checkpoints.proofs.BlockLemmas.{block_items}
-use Rattle.replay_checkpoints.proofs.BlockLemmas.{items_in-append}
+use Rattle.replay_checkpoints.specs.Blocks.{items_in, start_at, HasRoom, HoldsStretch, moved_block}
+use Rattle.replay_checkpoints.proofs.BlockLemmas.{block_items, items_in-append}
 
 module _ {T : Type 0} where
   -- the blocks begin where they began

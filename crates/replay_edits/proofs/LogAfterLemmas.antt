@@ -9,8 +9,7 @@ use Rattle.std.proofs.lemmas.List.Edits.{length-insert, length-remove}
 use Rattle.replay_edits.specs.declared.margins.Margins.{Margins}
 use Rattle.replay_edits.specs.Edit.{Change, inserts, deletes, replaces, reseeds, line_at, log_after}
 use Rattle.replay_edits.specs.Faults.{log_after_all}
-use Rattle.replay_edits.specs.Leaves.{LeavesAlone}
-use Rattle.replay_edits.specs.Leaves.{LeaveAlone}
+use Rattle.replay_edits.specs.Leaves.{LeavesAlone, LeaveAlone}
 
 -- a log stays as it is at the start and at the end
 pub record StaysAround (log new : List (List ℕ)) (margins : Margins) : Type 0 where

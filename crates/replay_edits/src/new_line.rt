@@ -1,5 +1,4 @@
-ghost use Rattle.std.specs.Prelude.{◌≡◌, ◌<◌, ◌≤◌, [], length, take, drop};
-ghost use Rattle.std.specs.Prelude.{vec_capacity};
+ghost use Rattle.std.specs.Prelude.{◌≡◌, ◌<◌, ◌≤◌, [], length, take, drop, vec_capacity};
 ghost use Rattle.replay_edits.specs.Edit.{log_of};
 ghost use Rattle.replay_edits.specs.Outcome.{text_of, new_texts, log_without, AreRising};
 ghost use Rattle.replay_edits.specs.Outcome.{IsOldWithin};

@@ -1,7 +1,6 @@
 ghost use Rattle.std.specs.Prelude.{◌≡◌, ◌+◌, ◌-◌, ◌<◌, ◌≤◌, ◌++◌, ◌∷◌, [], length, IfOk, OnOk, None};
 ghost use Rattle.std.specs.Prelude.{IfSome, option_map, slice_get};
-ghost use Rattle.replay_edits.specs.Edit.{change_of, log_of, line_at, own_line, apply};
-ghost use Rattle.replay_edits.specs.Edit.{inverse_of};
+ghost use Rattle.replay_edits.specs.Edit.{change_of, log_of, line_at, own_line, apply, inverse_of};
 ghost use Rattle.replay_edits.specs.Faults.{fault_of};
 ghost use Rattle.replay_edits.specs.Leaves.{LeavesAlone};
 ghost use Rattle.replay_edits.specs.Outcome.{lines_of, lines_by, log_by, game_by, AreNumbers, AreRising};

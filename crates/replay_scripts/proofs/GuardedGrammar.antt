@@ -1,7 +1,6 @@
 -- What a script with guards gives is what it gives with its guards taken as blank.
 use Rattle.std.proofs.Common.{Bool, true, false, ◌≡◌, ℕ, ◌+◌, List, [], ◌∷◌, ◌++◌, Option, Some}
-use Rattle.std.proofs.Common.{None}
-use Rattle.std.proofs.Common.{Result, Ok, Err, MatchResult, IfErr, IfOk, option_map, refl}
+use Rattle.std.proofs.Common.{None, Result, Ok, Err, MatchResult, IfErr, IfOk, option_map, refl}
 use Rattle.std.proofs.lemmas.List.{map-append}
 use Rattle.std.specs.Str.Lines.{lines}
 use Rattle.replay_scripts.specs.declared.fault.ScriptFlaw.TheVariants as flaw_is

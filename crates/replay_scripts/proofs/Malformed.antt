@@ -14,10 +14,9 @@ use Rattle.replay_scripts.specs.declared.script.Script.{Script}
 use Rattle.replay_scripts.specs.Line.{LineKind, nothing, begin, end, edit, nonsense, IsKind, IsWord}
 use Rattle.replay_scripts.specs.Line.{kind_of_script_line}
 use Rattle.replay_scripts.specs.Script.{Applied, group_of, group_at_line, group_with_change, single}
-use Rattle.replay_scripts.specs.Script.{guarded_by, IsBody}
-use Rattle.replay_scripts.specs.Script.{body_done, body_skips, body_spells, IsScript, done, skips}
-use Rattle.replay_scripts.specs.Script.{spells, groups, reading_in_group, onward}
-use Rattle.replay_scripts.specs.Script.{reading_outside_group, read_from, script_of}
+use Rattle.replay_scripts.specs.Script.{guarded_by, IsBody, body_done, body_skips, body_spells}
+use Rattle.replay_scripts.specs.Script.{IsScript, done, skips, spells, groups, reading_in_group}
+use Rattle.replay_scripts.specs.Script.{onward, reading_outside_group, read_from, script_of}
 use Rattle.replay_scripts.specs.Malformed.{IsFirstMalformed, IsMalformedAt, IsOpen, AreWholeItems}
 use Rattle.replay_scripts.specs.Malformed.{IsLineAt}
 use Rattle.replay_scripts.specs.Views.{IsFaultOf, items_of}

@@ -1,14 +1,12 @@
 -- What is written for a number is digits that write it.
-use Rattle.std.proofs.Common.{◌≡◌, ℕ, ◌≤◌, List, length, fold, IsTrue, min, refl}
-use Rattle.std.proofs.Common.{ap, arith, true}
+use Rattle.std.proofs.Common.{◌≡◌, ℕ, ◌≤◌, List, length, fold, IsTrue, min, refl, ap, arith, true}
 use Rattle.std.specs.Fmt.{decimal}
 use Rattle.std.specs.List.{list_all}
 use Rattle.std.proofs.lemmas.Bool.{and_parts}
 use Rattle.std.proofs.lemmas.Bool.Decides.{nat_tests}
 use Rattle.std.proofs.lemmas.Fmt.{digits_decimal, digits_value-decimal, decimal_nonempty}
 use Rattle.std.proofs.lemmas.Fmt.{length-decimal-le}
-use Rattle.std.proofs.lemmas.Str.Parse.{FoldsDigits, IsDigitsTest, IsNumeralModel}
-use Rattle.std.proofs.lemmas.Str.Parse.{numerals_by_fold}
+use Rattle.std.proofs.lemmas.Str.Parse.{FoldsDigits, IsDigitsTest, IsNumeralModel, numerals_by_fold}
 use Rattle.base_lines.specs.Bytes.{is_digit, number_of, with_digit}
 
 abbrev AreDigits : List ℕ → Type 0

@@ -1,6 +1,5 @@
 -- A script can say what a log takes.
-use Rattle.std.proofs.Common.{◌≡◌, ℕ, ◌≤◌, List, length}
-use Rattle.std.proofs.Common.{refl, arith, true}
+use Rattle.std.proofs.Common.{◌≡◌, ℕ, ◌≤◌, List, length, refl, arith, true}
 use Rattle.std.specs.Prelude.{Bool, false, None, Some, if◌then◌else◌, nat_lt}
 use Rattle.std.specs.List.{list_all}
 use Rattle.std.proofs.lemmas.Bool.Decides.{nat_tests}
@@ -11,8 +10,7 @@ use Rattle.replay_edits.specs.declared.fault.EditFault.TheVariants.{BadSeed}
 use Rattle.replay_edits.specs.Faults.{fault_of}
 use Rattle.replay_edits.specs.Edit.{Change, inserts, deletes, own_line, replaces, reseeds}
 use Rattle.replay_edits.proofs.Inverses.{delete_within, insert_within, replace_within}
-use Rattle.replay_scripts.specs.ScriptText.{Back, CanExpect, IsSpellable}
-use Rattle.replay_scripts.specs.ScriptText.{number_in}
+use Rattle.replay_scripts.specs.ScriptText.{Back, CanExpect, IsSpellable, number_in}
 
 seed_within : (large : Bool) → (if large then Some BadSeed else None) ≡ None → large ≡ false
 seed_within true free = cc

@@ -1,7 +1,6 @@
 -- The lines of groups are read back as the groups.
-use Rattle.std.proofs.Common.{◌≡◌, ℕ, ◌+◌, ◌≤◌, List, [], ◌∷◌, ◌++◌, length, map, codes, All}
-use Rattle.std.proofs.Common.{sym, ap, ap₂, ◌∙◌, refl, append_assoc, append-nil, true}
-use Rattle.std.proofs.Common.{Result, Ok}
+use Rattle.std.proofs.Common.{◌≡◌, ℕ, ◌+◌, ◌≤◌, List, [], ◌∷◌, ◌++◌, length, map, codes, All, sym}
+use Rattle.std.proofs.Common.{ap, ap₂, ◌∙◌, refl, append_assoc, append-nil, true, Result, Ok}
 use Rattle.std.specs.Prelude.{Bool, false, Option, None, Some}
 use Rattle.std.specs.List.{flat_map, list_all}
 use Rattle.std.specs.Str.Lines.{lines}
@@ -10,8 +9,7 @@ use Rattle.std.proofs.lemmas.List.Elements.{All-append, All-cons, All-head, All-
 use Rattle.base_lines.specs.LogLine.{is_skipped}
 use Rattle.base_lines.specs.Line.{is_line_byte}
 use Rattle.replay_edits.specs.Edit.{Change, inserts, deletes, replaces, reseeds}
-use Rattle.replay_scripts.specs.Guards.{changes_so_far, read_guarded_from}
-use Rattle.replay_scripts.specs.Guards.{script_by}
+use Rattle.replay_scripts.specs.Guards.{changes_so_far, read_guarded_from, script_by}
 use Rattle.replay_scripts.specs.Line.{IsWord, Spells, begin, edit, end, expected_in}
 use Rattle.replay_scripts.specs.Line.{kind_of_script_line, nothing, number_after_word}
 use Rattle.replay_scripts.specs.Script.{Applied, Expectation, group_at_line, group_with_change}

@@ -11,8 +11,7 @@ use Rattle.base_lines.specs.Bytes.{is_digit}
 use Rattle.base_lines.specs.Line.{is_line_byte}
 use Rattle.replay_edits.specs.Edit.{Change, inserts, deletes, own_line, replaces, reseeds}
 use Rattle.replay_scripts.specs.Line.{IsNumbered, Spells}
-use Rattle.replay_scripts.specs.ScriptText.{change_line}
-use Rattle.replay_scripts.specs.ScriptText.{number_in}
+use Rattle.replay_scripts.specs.ScriptText.{change_line, number_in}
 use Rattle.replay_scripts.proofs.Numerals.{all_digits, few_digits, some_digits, value}
 use Rattle.replay_scripts.proofs.Texts.{IsTextLine}
 

@@ -10,7 +10,7 @@ use Rattle.std.proofs.lemmas.Slice.Eq.{bytes_eq-Decides}
 use Rattle.base_lines.specs.Bytes.{is_blank, is_digit, prefix_while, after_prefix, number_of}
 use Rattle.replay_scripts.specs.Line.{IsNumbered, IsText, IsWord, is_word_line, number_after_word}
 use Rattle.replay_scripts.specs.Line.{number_after_blank, number_and_rest, text_of_edit}
-use Rattle.base_lines.specs.Prefixes.{prefix_while-append-after_prefix, list_all-prefix_while}
+use Rattle.base_lines.proofs.Prefixes.{prefix_while-append-after_prefix, list_all-prefix_while}
 use Rattle.replay_scripts.proofs.Prefixes.{NoDigitFirst, after_prefix-digits, prefix_while-digits}
 
 pub not_true : (b : Bool) → ¬ IsTrue b → b ≡ false

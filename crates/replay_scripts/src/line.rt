@@ -5,8 +5,7 @@ ghost use Rattle.base_lines.specs.Limits.{max_script_number};
 ghost use Rattle.base_lines.specs.Bytes.{is_blank, number_of};
 ghost use Rattle.replay_edits.specs.Edit.{change_of};
 ghost use Rattle.replay_scripts.specs.Line.{is_word_line, number_after_word, text_of_edit, edit_of};
-ghost use Rattle.replay_scripts.specs.Line.{expected_in};
-ghost use Rattle.replay_scripts.specs.Line.{kind_of_script_line, kind_said};
+ghost use Rattle.replay_scripts.specs.Line.{expected_in, kind_of_script_line, kind_said};
 
 use crate::edit_flaw::{EditFlaw, edit_flaw_of};
 use base_lines::bytes::{is_all_blank, is_blank, split_digits};

@@ -10,7 +10,7 @@ use Rattle.turn_scene.specs.Parts.{with_closing, with_dwarves}
 use Rattle.turn_scene.specs.Rows.{Test, Effect, Row, plain_row, otherwise, by_table}
 use Rattle.turn_scene.specs.Tests.{the, prop}
 use Rattle.turn_scene.specs.Effects.{change, say, destroy, loosen, set_prop}
-use Rattle.turn_scene.specs.Troll.{troll_goes}
+use Rattle.turn_scene.specs.SharedRules.{troll_goes}
 use Rattle.cave_world.specs.declared.tables.Table.TheVariants as table
 
 -- no treasure counts as unseen

@@ -13,7 +13,7 @@ use Rattle.turn_scene.specs.Rows.{Deed, Act, Test, Effect, Row, row_then, plain_
 use Rattle.turn_scene.specs.Rows.{first_fitting_or, nothing_but, always, otherwise, noted}
 use Rattle.turn_scene.specs.Tests.{the, no, near, prop, nowhere, here, outside, lamp_dead}
 use Rattle.turn_scene.specs.Effects.{with_charge, change, say, set_prop, set_charge}
-use Rattle.turn_scene.specs.Putting.{lay_down}
+use Rattle.turn_scene.specs.SharedRules.{lay_down}
 use Rattle.cave_world.specs.declared.tables.Table.TheVariants as table
 use Rattle.turn_clocks.specs.declared.clocks.Clocks.{Clocks}
 use Rattle.turn_clocks.specs.declared.clocks.Clocks.TheVariants.{GoOn, GaveUp}

@@ -4,6 +4,5 @@ pub mod Knives
 pub mod Lines
 pub mod Moving
 pub mod Pirate
-pub mod Booty
 pub mod Waking
 pub mod Ahead

@@ -5,9 +5,9 @@ ghost use Rattle.turn_scene.specs.Bounds.{GoesOnSaying};
 ghost use Rattle.turn_scene.specs.Scene.{cave_of, scene_of};
 ghost use Rattle.turn_scene.specs.Treasures.{treasures};
 ghost use Rattle.turn_scene.specs.Rows.{Does, deed};
-ghost use Rattle.turn_dwarves.specs.Booty.{fair, is_carried_booty, carries_booty, treasure_near};
-ghost use Rattle.turn_dwarves.specs.Booty.{after_stealing, after_stealing_all, take_booty};
-ghost use Rattle.turn_dwarves.specs.Booty.{with_pirate_home};
+ghost use Rattle.turn_dwarves.specs.Pirate.{fair, is_carried_booty, carries_booty, treasure_near};
+ghost use Rattle.turn_dwarves.specs.Pirate.{after_stealing, after_stealing_all, take_booty};
+ghost use Rattle.turn_dwarves.specs.Pirate.{with_pirate_home};
 
 use crate::band::{dwarf_of, set_dwarf};
 use cave_words::Named;
@@ -18,7 +18,7 @@ use turn_scene::{Rules, Scene, is_carried, is_fixed, is_home_here, is_near, plac
 use world_objects::Object;
 
 /// Whether a treasure is fair game: any is, except the pyramid at its own home or at the emerald's.
-#[tactic(auto, unfolding(crate::specs::Booty::fair))]
+#[tactic(auto, unfolding(crate::specs::Pirate::fair))]
 fn is_fair<N: RowNotes>(rules: &Rules<'_>, object: Object, scene: &Scene<'_, N>) -> bool
     ensures { result ≡ fair (deed (cave_of rules.now) object (scene_of N.rows scene.now)) }
 {
@@ -28,7 +28,7 @@ fn is_fair<N: RowNotes>(rules: &Rules<'_>, object: Object, scene: &Scene<'_, N>)
 }
 
 /// Whether the player carries a treasure that is fair game.
-#[tactic(auto, unfolding(crate::specs::Booty::is_carried_booty))]
+#[tactic(auto, unfolding(crate::specs::Pirate::is_carried_booty))]
 fn is_carried_booty<N: RowNotes>(rules: &Rules<'_>, object: Object, scene: &Scene<'_, N>) -> bool
     ensures { result ≡ is_carried_booty (cave_of rules.now) (scene_of N.rows scene.now) object }
 {
@@ -36,7 +36,7 @@ fn is_carried_booty<N: RowNotes>(rules: &Rules<'_>, object: Object, scene: &Scen
 }
 
 /// Whether the player carries something that the pirate takes.
-#[tactic(auto, using(crate::proofs::Treasures::walking), unfolding(crate::specs::Booty::carries_booty))]
+#[tactic(auto, using(crate::proofs::Treasures::walking), unfolding(crate::specs::Pirate::carries_booty))]
 pub fn carries_booty<N: RowNotes>(rules: &Rules<'_>, scene: &Scene<'_, N>) -> bool
     ensures { result ≡ carries_booty (deed (cave_of rules.now) tt (scene_of N.rows scene.now)) }
 {
@@ -49,7 +49,7 @@ pub fn carries_booty<N: RowNotes>(rules: &Rules<'_>, scene: &Scene<'_, N>) -> bo
 }
 
 /// Whether a treasure is at hand.
-#[tactic(auto, using(crate::proofs::Treasures::walking), unfolding(crate::specs::Booty::treasure_near))]
+#[tactic(auto, using(crate::proofs::Treasures::walking), unfolding(crate::specs::Pirate::treasure_near))]
 pub fn is_treasure_near<N: RowNotes>(rules: &Rules<'_>, scene: &Scene<'_, N>) -> bool
     ensures { result ≡ treasure_near (deed (cave_of rules.now) tt (scene_of N.rows scene.now)) }
 {
@@ -62,7 +62,7 @@ pub fn is_treasure_near<N: RowNotes>(rules: &Rules<'_>, scene: &Scene<'_, N>) ->
 }
 
 /// Brings a treasure that is fair game to the pirate's chest, if it is carried, or here and loose.
-#[tactic(auto, unfolding(crate::specs::Booty::after_stealing, crate::specs::Booty::theft_rows))]
+#[tactic(auto, unfolding(crate::specs::Pirate::after_stealing, crate::specs::Pirate::theft_rows))]
 fn steal<N: RowNotes>(rules: &Rules<'_>, object: Object, scene: &mut Scene<'_, N>)
     ensures scene { scene_of N.rows scene.new
         ≡ after_stealing (cave_of rules.now) object (scene_of N.rows scene.old) }
@@ -89,7 +89,7 @@ fn steal_all<N: RowNotes>(rules: &Rules<'_>, scene: &mut Scene<'_, N>)
 }
 
 /// The pirate goes home to its chest, and no longer sees the player.
-#[tactic(auto, unfolding(crate::specs::Booty::with_pirate_home))]
+#[tactic(auto, unfolding(crate::specs::Pirate::with_pirate_home))]
 pub fn send_pirate_home(rules: &Rules<'_>, state: &mut State)
     ensures { state.new ≡ with_pirate_home (cave_of rules.now) state.old }
 {
@@ -103,7 +103,7 @@ pub fn send_pirate_home(rules: &Rules<'_>, state: &mut State)
 }
 
 /// The pirate leaves its message, takes all that it can get, and goes home with it.
-#[tactic(auto, unfolding(crate::specs::Booty::take_booty))]
+#[tactic(auto, unfolding(crate::specs::Pirate::take_booty))]
 pub fn take_booty<N: RowNotes>(rules: &Rules<'_>, scene: &mut Scene<'_, N>)
     ensures effects { Does N.rows take_booty 0 rules.now tt scene.old scene.new }
 {

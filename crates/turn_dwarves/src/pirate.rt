@@ -11,7 +11,7 @@ ghost use Rattle.turn_scene.specs.Rows.{Does, all_hold, deed, by_table};
 ghost use Rattle.turn_scene.specs.Tests.{the, no, near, prop, nowhere};
 ghost use Rattle.cave_world.specs.declared.tables.Table.TheVariants as table;
 ghost use Rattle.turn_dwarves.specs.Band as band;
-ghost use Rattle.turn_dwarves.specs.Booty.{treasure_near, chest};
+ghost use Rattle.turn_dwarves.specs.Pirate.{treasure_near, chest};
 ghost use Rattle.turn_dwarves.specs.Pirate.{one_left, pirate_rows, chase_rows, after_pirate};
 
 use crate::band::dwarf_of;
@@ -96,7 +96,7 @@ fn is_pirate_new(state: &State) -> bool
 }
 
 /// The pirate who is after the player robs, or hides its chest, or may be heard.
-#[tactic(auto, unfolding(crate::specs::Pirate::pirate_rows, crate::specs::Booty::hide_chest))]
+#[tactic(auto, unfolding(crate::specs::Pirate::pirate_rows, crate::specs::Pirate::hide_chest))]
 fn meet_pirate<N: RowNotes>(rules: &Rules<'_>, scene: &mut Scene<'_, N>)
     requires { HasRoom 1 scene.old }
     ensures rows { Does N.rows (by_table table.Pirate pirate_rows ∷ []) 1 rules.now tt

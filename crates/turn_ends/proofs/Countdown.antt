@@ -7,8 +7,7 @@ use Rattle.cave_data.specs.CaveView.{CaveView, name_of}
 use Rattle.world_objects.specs.Objects.{Layout, with_prop}
 use Rattle.turn_scene.specs.Homes.{hold_of}
 use Rattle.turn_ends.specs.Begin.{is_placed_now, all_objects, objects_due}
-use Rattle.turn_ends.specs.Placing.{after_placing}
-use Rattle.turn_ends.specs.Placing.{after_placing_all, after_hiding_treasures}
+use Rattle.turn_ends.specs.Placing.{after_placing, after_placing_all, after_hiding_treasures}
 use Rattle.turn_scene.specs.Treasures.{treasures, known_treasures}
 
 -- those of these objects that are due

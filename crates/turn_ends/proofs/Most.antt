@@ -7,11 +7,10 @@ use Rattle.cave_world.specs.declared.ending.Ending.{Ending}
 use Rattle.cave_world.specs.declared.ending.Ending.TheVariants as ending
 use Rattle.cave_world.specs.declared.state.State.{State}
 use Rattle.turn_scene.specs.Treasures.{known_treasures}
-use Rattle.turn_ends.specs.Counting.{ScoreRow, points_by, most_by}
-use Rattle.turn_ends.specs.Treasures.{worth, is_seen, is_safe, treasure_rows, treasures_row}
-use Rattle.turn_ends.specs.Score.{life_points, escape_points, has_other_end, has_dwarves_up}
-use Rattle.turn_ends.specs.Score.{is_closing, closed_points, has_magazine_there}
-use Rattle.turn_ends.specs.Score.{score_rows, score_of, max_score_of}
+use Rattle.turn_ends.specs.Score.{ScoreRow, points_by, most_by, worth, is_seen, is_safe}
+use Rattle.turn_ends.specs.Score.{treasure_rows, treasures_row, life_points, escape_points}
+use Rattle.turn_ends.specs.Score.{has_other_end, has_dwarves_up, is_closing, closed_points}
+use Rattle.turn_ends.specs.Score.{has_magazine_there, score_rows, score_of, max_score_of}
 
 -- each row counts at most its most
 abbrev AreWithin : State → List ScoreRow → Type 0

@@ -6,9 +6,8 @@ use Rattle.std.proofs.lemmas.List.Sums.{sum_by-cons}
 use Rattle.cave_data.specs.CaveView.{CaveView}
 use Rattle.cave_world.specs.declared.state.State.{State}
 use Rattle.turn_scene.specs.Treasures.{is_known, treasures, known_treasures}
-use Rattle.turn_ends.specs.Counting.{points_by, most_by}
-use Rattle.turn_ends.specs.Treasures.{treasure_rows, treasures_row}
-use Rattle.turn_ends.specs.Score.{hints_taken, price_of, hint_costs}
+use Rattle.turn_ends.specs.Score.{points_by, most_by, treasure_rows, treasures_row, hints_taken}
+use Rattle.turn_ends.specs.Score.{price_of, hint_costs}
 use Rattle.cave_world.specs.State.{is_hint_taken}
 
 -- what those numbers from one on, up to an end, count of which something holds

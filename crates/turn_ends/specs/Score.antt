@@ -1,6 +1,6 @@
 -- The score, by a table of what counts. The same table gives the greatest score.
 use Rattle.std.specs.Prelude.{ℕ, ◌-◌, ◌*◌, Bool, true, false, ◌==◌, if◌then◌else◌, not, List, []}
-use Rattle.std.specs.Prelude.{◌∷◌, filter, Option, Some, None}
+use Rattle.std.specs.Prelude.{◌∷◌, filter, Option, Some, None, ◌+◌, pos, ◌&&◌, ◌||◌, nat_lt, int_le}
 use Rattle.std.specs.FinMap as map
 use Rattle.std.specs.List.{sum_by, range_with_len}
 use Rattle.base_lines.specs.Numbers.{LAST_HINT}
@@ -8,15 +8,72 @@ use Rattle.data_rows.specs.declared.place_role.PlaceRole.TheVariants as place
 use Rattle.data_rows.specs.declared.rows.Hint.{Hint}
 use Rattle.cave_data.specs.CaveView.{CaveView}
 use Rattle.cave_words.specs.declared.named.Named.TheVariants as name
-use Rattle.world_objects.specs.Objects.{is_first_at}
+use Rattle.world_objects.specs.Objects.{is_first_at, prop_of}
 use Rattle.cave_world.specs.declared.ending.Ending.{Ending}
 use Rattle.cave_world.specs.declared.ending.Ending.TheVariants as ending
 use Rattle.cave_world.specs.declared.state.State.{State}
 use Rattle.cave_world.specs.State.{LIVES, is_hint_taken}
 use Rattle.turn_scene.specs.Scene.{thing}
-use Rattle.turn_scene.specs.Places.{place_named}
-use Rattle.turn_ends.specs.Counting.{ScoreRow, points_by, most_by, score_row, score_row_up_to}
-use Rattle.turn_ends.specs.Treasures.{treasures_row}
+use Rattle.turn_scene.specs.Places.{place_named, building_place}
+use Rattle.turn_ends.specs.declared.scorer.Scorer.{Scorer}
+use Rattle.turn_scene.specs.Reach.{has_prop}
+use Rattle.turn_scene.specs.Treasures.{known_treasures}
+use Rattle.turn_scene.specs.Props.{SEEN}
+
+-- the points that a state has for what a row counts, and the most that a state can have for it
+pub record ScoreRow : Type 0 where
+  pub points : State → ℕ
+  pub most : ℕ
+
+-- the points of all rows together
+abbrev pub points_by : List ScoreRow → State → ℕ
+points_by [] s = 0
+points_by (r ∷ rows) s = r.points s + points_by rows s
+
+-- the most points of all rows together
+abbrev pub most_by : List ScoreRow → ℕ
+most_by [] = 0
+most_by (r ∷ rows) = r.most + most_by rows
+
+-- this many points if something holds
+abbrev pub score_row : ℕ → (State → Bool) → ScoreRow
+score_row n is_so = record { points = λ s. if is_so s then n else 0; most = n }
+
+-- at most this many points, by what a state is like
+abbrev pub score_row_up_to : ℕ → (State → ℕ) → ScoreRow
+score_row_up_to most points = record { points = points; most = most }
+
+-- rows for each of some objects
+abbrev pub score_row_each : List ℕ → (ℕ → List ScoreRow) → ScoreRow
+score_row_each xs rows = record {
+  points = λ s. sum_by (λ x. points_by (rows x) s) xs;
+  most = sum_by (λ x. most_by (rows x)) xs;
+}
+
+-- what a treasure is worth: less before the chest than after it; if there is no chest, each is
+-- worth what one before a chest is
+unfoldable pub worth : CaveView → ℕ → ℕ
+worth cave x =
+    let chest = thing cave name.Chest in
+    if chest == 0 || nat_lt x chest then 12 else (if x == chest then 14 else 16)
+
+abbrev pub is_seen : ℕ → State → Bool
+is_seen x s = int_le (pos 0) (prop_of s.objects x)
+
+-- a treasure is in the building with prop 0, as whole as it was found
+abbrev pub is_safe : CaveView → ℕ → State → Bool
+is_safe cave x s = is_first_at s.objects (building_place cave) x && has_prop s x SEEN
+
+-- a treasure counts once it was seen, and the rest of its worth if it is safe
+unfoldable pub treasure_rows : CaveView → ℕ → List ScoreRow
+treasure_rows cave x =
+    score_row 2 (is_seen x)
+    ∷ score_row (worth cave x - 2) (is_safe cave x)
+    ∷ []
+
+-- each treasure that the cave knows
+abbrev pub treasures_row : CaveView → ScoreRow
+treasures_row cave = score_row_each (known_treasures cave) (treasure_rows cave)
 
 -- all scores are below this number
 abbrev pub END_OF_SCORES : ℕ
@@ -95,3 +152,6 @@ score_of cave s = points_by (score_rows cave) s - hint_costs cave s
 -- the greatest score: the most of each row
 unfoldable pub max_score_of : CaveView → ℕ
 max_score_of cave = most_by (score_rows cave)
+
+abbrev pub scored_cave : Scorer → CaveView
+scored_cave scorer = scorer.cave.now

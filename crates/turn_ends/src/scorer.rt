@@ -22,7 +22,7 @@ pub struct Scorer<'a> {
 }
 
 impl<'a> Scorer<'a> {
-    ghost use Rattle.turn_ends.specs.Scorer.{scored_cave};
+    ghost use Rattle.turn_ends.specs.Score.{scored_cave};
 
     /// The scorer of a cave whose lexicon is there.
     pub fn of(rules: &Rules<'a>) -> Scorer<'a>

@@ -1,10 +1,9 @@
 ghost use Rattle.std.specs.Prelude.{◌≡◌, ◌≤◌, ◌<◌};
-ghost use Rattle.turn_ends.specs.Scorer.{scored_cave};
-ghost use Rattle.turn_ends.specs.Counting.{points_by, score_row};
-ghost use Rattle.turn_ends.specs.Score.{life_points, has_other_end, has_dwarves_up, is_closing};
-ghost use Rattle.turn_ends.specs.Score.{escape_points, closed_points, lies_at};
-ghost use Rattle.turn_ends.specs.Score.{has_magazine_there, score_rows, price_of, hint_costs};
-ghost use Rattle.turn_ends.specs.Score.{score_of, max_score_of, END_OF_SCORES};
+ghost use Rattle.turn_ends.specs.Score.{scored_cave, points_by, score_row, life_points};
+ghost use Rattle.turn_ends.specs.Score.{has_other_end, has_dwarves_up, is_closing, escape_points};
+ghost use Rattle.turn_ends.specs.Score.{closed_points, lies_at, has_magazine_there, score_rows};
+ghost use Rattle.turn_ends.specs.Score.{price_of, hint_costs, score_of, max_score_of};
+ghost use Rattle.turn_ends.specs.Score.{END_OF_SCORES};
 
 use crate::scorer::Scorer;
 use crate::treasures::treasure_points;

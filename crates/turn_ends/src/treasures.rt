@@ -1,7 +1,6 @@
 ghost use Rattle.std.specs.Prelude.{◌≡◌, ◌≤◌};
-ghost use Rattle.turn_ends.specs.Scorer.{scored_cave};
-ghost use Rattle.turn_ends.specs.Counting.{points_by};
-ghost use Rattle.turn_ends.specs.Treasures.{is_seen, is_safe, treasure_rows, treasures_row};
+ghost use Rattle.turn_ends.specs.Score.{scored_cave, points_by, is_seen, is_safe, treasure_rows};
+ghost use Rattle.turn_ends.specs.Score.{treasures_row};
 
 use crate::scorer::Scorer;
 use crate::worths::worth;
@@ -31,7 +30,7 @@ pub fn is_safe(cave: &Cave, state: &State, treasure: Object) -> bool
 }
 
 /// How many points a treasure counts.
-#[tactic(auto, unfolding(crate::specs::Treasures::treasure_rows))]
+#[tactic(auto, unfolding(crate::specs::Score::treasure_rows))]
 fn points_of_treasure(scorer: &Scorer<'_>, state: &State, treasure: Object) -> u32
     ensures value { result
         ≡ points_by (treasure_rows (scored_cave scorer.now) treasure) state.now }

@@ -1,7 +1,5 @@
 ghost use Rattle.std.specs.Prelude.{◌≡◌, ◌≤◌};
-ghost use Rattle.turn_ends.specs.Scorer.{scored_cave};
-ghost use Rattle.turn_ends.specs.Counting.{most_by};
-ghost use Rattle.turn_ends.specs.Treasures.{worth, treasure_rows, treasures_row};
+ghost use Rattle.turn_ends.specs.Score.{scored_cave, most_by, worth, treasure_rows, treasures_row};
 
 use crate::scorer::Scorer;
 use turn_scene::is_known;
@@ -18,7 +16,7 @@ const WORTH_OF_CHEST: u32 = 14;
 const WORTH_AFTER_CHEST: u32 = 16;
 
 /// What a treasure is worth: more than the chest after it, less before it.
-#[tactic(auto, unfolding(crate::specs::Treasures::worth, crate::specs::Treasures::treasure_rows))]
+#[tactic(auto, unfolding(crate::specs::Score::worth, crate::specs::Score::treasure_rows))]
 pub fn worth(scorer: &Scorer<'_>, treasure: Object) -> u32
     ensures value { result ≡ worth (scored_cave scorer.now) treasure }
     ensures whole { most_by (treasure_rows (scored_cave scorer.now) treasure) ≡ result }

@@ -29,12 +29,11 @@ use Rattle.turn_clocks.specs.FirstClock.{all_seen, begin_closing, closing_bear_r
 use Rattle.turn_clocks.specs.FirstClock.{some_turns_left, with_first_clock_down, without_dwarves}
 use Rattle.turn_clocks.specs.Lamp.{burn, burning_rows, can_change_batteries, care_for_lamp}
 use Rattle.turn_clocks.specs.Lamp.{change_batteries, go_out, lamp_clock, lamp_rows, turns_left}
-use Rattle.turn_clocks.specs.Lamp.{warn}
-use Rattle.turn_clocks.specs.Lamp.{warning_rows, with_warning}
+use Rattle.turn_clocks.specs.Lamp.{warn, warning_rows, with_warning}
 use Rattle.turn_clocks.specs.Repository.{all_of, close_cave, northeast_things, southwest_things}
 use Rattle.turn_clocks.specs.Repository.{with_empty_hands, with_second_clock_down, without_all}
-use Rattle.turn_scene.specs.Troll.{after_troll, troll_goes, troll_leaves}
-use Rattle.turn_scene.specs.Putting.{after_lay_down, lay_down_rows}
+use Rattle.turn_scene.specs.SharedRules.{after_troll, troll_goes, troll_leaves}
+use Rattle.turn_scene.specs.SharedRules.{after_lay_down, lay_down_rows}
 use Rattle.turn_scene.specs.Parts.{with_objects}
 use Rattle.world_objects.specs.declared.spot.Anchor.TheVariants as anchor
 use Rattle.data_rows.specs.declared.place_role.PlaceRole.TheVariants as landmark
@@ -46,8 +45,7 @@ use Rattle.cave_world.specs.declared.tables.RuleRow.{RuleRow}
 use Rattle.turn_laws.specs.Courses.{is_lit}
 use Rattle.turn_laws.specs.Laws.{before_lamp, is_changed, unless_closed}
 use Rattle.turn_laws.proofs.Effects.{by_guarded, effects, fails_alone, guarded, holds_alone}
-use Rattle.turn_laws.proofs.Effects.{second_holds}
-use Rattle.turn_laws.proofs.Effects.{more_charge, moved, moved_all, quiet, tests}
+use Rattle.turn_laws.proofs.Effects.{second_holds, more_charge, moved, moved_all, quiet, tests}
 use Rattle.turn_laws.proofs.View.{Begins, Burns, Change, Claim, Counts, Hold, IsKept, IsMoved}
 use Rattle.turn_laws.proofs.View.{Juggle, Leaves, Line, On, Place, Prop, Ready, Shifts, Shuts}
 use Rattle.turn_laws.proofs.View.{Somewhere, There, Ticks, View, after, burnt, led, left_of, view}

@@ -12,20 +12,17 @@ use Rattle.cave_words.specs.Stream.{next}
 use Rattle.turn_dwarves.specs.Ahead.{ways_of_dwarf}
 use Rattle.cave_world.specs.Limits.{PIRATE}
 use Rattle.turn_dwarves.specs.Band.{dwarf_of, gone, with_anger, with_dwarf}
-use Rattle.turn_dwarves.specs.Booty.{after_stealing, after_stealing_all, hide_chest, take_booty}
-use Rattle.turn_dwarves.specs.Booty.{theft_rows}
-use Rattle.turn_dwarves.specs.Booty.{with_pirate_home}
+use Rattle.turn_dwarves.specs.Pirate.{after_stealing, after_stealing_all, hide_chest, take_booty}
+use Rattle.turn_dwarves.specs.Pirate.{theft_rows, with_pirate_home, after_pirate, chase_rows}
+use Rattle.turn_dwarves.specs.Pirate.{move_pirate, pirate_rows, pirate_turn_rows}
 use Rattle.turn_dwarves.specs.Dwarves.{anger_rows, awake, encounter_dwarves}
 use Rattle.turn_dwarves.specs.Knives.{Raider, attack, attacker, dwarf_turn, let_dwarf_act}
 use Rattle.turn_dwarves.specs.Knives.{move_attacker, no_attack, raid, raider, threat_rows, threaten}
 use Rattle.turn_dwarves.specs.Knives.{thrown_rows}
 use Rattle.turn_dwarves.specs.Lines.{dwarf_rows, knife_rows, provoked_rows, tell_attack}
 use Rattle.turn_dwarves.specs.Moving.{after_dwarf_move, chosen_way, dwarf_in_sight, dwarf_on_way}
-use Rattle.turn_dwarves.specs.Pirate.{after_pirate, chase_rows, move_pirate, pirate_rows}
-use Rattle.turn_dwarves.specs.Pirate.{pirate_turn_rows}
 use Rattle.turn_dwarves.specs.Waking.{after_keeping_one_apart, apart_rows, leaving_rows, wake}
-use Rattle.turn_dwarves.specs.Waking.{waking_rows}
-use Rattle.turn_dwarves.specs.Waking.{with_dwarf_at, without_dwarf}
+use Rattle.turn_dwarves.specs.Waking.{waking_rows, with_dwarf_at, without_dwarf}
 use Rattle.turn_dwarves.specs.declared.knives.Attack.{Attack}
 use Rattle.turn_scene.specs.Effects.{for_each_from}
 use Rattle.cave_world.specs.declared.tables.Table.TheVariants as table

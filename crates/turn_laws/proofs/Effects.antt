@@ -21,11 +21,10 @@ use Rattle.world_objects.specs.Objects.{after_juggle, after_move_to, with_anchor
 use Rattle.world_objects.specs.declared.spot.Anchor.{Anchor}
 use Rattle.turn_scene.specs.Effects.{after_sending, for_each_down_from, for_each_from}
 use Rattle.cave_world.specs.declared.tables.Table.TheVariants as table
-use Rattle.turn_scene.specs.Losses.{after_loss_to_snake, loss_to_snake_rows}
-use Rattle.turn_scene.specs.Panic.{after_panic, panic_rows}
-use Rattle.turn_scene.specs.Putting.{after_lay_down, after_put, caged_bird_rows, free_bird_rows}
-use Rattle.turn_scene.specs.Putting.{lay_down_rows, put_down, vessel}
-use Rattle.turn_scene.specs.Troll.{after_troll, troll_leaves}
+use Rattle.turn_scene.specs.SharedRules.{after_loss_to_snake, loss_to_snake_rows, after_panic}
+use Rattle.turn_scene.specs.SharedRules.{panic_rows, after_lay_down, after_put, caged_bird_rows}
+use Rattle.turn_scene.specs.SharedRules.{free_bird_rows, lay_down_rows, put_down, vessel}
+use Rattle.turn_scene.specs.SharedRules.{after_troll, troll_leaves}
 use Rattle.cave_verbs.specs.Effects.{after_default}
 use Rattle.turn_laws.proofs.Counted.{angrier}
 use Rattle.turn_laws.proofs.View.{Band, Bands, Change, Claim, Hints, Hold, IsBandAfter}

@@ -24,8 +24,7 @@ use Rattle.turn_scene.specs.Places.{start_place}
 use Rattle.std.specs.FinMap as map
 use Rattle.base_lines.proofs.LogLines.{IsLogLine-log_line, log_line-only}
 use Rattle.cave_turn.specs.Commands.{begin_command, after_command}
-use Rattle.cave_turn.specs.Dragon.{after_gather, after_settle, fight, gathering_rows, lair}
-use Rattle.cave_turn.specs.Dragon.{settle}
+use Rattle.cave_turn.specs.Dragon.{after_gather, after_settle, fight, gathering_rows, lair, settle}
 use Rattle.cave_turn.specs.Finish.{after_end_of_turn}
 use Rattle.cave_turn.specs.Revival.{bury}
 use Rattle.cave_world.specs.State.{state_with_player_at}

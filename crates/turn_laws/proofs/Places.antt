@@ -37,7 +37,7 @@ use Rattle.world_objects.specs.declared.object.Half.{Half}
 use Rattle.cave_world.specs.declared.ending.Ending.TheVariants as ending_is
 use Rattle.cave_world.specs.declared.ending.Question.TheVariants as question
 use Rattle.data_rows.specs.declared.role.Role.TheVariants as role
-use Rattle.turn_scene.specs.Panic.{after_panic}
+use Rattle.turn_scene.specs.SharedRules.{after_panic}
 use Rattle.turn_laws.proofs.Dwarves.{dwarves_kept}
 use Rattle.turn_laws.proofs.Effects.{by_guarded, effects, fails_alone, guarded, holds_alone}
 use Rattle.turn_laws.proofs.Effects.{panicked, propped, quiet}

@@ -4,7 +4,7 @@ use Rattle.std.specs.Prelude.{IfSome, None, Option, Some, unwrap_or}
 use Rattle.cave_data.specs.CaveView.{CaveView}
 use Rattle.cave_world.specs.declared.state.State.{State}
 use Rattle.cave_turn.specs.Turns.{turn_on_line}
-use Rattle.cave_data.specs.Ranges.{IsPlace}
+use Rattle.cave_data.specs.Laws.{IsPlace}
 use Rattle.turn_ends.proofs.Most.{score_within}
 use Rattle.turn_laws.specs.DwarfLaws.{HasFewDwarves}
 use Rattle.turn_laws.specs.Laws.{IsSomewhere, Lasts}

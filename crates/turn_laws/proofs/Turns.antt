@@ -16,12 +16,11 @@ use Rattle.turn_scene.specs.Places.{building_place}
 use Rattle.cave_verbs.specs.declared.next.Next.{Next}
 use Rattle.cave_verbs.specs.declared.verb.Verb.{Verb}
 use Rattle.cave_turn.specs.Commands.{Followed, after_clocks, after_unknown_word, after_travel}
-use Rattle.cave_turn.specs.Commands.{begin_command}
-use Rattle.cave_turn.specs.Commands.{after_timed_words, after_command, followed, do_action}
-use Rattle.cave_turn.specs.Commands.{do_request, do_verb, keep_half_command, after_keeping}
-use Rattle.cave_turn.specs.Commands.{forget_knife_rows, after_next, unknown_word_rows}
-use Rattle.cave_turn.specs.Commands.{after_understood}
-use Rattle.cave_turn.specs.Commands.{after_words, with_magic_waiting}
+use Rattle.cave_turn.specs.Commands.{begin_command, after_timed_words, after_command, followed}
+use Rattle.cave_turn.specs.Commands.{do_action, do_request, do_verb, keep_half_command}
+use Rattle.cave_turn.specs.Commands.{after_keeping, forget_knife_rows, after_next}
+use Rattle.cave_turn.specs.Commands.{unknown_word_rows, after_understood, after_words}
+use Rattle.cave_turn.specs.Commands.{with_magic_waiting}
 use Rattle.cave_turn.specs.Finish.{after_object_shown, after_end_of_turn, end_rows, hands_rows}
 use Rattle.cave_turn.specs.Finish.{shown_rows}
 use Rattle.cave_turn.specs.Revival.{after_fall, come_back, fall_rows, put_out_rows, reborn_rows}

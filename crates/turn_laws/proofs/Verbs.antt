@@ -19,22 +19,19 @@ use Rattle.cave_verbs.specs.declared.next.Next.{Next}
 use Rattle.cave_verbs.specs.declared.verb.Verb.{Verb}
 use Rattle.world_objects.specs.Objects.{after_carry, with_prop, Layout, objects_in_hands}
 use Rattle.cave_words.specs.Stream.{next}
-use Rattle.cave_verbs.specs.Blasting.{blast_rows}
-use Rattle.cave_verbs.specs.Breaking.{break_rows, wake_rows}
+use Rattle.cave_verbs.specs.Small.{blast_rows, break_rows, wake_rows, darkened_rows, off_rows}
+use Rattle.cave_verbs.specs.Small.{on_rows, bare_brief_rows, bare_quit_rows, bare_rows}
+use Rattle.cave_verbs.specs.Small.{bare_score_rows, nothing_rows, other_rows, rub_rows, wave_rows}
 use Rattle.cave_verbs.specs.Dropping.{drop_rows}
 use Rattle.cave_verbs.specs.Feeding.{bare_eat_rows, eat_rows, feed_rows}
 use Rattle.cave_verbs.specs.Finding.{bare_inventory_rows, bear_along_rows, find_rows}
 use Rattle.cave_verbs.specs.Killing.{bare_kill_rows, kill_rows}
-use Rattle.cave_verbs.specs.Light.{darkened_rows, off_rows, on_rows}
 use Rattle.cave_verbs.specs.Magic.{bare_foo_rows, eggs_rows}
 use Rattle.cave_verbs.specs.Opening.{bare_open_rows, open_rows}
 use Rattle.cave_verbs.specs.Pouring.{bare_fill_rows, drink_rows, fill_rows, pour_rows}
 use Rattle.cave_verbs.specs.Reading.{bare_read_rows, read_rows}
-use Rattle.cave_verbs.specs.Small.{bare_brief_rows, bare_quit_rows, bare_rows, bare_score_rows}
-use Rattle.cave_verbs.specs.Small.{nothing_rows, other_rows}
 use Rattle.cave_verbs.specs.Taking.{bare_take_rows, take_rows}
 use Rattle.cave_verbs.specs.Throwing.{throw_rows, without_first_at}
-use Rattle.cave_verbs.specs.Waving.{rub_rows, wave_rows}
 use Rattle.turn_scene.specs.Reach.{is_dwarf_at, is_dwarf_here}
 use Rattle.cave_verbs.specs.Rows.{VerbRow, first_fitting, going_on, stays}
 use Rattle.cave_verbs.specs.declared.task.Task.{Task}

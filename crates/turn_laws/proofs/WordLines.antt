@@ -7,9 +7,7 @@ use Rattle.std.proofs.lemmas.Bool.{false≢true, true≢false}
 use Rattle.std.proofs.lemmas.Bool.Decides.{nat_tests}
 use Rattle.std.specs.Prelude.{◌&&◌, ◌/◌, if◌then◌else◌, Option, Some, None, find, is_some, nat_le}
 use Rattle.std.specs.Prelude.{nat_lt, option_and_then, option_map}
-use Rattle.std.specs.List.{filter_map}
-use Rattle.base_lines.specs.Bytes.{after_prefix, is_all_blank, is_blank, is_nonblank}
-use Rattle.base_lines.specs.Bytes.{prefix_while}
+use Rattle.base_lines.specs.Bytes.{after_prefix, is_all_blank, is_blank, is_nonblank, prefix_while}
 use Rattle.base_lines.specs.LogLine.{IsLogLine}
 use Rattle.base_lines.specs.declared.log_line.LogLine.TheVariants as kind
 use Rattle.cave_words.specs.Meanings.{class_of_number, is_word, is_word_in, meaning, meaning_of}

@@ -1,7 +1,6 @@
 -- Laws about what only ever goes one way in a game.
 use Rattle.std.specs.Prelude.{◌≡◌, ◌≤◌, ◌<◌, ◌+◌, ◌⊎◌, ℕ, ℤ, pos, negsuc, ◌≤ℤ◌, ◌-ℤ◌, Bool, true}
-use Rattle.std.specs.Prelude.{false, ◌&&◌, if◌then◌else◌, List, Option, Some, None}
-use Rattle.std.specs.Prelude.{length, filter}
+use Rattle.std.specs.Prelude.{false, ◌&&◌, if◌then◌else◌, List, Option, Some, None, length, filter}
 use Rattle.std.specs.Int.{int_min}
 use Rattle.std.specs.Ordering.{int_eq}
 use Rattle.cave_data.specs.CaveView.{CaveView}

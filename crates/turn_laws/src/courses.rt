@@ -1,8 +1,7 @@
 //! Laws about what only ever goes one way in a game.
 ghost use Rattle.turn_laws.specs.Courses.{AskedInTime, ClosedIsClosing, DeathsComeOneByOne};
-ghost use Rattle.turn_laws.specs.Courses.{HintsNeverFall};
-ghost use Rattle.turn_laws.specs.Courses.{LampBurnsByOne, NoScoreIsGreater, NobodyGetsOut};
-ghost use Rattle.turn_laws.specs.Courses.{NothingGoesBack, TreasuresGoOneWay};
+ghost use Rattle.turn_laws.specs.Courses.{HintsNeverFall, LampBurnsByOne, NoScoreIsGreater};
+ghost use Rattle.turn_laws.specs.Courses.{NobodyGetsOut, NothingGoesBack, TreasuresGoOneWay};
 
 /// No line takes back that the cave is closing or closed, that a hint was taken, or that the
 /// dwarves are awake.

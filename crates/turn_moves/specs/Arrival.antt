@@ -16,7 +16,7 @@ use Rattle.turn_scene.specs.Rows.{first_fitting_or, nothing_but, always, otherwi
 use Rattle.turn_scene.specs.Tests.{no, same, here, outside, cave_closing, forced_at, place_has}
 use Rattle.turn_scene.specs.Tests.{over, there_is}
 use Rattle.turn_scene.specs.Effects.{say}
-use Rattle.turn_scene.specs.Panic.{panic}
+use Rattle.turn_scene.specs.SharedRules.{panic}
 use Rattle.turn_ends.specs.Endings.{die}
 use Rattle.turn_moves.specs.Description.{tell_place, describe_place, stop_here}
 use Rattle.turn_moves.specs.Journeys.{set_forth}

@@ -95,6 +95,7 @@ fn tell_bear<N: RowNotes>(rules: &Rules<'_>, scene: &mut Scene<'_, N>)
 
 /// Prints the text of the player's place, long or short.
 #[tactic(auto, unfolding(crate::specs::Description::text_rows))]
+#[inline(always)]
 fn tell_text<N: RowNotes>(rules: &Rules<'_>, scene: &mut Scene<'_, N>)
     requires { HasRoom 1 scene.old }
     ensures rows { Does N.rows (by_table table.PlaceText text_rows ∷ []) 1 rules.now tt

@@ -6,8 +6,7 @@ ghost use Rattle.cave_world.specs.declared.tables.Table.TheVariants as table;
 ghost use Rattle.turn_scene.specs.Rows.{Does, deed, by_table};
 ghost use Rattle.world_objects.specs.Props.{HIGHEST_PROP, LOWEST_PROP};
 ghost use Rattle.turn_moves.specs.Objects.{is_second_here, with_short_lamp, object_text_rows};
-ghost use Rattle.turn_moves.specs.Objects.{find_treasure, after_object};
-ghost use Rattle.turn_moves.specs.Objects.{after_all_objects};
+ghost use Rattle.turn_moves.specs.Objects.{find_treasure, after_object, after_all_objects};
 
 use cave_words::Named;
 use cave_world::{Charge, Part, RowNotes, State, Table};

@@ -2,7 +2,6 @@ pub mod Bounds
 pub mod Scene
 pub mod Parts
 pub mod Homes
-pub mod Liquids
 pub mod Places
 pub mod Props
 pub mod Reach
@@ -10,9 +9,6 @@ pub mod SpecialWords
 pub mod Treasures
 pub mod Effects
 pub mod RowLaws
-pub mod Losses
-pub mod Panic
-pub mod Putting
 pub mod Rows
 pub mod Tests
-pub mod Troll
+pub mod SharedRules

@@ -12,12 +12,11 @@ use Rattle.cave_world.specs.Sight.{dark, forced}
 use Rattle.cave_world.specs.State.{is_hint_taken, takes_no_command}
 use Rattle.turn_scene.specs.Scene.{thing, happens, is_called}
 use Rattle.turn_scene.specs.Reach.{is_carried, is_near, has_prop, has_other_prop, has_prop_up_to}
-use Rattle.turn_scene.specs.Reach.{is_dwarf_here, is_fixed}
+use Rattle.turn_scene.specs.Reach.{is_dwarf_here, is_fixed, liquid_of, lake_of, is_liquid}
 use Rattle.turn_scene.specs.Homes.{home, second_home, is_at_home, is_home_here, is_home_elsewhere}
 use Rattle.turn_scene.specs.Places.{place_named, has_condition_of, outside_place, deep_place}
 use Rattle.turn_scene.specs.Places.{building_place, start_place}
 use Rattle.turn_scene.specs.declared.conditions.PlaceCondition.{PlaceCondition}
-use Rattle.turn_scene.specs.Liquids.{liquid_of, lake_of, is_liquid}
 use Rattle.turn_scene.specs.Treasures.{is_treasure}
 use Rattle.turn_scene.specs.Rows.{Deed, Test, Thing}
 

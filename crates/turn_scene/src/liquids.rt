@@ -1,7 +1,7 @@
 //! The liquid of a lake, and the liquid in the bottle.
 
 ghost use Rattle.std.specs.Prelude.{◌≡◌};
-ghost use Rattle.turn_scene.specs.Liquids.{is_liquid, lake_of, liquid_of};
+ghost use Rattle.turn_scene.specs.Reach.{is_liquid, lake_of, liquid_of};
 ghost use Rattle.turn_scene.specs.Scene.{cave_of};
 
 use crate::conditions::{PlaceCondition, has_condition_of};
@@ -22,7 +22,7 @@ pub fn is_liquid(object: Object, liquid: Option<Object>) -> bool
 }
 
 /// The liquid of the lake where the player is, if there is one: object 0 if it has no name.
-#[tactic(auto, unfolding(crate::specs::Liquids::lake_of))]
+#[tactic(auto, unfolding(crate::specs::Reach::lake_of))]
 pub fn lake(rules: &Rules<'_>, state: &State) -> Option<Object>
     ensures { result ≡ lake_of (cave_of rules.now) state.now }
 {
@@ -38,7 +38,7 @@ pub fn lake(rules: &Rules<'_>, state: &State) -> Option<Object>
 }
 
 /// The liquid in the bottle, if there is one: object 0 if it has no name.
-#[tactic(auto, unfolding(crate::specs::Liquids::liquid_of))]
+#[tactic(auto, unfolding(crate::specs::Reach::liquid_of))]
 pub fn liquid(rules: &Rules<'_>, state: &State) -> Option<Object>
     ensures { result ≡ liquid_of (cave_of rules.now) state.now }
 {

@@ -3,7 +3,7 @@
 ghost use Rattle.std.specs.Prelude.{◌≡◌};
 ghost use Rattle.turn_scene.specs.Bounds.{GoesOnSaying};
 ghost use Rattle.turn_scene.specs.Scene.{cave_of, scene_of};
-ghost use Rattle.turn_scene.specs.Losses.{after_loss_to_snake};
+ghost use Rattle.turn_scene.specs.SharedRules.{after_loss_to_snake};
 
 use crate::homes::is_at_home;
 use crate::rows;
@@ -14,7 +14,7 @@ use cave_world::{RowNotes, Table};
 
 impl<'a, N: RowNotes> Scene<'a, N> {
     /// One more treasure can't be found any more, if the snake is still at home.
-    #[tactic(auto, unfolding(crate::specs::Losses::after_loss_to_snake, crate::specs::Losses::loss_to_snake_rows))]
+    #[tactic(auto, unfolding(crate::specs::SharedRules::after_loss_to_snake, crate::specs::SharedRules::loss_to_snake_rows))]
     pub fn lose_to_snake(&mut self, rules: &Rules<'_>)
         ensures scene { scene_of N.rows self.new
             ≡ after_loss_to_snake (cave_of rules.now) (scene_of N.rows self.old) }

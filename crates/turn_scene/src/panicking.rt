@@ -3,7 +3,7 @@
 ghost use Rattle.std.specs.Prelude.{◌≡◌};
 ghost use Rattle.turn_scene.specs.Bounds.{GoesOnSaying};
 ghost use Rattle.turn_scene.specs.Scene.{cave_of, scene_of};
-ghost use Rattle.turn_scene.specs.Panic.{after_panic};
+ghost use Rattle.turn_scene.specs.SharedRules.{after_panic};
 
 use crate::rows;
 use crate::rules::Rules;
@@ -15,7 +15,7 @@ const TURNS_IN_PANIC: i8 = 15;
 
 impl<'a, N: RowNotes> Scene<'a, N> {
     /// The player tries to get out of a closing cave.
-    #[tactic(auto, unfolding(crate::specs::Panic::after_panic, crate::specs::Panic::panic_rows))]
+    #[tactic(auto, unfolding(crate::specs::SharedRules::after_panic, crate::specs::SharedRules::panic_rows))]
     pub fn panic(&mut self, rules: &Rules<'_>)
         ensures scene { scene_of N.rows self.new
             ≡ after_panic (cave_of rules.now) (scene_of N.rows self.old) }

@@ -3,8 +3,8 @@
 ghost use Rattle.std.specs.Prelude.{◌≡◌, [], ◌∷◌};
 ghost use Rattle.turn_scene.specs.Bounds.{GoesOnSaying};
 ghost use Rattle.turn_scene.specs.Scene.{cave_of, scene_of};
-ghost use Rattle.turn_scene.specs.Putting.{after_put, after_lay_down, caged_bird_rows};
-ghost use Rattle.turn_scene.specs.Putting.{free_bird_rows, vessel};
+ghost use Rattle.turn_scene.specs.SharedRules.{after_put, after_lay_down, caged_bird_rows};
+ghost use Rattle.turn_scene.specs.SharedRules.{free_bird_rows, vessel};
 ghost use Rattle.turn_scene.specs.Rows.{Does, PlaysBy, by_table};
 ghost use Rattle.cave_world.specs.declared.tables.Table.TheVariants as table;
 
@@ -19,7 +19,7 @@ use cave_world::{RowNotes, Table};
 use world_objects::Object;
 
 /// What is put down for an object: for the liquid in the bottle, the bottle.
-#[tactic(auto, unfolding(crate::specs::Putting::vessel))]
+#[tactic(auto, unfolding(crate::specs::SharedRules::vessel))]
 fn vessel<N: RowNotes>(rules: &Rules<'_>, object: Object, scene: &mut Scene<'_, N>) -> Object
     ensures rows { PlaysBy N.rows vessel 0 rules.now object scene.old scene.new result }
 {
@@ -30,7 +30,7 @@ fn vessel<N: RowNotes>(rules: &Rules<'_>, object: Object, scene: &mut Scene<'_, 
 }
 
 /// The bird comes along with its cage.
-#[tactic(auto, unfolding(crate::specs::Putting::caged_bird_rows))]
+#[tactic(auto, unfolding(crate::specs::SharedRules::caged_bird_rows))]
 fn put_caged_bird<N: RowNotes>(rules: &Rules<'_>, object: Object, scene: &mut Scene<'_, N>)
     ensures rows { Does N.rows (by_table table.CagedBird caged_bird_rows ∷ []) 0
         rules.now object scene.old scene.new }
@@ -43,7 +43,7 @@ fn put_caged_bird<N: RowNotes>(rules: &Rules<'_>, object: Object, scene: &mut Sc
 }
 
 /// The bird itself is free.
-#[tactic(auto, unfolding(crate::specs::Putting::free_bird_rows))]
+#[tactic(auto, unfolding(crate::specs::SharedRules::free_bird_rows))]
 fn free_bird<N: RowNotes>(rules: &Rules<'_>, object: Object, scene: &mut Scene<'_, N>)
     ensures rows { Does N.rows (by_table table.FreeBird free_bird_rows ∷ []) 0
         rules.now object scene.old scene.new }
@@ -56,7 +56,7 @@ fn free_bird<N: RowNotes>(rules: &Rules<'_>, object: Object, scene: &mut Scene<'
 impl<'a, N: RowNotes> Scene<'a, N> {
     /// An object is put down where the player is: a liquid in its bottle, the cage with the bird in
     /// it.
-    #[tactic(auto, unfolding(crate::specs::Putting::after_put, crate::specs::Putting::put_down))]
+    #[tactic(auto, unfolding(crate::specs::SharedRules::after_put, crate::specs::SharedRules::put_down))]
     pub fn put(&mut self, rules: &Rules<'_>, object: Object)
         ensures scene { scene_of N.rows self.new
             ≡ after_put (cave_of rules.now) object (scene_of N.rows self.old) }
@@ -69,7 +69,7 @@ impl<'a, N: RowNotes> Scene<'a, N> {
     }
 
     /// An object that is carried is put where the player is.
-    #[tactic(auto, unfolding(crate::specs::Putting::after_lay_down, crate::specs::Putting::lay_down_rows))]
+    #[tactic(auto, unfolding(crate::specs::SharedRules::after_lay_down, crate::specs::SharedRules::lay_down_rows))]
     pub fn lay_down(&mut self, rules: &Rules<'_>, object: Object)
         ensures scene { scene_of N.rows self.new
             ≡ after_lay_down (cave_of rules.now) object (scene_of N.rows self.old) }

@@ -1,9 +1,8 @@
 ghost use Rattle.std.specs.Prelude.{◌≡◌};
 ghost use Rattle.std.specs.List.{list_any};
 ghost use Rattle.turn_scene.specs.Scene.{cave_of};
-ghost use Rattle.turn_scene.specs.Reach.{is_carried, is_near, is_fixed, has_prop};
-ghost use Rattle.turn_scene.specs.Reach.{has_other_prop, has_prop_up_to, is_dwarf_at};
-ghost use Rattle.turn_scene.specs.Reach.{is_dwarf_here};
+ghost use Rattle.turn_scene.specs.Reach.{is_carried, is_near, is_fixed, has_prop, has_other_prop};
+ghost use Rattle.turn_scene.specs.Reach.{has_prop_up_to, is_dwarf_at, is_dwarf_here};
 
 use crate::liquids::{is_liquid, liquid};
 use crate::rules::Rules;

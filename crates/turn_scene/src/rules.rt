@@ -39,6 +39,7 @@ impl<'a> Rules<'a> {
     }
 
     /// The words of a line.
+    #[inline(always)]
     pub fn words_of(&self, line: &[u8]) -> Words
         ensures { result ≡ words_of (cave_of self.now).letters line.now }
     {

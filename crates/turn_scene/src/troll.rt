@@ -3,7 +3,7 @@
 ghost use Rattle.std.specs.Prelude.{◌≡◌};
 ghost use Rattle.turn_scene.specs.Bounds.{GoesOnSaying};
 ghost use Rattle.turn_scene.specs.Scene.{cave_of, scene_of};
-ghost use Rattle.turn_scene.specs.Troll.{after_troll};
+ghost use Rattle.turn_scene.specs.SharedRules.{after_troll};
 
 use crate::homes::{hold, home};
 use crate::rules::Rules;
@@ -13,7 +13,7 @@ use cave_world::RowNotes;
 
 impl<'a, N: RowNotes> Scene<'a, N> {
     /// The troll goes, and its second self is at both ends of the bridge.
-    #[tactic(auto, unfolding(crate::specs::Troll::after_troll, crate::specs::Troll::troll_leaves))]
+    #[tactic(auto, unfolding(crate::specs::SharedRules::after_troll, crate::specs::SharedRules::troll_leaves))]
     pub fn troll_goes(&mut self, rules: &Rules<'_>)
         ensures scene { scene_of N.rows self.new
             ≡ after_troll (cave_of rules.now) (scene_of N.rows self.old) }

@@ -17,7 +17,7 @@ use Rattle.world_objects.specs.Links.{halves_along, entries_of_places, entries_o
 use Rattle.world_objects.specs.Links.{AreLinks}
 use Rattle.world_objects.proofs.Tests.{equal, unequal, apart, itself}
 use Rattle.world_objects.proofs.Moves.{StartsAt-earlier, length-AreLists}
-use Rattle.world_objects.specs.SameLists.{Ascend, Ascend-AreLists, same_lists}
+use Rattle.world_objects.proofs.SameLists.{Ascend, Ascend-AreLists, same_lists}
 use Rattle.world_objects.proofs.Standing.{none_nowhere}
 use Rattle.world_objects.proofs.Links.{low_number}
 

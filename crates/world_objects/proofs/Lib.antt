@@ -1,3 +1,5 @@
+pub mod SameLists
+pub mod SameObjects
 pub mod Tests
 pub mod Moves
 pub mod Found

@@ -18,7 +18,7 @@ use Rattle.world_objects.proofs.Moves.{either, AreLists-without, AreLists-put_fi
 use Rattle.world_objects.proofs.Links.{first_half-without, next_half-without, first_half-put_first}
 use Rattle.world_objects.proofs.Links.{next_half-put_first, first_from_one, first_after_none}
 use Rattle.world_objects.proofs.Links.{next_from_one, next_differs, low_number}
-use Rattle.world_objects.specs.SameLists.{Ascend-AreLists, same_lists}
+use Rattle.world_objects.proofs.SameLists.{Ascend-AreLists, same_lists}
 use Rattle.world_objects.proofs.Chains.{value_at-set, made, length-first, length-next}
 use Rattle.world_objects.proofs.Chains.{value_at-first, value_at-next}
 

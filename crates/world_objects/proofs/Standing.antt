@@ -5,7 +5,7 @@ use Rattle.std.proofs.lemmas.List.Elements.{All-nil, All-cons, All-filter, All-m
 use Rattle.world_objects.specs.declared.object.Half.{Half}
 use Rattle.world_objects.specs.declared.lists.PlacedHalf.{PlacedHalf}
 use Rattle.world_objects.specs.Lists.{object_of, halves_at, AreLists}
-use Rattle.world_objects.specs.SameLists.{no_halves}
+use Rattle.world_objects.proofs.SameLists.{no_halves}
 
 abbrev IsOfObject : Half → Type 0
 IsOfObject half = 0 < object_of half

@@ -3,5 +3,3 @@ pub mod Lists
 pub mod Links
 pub mod Packed
 pub mod Objects
-pub mod SameLists
-pub mod SameObjects

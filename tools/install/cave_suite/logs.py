@@ -198,7 +198,7 @@ class Log:
         if "no run" in self.head:
             if runs or self.has(".out"):
                 return "the log is meant for no run, and has one"
-            is_named = any(self.suite.is_named(self.path + it) for it in (".log", ".script"))
+            is_named = {f"{self.path}{it}" for it in (".log", ".script")} & self.suite.named
             return None if is_named else "the log is meant for no run, and no other log names it"
         if not runs:
             return "the first comments say neither `# cave:`, `# run:` nor `# no run:`"

@@ -83,9 +83,6 @@ class Suite:
         runs = (it for it in heads if "no run" not in it)
         return {word for head in runs for words in head.values() for word in words}
 
-    def is_named(self, path: str) -> bool:
-        return path in self.named
-
 
 class Suites:
     """The suites that the words of a command line are about."""

@@ -1,9 +1,6 @@
 """Compares two walks, as a module: where they part, where they come together again, and which of
-their lines are the same, by the script that makes the one log of the other.
-
-    from cave_walk.beside import parting_and_meeting, same_lines
-
-A walk is the list of its lines, as `cave play --print walk` prints them.
+their lines are the same, by the script that makes the one log of the other. A walk is the list of
+its lines, as `cave play --print walk` prints them.
 """
 
 from collections.abc import Iterable

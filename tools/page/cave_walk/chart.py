@@ -5,6 +5,7 @@ from collections.abc import Iterable
 
 from common import command_line
 
+from .filled import part
 from .steps import Steps, Stop, columns_of, demand_output, events_of, print_out, put, text
 
 MARKS = {  # for an event: the type of its points, their size, their colour
@@ -12,20 +13,6 @@ MARKS = {  # for an event: the type of its points, their size, their colour
     "treasure home": (13, 1.1, "#1d6f86"),
     "died": (2, 1.2, "#b3261e"),
 }
-HEAD = """set terminal svg size 1200,400 font 'Helvetica,13' background rgb 'white'
-set datafile separator '\\t'
-set border 3+8 lc rgb '#8a949b'
-set grid ytics lc rgb '#e3e8ea' lt 1
-set tics out nomirror
-set key above right samplen 2
-set xlabel 'place in the log'
-set ylabel 'score' tc rgb '#1d6f86'
-set y2label 'lamp' tc rgb '#b07a1e'
-set y2tics
-"""
-LINES = """$steps using 1:2 with fillsteps fs solid noborder fc rgb '#e4f0f3' notitle,
-$steps using 1:2 with steps lc rgb '#1d6f86' lw 2 title 'score',
-$steps using 1:3 axes x1y2 with lines lc rgb '#b07a1e' lw 1.2 title 'lamp'"""
 
 
 def file_of(name: str) -> str:
@@ -44,8 +31,9 @@ def block(name: str, rows: Iterable[str]) -> str:
 
 def script_of(steps: Steps) -> str:
     lines = [*zip(steps["place"], steps["score"], steps["lamp"], steps["happened"])]
-    told = [HEAD, block("steps", (f"{at}\t{score}\t{lamp}" for at, score, lamp, _ in lines))]
-    plots = [LINES]
+    head, plot, drawn = part("walk_page/chart.gnuplot").partition("plot ")
+    told = [head, block("steps", (f"{at}\t{score}\t{lamp}" for at, score, lamp, _ in lines))]
+    plots = [plot + drawn.rstrip("\n")]
     for event, (kind, size, colour) in MARKS.items():
         marked = [f"{at}\t{score}" for at, score, _, it in lines if event in events_of(it)]
         if marked:
@@ -56,7 +44,7 @@ def script_of(steps: Steps) -> str:
     lamps, most = steps["lamp"], max(*steps["score"], 1)
     told += [f"set xrange [0:{max(len(lines) - 1, 1)}]", f"set yrange [0:{1.1 * most:.0f}]"]
     told += [f"set y2range [{min(*lamps, 0)}:{1.1 * max(*lamps, 1):.0f}]"]
-    return "\n".join([*told, f"plot {', '.join(plots)}".replace(",\n", ", "), ""])
+    return "\n".join([*told, ", ".join(plots), ""])
 
 
 def main() -> int:

@@ -1,6 +1,5 @@
 """The drawing of a map as a module: a graph of `cave map`, laid out by `dot`, as SVG for a page.
 
-    from cave_walk import drawing
     drawn = drawing.of(graph)      # drawn.svg, drawn.titles
 
 Colours are taken out of the drawing and classes put in, so that a page can show it by day and by
@@ -51,13 +50,6 @@ def titles_of(graph: str) -> dict[str, str]:
         rows = [*shown[:1], *takewhile(lambda it: not OWN_LINE.match(it), shown[1:])]
         found[number] = " ".join(rows).replace("&amp;", "&").removeprefix(number).strip()
     return found
-
-
-def drawn_by_dot(graph: str) -> bytes:
-    ran = subprocess.run(["dot", "-Tsvg"], input=graph.encode(), capture_output=True)
-    if ran.returncode:
-        raise Stop(f"dot ends with status {ran.returncode}: {ran.stderr.decode().strip()}")
-    return ran.stdout
 
 
 def classes_of(kind: str, shapes: list[tree.Element]) -> list[str]:
@@ -114,8 +106,12 @@ def frame_of(polygon: tree.Element) -> str:
 def of(graph: str) -> Drawing:
     """The drawing of a graph: what a page has inside its element `svg`, and the titles."""
     tree.register_namespace("", SVG)
+    drawn = subprocess.run(["dot", "-Tsvg"], input=CAPTION.sub("", graph).encode(),
+                           capture_output=True)
+    if drawn.returncode:
+        raise Stop(f"dot ends with status {drawn.returncode}: {drawn.stderr.decode().strip()}")
     try:
-        root = tree.fromstring(drawn_by_dot(CAPTION.sub("", graph)))
+        root = tree.fromstring(drawn.stdout)
     except tree.ParseError as wrong:
         raise Stop(f"what dot draws can't be read: {wrong}") from None
     whole = child_of(root, "g")

@@ -1,6 +1,5 @@
 """A page as one file of HTML, made of its parts, as a module.
 
-    from cave_walk.filled import STYLE, WALK, page_of
     page_of(STYLE, WALK, data, TITLE=title, FOOT=foot, MAP=svg)
 """
 
@@ -35,12 +34,6 @@ def foot_of(cave: str, bind: str | None, by: str, seed: str | None = None) -> st
     return ", ".join(told) + "."
 
 
-def as_json(data: object) -> str:
-    """A text of JSON that ends no element of a page."""
-    told = json.dumps(data, ensure_ascii=True, separators=(",", ":"))
-    return told.replace("<", "\\u003c").replace(">", "\\u003e").replace("&", "\\u0026")
-
-
 def hash_of(content: str) -> str:
     return f"'sha256-{base64.b64encode(hashlib.sha256(content.encode()).digest()).decode()}'"
 
@@ -51,10 +44,13 @@ def page_of(styles: Sequence[str], scripts: Sequence[str], data: object, may: st
     each of its slots is filled once, so that no text of a cave can be a slot."""
     style = "".join(map(part, styles))
     script = "\n".join(['"use strict";', *map(part, scripts)])
+    told = json.dumps(data, ensure_ascii=True, separators=(",", ":"))
+    for mark in "<>&":  # so that the data end no element of the page
+        told = told.replace(mark, f"\\u{ord(mark):04x}")
     policy = (f"default-src 'none'; script-src {hash_of(script)}; style-src {hash_of(style)};"
               f" {may}base-uri 'none'; form-action 'none'")
     slots |= {"POLICY": html.escape(policy), "STYLE": style, "SCRIPT": script,
-              "DATA": as_json(data), "TITLE": html.escape(slots["TITLE"])}
+              "DATA": told, "TITLE": html.escape(slots["TITLE"])}
     made = re.sub(r"\{\{([A-Z]+)\}\}", lambda found: slots.get(found[1], ""),
                   part("walk_page/page.html"))
     return made.encode(errors="replace")

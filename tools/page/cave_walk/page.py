@@ -123,18 +123,6 @@ def together(said: argparse.Namespace, program: str, ours: list[Said], theirs: l
     return {"parting": parting, "meeting": meeting, "beside": same}
 
 
-def words() -> argparse.Namespace:
-    asks = command_line.parser()
-    asks.add_argument("cave", metavar="CAVE")
-    asks.add_argument("log", metavar="LOG")
-    asks.add_argument("--bind", metavar="FILE")
-    asks.add_argument("--seed", metavar="N")
-    asks.add_argument("--against", metavar="LOG2")
-    asks.add_argument("--program", metavar="FILE")
-    asks.add_argument("--output", metavar="WALK.html", required=True)
-    return asks.parse_args()
-
-
 def judge_files(said: argparse.Namespace) -> None:
     """What the page requires of the files, and the program doesn't check."""
     read = said.cave, said.bind, said.log, said.against
@@ -173,7 +161,13 @@ def made(said: argparse.Namespace, program: str, progress: Progress) -> bytes:
 
 
 def main() -> int:
-    said, progress = words(), Progress()
+    asks = command_line.parser()
+    asks.add_argument("cave", metavar="CAVE")
+    asks.add_argument("log", metavar="LOG")
+    for option, value in ("bind", "FILE"), ("seed", "N"), ("against", "LOG2"), ("program", "FILE"):
+        asks.add_argument(f"--{option}", metavar=value)
+    asks.add_argument("--output", metavar="WALK.html", required=True)
+    said, progress = asks.parse_args(), Progress()
     judge_files(said)
     program = program_of(said.program)
     try:

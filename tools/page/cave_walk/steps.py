@@ -1,7 +1,4 @@
-"""The table of `cave play --print steps` as a module, and files that are put whole or not at all.
-
-    from cave_walk.steps import COLUMNS, NONE, NUMBERS, Stop, columns_of, events_of, put
-"""
+"""The table of `cave play --print steps` as a module; files that are put whole or not at all."""
 
 import errno
 import os

@@ -15,7 +15,7 @@ from cave_walk.page import program_of
 from cave_walk.steps import Stop, demand_output
 from common import command_line
 
-from . import words
+from . import views
 from .answers import Server
 from .held import Log
 from .page import page_of
@@ -66,12 +66,12 @@ def site_of(said: argparse.Namespace, program: Program) -> Site:
         held = game.play(opened, said.seed)
     home = Home(said.log, held.log, said.output)
     graph = program.said("map", cave, *game.options()).decode(errors="replace")
-    known = words.words_of(game.checked("words"))
+    known = views.words_of(game.checked("words"))
     live: dict[str, object] = {
-        "file": home.to, "most": words.number_in(game.checked("maximum"), words.MAXIMUM, 0),
-        "words": known, "rules": words.OF_RULES,
-        "letters": words.number_in(game.checked("bindings"), words.LETTERS, 5),
-        "motions": words.motions_of(graph, known)}
+        "file": home.to, "most": views.number_in(game.checked("maximum"), views.MAXIMUM, 0),
+        "words": known, "rules": views.OF_RULES,
+        "letters": views.number_in(game.checked("bindings"), views.LETTERS, 5),
+        "motions": views.motions_of(graph, known)}
     command_line.demand("dot")
     drawn = drawing.of(graph)
     version = program.said("--version").decode(errors="replace")

@@ -84,7 +84,8 @@ class Game(NamedTuple):
         with Given("the log", held.log) as log, Given("change", script) as edits:
             words: list[Word] = [
                 "edit", self.cave, log, edits, *self.options(), "--seed", held.seed,
-                "--every", str(every_of(held.length())), "--guarded", "--strict"]
+                "--every", str(min(1 + held.length() // CHECKPOINTS, MOST_EVERY)), "--guarded",
+                "--strict"]
             walk, said, changed, undo, facts = self.said_in(
                 words, "walk", "reports", "log", "undo", "state")
         taken = (time.monotonic() - begun) * 1_000
@@ -98,11 +99,6 @@ class Game(NamedTuple):
         with Given("the log", held.log) as log, Given("no edit", NO_EDIT) as script:
             self.program.said("edit", self.cave, log, script, *self.options(), "--seed", held.seed,
                               "--print", "log", "--output", path)
-
-
-def every_of(count: int) -> int:
-    """The most lines between two checkpoints, in a log of this many."""
-    return min(1 + count // CHECKPOINTS, MOST_EVERY)
 
 
 def patch_of(old: Held, new: Held, report: Report) -> Patch:

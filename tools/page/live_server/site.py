@@ -62,22 +62,16 @@ class Site:
         if name == "":
             return Answer(self.page(), "text/html; charset=utf-8")
         log, file = self.log, self.home.name
+        answers: dict[str, Callable[[], Answer | None]] = {
+            "walk": lambda: Answer(log.whole()),
+            "news": lambda: Answer(log.after(news_after(asked), SECONDS)),
+            "log": lambda: Answer(log.held.log, TEXT, file=file),
+            "script": lambda: Answer(log.script(), TEXT, file=f"{file}.script"),
+            "undo": lambda: Answer(log.undo_script(), TEXT, file=f"{file}.undo"),
+            "change": lambda: next((Answer(it.script, TEXT) for it in log.changes
+                                    if str(it.number) == asked.get("number")), None)}
         with log.lock:
-            match name:
-                case "walk":
-                    return Answer(log.whole())
-                case "news":
-                    return Answer(log.after(news_after(asked), SECONDS))
-                case "log":
-                    return Answer(log.held.log, TEXT, file=file)
-                case "script":
-                    return Answer(log.script(), TEXT, file=f"{file}.script")
-                case "undo":
-                    return Answer(log.undo_script(), TEXT, file=f"{file}.undo")
-                case "change":
-                    return next((Answer(it.script, TEXT) for it in log.changes
-                                 if str(it.number) == asked.get("number")), None)
-        return None
+            return answers[name]() if name in answers else None
 
     # ---- what changes something
 

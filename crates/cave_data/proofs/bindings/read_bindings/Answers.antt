@@ -1,7 +1,6 @@
 use Rattle.std.proofs.Common.{[], sym, subst}
 use Rattle.std.specs.Str.Lines.{lines}
-use Rattle.cave_data.specs.BindingFault.{first_binding_fault}
-use Rattle.cave_data.specs.Faults.{FaultIs}
+use Rattle.cave_data.specs.Faults.{first_binding_fault, FaultIs}
 use Rattle.cave_data.proofs.BindingLemmas.{bound_more, bound_fault}
 use Rattle.cave_data.proofs.bindings.read_bindings.Goals as goal
 

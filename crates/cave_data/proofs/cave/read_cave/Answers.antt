@@ -2,7 +2,7 @@ use Rattle.std.proofs.Common.{sym, subst, ◌∙◌, inr}
 use Rattle.std.specs.Str.Lines.{lines}
 use Rattle.std.proofs.lemmas.Result.{err_from_is_err_and}
 use Rattle.cave_data.specs.declared.reader.Tables.{Tables}
-use Rattle.cave_data.specs.Ranges.{AreInRange, HasOnly, IsPlacementInRange}
+use Rattle.cave_data.specs.Laws.{AreInRange, HasOnly, IsPlacementInRange}
 use Rattle.cave_data.proofs.RangeLemmas.{bound_in_range, standing_in_range}
 use Rattle.cave_data.proofs.ReadLemmas.{fault_database_large, fault_bindings_large}
 use Rattle.cave_data.proofs.ReadLemmas.{fault_in_database, fault_in_bindings, made_reads}

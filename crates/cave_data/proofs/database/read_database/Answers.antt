@@ -1,7 +1,7 @@
 use Rattle.std.proofs.Common.{[], ◌+◌, sym, ap, subst, ◌∙◌}
 use Rattle.std.specs.Str.Lines.{lines}
 use Rattle.cave_data.specs.Faults.{FaultIs, error_at}
-use Rattle.cave_data.specs.FirstFault.{first_fault}
+use Rattle.cave_data.specs.Steps.{first_fault}
 use Rattle.cave_data.proofs.DatabaseLemmas.{read_more, read_fault}
 use Rattle.cave_data.proofs.database.read_database.Goals as goal
 

@@ -3,7 +3,7 @@ use Rattle.std.proofs.Common.{◌≡◌, ◌≤◌, ℕ, List, [], ◌∷◌, le
 use Rattle.std.proofs.Common.{◌∙◌}
 use Rattle.std.specs.Prelude.{⊤}
 use Rattle.base_lines.specs.Limits.{MAX_INPUT_BYTES}
-use Rattle.play_machine.specs.HeldGame.{HoldsGame}
+use Rattle.play_machine.specs.Machine.{HoldsGame}
 use Rattle.cave_play.specs.Stages.{lines_fault, IsFoundIn, Judges, Stage, first_decided}
 use Rattle.cave_play.specs.Stages.{judging_stage, log_stage, script_stage, strict_stage}
 use Rattle.cave_play.specs.declared.fault.PlayFault.{PlayFault}

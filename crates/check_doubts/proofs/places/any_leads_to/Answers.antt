@@ -5,7 +5,7 @@ use Rattle.data_rows.specs.RowViews.{going}
 use Rattle.data_rows.specs.Rows.{Going}
 use Rattle.data_rows.specs.declared.rows.Row.{Row}
 use Rattle.check_tables.proofs.Rows.{any_mapped}
-use Rattle.check_doubts.specs.Places.{leads_to}
+use Rattle.check_doubts.specs.Needs.{leads_to}
 use Rattle.check_doubts.proofs.places.any_leads_to.Goals as goal
 
 pub returns : goal.returns

@@ -1,4 +1,4 @@
-use Rattle.world_objects.specs.SameObjects.{objects_decides}
+use Rattle.world_objects.proofs.SameObjects.{objects_decides}
 use Rattle.play_machine.proofs.packed_state.are_same.Goals as goal
 
 pub returns : goal.returns

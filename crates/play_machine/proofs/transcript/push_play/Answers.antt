@@ -5,9 +5,8 @@ use Rattle.std.proofs.lemmas.Result.{on_ok_weaker}
 use Rattle.play_machine.specs.Machine.{rendering_of}
 use Rattle.turn_ends.specs.Score.{score_of, max_score_of}
 use Rattle.play_machine.specs.Transcript.{play_text, last_line, ticks}
-use Rattle.play_machine.proofs.TranscriptLemmas.{transcript-played}
-use Rattle.play_machine.proofs.TranscriptLemmas.{transcript_line-more, told_from-end, counts-first}
-use Rattle.play_machine.proofs.TranscriptLemmas.{counts-others}
+use Rattle.play_machine.proofs.TranscriptLemmas.{transcript-played, transcript_line-more}
+use Rattle.play_machine.proofs.TranscriptLemmas.{told_from-end, counts-first, counts-others}
 use Rattle.play_machine.proofs.transcript.push_play.Goals as goal
 
 pub overflow_cast-place : goal.overflow_cast-place

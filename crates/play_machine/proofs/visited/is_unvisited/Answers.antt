@@ -1,6 +1,6 @@
 use Rattle.std.specs.Cmp.{unsigned_Decides}
 use Rattle.std.specs.Cmp.Lexicographic.{pointwise_decides}
-use Rattle.play_machine.specs.Packed.{unvisited_block}
+use Rattle.play_machine.specs.Machine.{unvisited_block}
 use Rattle.play_machine.proofs.visited.is_unvisited.Goals as goal
 
 pub returns : goal.returns

@@ -1,5 +1,5 @@
 use Rattle.std.proofs.Common.{◌≤◌, length}
-use Rattle.play_machine.specs.Packed.{IsUnvisitedAfter}
+use Rattle.play_machine.specs.Machine.{IsUnvisitedAfter}
 use Rattle.play_machine.proofs.visited.visited.Given as goal
 
 abbrev pub invariant-blocks-2 : goal.invariant-blocks-2

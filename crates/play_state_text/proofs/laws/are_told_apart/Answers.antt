@@ -4,4 +4,4 @@ use Rattle.play_state_text.proofs.laws.are_told_apart.Goals as goal
 pub returns : goal.returns
 returns c =
     told_apart c.args.cave.now c.args.begun.now c.args.first.now c.args.second.now
-    c.is_within.ensures c.is_within-2.ensures
+    c.are_facts_within.ensures c.are_facts_within-2.ensures

@@ -1,5 +1,4 @@
-use Rattle.std.proofs.Common.{◌≡◌, ◌*◌, ◌/◌, ◌+◌, ◌++◌, length, subst, sym, ap, refl, ◌∙◌}
-use Rattle.std.proofs.Common.{arith}
+use Rattle.std.proofs.Common.{◌≡◌, ◌*◌, ◌/◌, ◌+◌, ◌++◌, length, subst, sym, ap, refl, ◌∙◌, arith}
 use Rattle.std.proofs.lemmas.List.{take-append-drop, length-take-le}
 use Rattle.replay_checkpoints.specs.Blocks.{AreLaid, items_in}
 use Rattle.replay_checkpoints.proofs.BlockLemmas.{cut_items, cut_laid, ends_within}

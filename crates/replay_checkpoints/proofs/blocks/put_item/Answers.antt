@@ -1,8 +1,7 @@
 use Rattle.std.proofs.Common.{◌-◌, ap, sym, refl, ◌∙◌, arith, set}
 use Rattle.std.proofs.lemmas.List.{get_or_default, length-set}
-use Rattle.replay_checkpoints.proofs.BlockLemmas.{get_within, place_within, put_within}
+use Rattle.replay_checkpoints.proofs.BlockLemmas.{get_within, place_within, put_within, set_laid}
 use Rattle.replay_checkpoints.proofs.BlockStarts.{holds_after}
-use Rattle.replay_checkpoints.proofs.BlockLemmas.{set_laid}
 use Rattle.replay_checkpoints.proofs.blocks.put_item.Goals as goal
 
 pub overflow_sub-within : goal.overflow_sub-within

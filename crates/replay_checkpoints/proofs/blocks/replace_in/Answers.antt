@@ -1,11 +1,9 @@
-use Rattle.std.proofs.Common.{◌≡◌, ◌+◌, ◌-◌, get_or, set, subst, sym}
-use Rattle.std.proofs.Common.{ap, refl, ◌∙◌, arith}
+use Rattle.std.proofs.Common.{◌≡◌, ◌+◌, ◌-◌, get_or, set, subst, sym, ap, refl, ◌∙◌, arith}
 use Rattle.std.proofs.lemmas.List.{get_or_default}
 use Rattle.replay_checkpoints.specs.Blocks.{AreLaid, items_in}
 use Rattle.replay_checkpoints.specs.declared.block.Block.{Block}
 use Rattle.replay_checkpoints.proofs.AroundLemmas.{first_same}
-use Rattle.replay_checkpoints.proofs.BlockLemmas.{replace_items, replace_laid}
-use Rattle.replay_checkpoints.proofs.BlockLemmas.{start_is, start-more}
+use Rattle.replay_checkpoints.proofs.BlockLemmas.{replace_items, replace_laid, start_is, start-more}
 use Rattle.replay_checkpoints.proofs.BlockStarts.{start-later, start-within}
 use Rattle.replay_checkpoints.proofs.blocks.replace_in.Goals as goal
 

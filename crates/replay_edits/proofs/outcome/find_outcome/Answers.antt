@@ -1,6 +1,5 @@
-use Rattle.std.proofs.Common.{◌+◌, ◌-◌, ◌≤◌, ◌++◌, length, take, drop, reverse, subst, ap}
-use Rattle.std.proofs.Common.{◌≡◌, ℕ, List, ◌∙◌}
-use Rattle.std.proofs.Common.{arith}
+use Rattle.std.proofs.Common.{◌+◌, ◌-◌, ◌≤◌, ◌++◌, length, take, drop, reverse, subst, ap, ◌≡◌, ℕ}
+use Rattle.std.proofs.Common.{List, ◌∙◌, arith}
 use Rattle.std.proofs.lemmas.List.{append-nil}
 use Rattle.replay_edits.specs.declared.outcome.EditOutcome.{EditOutcome}
 use Rattle.replay_edits.specs.declared.stock.Stock.{Stock}

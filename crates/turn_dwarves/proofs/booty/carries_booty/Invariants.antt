@@ -2,7 +2,7 @@ use Rattle.std.proofs.Common.{◌≡◌}
 use Rattle.std.specs.List.{list_any}
 use Rattle.turn_scene.specs.Scene.{cave_of, scene_of}
 use Rattle.turn_scene.specs.Treasures.{treasures}
-use Rattle.turn_dwarves.specs.Booty.{is_carried_booty}
+use Rattle.turn_dwarves.specs.Pirate.{is_carried_booty}
 use Rattle.turn_dwarves.proofs.Treasures.{treasures_from}
 use Rattle.turn_dwarves.proofs.booty.carries_booty.Given as goal
 

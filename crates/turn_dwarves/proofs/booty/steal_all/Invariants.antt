@@ -2,7 +2,7 @@ use Rattle.std.proofs.Common.{◌≡◌}
 use Rattle.turn_scene.specs.Bounds.{GoesOnSaying}
 use Rattle.turn_scene.specs.Scene.{cave_of, scene_of}
 use Rattle.turn_scene.specs.Treasures.{treasures}
-use Rattle.turn_dwarves.specs.Booty.{after_stealing_all}
+use Rattle.turn_dwarves.specs.Pirate.{after_stealing_all}
 use Rattle.turn_dwarves.proofs.Treasures.{treasures_from}
 use Rattle.turn_dwarves.proofs.booty.steal_all.Given as goal
 

@@ -1,6 +1,5 @@
 use Rattle.std.proofs.Common.{◌≡◌, ◌+◌, ◌*◌, ◌≤◌}
-use Rattle.turn_ends.specs.Scorer.{scored_cave}
-use Rattle.turn_ends.specs.Treasures.{treasures_row}
+use Rattle.turn_ends.specs.Score.{scored_cave, treasures_row}
 use Rattle.turn_ends.proofs.Sums.{points_from}
 use Rattle.turn_ends.proofs.treasures.treasure_points.Given as goal
 

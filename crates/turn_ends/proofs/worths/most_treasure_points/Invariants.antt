@@ -1,6 +1,5 @@
 use Rattle.std.proofs.Common.{◌≡◌, ◌+◌, ◌*◌, ◌≤◌}
-use Rattle.turn_ends.specs.Scorer.{scored_cave}
-use Rattle.turn_ends.specs.Treasures.{treasures_row}
+use Rattle.turn_ends.specs.Score.{scored_cave, treasures_row}
 use Rattle.turn_ends.proofs.Sums.{worth_from}
 use Rattle.turn_ends.proofs.worths.most_treasure_points.Given as goal
 

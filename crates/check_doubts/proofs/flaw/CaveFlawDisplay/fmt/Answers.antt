@@ -12,7 +12,3 @@ returns-in-PlaceUnbound-clause-writes g c =
 pub returns-in-GivesNothing-clause-writes : goal.returns-in-GivesNothing-clause-writes
 returns-in-GivesNothing-clause-writes g c =
     rw c.in-GivesNothing.is c.write-in-GivesNothing.ensures.writes
-
-pub returns-in-NeededTextless-clause-writes : goal.returns-in-NeededTextless-clause-writes
-returns-in-NeededTextless-clause-writes g c =
-    rw c.in-NeededTextless.is c.write-in-NeededTextless.ensures.writes

@@ -1,9 +1,8 @@
 use Rattle.std.proofs.Common.{sym, ap, ◌∙◌}
 use Rattle.replay_edits.specs.Edit.{game_of, inserts, replaces, line_at}
 use Rattle.replay_edits.specs.Outcome.{lines_of}
-use Rattle.replay_edits.proofs.OutcomeLemmas.{StaysIn, log_by-insert, log_by-remove}
-use Rattle.replay_edits.proofs.OutcomeLemmas.{log_by-replace, line_at-log_by}
-use Rattle.replay_edits.proofs.OutcomeLemmas.{AreNumbers-insert, AreNumbers-remove}
+use Rattle.replay_edits.proofs.OutcomeLemmas.{StaysIn, log_by-insert, log_by-remove, log_by-replace}
+use Rattle.replay_edits.proofs.OutcomeLemmas.{line_at-log_by, AreNumbers-insert, AreNumbers-remove}
 use Rattle.replay_edits.proofs.stock.Stock.make.Goals as goal
 
 pub returns-in_ok-insert-in-Insert-clause-game : goal.returns-in_ok-insert-in-Insert-clause-game

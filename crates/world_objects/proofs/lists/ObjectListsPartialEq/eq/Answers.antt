@@ -1,6 +1,6 @@
 use Rattle.std.specs.Cmp.Lexicographic.{pointwise_decides}
 use Rattle.std.proofs.lemmas.Bool.Decides.{same_from_decides}
-use Rattle.world_objects.specs.SameObjects.{entry_decides}
+use Rattle.world_objects.proofs.SameObjects.{entry_decides}
 use Rattle.world_objects.proofs.lists.ObjectListsPartialEq.eq.Goals as goal
 
 pub returns : goal.returns

@@ -1,5 +1,0 @@
-use Rattle.data_bindings.proofs.ExactCauses.{causes_are_exact}
-use Rattle.data_bindings.proofs.laws.causes_are_exact.Goals as goal
-
-pub returns : goal.returns
-returns c = causes_are_exact

@@ -1,5 +1,0 @@
-use Rattle.data_bindings.proofs.FirstFaults.{faults_are_first}
-use Rattle.data_bindings.proofs.laws.faults_are_first.Goals as goal
-
-pub returns : goal.returns
-returns c = faults_are_first

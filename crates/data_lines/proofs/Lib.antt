@@ -1,0 +1,9 @@
+mod CauseLemmas
+mod ExactCauses
+mod FirstFaults
+mod ListedWays
+mod MarksOfLines
+mod WayCounts
+mod WayLines
+mod WaysOfRows
+mod WaysOnLines

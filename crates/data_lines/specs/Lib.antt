@@ -1,0 +1,4 @@
+pub mod BindingCauses
+pub mod Marks
+pub mod WayLaws
+pub mod WayLines

@@ -1,8 +1,0 @@
--- The lines so far are written.
-use Rattle.std.proofs.Common.{◌≡◌, ◌++◌}
-use Rattle.play_state_text.specs.Things.{text_up_to, dwarf_line}
-use Rattle.play_state_text.proofs.dwarves.push_dwarves.Given as goal
-
-abbrev pub invariant-loop-before : goal.invariant-loop-before
-invariant-loop-before l =
-    l.text.items ≡ l.initial.text.items ++ text_up_to (dwarf_line l.state) l.before

@@ -1,9 +1,0 @@
-use Rattle.play_state_text.specs.Things.{visits_line}
-use Rattle.play_state_text.proofs.EntryLemmas.{one_line}
-use Rattle.play_state_text.proofs.places.push_visits.Goals as goal
-
-pub loop-before-preserved : goal.loop-before-preserved
-loop-before-preserved c =
-    one_line (visits_line c.args.state.now) c.loop-before.before c.new.result
-    c.args.text.now.items c.loop-before.text.items _ c.loop-before.invariant c.new.ensures
-    c.in_ok-push_visits_of.ensures
