@@ -15,7 +15,7 @@ from database import NAMES, SECONDS
 from lines import rows_of
 
 applied = Counter[str]()
-rows = {}  # for each row its text, in the order in which the tables were made
+rows: dict[str, str] = {}  # for each row its text, in the order in which the tables were made
 TESTS: list = []
 EFFECTS: list = []
 TABLES: dict = {}

@@ -22,7 +22,8 @@ NUMBERS.update((it, at) for at, it in enumerate(TREASURES, FIRST_TREASURE))
 # The parts of a cave that say something of their first words, and those that only list words.
 OF_WORDS = {"homes": {}, "ways": {}, "bits": {}, "numbers": {},
             "bound": {"start": ["9"], "building": ["10"], "outside": ["1"], "deep": ["299"]}}
-LISTS = {it: [] for it in "known rows dark hints classes lacks words welcome long".split()}
+LISTS: dict[str, list] = {
+    it: [] for it in "known rows dark hints classes lacks words welcome long".split()}
 LISTS["places"] = [[it] for it in ("3", "9", "10", "16", "17", "18")]
 MESSAGES = {1: "Question.", 2: "Hint."}
 MOST_PROPS = 6  # of an object that have a text

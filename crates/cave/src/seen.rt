@@ -14,16 +14,15 @@ pub(crate) fn unless_missing<T>(found: io::Result<T>) -> io::Result<Option<T>> {
     }
 }
 
-/// Which file it was, how long it was, and when it and its content were last changed.
+/// Which file it was, how long it was, and when its content and it were last changed: seconds, and
+/// nanoseconds beside them.
 #[derive(Clone, Copy, PartialEq, Eq)]
 pub(crate) struct Stamp {
     device: u64,
     node: u64,
     length: u64,
-    modified: i64,
-    modified_nanos: i64,
-    changed: i64,
-    changed_nanos: i64,
+    modified: (i64, i64),
+    changed: (i64, i64),
 }
 
 impl Stamp {
@@ -33,10 +32,8 @@ impl Stamp {
             device: found.dev(),
             node: found.ino(),
             length: found.len(),
-            modified: found.mtime(),
-            modified_nanos: found.mtime_nsec(),
-            changed: found.ctime(),
-            changed_nanos: found.ctime_nsec(),
+            modified: (found.mtime(), found.mtime_nsec()),
+            changed: (found.ctime(), found.ctime_nsec()),
         }
     }
 

@@ -3,13 +3,15 @@ use Rattle.std.proofs.Common.{List, ℕ, ◌≡◌, ◌∙◌, subst}
 use Rattle.check_doubts.specs.Doubts.{doubts}
 use Rattle.check_doubts.specs.declared.listing.DoubtFiles.{DoubtFiles}
 use Rattle.cave_play.specs.Output.{AreLeft, AreLeftIn, IsChecked, IsReadOf, check_text}
-use Rattle.cave_play.specs.declared.doubted.LeftDoubts.{LeftDoubts}
+use Rattle.std.specs.Global.{Vec}
+use Rattle.check_doubts.specs.declared.flaw.Doubt.{Doubt}
+use Rattle.cave_play.specs.declared.output.Reported.{Reported}
 use Rattle.cave_play.specs.declared.judge.ReadCave.{ReadCave}
 use Rattle.play_command.specs.declared.views.CheckView.{CheckView}
 
 -- what is left of the doubts of a cave that was read from these texts
 pub AreLeftIn-read : (files : DoubtFiles) (database bindings known text : List ℕ) (read : ReadCave)
-    (found : LeftDoubts) → IsReadOf database bindings read → text ≡ known
+    (found : Reported (Vec Doubt)) → IsReadOf database bindings read → text ≡ known
     → AreLeft files text (doubts read.cave read.database.items read.bindings.items) found
     → AreLeftIn files database bindings known found
 AreLeftIn-read files database bindings known text read found are same left =

@@ -23,7 +23,9 @@ use Rattle.cave_data.specs.Reads.{Reads}
 use Rattle.play_command.specs.declared.views.ReportView.{ReportView}
 use Rattle.play_command.specs.declared.line.Editing.{Editing}
 use Rattle.cave_play.specs.Output.{FinishesEdit, IsEditRun, IsSideReport}
+use Rattle.play_edits.specs.declared.items.EditRun.{EditRun}
 use Rattle.play_edits.specs.declared.items.MadeEdit.{MadeEdit}
+use Rattle.cave_play.specs.declared.output.Reported.{Reported}
 use Rattle.cave_play.proofs.ScriptLemmas.{script_by-spelled}
 use Rattle.play_command.specs.declared.views.ReportView.TheVariants.{Reports, Table}
 
@@ -120,22 +122,23 @@ module _ (database bindings log script : List ℕ) (editing : Editing)
     seed,
   )
 
-  pub Judges-finished : (made finished : Result MadeEdit PlayFault)
+  pub Judges-finished : (made : Result MadeEdit PlayFault)
+      (finished : Result (Reported EditRun) PlayFault)
       → Judges (of_edit log script editing) IsRight made
       → FinishesEdit editing.view made finished
       → Judges (after_cave log script editing)
-      (λ whole. IsEditRun database bindings log script editing report whole.run whole.text.items)
+      (λ whole. IsEditRun database bindings log script editing report whole.found whole.text.items)
       finished
   Judges-finished (Err found) finished judged is =
       subst (Judges (after_cave log script editing)
-      (λ whole. IsEditRun database bindings log script editing report whole.run
+      (λ whole. IsEditRun database bindings log script editing report whole.found
       whole.text.items)) (sym is)
       (IsFoundIn-first (of_edit log script editing) (size_stage log script editing ∷ []) found
       judged)
   Judges-finished (Ok made) (Ok whole) (none, right) (same, small) = (
     first_decided-later (of_edit log script editing) (size_stage log script editing ∷ []) none
         ∙ first_decided-one (size_stage log script editing) (sym (size_of made right) ∙ small),
-    subst (λ one. IsEditRun database bindings log script editing report one.run one.text.items)
+    subst (λ one. IsEditRun database bindings log script editing report one.found one.text.items)
         (sym same) (IsEditRun-made made right),
   )
   Judges-finished (Ok made) (Err found) (none, right) large =

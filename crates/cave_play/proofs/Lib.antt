@@ -5,7 +5,6 @@ pub mod InputLemmas
 pub mod JudgeLemmas
 pub mod LogLemmas
 pub mod LogProgress
-mod RunLemmas
 pub mod ScriptLemmas
 pub mod SourceLemmas
 pub mod StageLemmas

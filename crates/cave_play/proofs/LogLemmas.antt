@@ -9,9 +9,7 @@ use Rattle.cave_play.specs.Stages as stage
 use Rattle.cave_play.specs.declared.fault.PlayFault.{PlayFault}
 use Rattle.cave_play.proofs.InputLemmas.{Says-some}
 use Rattle.cave_play.proofs.StageLemmas.{IsFoundIn-later, first_decided-later}
-use Rattle.cave_play.specs.Logs.{AreValidLogs, IsFoundFrom, IsMadeReport, JudgesLogs, RunsLogs}
-use Rattle.cave_play.specs.Logs.{WritesReport, at_log}
-use Rattle.cave_play.specs.declared.logs.Reported.{Reported}
+use Rattle.cave_play.specs.Logs.{AreValidLogs, IsFoundFrom, JudgesLogs}
 use Rattle.cave_play.specs.declared.logs.LogsFault.{LogsFault}
 
 -- ---- bytes of several readers
@@ -40,6 +38,10 @@ AllSay-some (first ∷ others) =
     (here.0 ∷ rest.0, (here.1, rest.1))
 
 -- ---- one log
+
+-- a fault that is met at this log
+abbrev pub at_log : ℕ → PlayFault → LogsFault
+at_log place found = record { fault = found; log = Some place }
 
 -- the only stage decides what it decides
 decides_alone : (decides : Option PlayFault) → option_or decides None ≡ decides
@@ -100,16 +102,3 @@ JudgesLogs-behind first later logs P (Err found) none (inl (at, there)) =
     inl (at, IsFoundIn-later first later found.fault none there)
 JudgesLogs-behind first later logs P (Err found) none (inr (rest, there)) =
     inr (first_decided-later first later none ∙ rest, there)
-
--- a run whose report was made and written
-pub RunsLogs-made : {X : Type 0} (first : List Stage) (logs : List (List ℕ))
-    (P : X → List ℕ → Type 0) (old new : Option (List ℕ)) (made : Result (Reported X) LogsFault)
-    (r : Result X LogsFault)
-    → JudgesLogs first logs (IsMadeReport P) made → WritesReport made old new r
-    → RunsLogs first logs P old new r
-RunsLogs-made first logs P old new (Ok made) (Ok found) (none, right, is) (same, written) =
-    (none, right, (made.text.items, subst (λ x. P x made.text.items) (sym same) is, written))
-RunsLogs-made first logs P old new (Ok made) (Err found) (none, right, is) (failed, front) =
-    inl (failed, none, right, (made.text.items, (made.found, is), front))
-RunsLogs-made first logs P old new (Err found) r there (same, kept) =
-    subst (RunsLogs first logs P old new) (sym same) (inr (there, kept))

@@ -16,10 +16,10 @@ use Rattle.cave_world.specs.declared.part.Part.{Part}
 use Rattle.cave_world.specs.declared.state.State.{State}
 use Rattle.play_machine.specs.Moments.{Moment, noted_of}
 use Rattle.play_machine.specs.Watch.{NotesMore}
-use Rattle.cave_play.specs.Logs.{AreValidLogs, IsFoundFrom, IsFoundInLogs, at_log, games_of}
+use Rattle.cave_play.specs.Logs.{AreValidLogs, IsFoundFrom, IsFoundInLogs, games_of}
 use Rattle.cave_play.specs.Logs.{noted_of_all}
 use Rattle.cave_play.proofs.LogLemmas.{AllSay-some, AllZip-append, AllZip-length, AreValidLogs-more}
-use Rattle.cave_play.proofs.LogLemmas.{IsFoundFrom-here, IsFoundFrom-later}
+use Rattle.cave_play.proofs.LogLemmas.{IsFoundFrom-here, IsFoundFrom-later, at_log}
 
 module _ {Fact N : Type 0} (HasNoted : List Fact → N → Type 0)
     (first : CaveView → State → List Part → List Fact) (facts : CaveView → Moment → List Fact)

@@ -1,30 +1,23 @@
 -- Two logs, of which one is made of the other.
-use Rattle.cave_play.specs.Output.{script_stages, IsDifferenceOf, JudgesEditTo, JudgesScript}
-use Rattle.cave_play.specs.Output.{RunsEditTo, RunsScript, new_log_fault, new_log_stage, ReadsWith}
-use Rattle.cave_play.specs.Output.{IsEditRun}
+use Rattle.cave_play.specs.Output.{IsDifferenceOf}
+use Rattle.cave_play.specs.Output.{new_log_fault, new_log_stage, ReadsWith}
 use Rattle.std.proofs.Common.{◌≡◌, ◌∙◌, ℕ, ◌≤◌, List, [], ◌∷◌, ◌++◌, length, None, Some, inl, inr}
 use Rattle.std.proofs.Common.{refl, sym, ap, subst, lt-ltb}
-use Rattle.std.specs.Global.{Vec}
-use Rattle.std.specs.Prelude.{Option, Result, option_map}
+use Rattle.std.specs.Prelude.{Option, option_map}
 use Rattle.std.specs.Str.Lines.{lines}
 use Rattle.base_lines.specs.Limits.{MAX_INPUT_BYTES}
 use Rattle.replay_difference.specs.Difference.{IsLog}
 use Rattle.replay_difference.specs.ScriptTo.{GrowsByScript, IsScriptTo}
 use Rattle.replay_difference.specs.declared.script.ScriptForm.{ScriptForm}
-use Rattle.cave_play.specs.Stages.{lines_fault, log_fault, IsFoundIn, Writes, WritesEdit}
-use Rattle.cave_play.specs.Stages.{first_decided, judging_stage, log_stage, edit_stages}
-use Rattle.cave_play.specs.Sources.{IsUnread, InputTexts, AreRead, Leads}
-use Rattle.play_edits.specs.declared.items.EditRun.{EditRun}
-use Rattle.play_edits.specs.declared.items.MadeEdit.{MadeEdit}
-use Rattle.play_command.specs.declared.views.ReportView.{ReportView}
-use Rattle.play_command.specs.declared.line.Editing.{Editing}
+use Rattle.cave_play.specs.Stages.{lines_fault, log_fault, IsFoundIn}
+use Rattle.cave_play.specs.Stages.{first_decided, judging_stage, log_stage}
+use Rattle.cave_play.specs.Sources.{IsUnread, AreRead, Leads}
 use Rattle.play_command.specs.declared.line.Input.TheVariants as input
 use Rattle.cave_play.specs.declared.fault.PlayFault.{PlayFault}
 use Rattle.cave_play.proofs.SourceLemmas.{goes_on, stays}
 use Rattle.cave_play.specs.declared.two_logs.WithCompared.{WithCompared}
 use Rattle.play_command.specs.declared.line.Input.{Input}
 use Rattle.cave_play.proofs.AcceptedLogs.{IsGame-accepted}
-use Rattle.cave_play.proofs.RunLemmas.{Runs-made, RunsWith-made}
 use Rattle.cave_play.proofs.JudgeLemmas.{log_fault-lines}
 use Rattle.cave_play.proofs.StageLemmas.{first_decided-alone, first_decided-one, memory_alone}
 
@@ -55,40 +48,6 @@ pub first_decided-new_log : (bytes : List ℕ) → first_decided (log_stage byte
 first_decided-new_log bytes none =
     first_decided-one (new_log_stage bytes)
     (ap (option_map new_log_fault) (first_decided-alone (log_stage bytes) none))
-
--- ---- runs
-
--- a script that was made and written
-pub RunsScript-made : (form : ScriptForm) (texts : InputTexts) (old new : Option (List ℕ))
-    (made : Result (Vec ℕ) PlayFault) (r : Result (Unit {0}) PlayFault)
-    → JudgesScript form texts made → Writes made old new r → RunsScript form texts old new r
-RunsScript-made form texts old new made r (inl (found, is, there)) written =
-    let (ended, kept) = subst (λ m. Writes m old new r) is written in
-    inl ((found, ended, there), kept)
-RunsScript-made form texts old new made r (inr (script, difference, judged)) written =
-    inr (
-      script,
-      difference,
-      Runs-made (script_stages texts script) (λ output. output ≡ script) old new made r judged
-          written,
-    )
-
--- edits that were made and written
-pub RunsEditTo-made : (editing : Editing) (report : Option ReportView) (texts : InputTexts)
-    (old new : Option (List ℕ)) (made : Result MadeEdit PlayFault) (r : Result EditRun PlayFault)
-    → JudgesEditTo texts editing report made → WritesEdit made old new r
-    → RunsEditTo texts editing report old new r
-RunsEditTo-made editing report texts old new made r (inl (found, is, there)) written =
-    let (ended, kept) = subst (λ m. WritesEdit m old new r) is written in
-    inl ((found, ended, there), kept)
-RunsEditTo-made editing report texts old new made r (inr (script, difference, judged)) written =
-    inr (
-      script,
-      difference,
-      RunsWith-made (edit_stages texts.database texts.bindings texts.log script editing)
-          (IsEditRun texts.database texts.bindings texts.log script editing report) old new made r
-          judged written,
-    )
 
 -- ---- the script
 

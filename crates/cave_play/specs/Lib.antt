@@ -11,8 +11,5 @@ pub use Rattle.replay_edits.specs.Faults
 pub use Rattle.replay_edits.specs.LineText
 pub use Rattle.play_machine.specs.FinalState
 pub use Rattle.play_machine.specs.Moments
-pub use Rattle.play_machine.specs.FinalState
-pub use Rattle.play_machine.specs.Moments
 pub use Rattle.play_machine.specs.Transcript
-pub use Rattle.play_machine.specs.Moments
 pub use Rattle.play_machine.specs.Watch

@@ -1,15 +1,13 @@
 -- Where the fault of a run over several logs is found, what it makes, and what it has written when
 -- it ends.
 use Rattle.std.specs.Prelude.{◌≡◌, ℕ, ◌+◌, ◌⊎◌, ⊤, List, [], ◌∷◌, Option, Some, None, Result, Ok}
-use Rattle.std.specs.Prelude.{Err, map, MatchResult, take}
-use Rattle.std.specs.Io.KnownBytes.{Appends, Keeps}
-use Rattle.cave_play.specs.declared.logs.Reported.{Reported}
-use Rattle.cave_play.specs.Stages.{log_fault, large_seed, WritesPrefix, IsFoundAt, Stage}
+use Rattle.std.specs.Prelude.{Err, map}
+use Rattle.cave_play.specs.declared.logs.LogsFault.{LogsFault}
+use Rattle.cave_play.specs.declared.fault.PlayFault.{PlayFault}
+use Rattle.cave_play.specs.declared.output.Reported.{Reported}
+use Rattle.cave_play.specs.Stages.{log_fault, large_seed, IsFoundAt, Leaves, Stage}
 use Rattle.cave_play.specs.Stages.{first_decided, judging_stage, cave_stages, log_stage}
 use Rattle.cave_play.specs.Stages as stage
-use Rattle.cave_play.specs.declared.fault.PlayFault.{PlayFault}
-use Rattle.cave_play.specs.declared.fault.PlayFault.TheVariants as fault
-use Rattle.cave_play.specs.declared.logs.LogsFault.{LogsFault}
 use Rattle.std.specs.Str.Lines.{lines}
 use Rattle.cave_data.specs.CaveView.{CaveView}
 use Rattle.cave_data.specs.Reads.{Reads}
@@ -46,9 +44,6 @@ IsReported report_on found_on database bindings logs seed view found output =
 abbrev pub at_none : PlayFault → LogsFault
 at_none found = record { fault = found; log = None }
 
-abbrev pub at_log : ℕ → PlayFault → LogsFault
-at_log place found = record { fault = found; log = Some place }
-
 abbrev pub first_stages : List ℕ → List ℕ → ℕ → List Stage
 first_stages database bindings seed =
     judging_stage (large_seed seed) ∷ cave_stages database bindings
@@ -60,7 +55,7 @@ AreValidLogs (log ∷ logs) = (log_fault log ≡ None) × AreValidLogs logs
 -- the fault is found at a log, and none before it has one; after the last, memory may run out. The
 -- first log is at `place`
 abbrev pub IsFoundFrom : ℕ → List (List ℕ) → LogsFault → Type 0
-IsFoundFrom place [] found = found ≡ at_none fault.Memory
+IsFoundFrom place [] found = found ≡ at_none PlayFault.Memory
 IsFoundFrom place (log ∷ logs) found =
     ((found.log ≡ Some place) × IsFoundAt (log_stage log) found.fault)
     ⊎ ((log_fault log ≡ None) × IsFoundFrom (place + 1) logs found)
@@ -78,36 +73,13 @@ abbrev pub JudgesLogs : {X : Type 0} → List Stage → List (List ℕ) → (X �
 JudgesLogs first logs P (Ok made) = (first_decided first ≡ None) × AreValidLogs logs × P made
 JudgesLogs first logs P (Err found) = IsFoundInLogs first logs found
 
--- a failing writer got a prefix of a right output, or a fault was found in the inputs and nothing
--- is written
-abbrev pub EndsLogsBy : LogsFault → List Stage → List (List ℕ) → (List ℕ → Type 0)
-    → Option (List ℕ) → Option (List ℕ) → Type 0
-EndsLogsBy found first logs IsOutput old new =
-    ((found ≡ at_none fault.Write) × (first_decided first ≡ None) × AreValidLogs logs
-    × WritesPrefix IsOutput old new)
-    ⊎ (IsFoundInLogs first logs found × Keeps old new)
-
--- what a run that returns something leaves: an output that is right with that, if no fault is
--- decided, or what its fault leaves
-abbrev pub RunsLogs : {X : Type 0} → List Stage → List (List ℕ) → (X → List ℕ → Type 0)
-    → Option (List ℕ) → Option (List ℕ) → Result X LogsFault → Type 0
-RunsLogs first logs IsOutput old new (Ok made) =
-    (first_decided first ≡ None) × AreValidLogs logs
-    × ((output : List ℕ) × IsOutput made output × Appends old new output)
-RunsLogs {X} first logs IsOutput old new (Err found) =
-    EndsLogsBy found first logs (λ output. (made : X) × IsOutput made output) old new
-
--- ---- making a report, and writing it
-
 -- what was made is right with what is found with it
 abbrev pub IsMadeReport : {F : Type 0} → (F → List ℕ → Type 0) → Reported F → Type 0
 IsMadeReport IsOutput made = IsOutput made.found made.text.items
 
--- the report that was made is written, and what is found with it is returned; or a prefix of it was,
--- and the writer failed; or none was made, and nothing is written
-abbrev pub WritesReport : {F : Type 0} → Result (Reported F) LogsFault → Option (List ℕ)
-    → Option (List ℕ) → Result F LogsFault → Type 0
-WritesReport (Ok made) old new ended =
-    MatchResult ended (λ found. (found ≡ made.found) × Appends old new made.text.items)
-    (λ found. (found ≡ at_none fault.Write) × ((n : ℕ) × Appends old new (take n made.text.items)))
-WritesReport (Err found) old new ended = (ended ≡ Err found) × Keeps old new
+-- what a run leaves that returns something: if no fault is decided, an output that is right with
+-- that
+abbrev pub RunsLogs : {X : Type 0} → List Stage → List (List ℕ) → (X → List ℕ → Type 0)
+    → Option (List ℕ) → Option (List ℕ) → Result X LogsFault → Type 0
+RunsLogs first logs IsOutput old new ended = Leaves (at_none PlayFault.Write)
+    (JudgesLogs first logs (IsMadeReport IsOutput)) old new ended

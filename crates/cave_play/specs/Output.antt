@@ -12,33 +12,29 @@ use Rattle.check_tables.specs.Names.{names_table}
 use Rattle.check_tables.specs.Unused.{unused_table}
 use Rattle.check_tables.specs.Words.{words_table}
 use Rattle.play_command.specs.declared.views.CheckView.{CheckView}
-use Rattle.play_command.specs.declared.views.CheckView.TheVariants.{Maximum, Bindings, Names}
-use Rattle.play_command.specs.declared.views.CheckView.TheVariants.{Known, Unused, Words}
+use Rattle.play_command.specs.declared.views.EditView.{EditView}
+use Rattle.play_command.specs.declared.line.Editing.{Editing}
+use Rattle.play_command.specs.declared.line.Input.{Input}
+use Rattle.cave_play.specs.declared.fault.PlayFault.{PlayFault}
 use Rattle.play_command.specs.declared.views.PlayView.{PlayView}
-use Rattle.play_command.specs.declared.views.PlayView.TheVariants as play
+use Rattle.play_command.specs.declared.views.ReportView.{ReportView}
+use Rattle.cave_play.specs.declared.output.Reported.{Reported}
 use Rattle.replay_edits.specs.Edit.{Game, game_of, log_of}
 use Rattle.turn_ends.specs.Score.{max_score_of}
 use Rattle.play_machine.specs.FinalState.{final_state_text, score_text}
 use Rattle.play_machine.specs.Moments.{steps_text, walk_text}
 use Rattle.play_machine.specs.Transcript.{play_text}
-use Rattle.std.specs.Io.KnownBytes.{Appends, Keeps}
 use Rattle.check_doubts.specs.Doubts.{doubts}
 use Rattle.check_doubts.specs.Known.{doubt_entry}
 use Rattle.check_doubts.specs.Listing.{doubts_text}
 use Rattle.check_doubts.specs.declared.flaw.Doubt.{Doubt}
 use Rattle.check_doubts.specs.declared.listing.DoubtFiles.{DoubtFiles}
 use Rattle.cave_play.specs.Sources.{InputTexts, Held, Leads}
-use Rattle.cave_play.specs.Stages.{EndsBy, IsFoundIn, Judges, Runs, RunsWith, doubts_stages}
-use Rattle.cave_play.specs.Stages.{first_decided, size_fault, judging_stage, Stage, edit_stages}
+use Rattle.cave_play.specs.Stages.{IsFoundIn, Judges, Leaves, doubts_stages}
+use Rattle.cave_play.specs.Stages.{size_fault, judging_stage, Stage, edit_stages}
 use Rattle.cave_play.specs.Stages.{log_stage, reading_stage, log_fault}
-use Rattle.cave_play.specs.declared.doubted.LeftDoubts.{LeftDoubts}
-use Rattle.cave_play.specs.declared.fault.PlayFault.{PlayFault}
-use Rattle.cave_play.specs.declared.fault.PlayFault.TheVariants as fault
 use Rattle.cave_play.specs.declared.judge.ReadCave.{ReadCave}
 use Rattle.play_command.specs.Asked.{edit_view_of}
-use Rattle.play_command.specs.declared.views.ReportView.{ReportView}
-use Rattle.play_command.specs.declared.line.Editing.{Editing}
-use Rattle.play_command.specs.declared.views.EditView.{EditView}
 use Rattle.play_edits.specs.Views.{IsEndedEdit, refusals_by, seed_by}
 use Rattle.play_edits.specs.declared.items.EditRun.{EditRun}
 use Rattle.play_edits.specs.declared.items.MadeEdit.{MadeEdit}
@@ -46,8 +42,6 @@ use Rattle.std.specs.Global.{Vec}
 use Rattle.base_lines.specs.Limits.{MAX_INPUT_BYTES}
 use Rattle.replay_difference.specs.ScriptTo.{IsScriptTo}
 use Rattle.replay_difference.specs.declared.script.ScriptForm.{ScriptForm}
-use Rattle.play_command.specs.declared.line.Input.{Input}
-use Rattle.play_command.specs.declared.line.Input.TheVariants as input
 use Rattle.cave_play.specs.declared.two_logs.Compared.{Compared}
 use Rattle.cave_play.specs.declared.two_logs.ReadLog.{ReadLog}
 use Rattle.cave_play.specs.declared.two_logs.WithCompared.{WithCompared}
@@ -60,12 +54,12 @@ cave_line most = codes "cave ok, maximum " ++ (decimal most ++ codes "\n")
 
 -- what is said about the cave of a database and its bindings, by the view
 abbrev pub check_text : CheckView → CaveView → List ℕ → List ℕ → List ℕ
-check_text Maximum cave database bindings = cave_line (max_score_of cave)
-check_text Bindings cave database bindings = bindings_text cave
-check_text Names cave database bindings = names_table cave
-check_text Unused cave database bindings = unused_table cave
-check_text Words cave database bindings = words_table cave
-check_text Known cave database bindings =
+check_text CheckView.Maximum cave database bindings = cave_line (max_score_of cave)
+check_text CheckView.Bindings cave database bindings = bindings_text cave
+check_text CheckView.Names cave database bindings = names_table cave
+check_text CheckView.Unused cave database bindings = unused_table cave
+check_text CheckView.Words cave database bindings = words_table cave
+check_text CheckView.Known cave database bindings =
     entry_lines doubt_entry [] (doubts cave database bindings)
 
 -- the output of a check of a database that is a cave
@@ -77,11 +71,11 @@ IsChecked view database bindings output = (cave : CaveView) × Reads database bi
 
 -- what the view asks for of a play
 abbrev pub play_view_text : PlayView → CaveView → Game → List ℕ
-play_view_text play.Transcript cave game = play_text cave game
-play_view_text play.Steps cave game = steps_text cave game
-play_view_text play.Walk cave game = walk_text cave game
-play_view_text play.Score cave game = score_text cave game
-play_view_text play.FinalState cave game = final_state_text cave game
+play_view_text PlayView.Transcript cave game = play_text cave game
+play_view_text PlayView.Steps cave game = steps_text cave game
+play_view_text PlayView.Walk cave game = walk_text cave game
+play_view_text PlayView.Score cave game = score_text cave game
+play_view_text PlayView.FinalState cave game = final_state_text cave game
 
 -- the output is what the view asks for of playing the log in the cave of the database and its
 -- bindings
@@ -100,40 +94,40 @@ pub record IsReadOf (database bindings : List ℕ) (read : ReadCave) : Type 0 wh
 
 -- a strict run fails with the first doubt that is left
 abbrev pub first_doubt : Bool → List Doubt → Option PlayFault
-first_doubt true (first ∷ others) = Some (fault.Doubt first)
+first_doubt true (first ∷ others) = Some (PlayFault.Doubt first)
 first_doubt _ _ = None
 
 -- these are the doubts that the list doesn't know, and what is said: which lines of the list no
 -- doubt says, and then these doubts
-pub record AreLeft (files : DoubtFiles) (list : List ℕ) (all : List Doubt) (found : LeftDoubts)
-    : Type 0 where
-  pub left : found.left.items ≡ unknown doubt_entry (known_entries files.known.now list) all
-  pub text : found.text.items
+pub record AreLeft (files : DoubtFiles) (list : List ℕ) (all : List Doubt)
+    (left : Reported (Vec Doubt)) : Type 0 where
+  pub found : left.found.items ≡ unknown doubt_entry (known_entries files.known.now list) all
+  pub text : left.text.items
       ≡ unmet_text (known_entries files.known.now list) (codes "no doubt says this")
-      (entry_lines doubt_entry [] all) ++ doubts_text files found.left.items
+      (entry_lines doubt_entry [] all) ++ doubts_text files left.found.items
 
 -- the same for the doubts of the cave of a database and its bindings
-abbrev pub AreLeftIn : DoubtFiles → List ℕ → List ℕ → List ℕ → LeftDoubts → Type 0
-AreLeftIn files database bindings known found = (cave : CaveView) × Reads database bindings cave
-    × AreLeft files known (doubts cave database bindings) found
+abbrev pub AreLeftIn : DoubtFiles → List ℕ → List ℕ → List ℕ → Reported (Vec Doubt) → Type 0
+AreLeftIn files database bindings known left = (cave : CaveView) × Reads database bindings cave
+    × AreLeft files known (doubts cave database bindings) left
 
 -- the doubts were listed, and the fault of a strict run ends it
 abbrev pub by_doubt : Option PlayFault → Result (Unit {0}) PlayFault
 by_doubt None = Ok tt
 by_doubt (Some found) = Err found
 
--- what the run leaves: the list, also if it fails with a doubt; at any other fault what each run
--- leaves whose output is the list
+abbrev pub by_doubts : Bool → Result (Vec Doubt) PlayFault → Result (Unit {0}) PlayFault
+by_doubts strict (Ok left) = by_doubt (first_doubt strict left.items)
+by_doubts strict (Err found) = Err found
+
+-- what the run leaves: the list, also if it then fails with a doubt
 abbrev pub RunsDoubts : Bool → DoubtFiles → InputTexts → Option (List ℕ) → Option (List ℕ)
     → Result (Unit {0}) PlayFault → Type 0
 RunsDoubts strict files texts old new ended =
-    let stages = doubts_stages texts.database texts.bindings texts.script in
-    let IsListed = AreLeftIn files texts.database texts.bindings texts.script in
-    ((listed : LeftDoubts) × (ended ≡ by_doubt (first_doubt strict listed.left.items))
-    × (first_decided stages ≡ None) × IsListed listed × Appends old new listed.text.items)
-    ⊎ ((found : PlayFault) × (ended ≡ Err found)
-    × EndsBy found stages (λ output. (listed : LeftDoubts) × IsListed listed
-    × (output ≡ listed.text.items)) old new)
+    (listed : Result (Vec Doubt) PlayFault) × (ended ≡ by_doubts strict listed)
+    × Leaves PlayFault.Write
+    (Judges (doubts_stages texts.database texts.bindings texts.script)
+    (AreLeftIn files texts.database texts.bindings texts.script)) old new listed
 
 -- ---- what is edited
 
@@ -163,27 +157,29 @@ IsEditRun database bindings log script editing report run output =
     × (run.seed ≡ seed_by editing.guarded script (game_of editing.seed (lines log)))
 
 -- what a run of edits over these texts makes
-abbrev pub IsMadeEdit : InputTexts → Editing → Option ReportView → MadeEdit → Type 0
+abbrev pub IsMadeEdit : InputTexts → Editing → Option ReportView → Reported EditRun → Type 0
 IsMadeEdit texts editing report made =
-    IsEditRun texts.database texts.bindings texts.log texts.script editing report made.run
+    IsEditRun texts.database texts.bindings texts.log texts.script editing report made.found
     made.text.items
 
 -- the run makes what edits made, unless the text is too large, or edits made nothing
-abbrev pub FinishesEdit : EditView → Result MadeEdit PlayFault → Result MadeEdit PlayFault → Type 0
+abbrev pub FinishesEdit : EditView → Result MadeEdit PlayFault
+    → Result (Reported EditRun) PlayFault → Type 0
 FinishesEdit view (Err found) finished = finished ≡ Err found
 FinishesEdit view (Ok made) finished = MatchResult finished
-    (λ whole. (whole ≡ made) × (size_fault view (length made.text.items) ≡ None))
+    (λ whole. (whole ≡ record { text = made.text; found = made.run })
+    × (size_fault view (length made.text.items) ≡ None))
     (λ found. size_fault view (length made.text.items) ≡ Some found)
 
 -- ---- two logs
 
 -- the fault of the log that edits are to make
 abbrev pub new_log_fault : PlayFault → PlayFault
-new_log_fault (fault.Log refused) = fault.NewLog refused
+new_log_fault (PlayFault.Log refused) = PlayFault.NewLog refused
 new_log_fault found = found
 
 abbrev pub new_log_stage : List ℕ → Stage
-new_log_stage log = reading_stage input.NewLog (option_map new_log_fault (log_fault log))
+new_log_stage log = reading_stage Input.NewLog (option_map new_log_fault (log_fault log))
 
 -- the old log is read and judged, and then the new one
 abbrev pub two_logs_stages : List ℕ → List ℕ → List Stage
@@ -201,11 +197,7 @@ IsDifferenceOf form old new script =
 -- the size of the script is judged last, since a run has to be able to read it
 abbrev pub script_size_stage : List ℕ → Stage
 script_size_stage script = judging_stage
-    (if nat_lt MAX_INPUT_BYTES (length script) then Some fault.LargeScript else None)
-
-abbrev pub script_stages : InputTexts → List ℕ → List Stage
-script_stages texts script =
-    two_logs_stages texts.log texts.script ++ script_size_stage script ∷ []
+    (if nat_lt MAX_INPUT_BYTES (length script) then Some PlayFault.LargeScript else None)
 
 -- one of two logs is refused
 abbrev pub AreRefused : {A : Type 0} → InputTexts → Result A PlayFault → Type 0
@@ -213,17 +205,16 @@ AreRefused texts made = (found : PlayFault) × (made ≡ Err found)
     × IsFoundIn (two_logs_stages texts.log texts.script) found
 
 -- the script that is made of two logs
-abbrev pub JudgesScript : ScriptForm → InputTexts → Result (Vec ℕ) PlayFault → Type 0
+abbrev pub JudgesScript : ScriptForm → InputTexts → Result (Reported (Unit {0})) PlayFault → Type 0
 JudgesScript form texts made = AreRefused texts made
     ⊎ ((script : List ℕ) × IsDifferenceOf form texts.log texts.script script
-    × Judges (script_stages texts script) (λ text. text.items ≡ script) made)
+    × Judges (two_logs_stages texts.log texts.script ++ script_size_stage script ∷ [])
+    (λ whole. whole.text.items ≡ script) made)
 
 -- what a run leaves that writes it
 abbrev pub RunsScript : ScriptForm → InputTexts → Option (List ℕ) → Option (List ℕ)
     → Result (Unit {0}) PlayFault → Type 0
-RunsScript form texts old new ended = (AreRefused texts ended × Keeps old new)
-    ⊎ ((script : List ℕ) × IsDifferenceOf form texts.log texts.script script
-    × Runs (script_stages texts script) (λ output. output ≡ script) old new ended)
+RunsScript form texts old new ended = Leaves PlayFault.Write (JudgesScript form texts) old new ended
 
 -- the script of the old log, which is kept
 abbrev pub IsCompared : ScriptForm → List ℕ → List ℕ → Compared → Type 0
@@ -250,18 +241,15 @@ ReadsWith reads from old new =
 
 -- what is made of a log so that it becomes another: what the script makes of it that makes the new
 -- log of the old one; or one of the logs is refused
-abbrev pub JudgesEditTo : InputTexts → Editing → Option ReportView → Result MadeEdit PlayFault
-    → Type 0
+abbrev pub JudgesEditTo : InputTexts → Editing → Option ReportView
+    → Result (Reported EditRun) PlayFault → Type 0
 JudgesEditTo texts editing report made = AreRefused texts made
     ⊎ ((script : List ℕ) × IsDifferenceOf (form_of editing) texts.log texts.script script
     × Judges (edit_stages texts.database texts.bindings texts.log script editing)
     (IsMadeEdit (record texts { script = script }) editing report) made)
 
--- what a run leaves that edits a log so that it becomes another: what the run of a script leaves
--- that makes the new log of the old one; or one of the logs is refused
+-- what a run leaves that writes that
 abbrev pub RunsEditTo : InputTexts → Editing → Option ReportView → Option (List ℕ) → Option (List ℕ)
     → Result EditRun PlayFault → Type 0
-RunsEditTo texts editing report old new ended = (AreRefused texts ended × Keeps old new)
-    ⊎ ((script : List ℕ) × IsDifferenceOf (form_of editing) texts.log texts.script script
-    × RunsWith (edit_stages texts.database texts.bindings texts.log script editing)
-    (IsEditRun texts.database texts.bindings texts.log script editing report) old new ended)
+RunsEditTo texts editing report old new ended =
+    Leaves PlayFault.Write (JudgesEditTo texts editing report) old new ended

@@ -7,12 +7,11 @@ use Rattle.std.specs.Global.{Vec}
 use Rattle.std.specs.Io.KnownBytes.{Consumes, IsAtEnd}
 use Rattle.base_lines.specs.Limits.{MAX_INPUT_BYTES}
 use Rattle.cave_play.specs.Stages.{too_large, IsOutsideOf}
-use Rattle.cave_play.specs.declared.fault.PlayFault.{PlayFault}
 use Rattle.play_command.specs.declared.line.Input.{Input}
+use Rattle.cave_play.specs.declared.fault.PlayFault.{PlayFault}
 use Rattle.cave_play.specs.declared.inputs.CaveReaders.{CaveReaders}
 use Rattle.cave_play.specs.declared.inputs.OneLog.{OneLog}
 use Rattle.cave_play.specs.declared.inputs.Readers.{Readers}
-use Rattle.play_command.specs.declared.line.Input.TheVariants as input
 
 -- the bytes are those that a reader is known to have left, if that is known
 abbrev pub Says : Option (List ℕ) → List ℕ → Type 0
@@ -25,17 +24,6 @@ pub record InputTexts : Type 0 where
   pub bindings : List ℕ
   pub log : List ℕ
   pub script : List ℕ
-
--- the texts are those that the readers of the inputs are known to have left, if that is known: the
--- first four say what a reader has left
-pub record AreTextsOf {C B L S : Type 0} (left_database : C → Option (List ℕ))
-    (left_bindings : B → Option (List ℕ)) (left_log : L → Option (List ℕ))
-    (left_script : S → Option (List ℕ)) (inputs : Inputs C B L S) (texts : InputTexts)
-    : Type 0 where
-  pub database : Says (left_database inputs.cave.database) texts.database
-  pub bindings : Says (left_bindings inputs.cave.bindings) texts.bindings
-  pub log : Says (left_log inputs.log) texts.log
-  pub script : Says (left_script inputs.script) texts.script
 
 -- a reading failed, or the input is too large
 abbrev pub IsUnread : Input → List ℕ → PlayFault → Type 0
@@ -76,26 +64,26 @@ next_log [] = None
 next_log (log ∷ logs) = log
 
 abbrev pub held_for : Input → Held → Option (List ℕ)
-held_for input.Cave held = held.cave
-held_for input.Bindings held = held.bindings
-held_for input.Log held = next_log held.logs
-held_for input.NewLog held = held.new_log
-held_for input.Script held = held.script
-held_for input.Known held = held.known
+held_for Input.Cave held = held.cave
+held_for Input.Bindings held = held.bindings
+held_for Input.Log held = next_log held.logs
+held_for Input.NewLog held = held.new_log
+held_for Input.Script held = held.script
+held_for Input.Known held = held.known
 
 -- ---- one reading
 
 -- what is known of all inputs but this one
 abbrev pub without : Input → Held → Held
-without input.Cave held = record held { cave = None }
-without input.Bindings held = record held { bindings = None }
-without input.Log held = record held { logs = [] }
+without Input.Cave held = record held { cave = None }
+without Input.Bindings held = record held { bindings = None }
+without Input.Log held = record held { logs = [] }
 without _ held = record held { new_log = None; script = None; known = None }
 
 -- an input was read: what is known of the others is as before, and the logs after the first come
 -- next
 abbrev pub logs_after : Input → Held → List (Option (List ℕ))
-logs_after input.Log held = drop 1 held.logs
+logs_after Input.Log held = drop 1 held.logs
 logs_after _ held = held.logs
 
 pub record IsTaken (from : Input) (old new : Held) : Type 0 where
@@ -161,3 +149,8 @@ module _ {C B L S : Type 0} (left_database : C → Option (List ℕ))
   abbrev pub held_by_one : OneLog C B L S → Held
   held_by_one readers = let inputs = readers.inputs.now in
       held_of inputs.cave (if readers.is_read then [] else inputs.log ∷ []) inputs.script
+
+  -- the texts are those that the readers of the inputs are known to have left, if that is known
+  abbrev pub AreTextsOf : Inputs C B L S → InputTexts → Type 0
+  AreTextsOf inputs texts =
+      AreHeld Input.Script (held_of inputs.cave (inputs.log ∷ []) inputs.script) texts

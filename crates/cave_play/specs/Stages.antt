@@ -6,57 +6,50 @@ use Rattle.std.specs.Prelude.{◌⊎◌, ⊤, MatchResult}
 use Rattle.std.specs.Str.Lines.{lines}
 use Rattle.check_tables.specs.Clues.{clue_of}
 use Rattle.cave_data.specs.Reads.{fault as cave_fault}
-use Rattle.data_rows.specs.declared.error.Cause.TheVariants as cause
+use Rattle.data_rows.specs.declared.error.Cause.{Cause}
 use Rattle.data_rows.specs.declared.error.CaveError.{CaveError}
-use Rattle.data_rows.specs.declared.error.FaultSite.TheVariants as site
+use Rattle.data_rows.specs.declared.error.FaultSite.{FaultSite}
 use Rattle.cave_replay.specs.Opening.{first_bad_line}
 use Rattle.base_lines.specs.declared.line.LineFault.{LineFault}
 use Rattle.base_lines.specs.Limits.{MAX_SEED, MAX_EVERY, MAX_LOG_LINES, MAX_INPUT_BYTES}
 use Rattle.cave_replay.specs.declared.fault.OpenFault.{OpenFault}
-use Rattle.cave_replay.specs.declared.fault.OpenFault.TheVariants as session
 use Rattle.replay_scripts.specs.Guards.{script_by}
 use Rattle.replay_scripts.specs.Script.{Applied}
 use Rattle.replay_scripts.specs.declared.fault.ScriptRefusal.{ScriptRefusal}
-use Rattle.replay_scripts.specs.declared.fault.ScriptRefusal.TheVariants.{Malformed, Memory}
-use Rattle.play_command.specs.declared.line.Input.{Input}
-use Rattle.play_command.specs.declared.line.Input.TheVariants as input
-use Rattle.cave_play.specs.declared.fault.LogFault.TheVariants as log
-use Rattle.cave_play.specs.declared.fault.ScriptFault.TheVariants as script
-use Rattle.cave_play.specs.declared.fault.PlayFault.{PlayFault}
-use Rattle.cave_play.specs.declared.fault.PlayFault.TheVariants as fault
 use Rattle.play_command.specs.declared.views.EditView.{EditView}
-use Rattle.play_command.specs.declared.views.EditView.TheVariants as asked
+use Rattle.play_command.specs.declared.line.Editing.{Editing}
+use Rattle.play_command.specs.declared.line.Input.{Input}
+use Rattle.cave_play.specs.declared.fault.LogFault.{LogFault}
+use Rattle.cave_play.specs.declared.fault.PlayFault.{PlayFault}
+use Rattle.cave_play.specs.declared.output.Reported.{Reported}
+use Rattle.cave_play.specs.declared.fault.ScriptFault.{ScriptFault}
 use Rattle.play_edits.specs.Edits.{ending_refusal}
 use Rattle.play_edits.specs.Ends.{EndsOfLog, ended_view, ends_after_items, log_ends}
 use Rattle.play_edits.specs.Views.{text_to_read}
 use Rattle.replay_edits.specs.Edit.{Game, game_of}
 use Rattle.std.specs.Option.{option_or}
-use Rattle.play_command.specs.declared.line.Editing.{Editing}
 use Rattle.std.specs.Io.KnownBytes.{Appends, Keeps}
-use Rattle.std.specs.Global.{Vec}
-use Rattle.play_edits.specs.declared.items.EditRun.{EditRun}
-use Rattle.play_edits.specs.declared.items.MadeEdit.{MadeEdit}
 
 -- ---- the fault of an input
 
 -- the fault of a seed
 abbrev pub large_seed : ℕ → Option PlayFault
-large_seed seed = if nat_lt MAX_SEED seed then Some fault.Seed else None
+large_seed seed = if nat_lt MAX_SEED seed then Some PlayFault.Seed else None
 
 -- the fault of a distance of checkpoints
 abbrev pub every_fault : ℕ → Option PlayFault
-every_fault every = if every == 0 || nat_lt MAX_EVERY every then Some fault.Every else None
+every_fault every = if every == 0 || nat_lt MAX_EVERY every then Some PlayFault.Every else None
 
 -- the fault of an input that has too many bytes
 abbrev pub too_large : Input → PlayFault
-too_large input.Cave =
-    fault.Cave (record { cause = cause.TooLarge; line = 0; site = site.Database }) None
-too_large input.Bindings =
-    fault.Cave (record { cause = cause.TooLarge; line = 0; site = site.Bindings }) None
-too_large input.Log = fault.Log log.TooLarge
-too_large input.NewLog = fault.NewLog log.TooLarge
-too_large input.Script = fault.Script script.TooLarge
-too_large input.Known = fault.LargeKnown
+too_large Input.Cave =
+    PlayFault.Cave (record { cause = Cause.TooLarge; line = 0; site = FaultSite.Database }) None
+too_large Input.Bindings =
+    PlayFault.Cave (record { cause = Cause.TooLarge; line = 0; site = FaultSite.Bindings }) None
+too_large Input.Log = PlayFault.Log LogFault.TooLarge
+too_large Input.NewLog = PlayFault.NewLog LogFault.TooLarge
+too_large Input.Script = PlayFault.Script ScriptFault.TooLarge
+too_large Input.Known = PlayFault.LargeKnown
 
 abbrev pub input_size_fault : Input → List ℕ → Option PlayFault
 input_size_fault from bytes = if nat_lt MAX_INPUT_BYTES (length bytes) then Some (too_large from)
@@ -64,54 +57,57 @@ input_size_fault from bytes = if nat_lt MAX_INPUT_BYTES (length bytes) then Some
 
 -- the fault of a run whose cave is refused: what is wrong, with what is known beyond that
 abbrev pub cave_refusal : List ℕ → List ℕ → CaveError → PlayFault
-cave_refusal database bindings error = fault.Cave error (clue_of error database bindings)
+cave_refusal database bindings error = PlayFault.Cave error (clue_of error database bindings)
 
 abbrev pub inputs_fault : List ℕ → List ℕ → Option PlayFault
 inputs_fault database bindings =
     option_map (cave_refusal database bindings) (cave_fault database bindings)
 
 abbrev pub or_too_many : Option (ℕ × LineFault) → ℕ → Option PlayFault
-or_too_many (Some (number, flaw)) count = Some (fault.Log (log.BadLine number flaw))
-or_too_many None count = if nat_lt MAX_LOG_LINES count then Some (fault.Log log.Full) else None
+or_too_many (Some (number, flaw)) count = Some (PlayFault.Log (LogFault.BadLine number flaw))
+or_too_many None count =
+    if nat_lt MAX_LOG_LINES count then Some (PlayFault.Log LogFault.Full) else None
 
 unfoldable pub lines_fault : List (List ℕ) → Option PlayFault
 lines_fault log = or_too_many (first_bad_line log 1) (length log)
 
 unfoldable pub log_fault : List ℕ → Option PlayFault
-log_fault bytes = if nat_lt MAX_INPUT_BYTES (length bytes) then Some (fault.Log log.TooLarge)
-    else lines_fault (lines bytes)
+log_fault bytes = if nat_lt MAX_INPUT_BYTES (length bytes)
+    then Some (PlayFault.Log LogFault.TooLarge) else lines_fault (lines bytes)
 
 abbrev pub first_malformed : Result (List Applied) ScriptRefusal → Option PlayFault
-first_malformed (Err (Malformed line flaw)) = Some (fault.Script (script.Malformed line flaw))
+first_malformed (Err (ScriptRefusal.Malformed line flaw)) =
+    Some (PlayFault.Script (ScriptFault.Malformed line flaw))
 first_malformed _ = None
 
 unfoldable pub script_fault : Bool → List ℕ → Option PlayFault
 script_fault guarded bytes = if nat_lt MAX_INPUT_BYTES (length bytes)
-    then Some (fault.Script script.TooLarge) else first_malformed (script_by guarded bytes)
+    then Some (PlayFault.Script ScriptFault.TooLarge) else first_malformed (script_by guarded bytes)
 
 -- the fault of a run in which a session couldn't be opened
 abbrev pub opening_fault : OpenFault → PlayFault
-opening_fault session.BadEvery = fault.Every
-opening_fault (session.BadLine number flaw) = fault.Log (log.BadLine number flaw)
-opening_fault session.LogFull = fault.Log log.Full
-opening_fault session.BadSeed = fault.Seed
-opening_fault session.Memory = fault.Memory
+opening_fault OpenFault.BadEvery = PlayFault.Every
+opening_fault (OpenFault.BadLine number flaw) = PlayFault.Log (LogFault.BadLine number flaw)
+opening_fault OpenFault.LogFull = PlayFault.Log LogFault.Full
+opening_fault OpenFault.BadSeed = PlayFault.Seed
+opening_fault OpenFault.Memory = PlayFault.Memory
 
 -- the fault of a run whose script was refused
 abbrev pub script_refusal : ScriptRefusal → PlayFault
-script_refusal (Malformed line flaw) = fault.Script (script.Malformed line flaw)
-script_refusal Memory = fault.Memory
+script_refusal (ScriptRefusal.Malformed line flaw) =
+    PlayFault.Script (ScriptFault.Malformed line flaw)
+script_refusal ScriptRefusal.Memory = PlayFault.Memory
 
 -- ---- the fault of an output, and of items
 
 -- the fault of an output of this many bytes: a log and a script may have as many as an input
 abbrev pub size_fault : EditView → ℕ → Option PlayFault
-size_fault asked.Log bytes =
-    if nat_lt MAX_INPUT_BYTES bytes then Some fault.LargeLog else None
-size_fault asked.Undo bytes =
-    if nat_lt MAX_INPUT_BYTES bytes then Some fault.LargeScript else None
-size_fault asked.Guarded bytes =
-    if nat_lt MAX_INPUT_BYTES bytes then Some fault.LargeScript else None
+size_fault EditView.Log bytes =
+    if nat_lt MAX_INPUT_BYTES bytes then Some PlayFault.LargeLog else None
+size_fault EditView.Undo bytes =
+    if nat_lt MAX_INPUT_BYTES bytes then Some PlayFault.LargeScript else None
+size_fault EditView.Guarded bytes =
+    if nat_lt MAX_INPUT_BYTES bytes then Some PlayFault.LargeScript else None
 size_fault _ bytes = None
 
 abbrev pub bytes_to_read : EditView → Bool → List Applied → Game → EndsOfLog → ℕ
@@ -130,7 +126,8 @@ output_fault view guarded log seed script (Err refusal) = None
 -- if the run is strict, the fault of the first of the items of a script that is refused, if it
 -- spells some, each in the game that those before it left
 abbrev pub fault_of_items : Bool → Game → Result (List Applied) ScriptRefusal → Option PlayFault
-fault_of_items strict game (Ok items) = option_map fault.Refused (ending_refusal strict items game)
+fault_of_items strict game (Ok items) =
+    option_map PlayFault.Refused (ending_refusal strict items game)
 fault_of_items strict game (Err refusal) = None
 
 -- ---- stages
@@ -153,13 +150,13 @@ first_decided (stage ∷ stages) = option_or stage.decides (first_decided stages
 -- the database is read, then its bindings, and then both are judged
 abbrev pub cave_stages : List ℕ → List ℕ → List Stage
 cave_stages database bindings =
-    reading_stage input.Cave (input_size_fault input.Cave database)
-    ∷ reading_stage input.Bindings (input_size_fault input.Bindings bindings)
+    reading_stage Input.Cave (input_size_fault Input.Cave database)
+    ∷ reading_stage Input.Bindings (input_size_fault Input.Bindings bindings)
     ∷ judging_stage (inputs_fault database bindings)
     ∷ []
 
 abbrev pub known_stage : List ℕ → Stage
-known_stage known = reading_stage input.Known (input_size_fault input.Known known)
+known_stage known = reading_stage Input.Known (input_size_fault Input.Known known)
 
 -- then the list of known doubts is read
 abbrev pub doubts_stages : List ℕ → List ℕ → List ℕ → List Stage
@@ -167,10 +164,10 @@ doubts_stages database bindings known =
     cave_stages database bindings ++ known_stage known ∷ []
 
 abbrev pub log_stage : List ℕ → Stage
-log_stage log = reading_stage input.Log (log_fault log)
+log_stage log = reading_stage Input.Log (log_fault log)
 
 abbrev pub script_stage : Bool → List ℕ → Stage
-script_stage guarded script = reading_stage input.Script (script_fault guarded script)
+script_stage guarded script = reading_stage Input.Script (script_fault guarded script)
 
 abbrev pub play_stages : List ℕ → List ℕ → List ℕ → ℕ → List Stage
 play_stages database bindings log seed =
@@ -201,8 +198,8 @@ edit_stages database bindings log script editing =
 
 -- no bytes decide the fault: the reading of the input failed, or memory was refused
 abbrev pub IsOutsideOf : Option Input → PlayFault → Type 0
-IsOutsideOf reads (fault.Read from) = reads ≡ Some from
-IsOutsideOf reads fault.Memory = ⊤
+IsOutsideOf reads (PlayFault.Read from) = reads ≡ Some from
+IsOutsideOf reads PlayFault.Memory = ⊤
 IsOutsideOf reads _ = ⊥
 
 abbrev pub IsFoundAt : Stage → PlayFault → Type 0
@@ -211,7 +208,7 @@ IsFoundAt stage found = IsOutsideOf stage.reads found ⊎ (stage.decides ≡ Som
 -- the fault is found at a stage before which none decides a fault; after the last, memory may run
 -- out
 abbrev pub IsFoundIn : List Stage → PlayFault → Type 0
-IsFoundIn [] found = found ≡ fault.Memory
+IsFoundIn [] found = found ≡ PlayFault.Memory
 IsFoundIn (stage ∷ stages) found =
     IsFoundAt stage found ⊎ ((stage.decides ≡ None) × IsFoundIn stages found)
 
@@ -222,54 +219,33 @@ Judges stages P (Err found) = IsFoundIn stages found
 
 -- ---- what a run leaves
 
--- a prefix of a right output was written
-abbrev pub WritesPrefix : (List ℕ → Type 0) → Option (List ℕ) → Option (List ℕ) → Type 0
-WritesPrefix IsOutput old new = (output : List ℕ) × IsOutput output
-    × ((n : ℕ) × Appends old new (take n output))
+-- what was made was written, and what is found with it is returned; or the writer failed, which the
+-- fault says, and a prefix of it was; or nothing was made, and nothing is written
+abbrev pub Writes : {A F : Type 0} → (F → Type 0) → Result (Reported A) F → Option (List ℕ)
+    → Option (List ℕ) → Result A F → Type 0
+Writes IsUnwritten (Ok made) old new ended = MatchResult ended
+    (λ found. (found ≡ made.found) × Appends old new made.text.items)
+    (λ found. IsUnwritten found × ((n : ℕ) × Appends old new (take n made.text.items)))
+Writes IsUnwritten (Err found) old new ended = (ended ≡ Err found) × Keeps old new
 
--- what a run that failed has written: a prefix of a right output if the writer failed, and nothing if
--- a fault is found in its stages, none of which decides that the writer fails
-abbrev pub EndsBy : PlayFault → List Stage → (List ℕ → Type 0)
-    → Option (List ℕ) → Option (List ℕ) → Type 0
-EndsBy found stages IsOutput old new =
-    ((found ≡ fault.Write) × (first_decided stages ≡ None) × WritesPrefix IsOutput old new)
-    ⊎ (IsFoundIn stages found × Keeps old new)
+-- what a run leaves whose writer may fail with this fault: what it makes was written
+abbrev pub Leaves : {A F : Type 0} → F → (Result (Reported A) F → Type 0) → Option (List ℕ)
+    → Option (List ℕ) → Result A F → Type 0
+Leaves {A} {F} unwritten IsMade old new ended = (made : Result (Reported A) F) × IsMade made
+    × Writes (λ found. found ≡ unwritten) made old new ended
+
+-- what a run leaves that returns something: if its stages decide no fault, an output that is right
+-- with that
+abbrev pub RunsWith : {A : Type 0} → List Stage → (A → List ℕ → Type 0)
+    → Option (List ℕ) → Option (List ℕ) → Result A PlayFault → Type 0
+RunsWith stages IsOutput old new ended = Leaves PlayFault.Write
+    (Judges stages (λ made. IsOutput made.found made.text.items)) old new ended
+
+-- the same of a run that returns nothing
+abbrev pub Runs : List Stage → (List ℕ → Type 0)
+    → Option (List ℕ) → Option (List ℕ) → Result (Unit {0}) PlayFault → Type 0
+Runs stages IsOutput old new ended = RunsWith stages (λ _. IsOutput) old new ended
 
 -- at most one output is right
 abbrev pub AtMostOne : (List ℕ → Type 0) → Type 0
 AtMostOne IsOutput = (one other : List ℕ) → IsOutput one → IsOutput other → one ≡ other
-
--- what a run that returns something leaves: an output that is right with that, if its stages decide
--- no fault, or what its fault leaves
-abbrev pub RunsWith : {A : Type 0} → List Stage → (A → List ℕ → Type 0)
-    → Option (List ℕ) → Option (List ℕ) → Result A PlayFault → Type 0
-RunsWith stages IsOutput old new (Ok made) =
-    (first_decided stages ≡ None)
-    × ((output : List ℕ) × IsOutput made output × Appends old new output)
-RunsWith {A} stages IsOutput old new (Err found) =
-    EndsBy found stages (λ output. (made : A) × IsOutput made output) old new
-
--- what a run leaves: a right output, if its stages decide no fault, or what its fault leaves
-abbrev pub Runs : List Stage → (List ℕ → Type 0)
-    → Option (List ℕ) → Option (List ℕ) → Result (Unit {0}) PlayFault → Type 0
-Runs stages IsOutput old new (Ok done) =
-    (first_decided stages ≡ None) × ((output : List ℕ) × IsOutput output × Appends old new output)
-Runs stages IsOutput old new (Err found) = EndsBy found stages IsOutput old new
-
--- a text was written, and this is returned; or a prefix of it was, and the writer failed
-abbrev pub WritesText : {A : Type 0} → List ℕ → A → Option (List ℕ) → Option (List ℕ)
-    → Result A PlayFault → Type 0
-WritesText text returned old new ended = MatchResult ended
-    (λ made. (made ≡ returned) × Appends old new text)
-    (λ found. (found ≡ fault.Write) × ((n : ℕ) × Appends old new (take n text)))
-
--- the text that was made was written; or none was made, and nothing is written
-abbrev pub Writes : Result (Vec ℕ) PlayFault → Option (List ℕ) → Option (List ℕ)
-    → Result (Unit {0}) PlayFault → Type 0
-Writes (Ok text) old new ended = WritesText text.items tt old new ended
-Writes (Err found) old new ended = (ended ≡ Err found) × Keeps old new
-
-abbrev pub WritesEdit : Result MadeEdit PlayFault → Option (List ℕ) → Option (List ℕ)
-    → Result EditRun PlayFault → Type 0
-WritesEdit (Ok made) old new ended = WritesText made.text.items made.run old new ended
-WritesEdit (Err found) old new ended = (ended ≡ Err found) × Keeps old new

@@ -9,7 +9,7 @@ ghost use Rattle.cave_play.specs.Stages.{Judges, doubts_stages};
 use crate::fault::PlayFault;
 use crate::inputs::{Inputs, OneLog, Sources};
 use crate::judge::{ReadCave, read_cave};
-use crate::output::write_output;
+use crate::output::{Reported, write_report};
 use base_text::Text;
 use check_doubts::{Doubt, DoubtEntries, DoubtFiles, doubts, put_doubts};
 use check_tables::known::{KnownList, put_entries};
@@ -27,34 +27,27 @@ pub fn first_doubt(strict: bool, left: &[Doubt]) -> Option<PlayFault>
     }
 }
 
-/// The doubts that a list doesn't know, and what is said of them and of the list.
-#[derive(Drop)]
-pub struct LeftDoubts {
-    pub left: Vec<Doubt>,
-    pub text: Vec<u8>,
-}
-
-/// The doubts of a cave that a list doesn't know.
+/// The doubts of a cave that a list doesn't know, with what is said of them and of the list.
 fn left_in(
     alloc: Global,
     read: &ReadCave,
     files: &DoubtFiles<'_>,
     list: Vec<u8>,
-) -> Result<LeftDoubts, AllocError>
+) -> Result<Reported<Vec<Doubt>>, AllocError>
     ensures left { let all = doubts read.now.cave read.now.database.items read.now.bindings.items in
         IfOk result (AreLeft files.now list.items all) }
 {
-    let found = doubts(alloc, &read.cave, &read.database, &read.bindings)?;
+    let all = doubts(alloc, &read.cave, &read.database, &read.bindings)?;
     let known = KnownList::of(alloc, files.known, list)?;
-    let left = known.unknown(alloc, &DoubtEntries, &found)?;
+    let found = known.unknown(alloc, &DoubtEntries, &all)?;
     let mut entries = Text::new(alloc);
-    put_entries(&mut entries, &DoubtEntries, "", &found);
+    put_entries(&mut entries, &DoubtEntries, "", &all);
     let entries = entries.finish()?;
     let mut text = Text::new(alloc);
     known.put_unmet(&mut text, "no doubt says this", &entries);
-    put_doubts(&mut text, files, &left);
+    put_doubts(&mut text, files, &found);
     let text = text.finish()?;
-    Ok(LeftDoubts { left, text })
+    Ok(Reported { text, found })
 }
 
 /// Reads a cave and the list of known doubts, and finds the others, each with the name of its file
@@ -63,7 +56,7 @@ pub fn make_doubts<I: Sources>(
     alloc: Global,
     inputs: &mut I,
     files: &DoubtFiles<'_>,
-) -> Result<LeftDoubts, PlayFault>
+) -> Result<Reported<Vec<Doubt>>, PlayFault>
     ensures judged { (texts : InputTexts) × AreHeld Input.Known (I.held inputs.old) texts
         × Judges (doubts_stages texts.database texts.bindings texts.script)
         (AreLeftIn files.now texts.database texts.bindings texts.script) result }
@@ -91,9 +84,9 @@ pub fn run_doubts<C: Read, B: Read, L: Read, S: Read, W: Write>(
         result }
 {
     let mut readers = OneLog::of(inputs);
-    let listed = make_doubts(alloc, &mut readers, files)?;
-    write_output(output, &listed.text)?;
-    match first_doubt(strict, &listed.left) {
+    let made = make_doubts(alloc, &mut readers, files);
+    let left = write_report(made, output)?;
+    match first_doubt(strict, &left) {
         Some(fault) => Err(fault),
         None => Ok(()),
     }

@@ -2,7 +2,7 @@
 
 ghost use Rattle.std.specs.Prelude.{◌≡◌};
 ghost use Rattle.cave_play.specs.declared.fault.PlayFault.TheVariants.{Memory};
-ghost use Rattle.cave_play.specs.Fault.{status_of, input_from, input_of, faulty_line};
+ghost use Rattle.cave_play.specs.Fault.{status_of, input_of, faulty_line};
 
 use base_lines::LineFault;
 use check_doubts::{Doubt, Source};
@@ -139,16 +139,6 @@ impl From<AllocError> for PlayFault {
     }
 }
 
-/// The input that a doubt is about.
-fn input_from(source: Source) -> Input
-    ensures { result ≡ input_from source }
-{
-    match source {
-        Source::Database => Input::Cave,
-        Source::Bindings => Input::Bindings,
-    }
-}
-
 impl PlayFault {
     /// The status with which the program ends.
     pub fn status(self) -> u8
@@ -172,8 +162,9 @@ impl PlayFault {
     {
         match self {
             PlayFault::Cave(error, _) if error.site == FaultSite::Bindings => Some(Input::Bindings),
-            PlayFault::Cave(_, _) | PlayFault::Unmapped(_) => Some(Input::Cave),
-            PlayFault::Doubt(found) => Some(input_from(found.source)),
+            PlayFault::Doubt(found) if found.source == Source::Bindings => Some(Input::Bindings),
+            PlayFault::Cave(_, _) | PlayFault::Doubt(_) => Some(Input::Cave),
+            PlayFault::Unmapped(_) => Some(Input::Cave),
             PlayFault::LargeKnown => Some(Input::Known),
             PlayFault::Log(_) => Some(Input::Log),
             PlayFault::NewLog(_) => Some(Input::NewLog),

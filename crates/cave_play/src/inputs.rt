@@ -4,8 +4,8 @@ ghost use Rattle.std.specs.Prelude.{◌≡◌, ◌<◌, ◌≤◌, length, IfOk,
 ghost use Rattle.base_lines.specs.Limits as defined;
 ghost use Rattle.play_command.specs.declared.line.Input.{Input};
 ghost use Rattle.cave_play.specs.Stages.{too_large};
-ghost use Rattle.cave_play.specs.Sources.{AreReadersOf, Exceeds, Gives, Held, IsOneLogOf, IsReading};
-ghost use Rattle.cave_play.specs.Sources.{IsTaken, held_by, held_by_one, held_for};
+ghost use Rattle.cave_play.specs.Sources.{AreReadersOf, Exceeds, Gives, Held, IsOneLogOf};
+ghost use Rattle.cave_play.specs.Sources.{IsReading, IsTaken, held_by, held_by_one, held_for};
 
 use crate::fault::{LogFault, PlayFault, ScriptFault};
 use base_lines::limits::MAX_INPUT_BYTES;

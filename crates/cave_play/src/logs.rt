@@ -5,8 +5,8 @@ ghost use Rattle.std.specs.List.{AllZip};
 ghost use Rattle.cave_play.specs.Output.{IsReadOf};
 ghost use Rattle.cave_play.specs.Sources.{Says, Leads};
 ghost use Rattle.cave_play.specs.Stages.{large_seed, Judges};
-ghost use Rattle.cave_play.specs.Logs.{IsMadeReport, IsReportOn, IsReported, JudgesLogs};
-ghost use Rattle.cave_play.specs.Logs.{WritesReport, first_stages, games_of, noted_of_all, at_none};
+ghost use Rattle.cave_play.specs.Logs.{IsMadeReport, IsReportOn, IsReported, JudgesLogs, at_none};
+ghost use Rattle.cave_play.specs.Logs.{first_stages, games_of, noted_of_all};
 ghost use Rattle.cave_data.specs.CaveView.{CaveView};
 ghost use Rattle.replay_edits.specs.Edit.{Game};
 ghost use Rattle.cave_play.specs.declared.fault.PlayFault.TheVariants.{Memory};
@@ -14,12 +14,11 @@ ghost use Rattle.cave_play.specs.declared.fault.PlayFault.TheVariants.{Memory};
 use crate::fault::PlayFault;
 use crate::inputs::Sources;
 use crate::judge::{ReadCave, check_seed, read_cave, watch_play};
-use crate::output::write_output;
+use crate::output::Reported;
 use cave_data::Cave;
 use cave_words::Lexicon;
 use play_machine::{CaveMachine, Watch};
 use std::alloc::{AllocError, Global};
-use std::io::Write;
 
 /// A fault of a run over several logs, and the log at which it is met, from 0, if it is met at one.
 #[derive(Clone, Copy, Debug, PartialEq, Eq)]
@@ -40,10 +39,7 @@ impl From<AllocError> for LogsFault {
     ghost from_gives = { λ _ found. found ≡ at_none Memory };
 
     fn from(_: AllocError) -> LogsFault {
-        LogsFault {
-            fault: PlayFault::Memory,
-            log: None,
-        }
+        LogsFault::from(PlayFault::Memory)
     }
 }
 
@@ -81,13 +77,6 @@ pub trait PlayNotes: Watch {
             → (text.new.items
             ≡ text.old.items ++ report_on database.now cave.now view.now games)
             × (found ≡ found_on database.now cave.now view.now games)) };
-}
-
-/// A report on the plays of logs, and what is found with it.
-#[derive(Drop)]
-pub struct Reported<F: Copy> {
-    pub text: Vec<u8>,
-    pub found: F,
 }
 
 /// Plays this many logs, and makes the report on what is noted of their plays.
@@ -189,16 +178,4 @@ fn note_logs<N: PlayNotes, I: Sources>(
         }
     }
     Ok(())
-}
-
-/// Writes a report that was made, if one was, and returns what is found with it.
-pub fn write_report<F: Copy, W: Write>(
-    made: Result<Reported<F>, LogsFault>,
-    output: &mut W,
-) -> Result<F, LogsFault>
-    ensures { WritesReport made (W.contents output.old) (W.contents output.new) result }
-{
-    let Reported { text, found } = made?;
-    write_output(output, &text)?;
-    Ok(found)
 }

@@ -1,12 +1,18 @@
-//! Writing an output that is built.
+//! What runs make, and writing it.
 
 ghost use Rattle.std.specs.Prelude.{◌≡◌, ℕ, take, MatchResult};
 ghost use Rattle.std.specs.Io.KnownBytes.{Appends};
-ghost use Rattle.cave_play.specs.Stages.{Writes, WritesEdit};
+ghost use Rattle.cave_play.specs.Stages.{Writes};
 
 use crate::fault::PlayFault;
-use play_edits::{EditRun, MadeEdit};
 use std::io::Write;
+
+/// A text that a run makes, and what is found with it.
+#[derive(Drop)]
+pub struct Reported<A> {
+    pub text: Vec<u8>,
+    pub found: A,
+}
 
 /// Writes the whole output, or a prefix of it if the writer fails: it returned an error, or took
 /// nothing.
@@ -30,31 +36,20 @@ pub fn write_output<W: Write>(writer: &mut W, output: &[u8]) -> Result<(), PlayF
     }
 }
 
-/// Writes what was made, if something was.
-pub(crate) fn write_made<W: Write>(
-    made: Result<Vec<u8>, PlayFault>,
-    writer: &mut W,
-) -> Result<(), PlayFault>
-    ensures { Writes made (W.contents writer.old) (W.contents writer.new) result }
+/// Writes what was made, if something was, and returns what is found with it.
+pub fn write_report<A: Drop, F: From<PlayFault>, W: Write>(
+    made: Result<Reported<A>, F>,
+    output: &mut W,
+) -> Result<A, F>
+    ensures { Writes (F.from_gives PlayFault.Write) made (W.contents output.old)
+        (W.contents output.new) result }
 {
-    match made {
-        Ok(text) => write_output(writer, &text),
-        Err(fault) => Err(fault),
-    }
-}
-
-/// Writes the text that edits made, if they made one, and returns what the run returns.
-pub(crate) fn write_edit<W: Write>(
-    made: Result<MadeEdit, PlayFault>,
-    writer: &mut W,
-) -> Result<EditRun, PlayFault>
-    ensures { WritesEdit made (W.contents writer.old) (W.contents writer.new) result }
-{
-    match made {
-        Ok(MadeEdit { run, text }) => match write_output(writer, &text) {
-            Ok(()) => Ok(run),
-            Err(fault) => Err(fault),
-        },
-        Err(fault) => Err(fault),
+    let Reported { text, found } = match made {
+        Ok(made) => made,
+        Err(fault) => return Err(fault),
+    };
+    match write_output(output, &text) {
+        Ok(()) => Ok(found),
+        Err(fault) => Err(F::from(fault)),
     }
 }

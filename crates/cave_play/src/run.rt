@@ -17,7 +17,7 @@ ghost use Rattle.play_edits.specs.Ends.{log_ends};
 use crate::fault::PlayFault;
 use crate::inputs::{Inputs, OneLog, Sources};
 use crate::judge::{check_every, check_seed, open_session, read_cave, read_script};
-use crate::output::{write_edit, write_made};
+use crate::output::{Reported, write_report};
 use crate::views::{check_text, play_view_text};
 use base_lines::limits::is_large_input;
 use cave_data::Cave;
@@ -38,10 +38,10 @@ pub fn make_check<I: Sources>(
     alloc: Global,
     inputs: &mut I,
     view: CheckView,
-) -> Result<Vec<u8>, PlayFault>
+) -> Result<Reported<()>, PlayFault>
     ensures judged { (texts : InputTexts) × AreHeld Input.Script (I.held inputs.old) texts
         × Judges (cave_stages texts.database texts.bindings)
-        (λ text. IsChecked view texts.database texts.bindings text.items) result }
+        (λ made. IsChecked view texts.database texts.bindings made.text.items) result }
     ensures leads { Leads I.Reads inputs.old inputs.new }
 {
     let read = read_cave(alloc, inputs)?;
@@ -57,10 +57,10 @@ pub fn make_play<I: Sources>(
     inputs: &mut I,
     seed: u32,
     view: PlayView,
-) -> Result<Vec<u8>, PlayFault>
+) -> Result<Reported<()>, PlayFault>
     ensures judged { (texts : InputTexts) × AreHeld Input.Script (I.held inputs.old) texts
         × Judges (play_stages texts.database texts.bindings texts.log seed)
-        (λ text. IsPlayed texts.database texts.bindings texts.log seed view text.items) result }
+        (λ made. IsPlayed texts.database texts.bindings texts.log seed view made.text.items) result }
     ensures leads { Leads I.Reads inputs.old inputs.new }
 {
     check_seed(seed)?;
@@ -79,7 +79,7 @@ pub fn make_edit<I: Sources>(
     inputs: &mut I,
     editing: Editing,
     report: Option<ReportView>,
-) -> Result<MadeEdit, PlayFault>
+) -> Result<Reported<EditRun>, PlayFault>
     ensures judged { (texts : InputTexts) × AreHeld Input.Script (I.held inputs.old) texts
         × Judges (edit_stages texts.database texts.bindings texts.log texts.script editing)
         (IsMadeEdit texts editing report) result }
@@ -100,16 +100,17 @@ fn play_in_cave<I: Sources>(
     inputs: &mut I,
     seed: u32,
     view: PlayView,
-) -> Result<Vec<u8>, PlayFault>
+) -> Result<Reported<()>, PlayFault>
     requires { large_seed seed ≡ None }
     ensures judged { (moves : List ℕ) × Says (next_log (I.held inputs.old).logs) moves
         × Judges (log_stage moves ∷ [])
-        (λ text. text.items ≡ play_view_text view cave.now (game_of seed (lines moves))) result }
+        (λ made. made.text.items ≡ play_view_text view cave.now (game_of seed (lines moves))) result }
     ensures leads { Leads I.Reads inputs.old inputs.new }
 {
     let lexicon = Lexicon::build(alloc, cave)?;
     let machine = CaveMachine::new(cave, &lexicon);
-    play_view_text(alloc, machine, inputs, seed, view)
+    let text = play_view_text(alloc, machine, inputs, seed, view)?;
+    Ok(Reported { text, found: () })
 }
 
 /// What a view asks for of a script in a cave.
@@ -168,15 +169,18 @@ fn edit_session<I: Sources>(
 }
 
 /// What edits made, unless that is a log or a script that no run could read again.
-fn finish_edit(view: EditView, made: Result<MadeEdit, PlayFault>) -> Result<MadeEdit, PlayFault>
+fn finish_edit(
+    view: EditView,
+    made: Result<MadeEdit, PlayFault>,
+) -> Result<Reported<EditRun>, PlayFault>
     ensures { FinishesEdit view made result }
 {
-    let made = made?;
-    let is_large = is_large_input(made.text.len());
+    let MadeEdit { text, run } = made?;
+    let is_large = is_large_input(text.len());
     match view {
         EditView::Log if is_large => Err(PlayFault::LargeLog),
         EditView::Undo | EditView::Guarded if is_large => Err(PlayFault::LargeScript),
-        _ => Ok(made),
+        _ => Ok(Reported { text, found: run }),
     }
 }
 
@@ -196,7 +200,7 @@ pub fn run_check<C: Read, B: Read, L: Read, S: Read, W: Write>(
 {
     let mut readers = OneLog::of(inputs);
     let made = make_check(alloc, &mut readers, view);
-    write_made(made, output)
+    write_report(made, output)
 }
 
 /// Plays a log and writes what the view asks for.
@@ -215,7 +219,7 @@ pub fn run_play<C: Read, B: Read, L: Read, S: Read, W: Write>(
 {
     let mut readers = OneLog::of(inputs);
     let made = make_play(alloc, &mut readers, seed, view);
-    write_made(made, output)
+    write_report(made, output)
 }
 
 /// Edits a log by a script, and writes what the view asks for. Returns how many lines were played
@@ -236,5 +240,5 @@ pub fn run_edit<C: Read, B: Read, L: Read, S: Read, W: Write>(
 {
     let mut readers = OneLog::of(inputs);
     let made = make_edit(alloc, &mut readers, editing, report);
-    write_edit(made, output)
+    write_report(made, output)
 }

@@ -13,12 +13,12 @@ ghost use Rattle.cave_play.specs.Output.{ReadsWith, two_logs_stages, with_compar
 use crate::fault::PlayFault;
 use crate::inputs::{Inputs, OneLog, Sources, too_large};
 use crate::judge::opening_fault;
-use crate::output::{write_edit, write_made};
+use crate::output::{Reported, write_report};
 use crate::run::make_edit;
 use base_lines::limits::{USUAL_EVERY, is_large_input};
 use cave_replay::log::read_lines;
 use play_command::{Editing, Input, ReportView};
-use play_edits::{EditRun, MadeEdit};
+use play_edits::EditRun;
 use replay_difference::script::{ScriptForm, push_difference};
 use replay_edits::LineText;
 use std::alloc::Global;
@@ -116,7 +116,7 @@ pub fn make_script<I: Sources>(
     alloc: Global,
     inputs: &mut I,
     form: ScriptForm,
-) -> Result<Vec<u8>, PlayFault>
+) -> Result<Reported<()>, PlayFault>
     ensures judged { (texts : InputTexts) × AreHeld Input.NewLog (I.held inputs.old) texts
         × JudgesScript form texts result }
     ensures leads { Leads I.Reads inputs.old inputs.new }
@@ -126,7 +126,8 @@ pub fn make_script<I: Sources>(
     if is_large_input(script.len()) {
         return Err(PlayFault::LargeScript);
     }
-    Ok(script)
+    let (text, found) = (script, ());
+    Ok(Reported { text, found })
 }
 
 /// A log that was read, and its script, in the place of those that a run has.
@@ -175,7 +176,7 @@ pub fn make_edit_to<I: Sources>(
     inputs: &mut I,
     editing: Editing,
     report: Option<ReportView>,
-) -> Result<MadeEdit, PlayFault>
+) -> Result<Reported<EditRun>, PlayFault>
     ensures judged { (texts : InputTexts) × AreHeld Input.NewLog (I.held inputs.old) texts
         × JudgesEditTo texts editing report result }
     ensures leads { Leads I.Reads inputs.old inputs.new }
@@ -207,7 +208,7 @@ pub fn run_script<C: Read, B: Read, L: Read, S: Read, W: Write>(
 {
     let mut readers = OneLog::of(inputs);
     let made = make_script(alloc, &mut readers, form);
-    write_made(made, output)
+    write_report(made, output)
 }
 
 /// Edits a log by the edits that make another one of it, and writes what is asked for. The script's
@@ -225,5 +226,5 @@ pub fn run_edit_to<C: Read, B: Read, L: Read, S: Read, W: Write>(
 {
     let mut readers = OneLog::of(inputs);
     let made = make_edit_to(alloc, &mut readers, editing, report);
-    write_edit(made, output)
+    write_report(made, output)
 }

@@ -14,6 +14,7 @@ ghost use Rattle.turn_ends.specs.Score.{max_score_of};
 use crate::fault::PlayFault;
 use crate::inputs::Sources;
 use crate::judge::{ReadCave, watch_play};
+use crate::output::Reported;
 use base_text::Text;
 use cave_data::Cave;
 use check_doubts::{DoubtEntries, doubts};
@@ -31,8 +32,8 @@ pub(crate) fn check_text(
     alloc: Global,
     read: &ReadCave,
     view: CheckView,
-) -> Result<Vec<u8>, PlayFault>
-    ensures told { MatchResult result (λ text. text.items
+) -> Result<Reported<()>, PlayFault>
+    ensures told { MatchResult result (λ made. made.text.items
         ≡ check_text view read.now.cave read.now.database.items read.now.bindings.items)
         (λ fault. fault ≡ PlayFault.Memory) }
 {
@@ -46,7 +47,7 @@ pub(crate) fn check_text(
         CheckView::Words => push_words(alloc, cave, &mut text)?,
         CheckView::Known => push_known(alloc, read, &mut text)?,
     }
-    Ok(text)
+    Ok(Reported { text, found: () })
 }
 
 /// Appends the line that says that a database is a cave.

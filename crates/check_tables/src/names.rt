@@ -2,12 +2,13 @@
 
 ghost use Rattle.std.specs.Prelude.{◌≡◌, ◌++◌, OnOk};
 ghost use Rattle.std.specs.List.{flat_map};
+ghost use Rattle.base_text.specs.Text.{Tells};
 ghost use Rattle.cave_words.specs.Lexicon.{IsLexiconOf};
-ghost use Rattle.cave_words.specs.Named.{each_name};
 ghost use Rattle.check_tables.specs.Names.{inventory_line, label, name_row};
 ghost use Rattle.check_tables.specs.Names.{names_header, names_table, object_columns};
 
 use base_lines::first_line;
+use base_text::Text;
 use cave_data::Cave;
 use cave_words::named::each_name;
 use cave_words::{Lexicon, Named};
@@ -20,91 +21,56 @@ fn inventory_line(cave: &Cave, object: u16) -> &[u8]
     first_line(cave.name(object).unwrap_or(&[]))
 }
 
-/// Appends a name as it is listed.
-fn push_label(name: Named, text: &mut Vec<u8>) -> Result<(), AllocError>
-    ensures { OnOk result (text.new.items ≡ text.old.items ++ label name) }
+/// Writes a name as it is listed.
+fn put_label(text: &mut Text, name: Named)
+    ensures { Tells (label name) text.old text.new }
 {
-    text.extend_from_slice(name.word())?;
+    text.put(name.word());
     if name.is_second() {
-        return text.extend_from_slice(b"2");
+        text.put(b"2");
     }
-    Ok(())
 }
 
-/// Appends the columns of an object.
-fn push_object_columns(
-    alloc: Global,
-    cave: &Cave,
-    object: Option<u16>,
-    text: &mut Vec<u8>,
-) -> Result<(), AllocError>
-    ensures { OnOk result (text.new.items ≡ text.old.items ++ object_columns cave.now object) }
+/// Writes the columns of an object.
+fn put_object_columns(text: &mut Text, cave: &Cave, object: Option<u16>)
+    ensures { Tells (object_columns cave.now object) text.old text.new }
 {
     match object {
         Some(object) => {
-            let number = format!(in alloc; "{object}\t")?;
-            text.extend_from_slice(number.as_bytes())?;
-            text.extend_from_slice(inventory_line(cave, object))
+            write!(text, "{object}\t");
+            text.put(inventory_line(cave, object));
         }
-        None => text.extend_from_slice(b"absent\t"),
+        None => text.put(b"absent\t"),
     }
 }
 
-/// Appends the row of a name.
-fn push_name_row(
-    alloc: Global,
-    cave: &Cave,
-    lexicon: &Lexicon,
-    name: Named,
-    text: &mut Vec<u8>,
-) -> Result<(), AllocError>
+/// Writes the row of a name.
+fn put_name_row(text: &mut Text, cave: &Cave, lexicon: &Lexicon, name: Named)
     requires { IsLexiconOf cave.now lexicon.now }
-    ensures { OnOk result (text.new.items ≡ text.old.items ++ name_row cave.now name) }
+    ensures { Tells (name_row cave.now name) text.old text.new }
 {
-    push_label(name, text)?;
-    text.extend_from_slice(b"\t")?;
-    push_object_columns(alloc, cave, lexicon.named(cave, name), text)?;
-    text.extend_from_slice(b"\n")
+    put_label(text, name);
+    text.put(b"\t");
+    put_object_columns(text, cave, lexicon.named(cave, name));
+    text.put(b"\n");
 }
 
-/// Appends the rows of some names.
-fn push_name_rows(
-    alloc: Global,
-    cave: &Cave,
-    lexicon: &Lexicon,
-    names: &[Named],
-    text: &mut Vec<u8>,
-) -> Result<(), AllocError>
+/// Writes the rows of some names.
+fn put_name_rows(text: &mut Text, cave: &Cave, lexicon: &Lexicon, names: &[Named])
     requires { IsLexiconOf cave.now lexicon.now }
-    ensures { OnOk result
-        (text.new.items ≡ text.old.items ++ flat_map (name_row cave.now) names.now) }
+    ensures { Tells (flat_map (name_row cave.now) names.now) text.old text.new }
 {
     for name in names {
-        push_name_row(alloc, cave, lexicon, *name, text)?;
+        put_name_row(text, cave, lexicon, *name);
     }
-    Ok(())
 }
 
-/// Appends the names of the columns.
+/// Writes the names of the columns.
 #[tactic(auto, unfolding(crate::specs::Names::names_header))]
-fn push_header(text: &mut Vec<u8>) -> Result<(), AllocError>
-    ensures { OnOk result (text.new.items ≡ text.old.items ++ names_header) }
+fn put_header(text: &mut Text)
+    ensures { Tells names_header text.old text.new }
 {
-    text.extend_from_slice(b"name\tobject\ttext\n")
-}
-
-/// Appends the rows of all names.
-fn push_all_rows(
-    alloc: Global,
-    cave: &Cave,
-    lexicon: &Lexicon,
-    text: &mut Vec<u8>,
-) -> Result<(), AllocError>
-    requires { IsLexiconOf cave.now lexicon.now }
-    ensures { OnOk result
-        (text.new.items ≡ text.old.items ++ flat_map (name_row cave.now) each_name) }
-{
-    push_name_rows(alloc, cave, lexicon, each_name(), text)
+    text.put(b"name\tobject\ttext\n");
 }
 
 /// Appends a row for each name by which rules know an object.
@@ -113,6 +79,8 @@ pub fn push_names(alloc: Global, cave: &Cave, text: &mut Vec<u8>) -> Result<(), 
     ensures { OnOk result (text.new.items ≡ text.old.items ++ names_table cave.now) }
 {
     let lexicon = Lexicon::build(alloc, cave)?;
-    push_header(text)?;
-    push_all_rows(alloc, cave, &lexicon, text)
+    let mut table = Text::after(alloc, text);
+    put_header(&mut table);
+    put_name_rows(&mut table, cave, &lexicon, each_name());
+    table.give_to(text)
 }

@@ -3,6 +3,7 @@
 ghost use Rattle.std.specs.Prelude.{◌≡◌, ◌++◌, IfOk, OnOk, map};
 ghost use Rattle.std.specs.FinMap.{get};
 ghost use Rattle.std.specs.List.{flat_map, list_any};
+ghost use Rattle.base_text.specs.Text.{Tells};
 ghost use Rattle.data_rows.specs.Role.{role_number};
 ghost use Rattle.data_rows.specs.RowViews.{going};
 ghost use Rattle.check_tables.specs.Unused.{hint_says, is_number, is_said, is_unused, role_says};
@@ -12,6 +13,7 @@ ghost use Rattle.check_tables.specs.Unused.{unused_table, verb_says, way_says};
 
 use base_lines::first_line;
 use base_lines::numbers::{LAST_ACTION, LAST_HINT, LAST_MESSAGE, LAST_PLACE};
+use base_text::Text;
 use cave_data::Cave;
 use data_rows::role::each_role;
 use data_rows::{Destination, Hint, Role, Row, WORDS_PER_CLASS};
@@ -127,51 +129,29 @@ fn unused_messages(alloc: Global, cave: &Cave) -> Result<Vec<u16>, AllocError>
         .collect(alloc)
 }
 
-/// Appends the row of a message.
-fn push_unused_row(
-    alloc: Global,
-    cave: &Cave,
-    number: u16,
-    text: &mut Vec<u8>,
-) -> Result<(), AllocError>
-    ensures { OnOk result (text.new.items ≡ text.old.items ++ unused_row cave.now number) }
+/// Writes the row of a message.
+fn put_unused_row(text: &mut Text, cave: &Cave, number: u16)
+    ensures { Tells (unused_row cave.now number) text.old text.new }
 {
-    let column = format!(in alloc; "{number}\t")?;
-    text.extend_from_slice(column.as_bytes())?;
-    text.extend_from_slice(first_line(cave.message(number).unwrap_or(&[])))?;
-    text.extend_from_slice(b"\n")
+    write!(text, "{number}\t");
+    text.put(first_line(cave.message(number).unwrap_or(&[])));
+    text.put(b"\n");
 }
 
-fn push_unused_rows(
-    alloc: Global,
-    cave: &Cave,
-    numbers: &[u16],
-    text: &mut Vec<u8>,
-) -> Result<(), AllocError>
-    ensures { OnOk result
-        (text.new.items ≡ text.old.items ++ flat_map (unused_row cave.now) numbers.now) }
+fn put_unused_rows(text: &mut Text, cave: &Cave, numbers: &[u16])
+    ensures { Tells (flat_map (unused_row cave.now) numbers.now) text.old text.new }
 {
     for number in numbers {
-        push_unused_row(alloc, cave, *number, text)?;
+        put_unused_row(text, cave, *number);
     }
-    Ok(())
 }
 
-/// Appends the names of the columns.
+/// Writes the names of the columns.
 #[tactic(auto, unfolding(crate::specs::Unused::unused_header))]
-fn push_header(text: &mut Vec<u8>) -> Result<(), AllocError>
-    ensures { OnOk result (text.new.items ≡ text.old.items ++ unused_header) }
+fn put_header(text: &mut Text)
+    ensures { Tells unused_header text.old text.new }
 {
-    text.extend_from_slice(b"message\ttext\n")
-}
-
-/// Appends the rows of the messages that nothing can say.
-fn push_all_rows(alloc: Global, cave: &Cave, text: &mut Vec<u8>) -> Result<(), AllocError>
-    ensures { OnOk result (text.new.items
-        ≡ text.old.items ++ flat_map (unused_row cave.now) (unused_messages cave.now)) }
-{
-    let numbers = unused_messages(alloc, cave)?;
-    push_unused_rows(alloc, cave, &numbers, text)
+    text.put(b"message\ttext\n");
 }
 
 /// Appends a row for each message that nothing can say.
@@ -179,6 +159,9 @@ fn push_all_rows(alloc: Global, cave: &Cave, text: &mut Vec<u8>) -> Result<(), A
 pub fn push_unused(alloc: Global, cave: &Cave, text: &mut Vec<u8>) -> Result<(), AllocError>
     ensures { OnOk result (text.new.items ≡ text.old.items ++ unused_table cave.now) }
 {
-    push_header(text)?;
-    push_all_rows(alloc, cave, text)
+    let numbers = unused_messages(alloc, cave)?;
+    let mut table = Text::after(alloc, text);
+    put_header(&mut table);
+    put_unused_rows(&mut table, cave, &numbers);
+    table.give_to(text)
 }

@@ -2,10 +2,12 @@
 
 ghost use Rattle.std.specs.Prelude.{◌≡◌, ◌++◌, IfOk, OnOk};
 ghost use Rattle.std.specs.List.{flat_map};
+ghost use Rattle.base_text.specs.Text.{Tells};
 ghost use Rattle.check_tables.specs.Words.{class_name, is_meant, meant_numbers, word_column};
 ghost use Rattle.check_tables.specs.Words.{word_columns, words_header, words_row, words_table};
 ghost use Rattle.data_rows.specs.RowViews.{word_entry};
 
+use base_text::Text;
 use cave_data::{Cave, WordTable};
 use data_rows::{WORDS_PER_CLASS, WordRow};
 use std::alloc::{AllocError, Global};
@@ -45,75 +47,50 @@ fn meant_numbers(alloc: Global, cave: &Cave) -> Result<Vec<u16>, AllocError>
         .collect(alloc)
 }
 
-/// Appends the column of a word, if it has the number.
-fn push_word_column(row: WordRow<'_>, number: u16, text: &mut Vec<u8>) -> Result<(), AllocError>
-    ensures { OnOk result
-        (text.new.items ≡ text.old.items ++ word_column number (word_entry row.entry)) }
+/// Writes the column of a word, if it has the number.
+fn put_word_column(text: &mut Text, row: WordRow<'_>, number: u16)
+    ensures { Tells (word_column number (word_entry row.entry)) text.old text.new }
 {
-    if row.number != number {
-        return Ok(());
+    if row.number == number {
+        text.put(b"\t");
+        text.put(row.word);
     }
-    text.extend_from_slice(b"\t")?;
-    text.extend_from_slice(row.word)
 }
 
-/// Appends a column for each word that has the number.
-fn push_word_columns(words: &WordTable, number: u16, text: &mut Vec<u8>) -> Result<(), AllocError>
-    ensures { OnOk result (text.new.items ≡ text.old.items ++ word_columns number words.now) }
+/// Writes a column for each word that has the number.
+fn put_word_columns(text: &mut Text, words: &WordTable, number: u16)
+    ensures { Tells (word_columns number words.now) text.old text.new }
 {
     for index in 0..words.len() {
-        push_word_column(words.row(index), number, text)?;
+        put_word_column(text, words.row(index), number);
     }
-    Ok(())
 }
 
-/// Appends the row of a number.
-fn push_words_row(
-    alloc: Global,
-    cave: &Cave,
-    number: u16,
-    text: &mut Vec<u8>,
-) -> Result<(), AllocError>
-    ensures { OnOk result (text.new.items ≡ text.old.items ++ words_row cave.now number) }
+/// Writes the row of a number.
+fn put_words_row(text: &mut Text, cave: &Cave, number: u16)
+    ensures { Tells (words_row cave.now number) text.old text.new }
 {
     let (class, place) = (class_name(number), number % WORDS_PER_CLASS);
-    let columns = format!(in alloc; "{class}\t{place}")?;
-    text.extend_from_slice(columns.as_bytes())?;
-    push_word_columns(cave.words(), number, text)?;
-    text.extend_from_slice(b"\n")
+    write!(text, "{class}\t{place}");
+    put_word_columns(text, cave.words(), number);
+    text.put(b"\n");
 }
 
-/// Appends the rows of some numbers.
-fn push_words_rows(
-    alloc: Global,
-    cave: &Cave,
-    numbers: &[u16],
-    text: &mut Vec<u8>,
-) -> Result<(), AllocError>
-    ensures { OnOk result
-        (text.new.items ≡ text.old.items ++ flat_map (words_row cave.now) numbers.now) }
+/// Writes the rows of some numbers.
+fn put_words_rows(text: &mut Text, cave: &Cave, numbers: &[u16])
+    ensures { Tells (flat_map (words_row cave.now) numbers.now) text.old text.new }
 {
     for number in numbers {
-        push_words_row(alloc, cave, *number, text)?;
+        put_words_row(text, cave, *number);
     }
-    Ok(())
 }
 
-/// Appends the names of the columns.
+/// Writes the names of the columns.
 #[tactic(auto, unfolding(crate::specs::Words::words_header))]
-fn push_header(text: &mut Vec<u8>) -> Result<(), AllocError>
-    ensures { OnOk result (text.new.items ≡ text.old.items ++ words_header) }
+fn put_header(text: &mut Text)
+    ensures { Tells words_header text.old text.new }
 {
-    text.extend_from_slice(b"class\tnumber\twords\n")
-}
-
-/// Appends the rows of all numbers that words have.
-fn push_all_rows(alloc: Global, cave: &Cave, text: &mut Vec<u8>) -> Result<(), AllocError>
-    ensures { OnOk result (text.new.items
-        ≡ text.old.items ++ flat_map (words_row cave.now) (meant_numbers cave.now)) }
-{
-    let numbers = meant_numbers(alloc, cave)?;
-    push_words_rows(alloc, cave, &numbers, text)
+    text.put(b"class\tnumber\twords\n");
 }
 
 /// Appends a row for each thing that words mean.
@@ -121,6 +98,9 @@ fn push_all_rows(alloc: Global, cave: &Cave, text: &mut Vec<u8>) -> Result<(), A
 pub fn push_words(alloc: Global, cave: &Cave, text: &mut Vec<u8>) -> Result<(), AllocError>
     ensures { OnOk result (text.new.items ≡ text.old.items ++ words_table cave.now) }
 {
-    push_header(text)?;
-    push_all_rows(alloc, cave, text)
+    let numbers = meant_numbers(alloc, cave)?;
+    let mut table = Text::after(alloc, text);
+    put_header(&mut table);
+    put_words_rows(&mut table, cave, &numbers);
+    table.give_to(text)
 }

@@ -1,4 +1,3 @@
 pub mod DrawnLemmas
 pub mod PartLemmas
-pub mod TitleLemmas
 pub mod StopLemmas

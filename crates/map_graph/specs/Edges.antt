@@ -9,7 +9,7 @@ use Rattle.map_ways.specs.Ways.{are_joined, ends_of_edges, is_way}
 use Rattle.map_ways.specs.Regions.{is_one_of}
 use Rattle.map_graph.specs.Places.{strength}
 use Rattle.map_graph.specs.Stops.{Stops, is_way_taken}
-use Rattle.map_graph.specs.WayTexts.{way_text}
+use Rattle.map_ways.specs.WayTexts.{way_text}
 
 -- what is written at an edge, line by line: each row, and then those of the way back
 unfoldable pub edge_text : CaveView → ℕ → ℕ → List ℕ

@@ -13,7 +13,7 @@ use Rattle.cave_world.specs.Sight.{LIGHT_BIT, has_condition, forced}
 use Rattle.map_ways.specs.Labels.{label_of}
 use Rattle.check_tables.specs.WayWords.{word_or_number, number_of_object}
 use Rattle.map_graph.specs.Stops.{Stops, is_visited}
-use Rattle.map_graph.specs.Titles.{title}
+use Rattle.map_ways.specs.Titles.{title}
 use Rattle.map_ways.specs.Ways.{count_nowhere}
 
 -- a half of the object is there as a game begins

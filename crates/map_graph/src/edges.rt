@@ -14,9 +14,9 @@ ghost use Rattle.map_graph.specs.Edges.{part_to_label, plain_edge, plain_opening
 use crate::nodes::strength;
 use crate::sights::Sights;
 use crate::stops::{Stops, is_way_taken};
-use crate::way_texts::put_way;
 use base_text::Text;
 use cave_data::Cave;
+use map_ways::way_texts::put_way;
 use map_ways::{are_joined, ends_of_edges, is_one_of, is_way, put_label};
 use std::alloc::AllocError;
 

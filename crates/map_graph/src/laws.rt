@@ -1,7 +1,6 @@
 //! Laws about the graph. Each is the contract of a function that does nothing.
 
 ghost use Rattle.map_graph.specs.Map.{EdgesAreLines, NodesAreLines};
-ghost use Rattle.map_graph.specs.Titles.{TitlesTellApart};
 
 /// Each node is one line of the map.
 pub fn nodes_are_lines()
@@ -11,9 +10,4 @@ pub fn nodes_are_lines()
 /// Each edge is one line of the map.
 pub fn edges_are_lines()
     ensures { EdgesAreLines }
-{}
-
-/// Two places have one title only if the first lines of their texts have the same words.
-pub fn titles_tell_apart()
-    ensures { TitlesTellApart }
 {}

@@ -9,5 +9,3 @@ pub mod nodes;
 pub mod parts;
 pub mod sights;
 pub mod stops;
-pub mod titles;
-mod way_texts;

@@ -15,7 +15,6 @@ ghost use Rattle.map_graph.specs.Places.{title_line, visits_label_line};
 
 use crate::sights::Sights;
 use crate::stops::{Stops, is_visited};
-use crate::titles::put_title;
 use base_lines::numbers::LAST_OBJECT;
 use base_text::Text;
 use cave_data::Cave;
@@ -24,6 +23,7 @@ use cave_world::{forced, has_condition};
 use check_tables::way_words::{number_of_object, put_word_or_number};
 use data_rows::PlaceRole;
 use data_rows::place_role::each_place_role;
+use map_ways::titles::put_title;
 use map_ways::{count_nowhere, put_label};
 use std::alloc::{AllocError, Global};
 use world_objects::Place;

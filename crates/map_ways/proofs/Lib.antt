@@ -7,3 +7,4 @@ pub mod LabelLemmas
 pub mod LineLemmas
 pub mod Bools
 pub mod RegionLemmas
+pub mod TitleLemmas

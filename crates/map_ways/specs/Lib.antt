@@ -3,3 +3,5 @@ pub mod Regions
 pub mod Laws
 pub mod Labels
 pub mod LabelTexts
+pub mod Titles
+pub mod WayTexts

@@ -1,8 +1,9 @@
-//! Laws about ways. Each is the contract of a function that does nothing.
+//! Laws about ways, and about titles of places. Each is the contract of a function that does nothing.
 
 ghost use Rattle.map_ways.specs.Laws.{AppliedRowsAreWays, EachPlaceHasOneNode};
 ghost use Rattle.map_ways.specs.Laws.{EachWayHasOneEdge, EndsAreNodes};
 ghost use Rattle.map_ways.specs.Regions.{RegionIsWalked};
+ghost use Rattle.map_ways.specs.Titles.{TitlesTellApart};
 
 /// Each place that has a text, or a way, is exactly once among the places of the map, and no other
 /// is.
@@ -29,4 +30,9 @@ pub fn applied_rows_are_ways()
 /// A place is within some ways of another exactly if a walk of at most as many ways leads there.
 pub fn region_is_walked()
     ensures { RegionIsWalked }
+{}
+
+/// Two places have one title only if the first lines of their texts have the same words.
+pub fn titles_tell_apart()
+    ensures { TitlesTellApart }
 {}

@@ -12,33 +12,20 @@ use Rattle.clap.specs.Words.{Row, all_of, first_of, found_of, rows_of}
 use Rattle.clap.specs.declared.parser.matches.ArgMatches.{ArgMatches}
 use Rattle.play_command.specs.declared.fault.Misuse.{Misuse}
 use Rattle.play_command.specs.declared.found.NumberOption.{NumberOption}
-use Rattle.play_command.specs.declared.found.NumberOption.TheVariants.{Every, From, Seed, Within}
 use Rattle.play_command.specs.declared.line.Input.{Input}
-use Rattle.play_command.specs.declared.line.Input.TheVariants.{Cave, Bindings, Log, NewLog, Script}
-use Rattle.play_command.specs.declared.line.Input.TheVariants.{Known}
 use Rattle.play_command.specs.declared.line.NamedFile.{NamedFile}
 use Rattle.play_command.specs.declared.commands.CommandName.{CommandName}
-use Rattle.play_command.specs.declared.commands.CommandName.TheVariants as command
-use Rattle.play_command.specs.declared.fault.Misuse.TheVariants as misuse
 use Rattle.play_command.specs.declared.line.EditAsked.{EditAsked}
 use Rattle.play_command.specs.declared.line.Editing.{Editing}
 use Rattle.play_command.specs.declared.line.EditsFrom.{EditsFrom}
-use Rattle.play_command.specs.declared.line.EditsFrom.TheVariants as from
 use Rattle.play_command.specs.declared.line.MapPart.{MapPart}
 use Rattle.play_command.specs.declared.line.Surroundings.{Surroundings}
 use Rattle.play_command.specs.declared.line.What.{What}
-use Rattle.play_command.specs.declared.line.What.TheVariants as what
 use Rattle.play_command.specs.declared.views.CheckView.{CheckView}
-use Rattle.play_command.specs.declared.views.CheckView.TheVariants as checked
 use Rattle.play_command.specs.declared.views.CoverView.{CoverView}
-use Rattle.play_command.specs.declared.views.CoverView.TheVariants as covered
-use Rattle.play_command.specs.declared.views.CoverView.TheVariants.{Rules, Said}
 use Rattle.play_command.specs.declared.views.EditView.{EditView}
-use Rattle.play_command.specs.declared.views.EditView.TheVariants as edited
 use Rattle.play_command.specs.declared.views.PlayView.{PlayView}
-use Rattle.play_command.specs.declared.views.PlayView.TheVariants as played
 use Rattle.play_command.specs.declared.views.ReportView.{ReportView}
-use Rattle.play_command.specs.declared.views.ReportView.TheVariants as report
 use Rattle.play_command.specs.declared.views.TextView.TheVariants.{Counts, Texts}
 
 -- ---- what was found
@@ -75,10 +62,10 @@ with_text item = (item.0.now, item.1)
 
 -- an option whose value is a number, by its name, with the least and the most that it may be
 abbrev pub number_row : NumberOption → List ℕ × ℕ × ℕ
-number_row Seed = (codes "seed", 0, MAX_SEED)
-number_row Every = (codes "every", 1, MAX_EVERY)
-number_row From = (codes "from", 1, 300)
-number_row Within = (codes "within", 0, 300)
+number_row NumberOption.Seed = (codes "seed", 0, MAX_SEED)
+number_row NumberOption.Every = (codes "every", 1, MAX_EVERY)
+number_row NumberOption.From = (codes "from", 1, 300)
+number_row NumberOption.Within = (codes "within", 0, 300)
 
 -- the number that the text writes in 1 to 10 digits and nothing else, if it is from `least` to `most`
 unfoldable pub number_in_range : ℕ → ℕ → List ℕ → Option ℕ
@@ -90,7 +77,8 @@ number_in_range least most text =
 -- the number that the text writes, if the option may have it
 abbrev pub number_said : NumberOption → List ℕ → Result ℕ Misuse
 number_said option text =
-    ok_or (number_in_range (number_row option).1 (number_row option).2 text) (misuse.BadNumber option)
+    let row = number_row option in
+    ok_or (number_in_range row.1 row.2 text) (Misuse.BadNumber option)
 
 -- the number that was found for an option, or the usual one
 unfoldable pub number_of : NumberOption → ℕ → List Row → Result ℕ Misuse
@@ -109,9 +97,9 @@ files_at rows argument =
 
 -- those of the arguments that are files to read, in the order in which they are opened
 abbrev pub files_of : List Row → List (Input × List ℕ)
-files_of rows = flat_map (files_at rows) ((codes "cave", Cave) ∷ (codes "bind", Bindings)
-    ∷ (codes "old", Log) ∷ (codes "log", Log) ∷ (codes "script", Script)
-    ∷ (codes "new", NewLog) ∷ (codes "to", NewLog) ∷ (codes "known", Known) ∷ [])
+files_of rows = flat_map (files_at rows) ((codes "cave", Input.Cave) ∷ (codes "bind", Input.Bindings)
+    ∷ (codes "old", Input.Log) ∷ (codes "log", Input.Log) ∷ (codes "script", Input.Script)
+    ∷ (codes "new", Input.NewLog) ∷ (codes "to", Input.NewLog) ∷ (codes "known", Input.Known) ∷ [])
 
 -- an edited log is written over the log
 abbrev pub is_in_place : List Row → Bool
@@ -126,34 +114,35 @@ output_of rows =
 
 -- the list of doubts is no view
 abbrev pub check_views : List (List ℕ × Option CheckView)
-check_views = (codes "maximum", Some checked.Maximum) ∷ (codes "bindings", Some checked.Bindings)
-    ∷ (codes "names", Some checked.Names) ∷ (codes "unused", Some checked.Unused)
-    ∷ (codes "words", Some checked.Words) ∷ (codes "doubts", None)
-    ∷ (codes "known", Some checked.Known) ∷ []
+check_views = (codes "maximum", Some CheckView.Maximum) ∷ (codes "bindings", Some CheckView.Bindings)
+    ∷ (codes "names", Some CheckView.Names) ∷ (codes "unused", Some CheckView.Unused)
+    ∷ (codes "words", Some CheckView.Words) ∷ (codes "doubts", None)
+    ∷ (codes "known", Some CheckView.Known) ∷ []
 
 abbrev pub play_views : List (List ℕ × PlayView)
-play_views = (codes "transcript", played.Transcript) ∷ (codes "steps", played.Steps)
-    ∷ (codes "walk", played.Walk) ∷ (codes "score", played.Score)
-    ∷ (codes "state", played.FinalState) ∷ []
+play_views = (codes "transcript", PlayView.Transcript) ∷ (codes "steps", PlayView.Steps)
+    ∷ (codes "walk", PlayView.Walk) ∷ (codes "score", PlayView.Score)
+    ∷ (codes "state", PlayView.FinalState) ∷ []
 
 abbrev pub edit_views : List (List ℕ × EditView)
-edit_views = (codes "transcript", edited.Transcript) ∷ (codes "play", edited.Play)
-    ∷ (codes "log", edited.Log) ∷ (codes "undo", edited.Undo) ∷ (codes "guarded", edited.Guarded)
-    ∷ (codes "reports", edited.Reports) ∷ (codes "table", edited.Table)
-    ∷ (codes "steps", edited.Steps) ∷ (codes "walk", edited.Walk) ∷ (codes "score", edited.Score)
-    ∷ (codes "state", edited.FinalState) ∷ []
+edit_views = (codes "transcript", EditView.Transcript) ∷ (codes "play", EditView.Play)
+    ∷ (codes "log", EditView.Log) ∷ (codes "undo", EditView.Undo)
+    ∷ (codes "guarded", EditView.Guarded) ∷ (codes "reports", EditView.Reports)
+    ∷ (codes "table", EditView.Table) ∷ (codes "steps", EditView.Steps)
+    ∷ (codes "walk", EditView.Walk) ∷ (codes "score", EditView.Score)
+    ∷ (codes "state", EditView.FinalState) ∷ []
 
 abbrev pub cover_views : List (List ℕ × CoverView)
-cover_views = (codes "counts", Said Counts) ∷ (codes "texts", Said Texts)
-    ∷ (codes "rules", Rules) ∷ (codes "known", covered.Known) ∷ []
+cover_views = (codes "counts", CoverView.Said Counts) ∷ (codes "texts", CoverView.Said Texts)
+    ∷ (codes "rules", CoverView.Rules) ∷ (codes "known", CoverView.Known) ∷ []
 
 abbrev pub report_views : List (List ℕ × ReportView)
-report_views = (codes "reports", report.Reports) ∷ (codes "table", report.Table) ∷ []
+report_views = (codes "reports", ReportView.Reports) ∷ (codes "table", ReportView.Table) ∷ []
 
 -- the view that prints a report alone
 abbrev pub edit_view_of : ReportView → EditView
-edit_view_of report.Reports = edited.Reports
-edit_view_of report.Table = edited.Table
+edit_view_of ReportView.Reports = EditView.Reports
+edit_view_of ReportView.Table = EditView.Table
 
 -- ---- what several commands ask
 
@@ -166,7 +155,7 @@ Err found >>= next = Err found
 -- the view that was found, or the usual one; the parser should have refused the name of none
 abbrev pub view_of : {V : Type 0} → List (List ℕ × V) → V → List Row → Result V Misuse
 view_of views usual rows =
-    said_or (λ name. ok_or (named views name) misuse.Incomplete) usual
+    said_or (λ name. ok_or (named views name) Misuse.Incomplete) usual
     (first_of (codes "print") rows)
 
 -- what is doubtful, or never shown, is to be judged or left out
@@ -175,15 +164,15 @@ judges_left rows = is_set (codes "strict") rows || is_given (codes "known") rows
 
 -- doubts alone are judged or left out
 abbrev pub check_by : List Row → Option CheckView → Result What Misuse
-check_by rows None = Ok (what.Doubts (is_set (codes "strict") rows))
+check_by rows None = Ok (What.Doubts (is_set (codes "strict") rows))
 check_by rows (Some view) =
-    if judges_left rows then Err misuse.DoubtsAlone else Ok (what.Check view)
+    if judges_left rows then Err Misuse.DoubtsAlone else Ok (What.Check view)
 
 -- a check prints what was found for it; otherwise the doubts if they are to be judged or left out,
 -- and else the greatest score
 abbrev pub check_of : List Row → Result What Misuse
 check_of rows =
-    let usual = if judges_left rows then None else Some checked.Maximum in
+    let usual = if judges_left rows then None else Some CheckView.Maximum in
     view_of check_views usual rows >>= check_by rows
 
 -- ---- what an edit asks
@@ -191,11 +180,11 @@ check_of rows =
 -- there is the file of a script, or there are lines of one, or there is the file of a log, and no
 -- other of the three
 abbrev pub edits_from : Bool → Bool → Bool → Result EditsFrom Misuse
-edits_from true false false = Ok from.Script
-edits_from false true false = Ok from.Script
-edits_from false false true = Ok from.NewLog
-edits_from false false false = Err misuse.NoScript
-edits_from _ _ _ = Err misuse.TwoScripts
+edits_from true false false = Ok EditsFrom.Script
+edits_from false true false = Ok EditsFrom.Script
+edits_from false false true = Ok EditsFrom.NewLog
+edits_from false false false = Err Misuse.NoScript
+edits_from _ _ _ = Err Misuse.TwoScripts
 
 abbrev pub edits_from_of : List Row → Result EditsFrom Misuse
 edits_from_of rows = edits_from (is_given (codes "script") rows)
@@ -204,9 +193,9 @@ edits_from_of rows = edits_from (is_given (codes "script") rows)
 -- how a log is edited; it is printed as a log in place, and else as was found, or as the transcript
 unfoldable pub editing_of : List Row → Result Editing Misuse
 editing_of rows = do
-  seed ← number_of Seed 0 rows
-  every ← number_of Every 50 rows
-  view ← if is_in_place rows then Ok edited.Log else view_of edit_views edited.Transcript rows
+  seed ← number_of NumberOption.Seed 0 rows
+  every ← number_of NumberOption.Every 50 rows
+  view ← if is_in_place rows then Ok EditView.Log else view_of edit_views EditView.Transcript rows
   Ok (record {
     seed = seed;
     every = every;
@@ -218,18 +207,18 @@ editing_of rows = do
 -- the report of a name goes to standard output, so the output has to go into a file
 abbrev pub report_by : Option (List ℕ) → Option (List ℕ) → Result (Option ReportView) Misuse
 report_by None output = Ok None
-report_by (Some name) None = Err misuse.ReportAlone
+report_by (Some name) None = Err Misuse.ReportAlone
 report_by (Some name) (Some file) =
-    ok_or (named report_views name) misuse.Incomplete >>= (λ view. Ok (Some view))
+    ok_or (named report_views name) Misuse.Incomplete >>= (λ view. Ok (Some view))
 
 abbrev pub report_of : List Row → Result (Option ReportView) Misuse
 report_of rows = report_by (first_of (codes "report") rows) (output_of rows)
 
 -- what is printed has reports on the items of the script: the view has, or they are beside it
 abbrev pub has_reports : EditView → Option ReportView → Bool
-has_reports view (Some report.Reports) = true
-has_reports edited.Transcript beside = true
-has_reports edited.Reports beside = true
+has_reports view (Some ReportView.Reports) = true
+has_reports EditView.Transcript beside = true
+has_reports EditView.Reports beside = true
 has_reports _ beside = false
 
 -- an edit in place has its own file and its own view, so neither may be given; why items are refused
@@ -237,7 +226,7 @@ has_reports _ beside = false
 unfoldable pub edit_of : List Row → Result EditAsked Misuse
 edit_of rows =
     if is_in_place rows && (is_given (codes "output") rows || is_given (codes "print") rows)
-    then Err misuse.TwoOutputs else do
+    then Err Misuse.TwoOutputs else do
       editing ← editing_of rows
       source ← edits_from_of rows
       beside ← report_of rows
@@ -253,10 +242,10 @@ edit_of rows =
 -- what is drawn around a place; ways from it are 2 if none are given, and there are none from no
 -- place
 abbrev pub around_by : Option (List ℕ) → List Row → Result (Option Surroundings) Misuse
-around_by None rows = if is_given (codes "within") rows then Err misuse.WithinAlone else Ok None
+around_by None rows = if is_given (codes "within") rows then Err Misuse.WithinAlone else Ok None
 around_by (Some text) rows = do
-  place ← number_said From text
-  ways ← number_of Within 2 rows
+  place ← number_said NumberOption.From text
+  ways ← number_of NumberOption.Within 2 rows
   Ok (Some (record { place = place; ways = ways }))
 
 unfoldable pub around_of : List Row → Result (Option Surroundings) Misuse
@@ -267,39 +256,39 @@ unfoldable pub part_of : List Row → Result MapPart Misuse
 part_of rows =
     let seen = is_set (codes "seen") rows in
     let is_logless = is_none (all_of (codes "log") rows) in
-    if is_logless && seen then Err misuse.SeenAlone
-    else if is_logless && is_given (codes "seed") rows then Err misuse.SeedAlone
+    if is_logless && seen then Err Misuse.SeenAlone
+    else if is_logless && is_given (codes "seed") rows then Err Misuse.SeedAlone
     else around_of rows >>= (λ around. Ok (record { seen = seen; around = around }))
 
 -- ---- what a command asks
 
 -- nothing is judged or left out where all is listed
-abbrev pub cover_by : List Row → ℕ → CoverView → Result What Misuse
-cover_by rows seed covered.Known =
-    if judges_left rows then Err misuse.ListAlone else Ok (what.Cover seed covered.Known false)
-cover_by rows seed view = Ok (what.Cover seed view (is_set (codes "strict") rows))
+abbrev pub lists_all : CoverView → Bool
+lists_all CoverView.Known = true
+lists_all view = false
 
 -- of texts is printed what was found for it; otherwise each that is left if they are to be judged
 -- or left out, and else how many there are
 abbrev pub cover_of : List Row → Result What Misuse
 cover_of rows = do
-  seed ← number_of Seed 0 rows
-  view ← view_of cover_views (Said (if judges_left rows then Texts else Counts)) rows
-  cover_by rows seed view
+  seed ← number_of NumberOption.Seed 0 rows
+  view ← view_of cover_views (CoverView.Said (if judges_left rows then Texts else Counts)) rows
+  if judges_left rows && lists_all view then Err Misuse.ListAlone
+      else Ok (What.Cover seed view (is_set (codes "strict") rows))
 
 abbrev pub what_of : CommandName → List Row → Result What Misuse
-what_of command.Check rows = check_of rows
-what_of command.Play rows = do
-  seed ← number_of Seed 0 rows
-  view ← view_of play_views played.Transcript rows
-  Ok (what.Play seed view)
-what_of command.Edit rows = edit_of rows >>= (λ asked. Ok (what.Edit asked))
-what_of command.Script rows = Ok (what.Script (record {
+what_of CommandName.Check rows = check_of rows
+what_of CommandName.Play rows = do
+  seed ← number_of NumberOption.Seed 0 rows
+  view ← view_of play_views PlayView.Transcript rows
+  Ok (What.Play seed view)
+what_of CommandName.Edit rows = edit_of rows >>= (λ asked. Ok (What.Edit asked))
+what_of CommandName.Script rows = Ok (What.Script (record {
   guarded = is_set (codes "guarded") rows;
   grouped = is_set (codes "group") rows;
 }))
-what_of command.Cover rows = cover_of rows
-what_of command.Map rows = do
-  seed ← number_of Seed 0 rows
+what_of CommandName.Cover rows = cover_of rows
+what_of CommandName.Map rows = do
+  seed ← number_of NumberOption.Seed 0 rows
   part ← part_of rows
-  Ok (what.Map seed part)
+  Ok (What.Map seed part)

@@ -1,7 +1,7 @@
 -- The commands, and the program's command as the parser knows it.
 use Prim.Native.String.{String}
-use Rattle.std.specs.Prelude.{◌≡◌, ℕ, Bool, true, false, List, [], ◌∷◌, Option, None, Some}
-use Rattle.std.specs.Prelude.{codes, fold, if◌then◌else◌, map}
+use Rattle.std.specs.Prelude.{◌≡◌, ℕ, Bool, true, false, List, [], ◌∷◌, Option, None, Some, codes}
+use Rattle.std.specs.Prelude.{fold, if◌then◌else◌, map}
 use Rattle.std.specs.Borrow.{Bor}
 use Rattle.std.specs.List.{list_all, list_any, slice_get}
 use Rattle.base_lines.specs.Nearest.{is_near_name}
@@ -9,14 +9,12 @@ use Rattle.clap.specs.Words.{App, Row, Rule, app_of, new_app, new_rule, with_rul
 use Rattle.clap.specs.declared.builder.action.ArgAction.TheVariants.{Append, SetTrue}
 use Rattle.clap.specs.declared.builder.command.Command.{Command}
 use Rattle.clap.specs.declared.builder.command.Command.TheViews.{out-Command}
-use Rattle.clap.specs.declared.builder.value_parser.ValueParser.TheVariants as parser
+use Rattle.clap.specs.declared.builder.value_parser.ValueParser.{ValueParser}
 use Rattle.play_command.specs.Asked.{check_views, cover_views, edit_views, play_views, report_views}
 use Rattle.play_command.specs.Asked.{is_given}
 use Rattle.play_command.specs.declared.commands.Argument.{Argument}
 use Rattle.play_command.specs.declared.commands.Form.{Form}
-use Rattle.play_command.specs.declared.commands.Form.TheVariants as form
 use Rattle.play_command.specs.declared.commands.CommandName.{CommandName}
-use Rattle.play_command.specs.declared.commands.CommandName.TheVariants as command
 use Rattle.play_command.specs.declared.commands.CommandRow.{CommandRow}
 
 -- ---- the commands by their names
@@ -29,12 +27,12 @@ abbrev pub entry : String → CommandName → List String → List String → Li
 entry name command files others = (codes name, (command, map codes files, map codes others))
 
 abbrev pub commands : List (List ℕ × Needs)
-commands = entry "check" command.Check ("cave" ∷ []) ("test" ∷ "verify" ∷ [])
-    ∷ entry "play" command.Play ("cave" ∷ "log" ∷ []) ("run" ∷ [])
-    ∷ entry "edit" command.Edit ("cave" ∷ "log" ∷ []) ("replay" ∷ "patch" ∷ [])
-    ∷ entry "script" command.Script ("old" ∷ "new" ∷ []) ("diff" ∷ [])
-    ∷ entry "cover" command.Cover ("cave" ∷ "log" ∷ []) ("coverage" ∷ [])
-    ∷ entry "map" command.Map ("cave" ∷ []) ("graph" ∷ []) ∷ []
+commands = entry "check" CommandName.Check ("cave" ∷ []) ("test" ∷ "verify" ∷ [])
+    ∷ entry "play" CommandName.Play ("cave" ∷ "log" ∷ []) ("run" ∷ [])
+    ∷ entry "edit" CommandName.Edit ("cave" ∷ "log" ∷ []) ("replay" ∷ "patch" ∷ [])
+    ∷ entry "script" CommandName.Script ("old" ∷ "new" ∷ []) ("diff" ∷ [])
+    ∷ entry "cover" CommandName.Cover ("cave" ∷ "log" ∷ []) ("coverage" ∷ [])
+    ∷ entry "map" CommandName.Map ("cave" ∷ []) ("graph" ∷ []) ∷ []
 
 -- all the files that a command needs were found
 abbrev pub has_files : List (List ℕ) → List Row → Bool
@@ -42,8 +40,8 @@ has_files ids rows = list_all (λ id. is_given id rows) ids
 
 -- a command isn't complete without an argument that is given so
 abbrev pub is_needed : Form → Bool
-is_needed form.NeededFile = true
-is_needed form.NeededFiles = true
+is_needed Form.NeededFile = true
+is_needed Form.NeededFiles = true
 is_needed _ = false
 
 -- the arguments of which that is so
@@ -79,7 +77,7 @@ Names = Bor (List (Bor (List ℕ)))
 
 -- an argument whose value is one of these names
 abbrev pub with_names : Names → Rule → Rule
-with_names names rule = record rule { parser = Some (parser.Names names) }
+with_names names rule = record rule { parser = Some (ValueParser.Names names) }
 
 -- a file by its place, and an option with a value
 abbrev pub file : List ℕ → Rule
@@ -90,18 +88,18 @@ option id = record (new_rule id) { long = Some id; value_names = 1 }
 
 -- an argument by how it is given; a report is `reports` if its value is left out
 abbrev pub plain_argument : Form → List ℕ → Rule
-plain_argument form.File id = file id
-plain_argument form.Files id = record (file id) { action = Some Append }
-plain_argument form.NeededFile id = record (file id) { required = true }
-plain_argument form.NeededFiles id = record (file id) { action = Some Append; required = true }
-plain_argument form.Value id = option id
-plain_argument form.Values id = record (option id) { action = Some Append }
-plain_argument (form.View names) id = with_names names (option id)
-plain_argument (form.Report names) id = record (with_names names (option id)) {
+plain_argument Form.File id = file id
+plain_argument Form.Files id = record (file id) { action = Some Append }
+plain_argument Form.NeededFile id = record (file id) { required = true }
+plain_argument Form.NeededFiles id = record (file id) { action = Some Append; required = true }
+plain_argument Form.Value id = option id
+plain_argument Form.Values id = record (option id) { action = Some Append }
+plain_argument (Form.View names) id = with_names names (option id)
+plain_argument (Form.Report names) id = record (with_names names (option id)) {
   range = Some (record { start_inclusive = 0; end_inclusive = 1 });
   missing = codes "reports" ∷ [];
 }
-plain_argument form.Flag id = record (new_rule id) { long = Some id; action = Some SetTrue }
+plain_argument Form.Flag id = record (new_rule id) { long = Some id; action = Some SetTrue }
 
 abbrev pub with_letter : Option ℕ → Rule → Rule
 with_letter None rule = rule
@@ -142,37 +140,37 @@ abbrev pub lettered : Form → String → Rule
 lettered given id = with_letter (slice_get (codes id) 0) (argument given id)
 
 abbrev pub needed : String → Rule
-needed id = argument form.NeededFile id
+needed id = argument Form.NeededFile id
 
 abbrev pub value : String → Rule
-value id = argument form.Value id
+value id = argument Form.Value id
 
 abbrev pub short_value : String → Rule
-short_value id = lettered form.Value id
+short_value id = lettered Form.Value id
 
 abbrev pub flag : String → Rule
-flag id = argument form.Flag id
+flag id = argument Form.Flag id
 
 abbrev pub print : Names → Rule
-print names = lettered (form.View names) "print"
+print names = lettered (Form.View names) "print"
 
 -- the arguments of each command
 abbrev pub rules_of : ViewNames → CommandName → List Rule
-rules_of names command.Check = needed "cave" ∷ short_value "bind" ∷ print names.check.0
+rules_of names CommandName.Check = needed "cave" ∷ short_value "bind" ∷ print names.check.0
     ∷ flag "strict" ∷ value "known" ∷ short_value "output" ∷ []
-rules_of names command.Play = needed "cave" ∷ needed "log" ∷ short_value "bind"
+rules_of names CommandName.Play = needed "cave" ∷ needed "log" ∷ short_value "bind"
     ∷ short_value "seed" ∷ print names.play.0 ∷ short_value "output" ∷ []
-rules_of names command.Edit = needed "cave" ∷ needed "log" ∷ argument form.File "script"
-    ∷ lettered form.Values "edit" ∷ value "to" ∷ short_value "bind" ∷ short_value "seed"
+rules_of names CommandName.Edit = needed "cave" ∷ needed "log" ∷ argument Form.File "script"
+    ∷ lettered Form.Values "edit" ∷ value "to" ∷ short_value "bind" ∷ short_value "seed"
     ∷ value "every" ∷ print names.edit.0 ∷ flag "strict" ∷ flag "guarded"
-    ∷ lettered form.Flag "quiet" ∷ argument (form.Report names.report.0) "report"
+    ∷ lettered Form.Flag "quiet" ∷ argument (Form.Report names.report.0) "report"
     ∷ short_value "output" ∷ flag "in-place" ∷ []
-rules_of names command.Script = needed "old" ∷ needed "new" ∷ flag "guarded" ∷ flag "group"
+rules_of names CommandName.Script = needed "old" ∷ needed "new" ∷ flag "guarded" ∷ flag "group"
     ∷ short_value "output" ∷ []
-rules_of names command.Cover = needed "cave" ∷ argument form.NeededFiles "log"
+rules_of names CommandName.Cover = needed "cave" ∷ argument Form.NeededFiles "log"
     ∷ short_value "bind" ∷ short_value "seed" ∷ print names.cover.0 ∷ flag "strict"
     ∷ value "known" ∷ short_value "output" ∷ []
-rules_of names command.Map = needed "cave" ∷ argument form.Files "log" ∷ short_value "bind"
+rules_of names CommandName.Map = needed "cave" ∷ argument Form.Files "log" ∷ short_value "bind"
     ∷ short_value "seed" ∷ flag "seen" ∷ value "from" ∷ value "within" ∷ short_value "output" ∷ []
 
 -- the program, which requires one of its commands

@@ -7,23 +7,17 @@ use Rattle.clap.specs.Words.{App, IsAmong, HasKind, Kinds, Row, all_of, fault_of
 use Rattle.clap.specs.Words.{subcommand_of, subcommand_rows_of}
 use Rattle.clap.specs.declared.error.Error.{Error}
 use Rattle.clap.specs.declared.error.kind.ErrorKind.{ErrorKind}
-use Rattle.clap.specs.declared.error.kind.ErrorKind.TheVariants.{DisplayHelp, DisplayVersion}
-use Rattle.clap.specs.declared.error.kind.ErrorKind.TheVariants.{InvalidSubcommand}
 use Rattle.clap.specs.declared.parser.matches.ArgMatches.{ArgMatches}
 use Rattle.play_command.specs.Asked.{◌>>=◌, what_of, files_of, is_set, named, named_file}
 use Rattle.play_command.specs.Asked.{number_row, output_of}
 use Rattle.play_command.specs.Commands.{ForCave, commands, has_files, meant_in}
 use Rattle.play_command.specs.declared.fault.CommandFault.{CommandFault}
-use Rattle.play_command.specs.declared.fault.CommandFault.TheVariants as fault_is
 use Rattle.play_command.specs.declared.fault.Misuse.{Misuse}
 use Rattle.play_command.specs.declared.line.Input.{Input}
 use Rattle.play_command.specs.declared.line.Line.{Line}
-use Rattle.play_command.specs.declared.line.Line.TheVariants.{Run, Text}
 use Rattle.play_command.specs.declared.line.Request.{Request}
 use Rattle.play_command.specs.declared.line.What.{What}
 use Rattle.replay_scripts.specs.ScriptText.{text_of_lines}
-use Rattle.play_command.specs.declared.fault.Misuse.TheVariants as misuse
-use Rattle.play_command.specs.declared.found.NumberOption.{NumberOption}
 use Rattle.play_command.specs.declared.found.NumberOption.TheVariants.{Every, From, Seed, Within}
 
 -- ---- the run of a command
@@ -49,15 +43,15 @@ run_in request = record {
 abbrev pub asked_by : List ℕ → List Row → Result What Misuse
 asked_by name rows =
     option_map_or (λ needs. if has_files needs.1 rows then what_of needs.0 rows
-    else Err misuse.Incomplete)
-    (named commands name) (Err misuse.Incomplete)
+    else Err Misuse.Incomplete)
+    (named commands name) (Err Misuse.Incomplete)
 
 -- a command that was met, with what was found for its arguments
 abbrev pub MetCommand : Type 0
 MetCommand = Option (List ℕ × List Row)
 
 abbrev pub run_of : MetCommand → Result Asked Misuse
-run_of None = Err misuse.Incomplete
+run_of None = Err Misuse.Incomplete
 run_of (Some (name, rows)) = asked_by name rows >>= (λ what. Ok (record {
   files = files_of rows;
   typed = option_map text_of_lines (all_of (codes "edit") rows);
@@ -68,13 +62,13 @@ run_of (Some (name, rows)) = asked_by name rows >>= (λ what. Ok (record {
 
 -- what was given for the option of a number, if the misuse is of one
 abbrev pub given_for : Misuse → List Row → List ℕ
-given_for (misuse.BadNumber option) rows = unwrap_or (first_of (number_row option).0 rows) []
+given_for (Misuse.BadNumber option) rows = unwrap_or (first_of (number_row option).0 rows) []
 given_for _ rows = []
 
 -- ---- the answer to words
 
 abbrev pub IsHelp : ErrorKind → Type 0
-IsHelp kind = (kind ≡ DisplayHelp) ⊎ (kind ≡ DisplayVersion)
+IsHelp kind = (kind ≡ ErrorKind.DisplayHelp) ⊎ (kind ≡ ErrorKind.DisplayVersion)
 
 -- the command for which people type the word in its place, which is the first after the program
 abbrev pub meant_by : List (List ℕ) → Option (List ℕ)
@@ -84,30 +78,31 @@ meant_by words = option_and_then (meant_in commands) (slice_get words 1)
 -- ask for help or the version, or what is wrong with them; where no command is, that may be the
 -- command that is meant
 abbrev pub IsErrorAnswer : List (List ℕ) → Kinds → Result Line CommandFault → Type 0
-IsErrorAnswer words kinds (Ok (Text error)) =
+IsErrorAnswer words kinds (Ok (Line.Text error)) =
     IsHelp (kind_of error) × IsAmong (kind_of error) kinds
-IsErrorAnswer words kinds (Err fault_is.Memory) = Unit {0}
-IsErrorAnswer words kinds (Err (fault_is.Usage error)) =
+IsErrorAnswer words kinds (Err CommandFault.Memory) = Unit {0}
+IsErrorAnswer words kinds (Err (CommandFault.Usage error)) =
     (¬ IsHelp (kind_of error)) × IsAmong (kind_of error) kinds
-    × (kind_of error ≡ InvalidSubcommand → meant_by words ≡ None)
-IsErrorAnswer words kinds (Err (fault_is.OtherName word command)) =
-    IsAmong InvalidSubcommand kinds × (slice_get words 1 ≡ Some word.now)
+    × (kind_of error ≡ ErrorKind.InvalidSubcommand → meant_by words ≡ None)
+IsErrorAnswer words kinds (Err (CommandFault.OtherName word command)) =
+    IsAmong ErrorKind.InvalidSubcommand kinds × (slice_get words 1 ≡ Some word.now)
     × (meant_by words ≡ Some command.now)
 IsErrorAnswer words kinds _ = ⊥
 
 -- the answer to words with which nothing is wrong, unless memory ran out: the run of the command
 -- that was met, or how its arguments are misused
 abbrev pub IsRunAnswer : MetCommand → Result Line CommandFault → Type 0
-IsRunAnswer met (Ok (Run request)) = run_of met ≡ Ok (run_in request)
-IsRunAnswer met (Err fault_is.Memory) = Unit {0}
-IsRunAnswer met (Err (fault_is.Misuse wrong given)) = (run_of met ≡ Err wrong)
+IsRunAnswer met (Ok (Line.Run request)) = run_of met ≡ Ok (run_in request)
+IsRunAnswer met (Err CommandFault.Memory) = Unit {0}
+IsRunAnswer met (Err (CommandFault.Misuse wrong given)) = (run_of met ≡ Err wrong)
     × (given.now ≡ option_map_or (λ found. given_for wrong found.1) met [])
 IsRunAnswer met _ = ⊥
 
 -- the words of a command line ask for one run at most
 abbrev pub WordsAskForOneRun : Type 0
 WordsAskForOneRun = (met : MetCommand) (one other : Request)
-    → IsRunAnswer met (Ok (Run one)) → IsRunAnswer met (Ok (Run other)) → run_in one ≡ run_in other
+    → IsRunAnswer met (Ok (Line.Run one)) → IsRunAnswer met (Ok (Line.Run other))
+    → run_in one ≡ run_in other
 
 -- the answer to words, in which the parser finds a command or what is wrong with them
 abbrev pub IsAnswer : List (List ℕ) → Result Line CommandFault → Type 0
@@ -128,54 +123,50 @@ IsParse words answer = ForCave (IsParseBy words answer)
 
 -- 7 if memory ran out, and 2 for anything wrong with the words
 abbrev pub status_of_command : CommandFault → ℕ
-status_of_command fault_is.Memory = 7
+status_of_command CommandFault.Memory = 7
 status_of_command _ = 2
 
 -- where the texts end
 abbrev pub help : List ℕ
 help = codes "\n\nFor more information, try '--help'.\n"
 
--- what is said of a number of an option, after what was given for it
-abbrev pub range_text : NumberOption → List ℕ
-range_text Seed = codes "' for '--seed <N>': expected 1 to 10 digits, from 0 to 2147483647"
-range_text Every = codes "' for '--every <K>': expected 1 to 10 digits, from 1 to 10000"
-range_text From = codes "' for '--from <PLACE>': expected 1 to 10 digits, from 1 to 300"
-range_text Within = codes "' for '--within <N>': expected 1 to 10 digits, from 0 to 300"
-
 -- what is said of a misuse; of a number after what was given for it
 unfoldable pub misuse_text : Misuse → List ℕ
-misuse_text misuse.Incomplete = codes "a command and its files are required"
-misuse_text (misuse.BadNumber option) = range_text option
-misuse_text misuse.NoScript = codes "SCRIPT, '--edit <EDIT>' or '--to <FILE>' is required"
-misuse_text misuse.TwoScripts =
+misuse_text Misuse.Incomplete = codes "a command and its files are required"
+misuse_text (Misuse.BadNumber Seed) =
+    codes "' for '--seed <N>': expected 1 to 10 digits, from 0 to 2147483647"
+misuse_text (Misuse.BadNumber Every) =
+    codes "' for '--every <K>': expected 1 to 10 digits, from 1 to 10000"
+misuse_text (Misuse.BadNumber From) =
+    codes "' for '--from <PLACE>': expected 1 to 10 digits, from 1 to 300"
+misuse_text (Misuse.BadNumber Within) =
+    codes "' for '--within <N>': expected 1 to 10 digits, from 0 to 300"
+misuse_text Misuse.NoScript = codes "SCRIPT, '--edit <EDIT>' or '--to <FILE>' is required"
+misuse_text Misuse.TwoScripts =
     codes "only one of SCRIPT, '--edit <EDIT>' and '--to <FILE>' can be used"
-misuse_text misuse.ReportAlone =
+misuse_text Misuse.ReportAlone =
     codes "'--report <WHAT>' is for '--output <FILE>' or '--in-place': "
     ++ codes "without these, '--print <WHAT>' prints reports"
-misuse_text misuse.TwoOutputs =
+misuse_text Misuse.TwoOutputs =
     codes "'--in-place' can be used neither with '--output <FILE>' nor with '--print <WHAT>': "
     ++ codes "it is short for '--print log --output LOG'"
-misuse_text misuse.DoubtsAlone = codes "'--strict' and '--known <FILE>' are for '--print doubts'"
-misuse_text misuse.ListAlone = codes "'--strict' and '--known <FILE>' are not for '--print known'"
-misuse_text misuse.WithinAlone = codes "'--within <N>' is for '--from <PLACE>'"
-misuse_text misuse.SeenAlone = codes "'--seen' needs a LOG"
-misuse_text misuse.SeedAlone = codes "'--seed <N>' needs a LOG"
+misuse_text Misuse.DoubtsAlone = codes "'--strict' and '--known <FILE>' are for '--print doubts'"
+misuse_text Misuse.ListAlone = codes "'--strict' and '--known <FILE>' are not for '--print known'"
+misuse_text Misuse.WithinAlone = codes "'--within <N>' is for '--from <PLACE>'"
+misuse_text Misuse.SeenAlone = codes "'--seen' needs a LOG"
+misuse_text Misuse.SeedAlone = codes "'--seed <N>' needs a LOG"
 
--- the whole text of a misuse, with what was given for the option of a number
-abbrev pub misuse_refusal : Misuse → List ℕ → List ℕ
-misuse_refusal (misuse.BadNumber option) given =
-    codes "error: invalid value '" ++ (given ++ (misuse_text (misuse.BadNumber option) ++ help))
-misuse_refusal found given = codes "error: " ++ (misuse_text found ++ help)
-
--- the word isn't a command, and this one is meant
-abbrev pub command_text : List ℕ → List ℕ → List ℕ
-command_text word command = codes "error: unrecognized subcommand '" ++ (word
-    ++ (codes "'\n\n  tip: did you mean '" ++ (command
-    ++ (codes "'?\n\nUsage: cave <COMMAND>" ++ help))))
-
--- what is said of each fault, but not the parser's words
+-- what is said of each fault, but not the parser's words: a word that isn't a command, and the one
+-- that is meant; a misuse, with what was given for the option of a number
 abbrev pub refusal_text : CommandFault → Option (List ℕ)
-refusal_text (fault_is.Usage error) = None
-refusal_text (fault_is.OtherName word command) = Some (command_text word.now command.now)
-refusal_text (fault_is.Misuse found given) = Some (misuse_refusal found given.now)
-refusal_text fault_is.Memory = Some (codes "cave: there isn't enough memory\n")
+refusal_text (CommandFault.Usage error) = None
+refusal_text (CommandFault.OtherName word command) =
+    Some (codes "error: unrecognized subcommand '" ++ (word.now
+    ++ (codes "'\n\n  tip: did you mean '" ++ (command.now
+    ++ (codes "'?\n\nUsage: cave <COMMAND>" ++ help)))))
+refusal_text (CommandFault.Misuse (Misuse.BadNumber option) given) =
+    Some (codes "error: invalid value '"
+    ++ (given.now ++ (misuse_text (Misuse.BadNumber option) ++ help)))
+refusal_text (CommandFault.Misuse found given) =
+    Some (codes "error: " ++ (misuse_text found ++ help))
+refusal_text CommandFault.Memory = Some (codes "cave: there isn't enough memory\n")

@@ -99,10 +99,7 @@ fn report_in(found: &ArgMatches<'_>) -> Result<Option<ReportView>, Misuse>
     if output_in(found).is_none() {
         return Err(Misuse::ReportAlone);
     }
-    match named(&REPORT_VIEWS, name) {
-        Some(report) => Ok(Some(report)),
-        None => Err(Misuse::Incomplete),
-    }
+    Ok(Some(named(&REPORT_VIEWS, name).ok_or(Misuse::Incomplete)?))
 }
 
 /// What an edit asks. In place it has its own file and its own view, so it is given neither.
@@ -134,11 +131,10 @@ fn around_in(found: &ArgMatches<'_>) -> Result<Option<Surroundings>, Misuse>
     ensures { result ≡ around_of (rows_in found.now) }
 {
     let Some(text) = value_in(found, "from") else {
-        return if is_given(found, "within") {
-            Err(Misuse::WithinAlone)
-        } else {
-            Ok(None)
-        };
+        if is_given(found, "within") {
+            return Err(Misuse::WithinAlone);
+        }
+        return Ok(None);
     };
     let place = number_said(NumberOption::From, text)?;
     let ways = number_in(found, NumberOption::Within, USUAL_WAYS)?;
@@ -154,13 +150,12 @@ fn part_in(found: &ArgMatches<'_>) -> Result<MapPart, Misuse>
     ensures { result ≡ part_of (rows_in found.now) }
 {
     let seen = is_set(found, "seen");
-    if values_in(found, "log").is_none() {
-        if seen {
-            return Err(Misuse::SeenAlone);
-        }
-        if is_given(found, "seed") {
-            return Err(Misuse::SeedAlone);
-        }
+    let is_logless = values_in(found, "log").is_none();
+    if is_logless && seen {
+        return Err(Misuse::SeenAlone);
+    }
+    if is_logless && is_given(found, "seed") {
+        return Err(Misuse::SeedAlone);
     }
     let around = around_in(found)?;
     Ok(MapPart { seen, around })
@@ -176,19 +171,12 @@ fn cover_in(found: &ArgMatches<'_>) -> Result<What, Misuse>
         COVER_VIEWS[0].1
     };
     let seed = number_in(found, NumberOption::Seed, USUAL_SEED)?;
-    match view_in(found, COVER_VIEWS, usual)? {
-        CoverView::Known if is_judged => Err(Misuse::ListAlone),
-        CoverView::Known => Ok(What::Cover {
-            seed,
-            view: CoverView::Known,
-            strict: false,
-        }),
-        view => Ok(What::Cover {
-            seed,
-            view,
-            strict: is_set(found, "strict"),
-        }),
+    let view = view_in(found, COVER_VIEWS, usual)?;
+    if is_judged && matches!(view, CoverView::Known) {
+        return Err(Misuse::ListAlone);
     }
+    let strict = is_set(found, "strict");
+    Ok(What::Cover { seed, view, strict })
 }
 
 /// What a command asks.

@@ -4,8 +4,8 @@ use Rattle.std.specs.List.{flat_map}
 use Rattle.std.specs.Str.Lines.{lines}
 use Rattle.cave_data.specs.CaveView.{CaveView}
 use Rattle.cave_data.specs.Reads.{Reads}
-use Rattle.cave_play.specs.Logs.{IsMadeReport, JudgesLogs, RunsLogs, first_stages}
-use Rattle.cave_play.specs.declared.logs.Reported.{Reported}
+use Rattle.cave_play.specs.Logs.{IsMadeReport, JudgesLogs, at_none, first_stages}
+use Rattle.cave_play.specs.declared.output.Reported.{Reported}
 use Rattle.cave_play.specs.declared.logs.LogsFault.{LogsFault}
 use Rattle.play_machine.specs.Moments.{Moment, noted_of}
 use Rattle.cave_world.specs.declared.part.Part.{Part}
@@ -18,7 +18,8 @@ use Rattle.play_map.specs.Parts.{drawn_part, place_stage}
 use Rattle.map_graph.specs.declared.stops.Stop.{Stop}
 use Rattle.map_graph.specs.declared.stops.Stop.TheVariants.{InState}
 use Rattle.std.specs.List.Sorted.{IsPermutation}
-use Rattle.cave_play.specs.Stages.{AtMostOne, Stage}
+use Rattle.cave_play.specs.Stages.{AtMostOne, Leaves, Stage}
+use Rattle.cave_play.specs.declared.fault.PlayFault.TheVariants.{Write}
 
 -- the stops of a line: the state after it, and the ways by which the player went
 abbrev pub stops_at : Moment → List Stop
@@ -69,14 +70,11 @@ JudgesMap database bindings logs seed part made =
     → JudgesLogs (first_stages database bindings seed ++ judges ∷ []) logs
     (IsMadeReport (λ _. IsMapped database bindings logs seed part)) made
 
--- what a run leaves that draws a map: after the cave the place in the middle is judged, and then
--- the logs are
+-- what a run leaves that draws a map
 abbrev pub RunsMap : List ℕ → List ℕ → List (List ℕ) → ℕ → MapPart
     → Option (List ℕ) → Option (List ℕ) → Result (Unit {0}) LogsFault → Type 0
 RunsMap database bindings logs seed part old new ended =
-    (judges : Stage) → JudgesPlace database bindings part judges
-    → RunsLogs (first_stages database bindings seed ++ judges ∷ []) logs
-    (λ _. IsMapped database bindings logs seed part) old new ended
+    Leaves (at_none Write) (JudgesMap database bindings logs seed part) old new ended
 
 -- the order of the logs changes no byte of a map
 abbrev pub OrderOfLogsIsNothing : Type 0

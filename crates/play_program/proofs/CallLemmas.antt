@@ -2,18 +2,23 @@
 use Rattle.std.proofs.Common.{ap₂, Bool, ◌≡◌, ◌<◌, ◌+◌, ℕ, List, [], ◌∷◌, ◌++◌, None, Some, Option}
 use Rattle.std.proofs.Common.{drop, take, append-nil, append_assoc, ap, get_or, length, map, refl}
 use Rattle.std.proofs.Common.{subst, sym, ◌∙◌}
-use Rattle.play_program.specs.Sources.{Stops, Entry, is_first, IsStoppedAt, opening, opening_of}
+use Rattle.play_program.specs.Sources.{Stops, Entry, is_first, IsStoppedAt, opening}
 use Rattle.std.specs.Prelude.{Contains, if◌then◌else◌, true}
 use Rattle.std.proofs.lemmas.List.{drop_more, get_or-map, length-map, map-append, take-append-drop}
 use Rattle.std.proofs.lemmas.List.{take_more}
 use Rattle.std.proofs.lemmas.List.Concat.{flat_map-append}
 use Rattle.std.proofs.lemmas.List.Elements.{Contains-get_or}
 use Rattle.play_command.specs.Asked.{named_file}
+use Rattle.play_command.specs.declared.line.Input.{Input}
 use Rattle.play_command.specs.declared.line.NamedFile.{NamedFile}
 use Rattle.play_command.specs.declared.line.What.{What}
 use Rattle.play_program.specs.Calls.{Call, Told, and_then}
 use Rattle.play_program.specs.Files.{FileName}
 use Rattle.play_program.specs.Calls.Call.{Opens}
+
+-- a file that stands for one that isn't there
+abbrev pub no_file : NamedFile
+no_file = record { input = Input.Cave; name = record { ref_ptr = (0, 0); now = [] } }
 
 -- no further call
 pub and_then-none : (known : Option (List Call)) → known ≡ and_then known []
@@ -65,7 +70,8 @@ module _ (what : What) where
   opened-more xs ys a b c first second =
       second ∙ ap (λ k. and_then k (opening what ys)) first
       ∙ and_then-more a (opening what xs) (opening what ys)
-      ∙ ap (and_then a) (sym (flat_map-append (opening_of what) xs ys))
+      ∙ ap (and_then a) (sym (flat_map-append
+      (λ (file : FileName). if is_first what file.0 then Opens file.1 ∷ [] else []) xs ys))
 
   -- some files were opened, and then one of others couldn't be
   stops-within : (done files rest : List FileName) (a b c : Option (List Call)) (said : Told)

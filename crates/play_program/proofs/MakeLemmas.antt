@@ -6,7 +6,7 @@ use Rattle.std.specs.List.{AllZip, flat_map}
 use Rattle.std.specs.Prelude.{⊤, IfOk, MatchResult, if◌then◌else◌, unwrap_or}
 use Rattle.cave_play.specs.Sources.{InputTexts, Says, AreHeld, Held, Leads}
 use Rattle.cave_play.specs.Logs.{IsMadeReport, JudgesLogs}
-use Rattle.cave_play.specs.declared.logs.Reported.{Reported}
+use Rattle.cave_play.specs.declared.output.Reported.{Reported}
 use Rattle.cave_play.specs.declared.logs.LogsFault.{LogsFault}
 use Rattle.play_command.specs.declared.line.Input.TheVariants as input
 use Rattle.play_command.specs.declared.line.Request.{Request}
@@ -20,7 +20,7 @@ use Rattle.play_cover.specs.declared.run.CoverAsked.{CoverAsked}
 use Rattle.play_program.specs.Calls.{Call, and_then, Told}
 use Rattle.play_program.specs.Ends.{MakesOpened, held_by, ReadsFiles, made_with}
 use Rattle.play_program.specs.Files.{FileName, file_of, files_in, is_same_input, log_count}
-use Rattle.play_program.specs.Making.{AreAsked, HasReadAll, IsCoverage, IsMadeBy, of_cover, of_map}
+use Rattle.play_program.specs.Making.{HasReadAll, IsCoverage, IsMadeBy, of_cover, of_map}
 use Rattle.play_program.specs.Making.{third_of}
 use Rattle.play_program.specs.Sources.{entry_of, held_in, held_of, typed_text, Entry, ReadFile}
 use Rattle.play_program.specs.Sources.{ReadsOne, calls_for, entries_by, entries_in, of_input}
@@ -53,14 +53,16 @@ IsJudged what request held made = (texts : InputTexts) × (logs : List (List ℕ
 
 -- what coverage is, by what was asked of it
 pub IsCoverage-asked : (request : Request) (texts : InputTexts) (logs : List (List ℕ)) (seed : ℕ)
-    (view : CoverView) (strict : Bool) (asked : CoverAsked) → AreAsked request seed view asked
+    (view : CoverView) (strict : Bool) (asked : CoverAsked) → asked.seed ≡ seed
+    → asked.view ≡ view → asked.known.now ≡ unwrap_or (file_of request input.Known 0) []
     → (reported : Result (Reported ℕ) LogsFault) (made : Result Made LogsFault)
     → made ≡ of_cover strict reported
     → JudgesLogs (cover_stages texts.database texts.bindings texts.script asked.seed) logs
     (IsMadeReport (IsCovered texts.database texts.bindings
     (known_entries asked.known.now texts.script) logs asked.seed asked.view)) reported
     → IsCoverage request texts logs made seed view strict
-IsCoverage-asked request texts logs seed view strict asked are reported made is judged =
+IsCoverage-asked request texts logs seed view strict asked seed_is view_is known_is reported made
+    is judged =
     let list = unwrap_or (file_of request input.Known 0) [] in
     let Judged = λ (name : List ℕ) (s : ℕ) (v : CoverView).
     JudgesLogs (cover_stages texts.database texts.bindings texts.script s) logs
@@ -68,18 +70,18 @@ IsCoverage-asked request texts logs seed view strict asked are reported made is 
     v)) reported in (
       reported,
       is,
-      subst (Judged list seed) are.view_is
-          (subst (λ s. Judged list s asked.view) are.seed_is
-          (subst (λ name. Judged name asked.seed asked.view) are.known_is judged)),
+      subst (Judged list seed) view_is
+          (subst (λ s. Judged list s asked.view) seed_is
+          (subst (λ name. Judged name asked.seed asked.view) known_is judged)),
     )
 
 -- ---- how many logs there are
 
 module _ (what : What) (bytes_of : List ℕ → Option (List ℕ)) where
-  counted_next : (here : Bool) (file : FileName) (logs : List Entry) (names : List (List ℕ))
+  counted_next : (here : Bool) (file : FileName) (logs : List Entry) (names : List FileName)
       → length logs ≡ length names
       → length (if here then entry_of what bytes_of file ∷ logs else logs)
-      ≡ length (if here then file.1 ∷ names else names)
+      ≡ length (if here then file ∷ names else names)
   counted_next true file logs names same = ap (λ n. suc n) same
   counted_next false file logs names same = same
 

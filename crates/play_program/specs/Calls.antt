@@ -4,12 +4,9 @@ use Rattle.std.specs.Prelude.{Ok, Err, if◌then◌else◌, option_map}
 use Rattle.std.specs.IoError.{error_kind}
 use Rattle.std.specs.declared.io.Error.{Error}
 use Rattle.std.specs.declared.io.ErrorKind.{ErrorKind}
-use Rattle.std.specs.declared.io.ErrorKind.TheVariants as kind
 use Rattle.cave_play.specs.Fault.{status_of}
 use Rattle.cave_play.specs.declared.fault.PlayFault.{PlayFault}
-use Rattle.cave_play.specs.declared.fault.PlayFault.TheVariants as fault
 use Rattle.play_program.specs.declared.message.Message.{Message}
-use Rattle.play_program.specs.declared.message.Message.TheVariants as message
 
 -- ---- what is said
 
@@ -31,15 +28,15 @@ pub data Told : Type 0 where
 
 -- what a message reports, regardless of where its names are borrowed from
 abbrev pub told_of : Message → Told
-told_of (message.Fault found file) = faulty found (option_map (λ s. s.now) file)
-told_of (message.Unopened file reason) = unopened file.now reason
-told_of (message.Unwritten file reason) = unwritten file.now reason
-told_of (message.Unprinted reason) = unprinted reason
-told_of (message.Usage before after) = misused before.now after.now
-told_of (message.Unread reason) = unread reason
-told_of (message.Head log said) = headed log.now said.option.now said.text.now
-told_of (message.Clash file view) = clashing file.now (option_map (λ s. s.now) view)
-told_of (message.Reseeded seed) = reseeded seed
+told_of (Message.Fault found file) = faulty found (option_map (λ s. s.now) file)
+told_of (Message.Unopened file reason) = unopened file.now reason
+told_of (Message.Unwritten file reason) = unwritten file.now reason
+told_of (Message.Unprinted reason) = unprinted reason
+told_of (Message.Usage before after) = misused before.now after.now
+told_of (Message.Unread reason) = unread reason
+told_of (Message.Head log said) = headed log.now said.option.now said.text.now
+told_of (Message.Clash file view) = clashing file.now (option_map (λ s. s.now) view)
+told_of (Message.Reseeded seed) = reseeded seed
 
 -- what a message reports of what wasn't done
 abbrev pub told_by : {A : Type 0} → Result A Message → Result A Told
@@ -47,7 +44,7 @@ told_by (Ok done) = Ok done
 told_by (Err failure) = Err (told_of failure)
 
 abbrev pub out_of_memory : Told
-out_of_memory = faulty fault.Memory None
+out_of_memory = faulty PlayFault.Memory None
 
 -- the status of a program that ends with this; a notice ends none
 abbrev pub status_told : Told → ℕ
@@ -61,7 +58,7 @@ status_told _ = 2
 
 -- nobody reads any more what is written
 abbrev pub is_closed_pipe : ErrorKind → Bool
-is_closed_pipe kind.BrokenPipe = true
+is_closed_pipe ErrorKind.BrokenPipe = true
 is_closed_pipe _ = false
 
 -- nothing is said about an output that nobody reads any more

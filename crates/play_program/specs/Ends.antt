@@ -9,21 +9,16 @@ use Rattle.std.specs.declared.io.Error.{Error}
 use Rattle.cave_play.specs.Fault.{input_of}
 use Rattle.cave_play.specs.Sources.{InputTexts, Says, AreHeld, Held}
 use Rattle.play_edits.specs.declared.items.EditRun.{EditRun}
-use Rattle.cave_play.specs.declared.fault.PlayFault.{PlayFault}
-use Rattle.cave_play.specs.declared.fault.PlayFault.TheVariants as fault
-use Rattle.cave_play.specs.declared.logs.LogsFault.{LogsFault}
-use Rattle.play_command.specs.Line.{IsAnswer, refusal_text, status_of_command}
-use Rattle.play_command.specs.declared.views.EditView.{EditView}
-use Rattle.play_command.specs.declared.views.EditView.TheVariants as view
 use Rattle.play_command.specs.declared.fault.CommandFault.{CommandFault}
-use Rattle.play_command.specs.declared.line.Input.{Input}
-use Rattle.play_command.specs.declared.line.Input.TheVariants as input
 use Rattle.play_command.specs.declared.line.EditAsked.{EditAsked}
+use Rattle.play_command.specs.declared.views.EditView.{EditView}
+use Rattle.play_command.specs.declared.line.Input.{Input}
 use Rattle.play_command.specs.declared.line.Line.{Line}
-use Rattle.play_command.specs.declared.line.Line.TheVariants as line
+use Rattle.cave_play.specs.declared.logs.LogsFault.{LogsFault}
+use Rattle.cave_play.specs.declared.fault.PlayFault.{PlayFault}
 use Rattle.play_command.specs.declared.line.Request.{Request}
 use Rattle.play_command.specs.declared.line.What.{What}
-use Rattle.play_command.specs.declared.line.What.TheVariants.{Edit}
+use Rattle.play_command.specs.Line.{IsAnswer, refusal_text, status_of_command}
 use Rattle.play_edits.specs.declared.refusal.Refusal.{Refusal}
 use Rattle.play_program.specs.Calls.{Call, EndsTold, Told, and_then, out_of_memory}
 use Rattle.play_program.specs.Calls.Call.{Puts, Tells}
@@ -31,7 +26,7 @@ use Rattle.play_program.specs.Calls.Told.{faulty, misused, reseeded, unopened, u
 use Rattle.play_program.specs.Calls.Told.{unwritten}
 use Rattle.play_program.specs.Files.{output_of, AreApart, IsClash, fault_told, file_of_input}
 use Rattle.play_program.specs.Files.{files_in}
-use Rattle.play_program.specs.Making.{HasReadAll, IsMade, third_of}
+use Rattle.play_program.specs.Making.{HasReadAll, IsMadeBy, third_of}
 use Rattle.play_program.specs.Sources.{Entry, ReadFile, Stops, calls_for, entries_by, held_of}
 use Rattle.play_program.specs.Sources.{of_input, opening, typed_text}
 use Rattle.play_program.specs.declared.make.Made.{Made}
@@ -44,7 +39,7 @@ held_by bytes_of request = held_of (typed_text request) (entries_by bytes_of req
 
 -- why nothing was made: a fault was met, or its file can't be opened, for this reason
 abbrev pub unmade_told : Option (List ℕ) → PlayFault → Option Error → Told
-unmade_told (Some name) (fault.Read from) (Some reason) = unopened name reason
+unmade_told (Some name) (PlayFault.Read from) (Some reason) = unopened name reason
 unmade_told file found reason = faulty found file
 
 abbrev pub why_unmade : Request → LogsFault → Option Error → Told
@@ -64,7 +59,7 @@ pub record ReadsFiles (bytes_of : List ℕ → Option (List ℕ)) (request : Req
   pub texts : All (λ file. Says file.entry.known file.text) read
   pub first : (from : Input) → of_input from (entries_by bytes_of request)
       ≡ of_input from (map (λ file. file.entry) read) ++ left from
-  pub all : MatchResult made (λ _. HasReadAll request.what (left input.Log)) (λ _. Unit {0})
+  pub all : MatchResult made (λ _. HasReadAll request.what (left Input.Log)) (λ _. Unit {0})
 
 -- from the bytes of files that are open this was made
 abbrev pub MakesOpened : (List ℕ → Option (List ℕ)) → Request → Option (List Call)
@@ -74,7 +69,7 @@ MakesOpened bytes_of request calls called made =
     × ReadsFiles bytes_of request calls called made read left)
     × ((found : Result Made LogsFault) × (reason : Option Error) × (texts : InputTexts)
     × (each : List (List ℕ)) × AreHeld (third_of request.what) (held_by bytes_of request) texts
-    × AllZip Says (held_by bytes_of request).logs each × IsMade request texts each found
+    × AllZip Says (held_by bytes_of request).logs each × IsMadeBy request.what request texts each found
     × (made ≡ made_with request found reason))
 
 -- or one of them couldn't be opened
@@ -96,7 +91,7 @@ report_in (Some run) = run.report.items
 -- a text was printed; or a part of it was, and no more could be, unless there is no text
 abbrev pub Prints : List ℕ → Option (List ℕ) → Option (List ℕ) → Result (Unit {0}) Told → Type 0
 Prints text old new ended = MatchResult ended (λ _. Appends old new text)
-    (λ said. (said ≡ faulty fault.Write None) × (0 < length text)
+    (λ said. (said ≡ faulty PlayFault.Write None) × (0 < length text)
     × ((n : ℕ) × Appends old new (take n text)))
 
 -- the file can't be written, or memory ran out
@@ -169,14 +164,14 @@ RunsApart one_file bytes_of request calls called old new ended =
 
 -- each refused item is reported as it is if the run is strict, in their order, if that is asked for
 abbrev pub refusal_notice : Request → Refusal → Call
-refusal_notice request refusal = Tells (fault_told request (fault.Refused refusal) None)
+refusal_notice request refusal = Tells (fault_told request (PlayFault.Refused refusal) None)
 
 abbrev pub refusal_notices : Request → EditAsked → EditRun → List Call
 refusal_notices request asked run =
     if asked.refusals then map (refusal_notice request) run.refused.items else []
 
 abbrev pub prints_log : EditView → Bool
-prints_log view.Log = true
+prints_log EditView.Log = true
 prints_log _ = false
 
 -- if edits set another seed than that of the run, and their log is printed, which doesn't hold it,
@@ -187,7 +182,7 @@ seed_notice request asked run =
     then Tells (reseeded run.seed) ∷ [] else []
 
 abbrev pub notices_by : What → Request → EditRun → List Call
-notices_by (Edit asked) request run =
+notices_by (What.Edit asked) request run =
     refusal_notices request asked run ++ seed_notice request asked run
 notices_by _ request run = []
 
@@ -198,7 +193,7 @@ notices request (Some run) = notices_by request.what request run
 
 -- what is said, with the reason that the writer of the output gave, if that is what failed
 abbrev pub with_reason : Told → Option Error → Told
-with_reason (faulty fault.Write file) (Some reason) = unprinted reason
+with_reason (faulty PlayFault.Write file) (Some reason) = unprinted reason
 with_reason said reason = said
 
 -- what is reported of a run that ended like this, and the status
@@ -243,9 +238,9 @@ EndsRefused found calls called status =
 abbrev pub EndsLine : Result Line CommandFault → (List ℕ → List ℕ → Option Bool)
     → (List ℕ → Option (List ℕ)) → Option (List Call) → Option (List Call)
     → Option (List ℕ) → Option (List ℕ) → Option Error → ℕ → Type 0
-EndsLine (Ok (line.Run request)) one_file bytes_of calls called old new reason status =
+EndsLine (Ok (Line.Run request)) one_file bytes_of calls called old new reason status =
     EndsRun one_file bytes_of request calls called old new reason status
-EndsLine (Ok (line.Text text)) one_file bytes_of calls called old new reason status =
+EndsLine (Ok (Line.Text text)) one_file bytes_of calls called old new reason status =
     EndsText calls called reason status
 EndsLine (Err found) one_file bytes_of calls called old new reason status =
     (new ≡ old) × EndsRefused found calls called status

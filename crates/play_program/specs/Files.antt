@@ -1,19 +1,17 @@
 -- The files that a request names, and over which of them its output may go.
 use Rattle.std.specs.Prelude.{◌≡◌, ◌⊎◌, ℕ, ◌-◌, ◌==◌, Bool, true, false, List, [], ◌∷◌, length, map}
 use Rattle.std.specs.Prelude.{All, Contains, IfSome, codes, Option, None, Some, if◌then◌else◌}
-use Rattle.std.specs.Prelude.{option_map, unwrap_or}
+use Rattle.std.specs.Prelude.{option_and_then, option_map, unwrap_or}
+use Rattle.std.specs.List.{filter}
 use Rattle.std.specs.Option.{option_or}
 use Rattle.cave_play.specs.Fault.{input_of}
-use Rattle.cave_play.specs.declared.fault.PlayFault.{PlayFault}
-use Rattle.play_command.specs.Asked.{named_file}
-use Rattle.play_command.specs.declared.views.EditView.TheVariants as asked
-use Rattle.play_command.specs.contracts.line.InputPartialEq.TheImpl as input_eq
+use Rattle.play_command.specs.declared.views.EditView.{EditView}
 use Rattle.play_command.specs.declared.line.Input.{Input}
-use Rattle.play_command.specs.declared.line.Input.TheVariants as input
-use Rattle.play_command.specs.declared.line.NamedFile.{NamedFile}
+use Rattle.cave_play.specs.declared.fault.PlayFault.{PlayFault}
 use Rattle.play_command.specs.declared.line.Request.{Request}
 use Rattle.play_command.specs.declared.line.What.{What}
-use Rattle.play_command.specs.declared.line.What.TheVariants.{Edit}
+use Rattle.play_command.specs.Asked.{named_file}
+use Rattle.play_command.specs.contracts.line.InputPartialEq.TheImpl as input_eq
 use Rattle.play_program.specs.Calls.{Told, out_of_memory}
 use Rattle.play_program.specs.Calls.Told.{clashing, faulty}
 
@@ -28,10 +26,6 @@ is_same_input one other = input_eq.eq-value.it one other
 abbrev pub files_in : Request → List FileName
 files_in request = map named_file request.files.items
 
--- a file that stands for one that isn't there
-abbrev pub no_file : NamedFile
-no_file = record { input = input.Cave; name = record { ref_ptr = (0, 0); now = [] } }
-
 -- the file of an input; of several that at a place, from 0
 abbrev pub name_at : Input → List FileName → ℕ → Option (List ℕ)
 name_at from [] place = None
@@ -43,8 +37,8 @@ name_at from (file ∷ files) place =
 -- what else has the lines of a script: the option, if they are on the command line, or the log that
 -- the script is to make
 abbrev pub made_name : Request → Input → Option (List ℕ)
-made_name request input.Script = option_or (option_map (λ text. codes "--edit") request.typed)
-    (name_at input.NewLog (files_in request) 0)
+made_name request Input.Script = option_or (option_map (λ text. codes "--edit") request.typed)
+    (name_at Input.NewLog (files_in request) 0)
 made_name request _ = None
 
 -- how a message calls an input: by its file, if one is named, or by what else has it
@@ -54,20 +48,15 @@ file_of request from place =
 
 -- the file that a fault is about, of several logs that at a place
 abbrev pub file_of_input : Request → Option Input → Option ℕ → Option (List ℕ)
-file_of_input request None place = None
-file_of_input request (Some from) place = file_of request from (unwrap_or place 0)
+file_of_input request found place =
+    option_and_then (λ from. file_of request from (unwrap_or place 0)) found
 
 abbrev pub fault_told : Request → PlayFault → Option ℕ → Told
 fault_told request found log = faulty found (file_of_input request (input_of found) log)
 
--- the names of the logs among files
-abbrev pub log_names : List FileName → List (List ℕ)
-log_names [] = []
-log_names (file ∷ files) =
-    if is_same_input file.0 input.Log then file.1 ∷ log_names files else log_names files
-
+-- how many of the files are logs
 abbrev pub log_count : List FileName → ℕ
-log_count files = length (log_names files)
+log_count files = length (filter (λ file. is_same_input file.0 Input.Log) files)
 
 -- ---- the file of the output
 
@@ -77,24 +66,20 @@ output_of request = option_map (λ s. s.now) request.output
 -- the output of an edit may go over an input of its own kind: the edited log over the log, and the
 -- script with guards over the script
 abbrev pub MayReplace : What → Input → Type 0
-MayReplace (Edit what) input.Log = what.editing.view ≡ asked.Log
-MayReplace (Edit what) input.Script = what.editing.view ≡ asked.Guarded
+MayReplace (What.Edit what) Input.Log = what.editing.view ≡ EditView.Log
+MayReplace (What.Edit what) Input.Script = what.editing.view ≡ EditView.Guarded
 MayReplace _ _ = ⊥
 
 -- the name of the view whose output may go over an input, if there is one
 abbrev pub view_over : What → Input → Option (List ℕ)
-view_over (Edit what) input.Log = Some (codes "log")
-view_over (Edit what) input.Script = Some (codes "guarded")
+view_over (What.Edit what) Input.Log = Some (codes "log")
+view_over (What.Edit what) Input.Script = Some (codes "guarded")
 view_over _ _ = None
-
--- the answer is this, if it is known
-abbrev pub IsKnownAs : Bool → Option Bool → Type 0
-IsKnownAs answer known = IfSome known (λ same. answer ≡ same)
 
 -- the output doesn't go over a file that is read, or may
 abbrev pub IsApart : (List ℕ → List ℕ → Option Bool) → What → List ℕ → FileName → Type 0
 IsApart one_file what output file =
-    MayReplace what file.0 ⊎ IsKnownAs false (one_file output file.1)
+    MayReplace what file.0 ⊎ IfSome (one_file output file.1) (λ same. false ≡ same)
 
 -- it goes over none of them that it may not go over
 abbrev pub AreApart : (List ℕ → List ℕ → Option Bool) → What → Option (List ℕ) → List FileName
@@ -109,6 +94,6 @@ abbrev pub IsClash : (List ℕ → List ℕ → Option Bool) → What → Option
 IsClash one_file what None files said = ⊥
 IsClash one_file what (Some output) files said =
     ((file : FileName) × Contains files file × (¬ MayReplace what file.0)
-    × IsKnownAs true (one_file output file.1)
+    × IfSome (one_file output file.1) (λ same. true ≡ same)
     × (said ≡ clashing file.1 (view_over what file.0)))
     ⊎ (said ≡ out_of_memory)

@@ -5,10 +5,9 @@ use Rattle.std.specs.Option.{option_and_then, option_map_or, option_or}
 use Rattle.base_lines.specs.Bytes.{after_prefix, is_digit, number_of, prefix_while}
 use Rattle.base_lines.specs.Limits.{MAX_DIGITS}
 use Rattle.data_rows.specs.Fields.{fields}
-use Rattle.play_command.specs.declared.line.Input.TheVariants as input
+use Rattle.play_command.specs.declared.line.Input.{Input}
 use Rattle.play_command.specs.declared.line.Request.{Request}
 use Rattle.play_command.specs.declared.line.What.{What}
-use Rattle.play_command.specs.declared.line.What.TheVariants.{Cover, Edit, Map, Play}
 use Rattle.play_machine.specs.Head.{first_file, head_of, value_of}
 use Rattle.play_program.specs.Files.{file_of}
 use Rattle.play_program.specs.declared.head.HeadSaid.{HeadSaid}
@@ -48,20 +47,20 @@ said_unless is_same option (Some said) = if is_same said then None else Some (op
 -- doesn't say doesn't differ
 abbrev pub other_said : Request → ℕ → List (List ℕ) → Option Said
 other_said request seed head =
-    let cave = unwrap_or (file_of request input.Cave 0) [] in
+    let cave = unwrap_or (file_of request Input.Cave 0) [] in
     option_or (said_unless (λ said. is_same_file said cave) [] (first_file head))
     (option_or (said_unless
-    (λ said. option_map_or (is_same_file said) (file_of request input.Bindings 0) false)
+    (λ said. option_map_or (is_same_file said) (file_of request Input.Bindings 0) false)
     (codes "--bind ") (value_of (codes "--bind") (codes "-b") head))
     (said_unless (λ said. not (is_other_seed seed said)) (codes "--seed ")
     (value_of (codes "--seed") (codes "-s") head)))
 
 -- the seed with which a request plays its logs, if it plays some and isn't quiet
 abbrev pub seed_by : What → Bool → Option ℕ
-seed_by (Edit asked) quiet = if quiet then None else Some asked.editing.seed
-seed_by (Play seed view) quiet = Some seed
-seed_by (Cover seed view strict) quiet = Some seed
-seed_by (Map seed part) quiet = Some seed
+seed_by (What.Edit asked) quiet = if quiet then None else Some asked.editing.seed
+seed_by (What.Play seed view) quiet = Some seed
+seed_by (What.Cover seed view strict) quiet = Some seed
+seed_by (What.Map seed part) quiet = Some seed
 seed_by _ quiet = None
 
 abbrev pub seed_asked : Request → Option ℕ

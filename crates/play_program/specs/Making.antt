@@ -8,88 +8,83 @@ use Rattle.cave_play.specs.Sources.{InputTexts}
 use Rattle.cave_play.specs.Logs.{IsMadeReport, JudgesLogs, at_none}
 use Rattle.cave_play.specs.Stages.{Judges, Stage, cave_stages, doubts_stages, edit_stages}
 use Rattle.cave_play.specs.Stages.{play_stages}
-use Rattle.cave_play.specs.declared.doubted.LeftDoubts.{LeftDoubts}
-use Rattle.play_edits.specs.declared.items.MadeEdit.{MadeEdit}
-use Rattle.cave_play.specs.declared.fault.PlayFault.{PlayFault}
-use Rattle.cave_play.specs.declared.fault.PlayFault.TheVariants as fault
-use Rattle.cave_play.specs.declared.logs.Reported.{Reported}
-use Rattle.cave_play.specs.declared.logs.LogsFault.{LogsFault}
-use Rattle.check_doubts.specs.declared.listing.DoubtFiles.{DoubtFiles}
-use Rattle.play_command.specs.declared.line.Input.{Input}
-use Rattle.play_command.specs.declared.line.Input.TheVariants as input
+use Rattle.check_doubts.specs.declared.flaw.Doubt.{Doubt}
+use Rattle.play_edits.specs.declared.items.EditRun.{EditRun}
+use Rattle.play_command.specs.declared.views.CoverView.{CoverView}
 use Rattle.play_command.specs.declared.line.EditAsked.{EditAsked}
 use Rattle.play_command.specs.declared.line.EditsFrom.{EditsFrom}
-use Rattle.play_command.specs.declared.line.EditsFrom.TheVariants as edits_from
+use Rattle.play_command.specs.declared.line.Input.{Input}
+use Rattle.cave_play.specs.declared.logs.LogsFault.{LogsFault}
+use Rattle.cave_play.specs.declared.fault.PlayFault.{PlayFault}
+use Rattle.cave_play.specs.declared.output.Reported.{Reported}
 use Rattle.play_command.specs.declared.line.Request.{Request}
 use Rattle.play_command.specs.declared.line.What.{What}
-use Rattle.play_command.specs.declared.line.What.TheVariants.{Check, Cover, Doubts, Edit, Map, Play}
-use Rattle.play_command.specs.declared.line.What.TheVariants.{Script}
-use Rattle.play_command.specs.declared.views.CoverView.{CoverView}
+use Rattle.check_doubts.specs.declared.listing.DoubtFiles.{DoubtFiles}
 use Rattle.check_tables.specs.Known.{known_entries}
 use Rattle.play_cover.specs.Plays.{IsCovered, cover_stages}
-use Rattle.play_cover.specs.declared.run.CoverAsked.{CoverAsked}
 use Rattle.play_map.specs.Plays.{JudgesMap}
 use Rattle.play_program.specs.Files.{file_of}
 use Rattle.play_program.specs.declared.make.Made.{Made}
 
 -- what is read in the place of a script
 abbrev pub input_of_edits : EditsFrom → Input
-input_of_edits edits_from.Script = input.Script
-input_of_edits edits_from.NewLog = input.NewLog
+input_of_edits EditsFrom.Script = Input.Script
+input_of_edits EditsFrom.NewLog = Input.NewLog
 
 abbrev pub third_of : What → Input
-third_of (Doubts strict) = input.Known
-third_of (Cover seed view strict) = input.Known
-third_of (Script form) = input.NewLog
-third_of (Edit asked) = input_of_edits asked.edits_from
-third_of _ = input.Script
+third_of (What.Doubts strict) = Input.Known
+third_of (What.Cover seed view strict) = Input.Known
+third_of (What.Script form) = Input.NewLog
+third_of (What.Edit asked) = input_of_edits asked.edits_from
+third_of _ = Input.Script
 
 -- ---- what is made
 
-abbrev pub made_of : Vec ℕ → Option PlayFault → Made
-made_of text left = record { output = text; edits = None; left = left }
+-- a text, with what edits return, and what is left
+abbrev pub made_of : Vec ℕ → Option EditRun → Option PlayFault → Made
+made_of text edits left = record { output = text; edits = edits; left = left }
 
-abbrev pub of_text : Result (Vec ℕ) PlayFault → Result Made LogsFault
-of_text (Ok text) = Ok (made_of text None)
+abbrev pub of_text : Result (Reported (Unit {0})) PlayFault → Result Made LogsFault
+of_text (Ok made) = Ok (made_of made.text None None)
 of_text (Err found) = Err (at_none found)
 
 -- of doubts, one of which is left of a strict run if any is
-abbrev pub of_doubts : Bool → Result LeftDoubts PlayFault → Result Made LogsFault
-of_doubts strict (Ok made) = Ok (made_of made.text (first_doubt strict made.left.items))
+abbrev pub of_doubts : Bool → Result (Reported (Vec Doubt)) PlayFault → Result Made LogsFault
+of_doubts strict (Ok made) = Ok (made_of made.text None (first_doubt strict made.found.items))
 of_doubts strict (Err found) = Err (at_none found)
 
-abbrev pub of_edits : Result MadeEdit PlayFault → Result Made LogsFault
-of_edits (Ok made) = Ok (record { output = made.text; edits = Some made.run; left = None })
+abbrev pub of_edits : Result (Reported EditRun) PlayFault → Result Made LogsFault
+of_edits (Ok made) = Ok (made_of made.text (Some made.found) None)
 of_edits (Err found) = Err (at_none found)
 
 -- of what logs show, which fails if the run is strict and something is left
 abbrev pub of_cover : Bool → Result (Reported ℕ) LogsFault → Result Made LogsFault
-of_cover strict (Ok made) = Ok (made_of made.text
-    (if strict && nat_lt 0 made.found then Some (fault.Unshown made.found) else None))
+of_cover strict (Ok made) = Ok (made_of made.text None
+    (if strict && nat_lt 0 made.found then Some (PlayFault.Unshown made.found) else None))
 of_cover strict (Err found) = Err found
 
 abbrev pub of_map : Result (Reported (Unit {0})) LogsFault → Result Made LogsFault
-of_map (Ok made) = Ok (made_of made.text None)
+of_map (Ok made) = Ok (made_of made.text None None)
 of_map (Err found) = Err found
 
 -- ---- what a request asks
 
 -- doubts name the files of the cave, and the file of the list of known ones
 pub record AreListed (request : Request) (files : DoubtFiles) : Type 0 where
-  pub database : files.database.now ≡ unwrap_or (file_of request input.Cave 0) []
-  pub bindings : files.bindings.now ≡ unwrap_or (file_of request input.Bindings 0) []
-  pub known : files.known.now ≡ unwrap_or (file_of request input.Known 0) []
+  pub database : files.database.now ≡ unwrap_or (file_of request Input.Cave 0) []
+  pub bindings : files.bindings.now ≡ unwrap_or (file_of request Input.Bindings 0) []
+  pub known : files.known.now ≡ unwrap_or (file_of request Input.Known 0) []
 
 -- the texts of inputs, of which the logs may be several
 module _ (request : Request) (texts : InputTexts) (logs : List (List ℕ))
     (made : Result Made LogsFault) where
   -- a text is made, after these stages
   abbrev pub IsText : List Stage → (List ℕ → Type 0) → Type 0
-  IsText stages IsOutput = (text : Result (Vec ℕ) PlayFault) × (made ≡ of_text text)
-      × Judges stages (λ whole. IsOutput whole.items) text
+  IsText stages IsOutput = (text : Result (Reported (Unit {0})) PlayFault) × (made ≡ of_text text)
+      × Judges stages (λ whole. IsOutput whole.text.items) text
 
   abbrev pub IsDoubts : Bool → Type 0
-  IsDoubts strict = (listed : Result LeftDoubts PlayFault) × (files : DoubtFiles)
+  IsDoubts strict = (listed : Result (Reported (Vec Doubt)) PlayFault) × (files : DoubtFiles)
       × (made ≡ of_doubts strict listed) × AreListed request files
       × Judges (doubts_stages texts.database texts.bindings texts.script)
       (AreLeftIn files texts.database texts.bindings texts.script) listed
@@ -99,50 +94,40 @@ module _ (request : Request) (texts : InputTexts) (logs : List (List ℕ))
       (reported : Result (Reported ℕ) LogsFault) × (made ≡ of_cover strict reported)
       × JudgesLogs (cover_stages texts.database texts.bindings texts.script seed) logs
       (IsMadeReport (IsCovered texts.database texts.bindings
-      (known_entries (unwrap_or (file_of request input.Known 0) []) texts.script) logs seed view))
+      (known_entries (unwrap_or (file_of request Input.Known 0) []) texts.script) logs seed view))
       reported
 
 -- what edits make: those of a script, or those that make a log
-abbrev pub IsMadeFrom : EditsFrom → EditAsked → InputTexts → Result MadeEdit PlayFault → Type 0
-IsMadeFrom edits_from.Script asked texts edited =
+abbrev pub IsMadeFrom : EditsFrom → EditAsked → InputTexts → Result (Reported EditRun) PlayFault → Type 0
+IsMadeFrom EditsFrom.Script asked texts edited =
     Judges (edit_stages texts.database texts.bindings texts.log texts.script asked.editing)
     (IsMadeEdit texts asked.editing asked.report) edited
-IsMadeFrom edits_from.NewLog asked texts edited =
+IsMadeFrom EditsFrom.NewLog asked texts edited =
     JudgesEditTo texts asked.editing asked.report edited
 
 -- what a command makes of the texts of its inputs
 abbrev pub IsMadeBy : What → Request → InputTexts → List (List ℕ) → Result Made LogsFault → Type 0
-IsMadeBy (Check view) request texts logs made =
+IsMadeBy (What.Check view) request texts logs made =
     IsText request texts logs made (cave_stages texts.database texts.bindings)
     (IsChecked view texts.database texts.bindings)
-IsMadeBy (Doubts strict) request texts logs made = IsDoubts request texts logs made strict
-IsMadeBy (Play seed view) request texts logs made =
+IsMadeBy (What.Doubts strict) request texts logs made = IsDoubts request texts logs made strict
+IsMadeBy (What.Play seed view) request texts logs made =
     IsText request texts logs made
     (play_stages texts.database texts.bindings texts.log seed)
     (IsPlayed texts.database texts.bindings texts.log seed view)
-IsMadeBy (Edit asked) request texts logs made =
-    (edited : Result MadeEdit PlayFault) × (made ≡ of_edits edited)
+IsMadeBy (What.Edit asked) request texts logs made =
+    (edited : Result (Reported EditRun) PlayFault) × (made ≡ of_edits edited)
     × IsMadeFrom asked.edits_from asked texts edited
-IsMadeBy (Script form) request texts logs made =
-    (text : Result (Vec ℕ) PlayFault) × (made ≡ of_text text) × JudgesScript form texts text
-IsMadeBy (Cover seed view strict) request texts logs made =
+IsMadeBy (What.Script form) request texts logs made =
+    (text : Result (Reported (Unit {0})) PlayFault) × (made ≡ of_text text) × JudgesScript form texts text
+IsMadeBy (What.Cover seed view strict) request texts logs made =
     IsCoverage request texts logs made seed view strict
-IsMadeBy (Map seed part) request texts logs made =
+IsMadeBy (What.Map seed part) request texts logs made =
     (reported : Result (Reported (Unit {0})) LogsFault) × (made ≡ of_map reported)
     × JudgesMap texts.database texts.bindings logs seed part reported
 
-abbrev pub IsMade : Request → InputTexts → List (List ℕ) → Result Made LogsFault → Type 0
-IsMade request texts logs made = IsMadeBy request.what request texts logs made
-
--- what is asked of coverage: the seed, what is printed, and the file of the list of what is known
-pub record AreAsked (request : Request) (seed : ℕ) (view : CoverView) (asked : CoverAsked)
-    : Type 0 where
-  pub seed_is : asked.seed ≡ seed
-  pub view_is : asked.view ≡ view
-  pub known_is : asked.known.now ≡ unwrap_or (file_of request input.Known 0) []
-
 -- of a command that reads several logs, none of these is left
 abbrev pub HasReadAll : {L : Type 0} → What → List L → Type 0
-HasReadAll (Cover seed view strict) logs = logs ≡ []
-HasReadAll (Map seed part) logs = logs ≡ []
+HasReadAll (What.Cover seed view strict) logs = logs ≡ []
+HasReadAll (What.Map seed part) logs = logs ≡ []
 HasReadAll _ logs = ⊤

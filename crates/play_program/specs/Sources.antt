@@ -8,10 +8,8 @@ use Rattle.std.specs.Option.{option_map_or}
 use Rattle.std.specs.declared.io.Error.{Error}
 use Rattle.cave_play.specs.Sources.{Says, Held}
 use Rattle.play_command.specs.declared.line.Input.{Input}
-use Rattle.play_command.specs.declared.line.Input.TheVariants as input
 use Rattle.play_command.specs.declared.line.Request.{Request}
 use Rattle.play_command.specs.declared.line.What.{What}
-use Rattle.play_command.specs.declared.line.What.TheVariants.{Cover, Map}
 use Rattle.play_program.specs.Calls.{Call, Told, and_then, out_of_memory}
 use Rattle.play_program.specs.Calls.Call.{Opens, Tells}
 use Rattle.play_program.specs.Calls.Told.{headed, unopened}
@@ -24,16 +22,14 @@ use Rattle.play_program.specs.declared.sources.WaitingFile.{WaitingFile}
 
 -- a file of an input is opened before the run, unless it is one of several logs
 abbrev pub is_first : What → Input → Bool
-is_first (Cover seed view strict) from = not (is_same_input from input.Log)
-is_first (Map seed part) from = not (is_same_input from input.Log)
+is_first (What.Cover seed view strict) from = not (is_same_input from Input.Log)
+is_first (What.Map seed part) from = not (is_same_input from Input.Log)
 is_first _ from = true
 
 -- the calls that open files before the run, one after another
-abbrev pub opening_of : What → FileName → List Call
-opening_of what file = if is_first what file.0 then Opens file.1 ∷ [] else []
-
 abbrev pub opening : What → List FileName → List Call
-opening what files = flat_map (opening_of what) files
+opening what files =
+    flat_map (λ file. if is_first what file.0 then Opens file.1 ∷ [] else []) files
 
 -- this file can't be opened, or memory ran out there
 abbrev pub IsStoppedAt : What → FileName → Told → Type 0
@@ -65,16 +61,11 @@ pub record Entry : Type 0 where
   pub known : Option (List ℕ)
   pub is_open : Bool
 
-abbrev pub known_left : {F : Type 0} → (F → Option (List ℕ)) → Option (List ℕ) → Option F
-    → Option (List ℕ)
-known_left left closed None = closed
-known_left left closed (Some file) = left file
-
 abbrev pub waiting_entry : {F : Type 0} → (List ℕ → Option (List ℕ)) → (F → Option (List ℕ))
     → WaitingFile F → Entry
 waiting_entry bytes_of left waiting = record {
   file = (waiting.input, waiting.name.now);
-  known = known_left left (bytes_of waiting.name.now) waiting.file;
+  known = option_map_or left waiting.file (bytes_of waiting.name.now);
   is_open = is_some waiting.file;
 }
 
@@ -116,18 +107,18 @@ typed_text request = unwrap_or (option_map string_bytes request.typed) []
 
 -- what an input without a file has
 abbrev pub missing_text : List ℕ → Input → List ℕ
-missing_text typed input.Script = typed
+missing_text typed Input.Script = typed
 missing_text typed _ = []
 
 -- what a run has
 abbrev pub held_of : List ℕ → List Entry → Held
 held_of typed entries = record {
-  cave = first_known [] (of_input input.Cave entries);
-  bindings = first_known [] (of_input input.Bindings entries);
-  logs = map (λ entry. entry.known) (of_input input.Log entries);
-  new_log = first_known [] (of_input input.NewLog entries);
-  script = first_known typed (of_input input.Script entries);
-  known = first_known [] (of_input input.Known entries);
+  cave = first_known [] (of_input Input.Cave entries);
+  bindings = first_known [] (of_input Input.Bindings entries);
+  logs = map (λ entry. entry.known) (of_input Input.Log entries);
+  new_log = first_known [] (of_input Input.NewLog entries);
+  script = first_known typed (of_input Input.Script entries);
+  known = first_known [] (of_input Input.Known entries);
 }
 
 abbrev pub entries_in : {S F : Type 0} → (S → List ℕ → Option (List ℕ)) → (F → Option (List ℕ))
@@ -143,8 +134,8 @@ held_in bytes_of left files =
 -- ---- what reading asks of the system
 
 abbrev pub is_log : Input → Bool
-is_log input.Log = true
-is_log input.NewLog = true
+is_log Input.Log = true
+is_log Input.NewLog = true
 is_log _ = false
 
 -- a file that was read: the bytes that it has, and whether its reader gave all of them

@@ -1,14 +1,13 @@
 //! Over which of the files that it reads a run may write.
 
-ghost use Rattle.std.specs.Prelude.{◌≡◌, ◌↔◌, IsTrue, MatchResult, Some, map, option_map};
-ghost use Rattle.play_command.specs.Asked.{named_file};
+ghost use Rattle.std.specs.Prelude.{◌≡◌, ◌↔◌, IsTrue, MatchResult, option_map};
 ghost use Rattle.play_program.specs.Calls.{told_by};
 ghost use Rattle.play_program.specs.Files.{AreApart, IsClash, MayReplace, files_in, output_of};
 ghost use Rattle.play_program.specs.Files.{view_over};
 
 use crate::message::Message;
 use crate::system::System;
-use play_command::{EditView, Input, NamedFile, Request, What};
+use play_command::{EditView, Input, Request, What};
 
 /// Whether the output of an edit may go over an input, since it is of the same kind: the edited log
 /// over the log, and the script with guards over the script.
@@ -33,32 +32,6 @@ fn view_over(what: What, input: Input) -> Option<&'static str>
     }
 }
 
-/// Checks that the output goes over none of these files, or over one that it may replace.
-fn check_files<'a, S: System>(
-    system: &S,
-    what: What,
-    output: &str,
-    files: &[NamedFile<'a>],
-) -> Result<(), Message<'a>>
-    ensures { MatchResult (told_by result)
-        (λ _. AreApart (S.one_file system.now) what (Some output.now) (map named_file files.now))
-        (IsClash (S.one_file system.now) what (Some output.now) (map named_file files.now)) }
-{
-    for file in files {
-        if may_replace(what, file.input) {
-            continue;
-        }
-        match system.is_one_file(output, file.name) {
-            Ok(false) => {}
-            Ok(true) => {
-                return Err(Message::Clash(file.name, view_over(what, file.input)));
-            }
-            Err(_) => return Err(Message::memory()),
-        }
-    }
-    Ok(())
-}
-
 /// Checks that the output of a request goes over no file that it reads, or over one that it may
 /// replace.
 pub(crate) fn check_output<'a, S: System>(
@@ -71,8 +44,20 @@ pub(crate) fn check_output<'a, S: System>(
         (IsClash (S.one_file system.now) request.now.what (output_of request.now)
         (files_in request.now)) }
 {
-    match request.output {
-        Some(output) => check_files(system, request.what, output, &request.files),
-        None => Ok(()),
+    let Some(output) = request.output else {
+        return Ok(());
+    };
+    for file in &request.files {
+        if may_replace(request.what, file.input) {
+            continue;
+        }
+        match system.is_one_file(output, file.name) {
+            Ok(false) => {}
+            Ok(true) => {
+                return Err(Message::Clash(file.name, view_over(request.what, file.input)));
+            }
+            Err(_) => return Err(Message::memory()),
+        }
     }
+    Ok(())
 }

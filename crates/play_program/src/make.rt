@@ -1,25 +1,24 @@
 //! What the run of a request makes of its inputs.
 
-ghost use Rattle.std.specs.Prelude.{◌≡◌, ℕ, List, IfOk, length, map};
+ghost use Rattle.std.specs.Prelude.{◌≡◌, ℕ, List, [], IfOk, length, map, unwrap_or};
 ghost use Rattle.std.specs.List.{AllZip};
 ghost use Rattle.cave_play.specs.Sources.{InputTexts, Says, AreHeld, Leads};
 ghost use Rattle.play_command.specs.Asked.{named_file};
-ghost use Rattle.play_program.specs.Files.{log_count};
-ghost use Rattle.play_program.specs.Making.{AreAsked, AreListed, HasReadAll, IsMade, IsMadeFrom};
-ghost use Rattle.play_program.specs.Making.{of_cover, of_doubts, of_edits, of_map, of_text};
-ghost use Rattle.play_program.specs.Making.{third_of};
+ghost use Rattle.play_program.specs.Files.{file_of, log_count};
+ghost use Rattle.play_program.specs.Making.{AreListed, HasReadAll, IsMadeBy, IsMadeFrom, made_of};
+ghost use Rattle.play_program.specs.Making.{of_cover, of_doubts, of_edits, of_map, of_text, third_of};
 
 use crate::files::{file_of, log_count};
-use cave_play::doubted::{LeftDoubts, first_doubt, make_doubts};
+use cave_play::doubted::{first_doubt, make_doubts};
 use cave_play::inputs::Sources;
-use cave_play::logs::Reported;
+use cave_play::output::Reported;
 use cave_play::run::{make_check, make_edit, make_play};
 use cave_play::two_logs::{make_edit_to, make_script};
 use cave_play::{LogsFault, PlayFault};
-use check_doubts::DoubtFiles;
+use check_doubts::{Doubt, DoubtFiles};
 use play_command::{CoverView, EditAsked, EditsFrom, Input, Request, What};
 use play_cover::run::{CoverAsked, make_cover};
-use play_edits::{EditRun, MadeEdit};
+use play_edits::EditRun;
 use play_map::run::make_map;
 use std::alloc::Global;
 
@@ -33,37 +32,37 @@ pub(crate) struct Made {
     pub(crate) left: Option<PlayFault>,
 }
 
-fn of_text(made: Result<Vec<u8>, PlayFault>) -> Result<Made, LogsFault>
+impl Made {
+    /// A text, with what edits return, and what is left.
+    fn of(output: Vec<u8>, edits: Option<EditRun>, left: Option<PlayFault>) -> Made
+        ensures { result ≡ made_of output edits left }
+    {
+        Made {
+            output,
+            edits,
+            left,
+        }
+    }
+}
+
+fn of_text(made: Result<Reported<()>, PlayFault>) -> Result<Made, LogsFault>
     ensures { result ≡ of_text made }
 {
-    let output = made?;
-    Ok(Made {
-        output,
-        edits: None,
-        left: None,
-    })
+    Ok(Made::of(made?.text, None, None))
 }
 
-fn of_doubts(strict: bool, made: Result<LeftDoubts, PlayFault>) -> Result<Made, LogsFault>
+fn of_doubts(strict: bool, made: Result<Reported<Vec<Doubt>>, PlayFault>) -> Result<Made, LogsFault>
     ensures { result ≡ of_doubts strict made }
 {
-    let LeftDoubts { left, text } = made?;
-    Ok(Made {
-        output: text,
-        edits: None,
-        left: first_doubt(strict, &left),
-    })
+    let Reported { text, found } = made?;
+    Ok(Made::of(text, None, first_doubt(strict, &found)))
 }
 
-fn of_edits(made: Result<MadeEdit, PlayFault>) -> Result<Made, LogsFault>
+fn of_edits(made: Result<Reported<EditRun>, PlayFault>) -> Result<Made, LogsFault>
     ensures { result ≡ of_edits made }
 {
-    let MadeEdit { run, text } = made?;
-    Ok(Made {
-        output: text,
-        edits: Some(run),
-        left: None,
-    })
+    let Reported { text, found } = made?;
+    Ok(Made::of(text, Some(found), None))
 }
 
 fn of_cover(strict: bool, made: Result<Reported<usize>, LogsFault>) -> Result<Made, LogsFault>
@@ -71,22 +70,18 @@ fn of_cover(strict: bool, made: Result<Reported<usize>, LogsFault>) -> Result<Ma
 {
     let Reported { text, found } = made?;
     let is_left = strict && found > 0;
-    Ok(Made {
-        output: text,
-        edits: None,
-        left: if is_left {
-            Some(PlayFault::Unshown(found))
-        } else {
-            None
-        },
-    })
+    let left = if is_left {
+        Some(PlayFault::Unshown(found))
+    } else {
+        None
+    };
+    Ok(Made::of(text, None, left))
 }
 
 fn of_map(made: Result<Reported<()>, LogsFault>) -> Result<Made, LogsFault>
     ensures { result ≡ of_map made }
 {
-    let Reported { text, .. } = made?;
-    of_text(Ok(text))
+    Ok(Made::of(made?.text, None, None))
 }
 
 /// The files that doubts are about, and that of the list of known ones.
@@ -102,7 +97,9 @@ fn doubt_files<'a>(request: &Request<'a>) -> DoubtFiles<'a>
 
 /// What is asked of the coverage of logs.
 fn cover_asked<'a>(request: &Request<'a>, seed: u32, view: CoverView) -> CoverAsked<'a>
-    ensures { AreAsked request.now seed view result }
+    ensures seed { result.seed ≡ seed }
+    ensures view { result.view ≡ view }
+    ensures known { result.known.now ≡ unwrap_or (file_of request.now Input.Known 0) [] }
 {
     CoverAsked {
         seed,
@@ -116,7 +113,7 @@ fn make_edits<I: Sources>(
     alloc: Global,
     inputs: &mut I,
     asked: EditAsked,
-) -> Result<MadeEdit, PlayFault>
+) -> Result<Reported<EditRun>, PlayFault>
     ensures judged { (texts : InputTexts)
         × AreHeld (third_of (What.Edit asked)) (I.held inputs.old) texts
         × IsMadeFrom asked.edits_from asked texts result }
@@ -138,7 +135,7 @@ pub(crate) fn make<I: Sources>(
         ≡ length (I.held inputs.old).logs }
     ensures judged { (texts : InputTexts) × (logs : List (List ℕ))
         × AreHeld (third_of request.now.what) (I.held inputs.old) texts
-        × AllZip Says (I.held inputs.old).logs logs × IsMade request.now texts logs result }
+        × AllZip Says (I.held inputs.old).logs logs × IsMadeBy request.now.what request.now texts logs result }
     ensures all { IfOk result (λ _. HasReadAll request.now.what (I.held inputs.new).logs) }
     ensures leads { Leads I.Reads inputs.old inputs.new }
 {

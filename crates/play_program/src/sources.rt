@@ -4,12 +4,13 @@
 ghost use Rattle.std.specs.Prelude.{◌≡◌, ◌⊎◌, ℕ, List, [], ◌∷◌, Option, IfErr, IfOk, Some, map};
 ghost use Rattle.std.specs.Prelude.{option_map, is_some, true};
 ghost use Rattle.std.specs.List.{position};
+ghost use Rattle.std.specs.Option.{option_map_or};
 ghost use Rattle.cave_play.specs.Sources.{IsReading};
 ghost use Rattle.play_command.specs.Asked.{named_file};
 ghost use Rattle.play_program.specs.Calls.{and_then, told_by};
 ghost use Rattle.play_program.specs.Files.{files_in, is_same_input};
 ghost use Rattle.play_program.specs.Head.{head_notice};
-ghost use Rattle.play_program.specs.Sources.{known_left, opening_unless, telling_if, AsksFor};
+ghost use Rattle.play_program.specs.Sources.{opening_unless, telling_if, AsksFor};
 ghost use Rattle.play_program.specs.Sources.{IsTakenFrom, Opened, ReadsOne, entries_by, entry_of};
 ghost use Rattle.play_program.specs.Sources.{held_in, is_first, missing_text, typed_text};
 ghost use Rattle.play_program.specs.Sources.{waiting_entry};
@@ -135,7 +136,7 @@ fn open_now<S: System>(
     unopened: &mut Option<io::Error>,
 ) -> Result<S::File, PlayFault>
     ensures file { IfOk result (λ opened. S.File.remaining opened
-        ≡ known_left S.File.remaining (S.bytes_of system.old name.now) file) }
+        ≡ option_map_or S.File.remaining file (S.bytes_of system.old name.now)) }
     ensures failed { IfErr result (λ found.
         (found ≡ PlayFault.Memory) ⊎ (found ≡ PlayFault.Read input)) }
     ensures call { S.calls system.new

@@ -30,8 +30,8 @@ returns g c =
         texts_by Script held database bindings,
         AreHeld-by Script held database bindings one two,
         Judges-made (cave_stages database bindings) _ _ _ read.0
-            (λ text told. IsChecked-read c.args.view database bindings text.items c.in_ok-read.read
-            read.1 told)
+            (λ made told. IsChecked-read c.args.view database bindings made.text.items
+            c.in_ok-read.read read.1 told)
             c.check_text-made.ensures.told,
       );
       leads = c.in_ok-read.ensures.leads;

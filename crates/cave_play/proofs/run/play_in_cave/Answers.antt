@@ -16,3 +16,14 @@ returns-in_err-lexicon g c =
       judged = (bytes, said, IsFoundIn-memory (log_stage bytes ∷ []));
       leads = stays g.I.Sources.Reads _;
     })
+
+pub returns-in_err-text : goal.returns-in_err-text
+returns-in_err-text g c =
+    let exit =
+    err_from_is_err_and c.from_residual-in_err-text.result
+    c.from_residual-in_err-text.ensures.1 in
+    rw (exit.1, exit.2)
+    (record {
+      judged = c.in_err-text.ensures.judged;
+      leads = c.in_err-text.ensures.leads;
+    })

@@ -1,7 +1,6 @@
 use Rattle.std.proofs.Common.{refl}
 use Rattle.play_command.specs.declared.line.Input.TheVariants.{NewLog}
 use Rattle.cave_play.proofs.SourceLemmas.{AreTextsOf-held}
-use Rattle.cave_play.proofs.TwoLogLemmas.{RunsEditTo-made}
 use Rattle.cave_play.proofs.two_logs.run_edit_to.Goals as goal
 
 pub returns : goal.returns
@@ -13,6 +12,6 @@ returns g c =
         AreTextsOf-held g.C.Read.remaining g.B.Read.remaining g.L.Read.remaining
             g.S.Read.remaining c.args.inputs.now c.of-readers.result c.of-readers.ensures NewLog
             texts refl are,
-        RunsEditTo-made c.args.editing c.args.report texts _ _ _ _ judged c.write_edit.ensures,
+        (c.make_edit_to-made.result, judged, c.write_report.ensures),
       );
     }

@@ -1,7 +1,6 @@
 use Rattle.std.proofs.Common.{refl}
 use Rattle.play_command.specs.declared.line.Input.TheVariants.{NewLog}
 use Rattle.cave_play.proofs.SourceLemmas.{AreTextsOf-held}
-use Rattle.cave_play.proofs.TwoLogLemmas.{RunsScript-made}
 use Rattle.cave_play.proofs.two_logs.run_script.Goals as goal
 
 pub returns : goal.returns
@@ -13,6 +12,6 @@ returns g c =
         AreTextsOf-held g.C.Read.remaining g.B.Read.remaining g.L.Read.remaining
             g.S.Read.remaining c.args.inputs.now c.of-readers.result c.of-readers.ensures NewLog
             texts refl are,
-        RunsScript-made c.args.form texts _ _ _ _ judged c.write_made.ensures,
+        (c.make_script-made.result, judged, c.write_report.ensures),
       );
     }

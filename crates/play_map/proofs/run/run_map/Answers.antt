@@ -1,10 +1,7 @@
-use Rattle.std.proofs.Common.{[], ◌∷◌, ◌++◌, None, subst}
+use Rattle.std.proofs.Common.{None, subst}
 use Rattle.std.specs.List.{AllZip}
 use Rattle.cave_play.specs.Sources.{Says, Held}
-use Rattle.cave_play.specs.Logs.{first_stages}
-use Rattle.cave_play.proofs.LogLemmas.{RunsLogs-made}
 use Rattle.cave_play.proofs.SourceLemmas.{held_first}
-use Rattle.play_map.specs.Plays.{IsMapped}
 use Rattle.play_map.proofs.run.run_map.Goals as goal
 
 pub returns : goal.returns
@@ -20,8 +17,6 @@ returns g c =
         subst (λ (held : Held). Says held.cave database) first one,
         subst (λ (held : Held). Says held.bindings bindings) first two,
         subst (λ (held : Held). AllZip Says held.logs moves) first last,
-        λ judges is. RunsLogs-made (first_stages database bindings c.args.seed ++ judges ∷ []) moves
-            (λ _. IsMapped database bindings moves c.args.seed c.args.part) _ _ _ _
-            (judged judges is) c.write_report.ensures,
+        (c.make_map-made.result, judged, c.write_report.ensures),
       );
     }

@@ -109,7 +109,8 @@ returns-in-Cover g c =
             },
             last,
             IsCoverage-asked c.args.request.now texts logs c.in-Cover.seed c.in-Cover.view
-                c.in-Cover.strict c.cover_asked-asked.result c.cover_asked-asked.ensures
+                c.in-Cover.strict c.cover_asked-asked.result c.cover_asked-asked.ensures.seed
+                c.cover_asked-asked.ensures.view c.cover_asked-asked.ensures.known
                 c.make_cover.result c.of_cover.result c.of_cover.ensures made,
           );
       all = subst (λ what. IfOk c.of_cover.result (λ _. HasReadAll what left.logs)) (sym c.in-Cover.is)

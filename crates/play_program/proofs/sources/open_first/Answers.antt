@@ -4,9 +4,8 @@ use Rattle.std.proofs.lemmas.List.{map-append, take_more}
 use Rattle.std.proofs.lemmas.Result.{err_from_is_err_and}
 use Rattle.play_command.specs.Asked.{named_file}
 use Rattle.play_program.specs.Calls.{and_then, told_of}
-use Rattle.play_program.specs.Files.{no_file}
 use Rattle.play_program.specs.Sources.{Stops, entry_of, opening, waiting_entry}
-use Rattle.play_program.proofs.CallLemmas.{opened-next, stopped-next}
+use Rattle.play_program.proofs.CallLemmas.{no_file, opened-next, stopped-next}
 use Rattle.play_program.proofs.sources.open_first.Goals as goal
 
 pub returns-in_err-next-clause-opened : goal.returns-in_err-next-clause-opened

@@ -1,9 +1,0 @@
-use Rattle.std.proofs.Common.{◌≡◌, ◌++◌, take}
-use Rattle.std.specs.List.{flat_map}
-use Rattle.check_tables.specs.Words.{words_row}
-use Rattle.check_tables.proofs.words.push_words_rows.Given as goal
-
-abbrev pub invariant-loop-number : goal.invariant-loop-number
-invariant-loop-number l =
-    l.text.items ≡ l.initial.text.items
-    ++ flat_map (words_row l.cave) (take l.number-index l.numbers)
