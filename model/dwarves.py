@@ -1,26 +1,24 @@
 """The five dwarves and the pirate (docs/TURN.md, Dwarves)."""
 
 from state import DWARVES, PIRATE
-from tables import TABLES, phrases, rule, tables
-from terms import move_to_role
+from tables import TABLES, phrases, tables
+from terms import TREASURES
 
-MOST_OFFERED = 19
-TREASURES = range(50, 80)
-
-# ---- Waking and moving
+# ---- Waking and moving. `dwarf` is whose turn it is, and `ways` is where it may go.
 
 def they_wake(game):
     for _ in range(2):
-        drawn = game.draw(5)
-        if game.happens(50):
-            rule("waking: one of two is gone")
-            game.dwarf_at[drawn] = 0
-    aside = game.cave.place("dwarfalt")
-    for it in DWARVES:
-        if game.dwarf_at[it] == game.here and aside:
-            rule("waking: one steps aside")
-            game.dwarf_at[it] = aside
-        game.dwarf_was[it] = game.dwarf_at[it]
+        game.dwarf = game.draw(5)
+        TABLES["dwarf leaves"].apply(game)
+    for game.dwarf in DWARVES:
+        TABLES["dwarf kept apart"].apply(game)
+
+at, was, saw = (lambda game, part=part: getattr(game, f"dwarf_{part}")[game.dwarf]
+                for part in ("at", "was", "saw"))
+
+def put(game, at, was):
+    """Where the dwarf is from now on, and was before."""
+    game.dwarf_at[game.dwarf], game.dwarf_was[game.dwarf] = at, was
 
 def offered(game, it):
     """The places that the rows of a dwarf's place offer it."""
@@ -33,49 +31,28 @@ def offered(game, it):
             or cave.is_forced(place) or it == PIRATE and cave.has(place, 3)
         ):
             places.append(place)
-    if len(places) > MOST_OFFERED:
-        rule("moving: more than 19 places")
-    if not places:
-        rule("moving: back to the old place")
-    return places[:MOST_OFFERED] or [game.dwarf_was[it]]
+    return places
 
-def step(game, it):
-    """A dwarf moves. Whether it sees the player then."""
-    places = offered(game, it)
-    chosen = places[game.draw(len(places))]
-    game.dwarf_was[it], game.dwarf_at[it] = game.dwarf_at[it], chosen
-    is_deep = game.here >= game.cave.place("deep")
-    sees = game.dwarf_saw[it] and is_deep or game.here in (chosen, game.dwarf_was[it])
-    if sees:
-        rule("moving: sees the player")
-        game.dwarf_at[it] = game.here
-    elif game.dwarf_saw[it]:
-        rule("moving: loses the player")
-    game.dwarf_saw[it] = sees
-    return sees
+def it_moves(game):
+    game.ways = offered(game, game.dwarf)
+    TABLES["dwarf ways"].apply(game)
+    TABLES["dwarf sight"].apply(game)
+
+def go_one_of(game, ways):
+    put(game, ways[game.draw(len(ways))], at(game))
+
+def see(game, is_seen):
+    game.dwarf_saw[game.dwarf] = is_seen
+    if is_seen:
+        game.dwarf_at[game.dwarf] = game.here
 
 def they_move(game):
     """The five move, and may throw; then the pirate moves."""
     game.seeing = game.knives = game.hits = 0
-    for it in DWARVES:
-        if game.dwarf_at[it] and step(game, it):
-            game.seeing += 1
-            if game.dwarf_was[it] == game.here:
-                throw(game)
-    if game.dwarf_at[PIRATE] and step(game, PIRATE):
-        TABLES["pirate"].apply(game)
-
-def throw(game):
-    """A knife is thrown, and hits or not."""
-    game.knives += 1
-    game.hits += game.draw(1000) < 95 * (game.anger - 2)
-    TABLES["thrown knife"].apply(game)
-
-def they_grow_angrier(game):
-    """The first knives make the dwarves angrier."""
-    if game.knives and game.anger == 2:
-        rule("knives: dwarves are angrier by the first")
-        game.anger = 3
+    for game.dwarf in DWARVES:
+        TABLES["dwarf turn"].apply(game)
+    game.dwarf = PIRATE
+    TABLES["pirate turn"].apply(game)
 
 # ---- The pirate
 
@@ -84,15 +61,9 @@ def takes(game, x):
     homes = [game.home(it)[0] for it in map(game.thing, ("PYRAMID", "EMERALD")) if it]
     return not (game.is_thing(x, "PYRAMID") and game.here in homes)
 
-def rob_the_player(game):
-    for x in TREASURES:
-        lies_loose = game.is_here(x) and not game.held[x]
-        if takes(game, x) and (game.is_carried(x) or lies_loose):
-            move_to_role(game, x, "chest")
-
 def it_goes_home(game):
-    game.dwarf_at[PIRATE] = game.dwarf_was[PIRATE] = game.cave.place("chest") or 0
-    game.dwarf_saw[PIRATE] = False
+    put(game, *[game.cave.place("chest") or 0] * 2)
+    see(game, False)
 
 # ---- What rows say, and the rows, in the order of the pages
 
@@ -101,13 +72,30 @@ phrases({
         lambda game: any(game.is_carried(it) and takes(game, it) for it in TREASURES),
     "no treasure is at hand": lambda game: not any(map(game.is_at_hand, TREASURES)),
     "one treasure is left to be seen": lambda game: game.unseen == game.lost + 1,
-    "it was elsewhere": lambda game: game.dwarf_at[PIRATE] != game.dwarf_was[PIRATE],
+    "it is away": lambda game: at(game) == 0,
+    "it is where the player is": lambda game: at(game) == game.here,
+    "it was where the player is": lambda game: was(game) == game.here,
+    "it was elsewhere than the player": lambda game: was(game) != game.here,
+    "it was elsewhere": lambda game: at(game) != was(game),
+    "it saw the player": saw,
+    "it sees nobody": lambda game: not saw(game),
+    "dwarfalt is bound": lambda game: game.cave.place("dwarfalt") is not None,
+    "no place is offered": lambda game: not game.ways,
+    "more than {N} places are offered": lambda game, most: len(game.ways) > most,
+    "a knife hits": lambda game: game.draw(1000) < 95 * (game.anger - 2),
 }, {
     "how many dwarves": lambda game: game.out.append(
         f"There are {game.seeing} threatening little dwarves in the room with you."),
     "how many knives":
         lambda game: game.out.append(f"{game.knives} of them throw knives at you!"),
-    "a knife lies here": lambda game: vars(game).update(knife=game.here),
+    "it is gone": lambda game: put(game, 0, was(game)),
+    "it steps aside": lambda game: put(game, *[game.cave.place("dwarfalt")] * 2),
+    "it was where it is": lambda game: put(game, at(game), at(game)),
+    "it chooses its old place": lambda game: go_one_of(game, [was(game)]),
+    "it chooses one of the first {N}": lambda game, most: go_one_of(game, game.ways[:most]),
+    "it chooses one of them": lambda game: go_one_of(game, game.ways),
+    "it sees the player": lambda game: see(game, True),
+    "it loses the player": lambda game: see(game, False),
     "how many hits": lambda game: game.out.append(f"{game.hits} of them get you!"),
 })
 

@@ -6,7 +6,7 @@ import re
 import tables
 from database import NAMES
 from lines import rows_of
-from verbs import ACTIONS
+from verbs import ACTIONS, verbs_in
 
 # The steps of each errand; errands.txt says what they are.
 ERRANDS = [[*map(str.strip, it.split(","))] for it in rows_of("errands.txt")]
@@ -16,14 +16,14 @@ PLAIN_TREASURES = "GOLD COINS CHEST EGGS TRIDENT EMERALD PYRAMID PEARL SPICES".s
 
 # The verbs that have a row for an object of a name.
 VERBS_OF = {name: [verb for verb in ACTIONS for label, row in tables.rows.items()
-                   if verb in label.split(":")[0].split() and name in row.split("|")[0]
+                   if verb in verbs_in(label) and name in row.split("|")[0]
                    and ("x is" in row or "alone" in label)]
             for name in [*NAMES, "ROD2", "PLANT2", "TROLL2"]}
 
 def goal_of(label, row):
     """What a row of a verb's table requires: its verbs, x, what is carried, what is here, and
     whether x must not be carried."""
-    tests, verbs = row.split("|")[0], [it for it in label.split(":")[0].split() if it in ACTIONS]
+    tests, verbs = row.split("|")[0], verbs_in(label)
     named = lambda form: [it for it in re.findall(form, tests) if it in VERBS_OF]
     of = named(r"x is (\w+)") + named(r"x is \w+ or (\w+)")
     is_left = "x isn't carried" in tests
@@ -32,8 +32,7 @@ def goal_of(label, row):
     here = named(r"(\w+) is here") + named(r"(\w+) is at hand")
     return label, verbs, of, carried, here, is_left
 
-GOALS = [goal_of(label, row) for label, row in tables.rows.items()
-         if label.split(":")[0].split()[0] in ACTIONS and row]
+GOALS = [goal_of(label, row) for label, row in tables.rows.items() if verbs_in(label)]
 
 def steps_of(goal, rng):
     """What brings about a row of a verb's table."""

@@ -7,12 +7,15 @@ from copy import copy, deepcopy
 
 import scores
 from database import SILENT
-from tables import TABLES, rule
+from tables import TABLES
 
 HANDS, NATURE = -1, -1  # where a first half is that is in the hands, and what holds a second half
 DWARVES, PIRATE = range(5), 5
-ASKED_BY_ROLE = {"welcome": "welcome", "quit": "quit", "score quit": "score-quit",
-                 "take hint": "hint-take", "oyster": "oyster-ask", "dragon": "with-what"}
+QUESTIONS = {"ScoreQuit": "score quit", "Die": "revive", "Take": "take hint"}
+
+def asked_by(name):
+    """A question that the pages call by this name, as a state keeps it."""
+    return QUESTIONS.get(name, name.lower())
 
 class Game:
     """A game in a cave. `out` is what the line that is played has said so far."""
@@ -45,7 +48,7 @@ class Game:
         self.word, self.verb, self.player_verb = "", 0, 0
         self.put_objects()
         self.first = deepcopy((self.where, self.held, self.prop, self.lists))
-        self.ask("welcome")
+        self.open_question("Welcome")
 
     def put_objects(self):
         """Puts each object where it is as a game begins: first those with two places."""
@@ -102,16 +105,6 @@ class Game:
     def set_prop(self, x, prop):
         if x:
             self.prop[x] = prop
-
-    def put_down(self, x):
-        if x and x == self.liquid():
-            x = self.thing("BOTTLE")
-        bird = self.thing("BIRD")
-        if self.is_thing(x, "CAGE") and self.prop_of(bird) not in (None, 0):
-            self.move(bird, self.here)
-        if self.is_thing(x, "BIRD"):
-            self.set_prop(x, 0)
-        self.move(x, self.here)
 
     def lose(self):
         """A treasure is lost."""
@@ -216,26 +209,14 @@ class Game:
         asked = {"score quit": "score, quit"}.get(self.question, self.question)
         return f"{asked} {self.hint}" if asked in ("hint", "take hint") else asked
 
-    def open_question(self, question):
+    def open_question(self, name):
         """The next line answers it."""
-        self.question = question
+        self.question = asked_by(name)
         TABLES["asking"].apply(self)
-
-    def ask(self, question):
-        """Says the message of a question."""
-        self.question = question
-        if question == "hint":
-            self.message(self.cave.hints[self.hint][2])
-        else:
-            self.say(ASKED_BY_ROLE.get(question) or f"die{self.deaths + 1}")
 
     def light(self, turns):
         """The lamp burns this many turns more."""
         self.lamp = min(self.lamp + turns, 100_000)
-
-    def panic(self):
-        if not self.panicked:
-            self.panicked, self.clock2 = True, self.clock2 if self.closed else 15
 
     def die(self, lies_at):
         """A death; what is in the hands will lie at a place."""
@@ -249,19 +230,17 @@ class Game:
         self.out.append(f"You scored {score} out of a possible {self.cave.greatest_score()}, using"
                         f" {self.turns} turn{'s' * (self.turns != 1)}.")
         at = self.cave.class_of(score)
-        if at is None:
-            rule("end: off the scale")
-            self.say("off-scale")
-            return
-        bound, text = classes[at]
+        self.classes = [] if at is None else classes[at:]
+        TABLES["classes"].apply(self)
+
+    def tell_class(self):
+        """Says the text of the player's class."""
+        bound, text = self.classes[0]
         self.said.add(("class", bound))
         self.show([text])
-        if not classes[at + 1:]:
-            rule("end: top class")
-            self.say("top-class")
-            return
-        rule("end: a class and the next one")
-        more = bound + 1 - score
+
+    def tell_missing(self):
+        more = self.classes[0][0] + 1 - self.score()
         self.out.append("To achieve the next higher rating, you need"
                         f" {more} more point{'s' * (more != 1)}.")
 

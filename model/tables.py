@@ -81,7 +81,7 @@ class Table:
             self.rows.append((label, tests, [effect for _, effect in effects]))
 
     def apply(self, game):
-        """Does the first row that fits, if there is one."""
+        """Does the first row that fits, if there is one. Whether there is."""
         for label, tests, effects in self.rows:
             for is_so, test in tests:
                 if test(game) != is_so:
@@ -90,7 +90,8 @@ class Table:
                 rule(label)
                 for effect in effects:
                     effect(game)
-                return
+                return True
+        return False
 
 def tables(file, names):
     """The tables of a file of rules/ by their names: a line without a bar is the name of what

@@ -3,6 +3,7 @@
 import dwarves
 from state import DWARVES
 from tables import TABLES, phrases, rule, tables
+from terms import rows_of
 
 MOST_FORCED = 20
 assert dwarves  # whose rows of anger are done as the player arrives
@@ -12,7 +13,7 @@ assert dwarves  # whose rows of anger are done as the player arrives
 def travel(game, motion):
     """The player travels by a motion."""
     game.motion = motion
-    TABLES["motion"].apply(game)
+    TABLES["motions"].apply(game)
 
 def look_round(game):
     """The place is described again, as to one who saw by light before."""
@@ -24,12 +25,8 @@ def set_out(game):
 
 def go_back(game):
     """By the first motion of a row that leads to where the player came from."""
-    cave, to = game.cave, game.last
-    if cave.is_forced(to):
-        rule("back: to the place before a forced one")
-        to = game.older
-    set_out(game)
-    game.back, rows = to, cave.travel.get(game.here, [])
+    TABLES["way back"].apply(game)
+    cave, to, rows = game.cave, game.back, game.cave.travel.get(game.here, [])
     game.straight = [motions[0] for target, motions in rows if target % 1000 == to]
     game.roundabout = [motions[0] for target, motions in rows if cave.is_forced(target % 1000)
                        and cave.travel[target % 1000][0][0] % 1000 == to]
@@ -39,6 +36,7 @@ def go_back(game):
 
 def follow_rows(game, motion):
     """The rows of the place from the first one on that lists the motion, or lists motion 1."""
+    set_out(game)
     rows, failed = game.cave.travel.get(game.here, []), None
     first = next((it for it, row in enumerate(rows) if motion in row[1] or 1 in row[1]), None)
     if first is None:
@@ -49,11 +47,11 @@ def follow_rows(game, motion):
         if target == failed:
             rule("row: passed over with one that failed")
             continue
-        game.condition, game.destination, game.row_fails = target // 1000, target % 1000, False
-        TABLES["condition"].apply(game)
-        if not game.row_fails:
-            TABLES["destination"].apply(game)
-        if not game.row_fails:
+        game.condition, game.destination = divmod(target, 1000)
+        TABLES["holds"].apply(game)
+        if game.holds:
+            TABLES["outcome_at"].apply(game)
+        if game.holds:
             return
         failed = target
     rule("row: none holds")
@@ -79,95 +77,92 @@ def is_with(game, may_lie_here):
     x = (game.condition - 1) % 100 + 1
     return game.is_in_hands(x) or may_lie_here and game.is_here(x)
 
+def is_carried_past_troll(game, x):
+    """Whether x is carried once the toll is paid, on which what is in the bottle may depend."""
+    after = game.copy()
+    TABLES["toll"].apply(after)
+    return after.is_carried(x)
+
 # ---- Arrival
 
 def arrive(game, place):
     """The player arrives at a place, or is held back where the player is."""
-    if game.closing and 1 <= place <= game.cave.place("outside"):
-        rule("arrival: held back in a closing cave")
-        game.say("closing-exit")
-        game.panic()
-        place = game.here
-    is_safe = place == game.here or game.cave.is_forced(game.here) or game.cave.has(game.here, 3)
-    if not is_safe and any(game.dwarf_saw[it] and game.dwarf_was[it] == place for it in DWARVES):
-        rule("arrival: blocked by a dwarf")
-        game.say("blocked")
-        place = game.here
-    game.here = place
-    TABLES["arrival"].apply(game)
+    game.new = place
+    TABLES["blocked ways"].apply(game)
+    game.here, game.hits = game.new, 0
+    if not TABLES["arrival"].apply(game):
+        TABLES["anger"].apply(game)
+        TABLES["knife deaths"].apply(game)
+
+def a_dwarf_bars_the_way(game):
+    """Whether one that has seen the player was at the place where the player wants to arrive."""
+    is_safe = game.cave.is_forced(game.here) or game.cave.has(game.here, 3)
+    return game.new != game.here and not is_safe and any(
+        game.dwarf_saw[it] and game.dwarf_was[it] == game.new for it in DWARVES)
 
 # ---- Description
 
-def describe(game):
-    """Describes the place where the player is; at a place of forced motion the player moves on."""
-    if not game.is_over():
-        TABLES["place"].apply(game)
+def tell_text(game, kind):
+    """Says the long or the short text of the place."""
+    game.said.add((f"{kind} text", game.here))
+    game.show(getattr(game.cave, kind).get(game.here))
 
-def the_text_of_the_place(game):
-    long, short = (it.get(game.here) for it in (game.cave.long, game.cave.short))
-    visits = game.visits.get(game.here, 0)
-    if (visits if game.brief else visits % 5) == 0 or short is None:
-        rule("place: its long text")
-        game.said.add(("long text", game.here))
-        game.show(long)
-    else:
-        rule("place: its short text")
-        game.said.add(("short text", game.here))
-        game.show(short)
-
-def the_objects(game):
+def count_the_visit(game):
     game.visits[game.here] = (game.visits.get(game.here, 0) + 1) % 10_000
-    for half in game.lists.get(game.here, [])[:]:
-        game.names["k"] = abs(half)
-        TABLES["object"].apply(game)
 
-def see_k(game):
+def see_k(game, prop):
     """An object is seen for the first time, and counted as a treasure that was."""
-    x = game.names["k"]
-    game.prop[x] = 1 if game.is_thing(x, "RUG") or game.is_thing(x, "CHAIN") else 0
+    game.prop[game.names["k"]] = prop
     game.unseen = max(game.unseen - 1, 0)
-    if game.unseen == game.lost != 0:
-        rule("seen: the lamp burns 35 at most")
-        game.lamp = min(game.lamp, 35)
+    TABLES["last treasure"].apply(game)
+    TABLES["text of an object"].apply(game)
 
 # ---- What rows say, and the rows, in the order of the pages
 
 phrases({
-    "motion is one of ([\\d ]+)": lambda game, of: str(game.motion) in of.split(),
     "that is this place": lambda game: game.back == game.here,
     "a row leads there": lambda game: game.straight != [],
     "a row leads there by a place of forced motion": lambda game: game.roundabout != [],
-    "it happens": lambda game: game.happens(game.condition),
-    "its object is in the hands": lambda game: is_with(game, False),
-    "its object is in the hands or here": lambda game: is_with(game, True),
-    "its prop is another":
-        lambda game: game.prop[game.condition % 100] != game.condition // 100 - 3,
     "the passage is here": lambda game: beyond_passage(game) is not None,
     "the bridge is here": lambda game: beyond_bridge(game) is not None,
     "nothing is in the hands but EMERALD":
         lambda game: game.in_hands() in ([], [game.thing("EMERALD")]),
+    "{A} is carried once TROLL let the player pass": is_carried_past_troll,
+    "motion is forced at the last place": lambda game: game.cave.is_forced(game.last),
     "motion is forced": lambda game: game.cave.is_forced(game.here),
     "the place has bit {N}": lambda game, bit: game.cave.has(game.here, bit),
+    "visits here are {N}": lambda game, count: game.visits.get(game.here, 0) == count,
+    "visits here are a multiple of {N}": lambda game, of: game.visits.get(game.here, 0) % of == 0,
+    "the place has no short text": lambda game: game.here not in game.cave.short,
+    "all that are unseen are lost": lambda game: game.unseen == game.lost,
     "this is the second place of k": lambda game: game.here == game.held[game.names["k"]],
 }, {
-    "one detail less": lambda game: vars(game).update(details=game.details + 1),
+    "it holds by chance": lambda game: vars(game).update(holds=game.happens(game.condition)),
+    "it holds with its object in the hands( or here|)":
+        lambda game, here: vars(game).update(holds=is_with(game, here != "")),
+    "it holds with another prop": lambda game: vars(game).update(
+        holds=game.prop[game.condition % 100] != game.condition // 100 - 3),
     "follow the rows": lambda game: follow_rows(game, game.motion),
     "follow the first": lambda game: follow_rows(game, game.straight[0]),
     "follow the last": lambda game: follow_rows(game, game.roundabout[-1]),
-    "arrive": lambda game: arrive(game, game.here),
+    "arrive(?: again)?": lambda game: arrive(game, game.here),
     "arrive there": lambda game: arrive(game, game.destination),
     "pass through": lambda game: arrive(game, beyond_passage(game)),
-    "the row fails": lambda game: vars(game).update(row_fails=True),
+    "pass the passage or the bridge": lambda game:
+        TABLES["narrow passage" if game.destination == 301 else "bridge"].apply(game),
     "the message": lambda game: game.message(game.destination - 500),
     "{A} is at both its homes":
         lambda game, x: (game.move(x, game.home(x)[0]), game.anchor(x, game.home(x)[1])),
     "move {A} across": lambda game, x: game.move(x, beyond_bridge(game)),
-    "SPICES may be lost":
-        lambda game: (game.prop_of(game.thing("SPICES")) or 0) < 0 and game.lose(),
     "die across": lambda game: game.die(beyond_bridge(game)),
     "cross": lambda game: arrive(game, beyond_bridge(game)),
     "travel by {N}": travel,
-    "one motion less": lambda game: vars(game).update(forced_left=game.forced_left - 1),
+    "move on": rows_of("move on"),
+    "it is described": rows_of("description"),
+    "the place is described": rows_of("described again"),
+    "the (long|short) text": tell_text,
+    "k is seen with prop {N}": see_k,
+    "the lamp burns {N} at most": lambda game, most: vars(game).update(lamp=min(game.lamp, most)),
     "die before": lambda game: game.die(game.older),
     "text of k": lambda game: game.object_text(game.names["k"], game.prop[game.names["k"]]),
 })

@@ -1,5 +1,7 @@
 """Verbs: the tables of docs/VERBS.md, row by row."""
 
+import re
+
 import travel  # what its phrases say, rows of verbs say too
 from state import Game
 from tables import phrases, rule, tables
@@ -7,6 +9,10 @@ from tables import phrases, rule, tables
 ACTIONS = {name: number for number, name in enumerate(
     """TAKE DROP SAY OPEN NOTHING LOCK ON OFF WAVE CALM WALK KILL POUR EAT DRINK RUB THROW QUIT FIND
     INVENTORY FEED FILL BLAST SCORE FOO BRIEF READ BREAK WAKE SUSPEND HOURS""".split(), 1)}
+def verbs_in(label):
+    """The verbs that the name of a table has, or that of one of its rows."""
+    return [it for it in re.split("[ /:]", label) if it in ACTIONS]
+
 MOST_IN_HANDS, MAGIC_WORDS, MOST_ANGER = 7, 4, 13
 
 # ---- What verbs that are said by themselves mean, and what is one of several things
@@ -55,18 +61,13 @@ Game.letters.update(y=poured, m=meant_by_open, r=meant_by_read, o=only_one_here,
 def number_of_magic(game):
     return game.cave.specials.get(game.word, 0)
 
-def eggs_go_home(game):
-    eggs, home = game.thing("EGGS"), game.home(game.thing("EGGS"))[0]
-    game.object_text(eggs, 0 if game.here == home else 1 if game.is_at_hand(eggs) else 2)
-    game.move(eggs, home)
-
 def carried_list(game):
     """What INVENTORY lists: what is carried but BEAR."""
     return [x for x in range(1, 101) if game.is_carried(x) and not game.is_thing(x, "BEAR")]
 
 def ask_back(game):
     game.out.append(f"{game.word} what?")
-    game.kept = game.player_verb, 0
+    game.unfinished = "asks back"
 
 def turn_fissure(game):
     x = game.thing("FISSURE")
@@ -87,7 +88,7 @@ def kill_the_dwarf(game):
 phrases({
     "it is meant for {A}": lambda game, x: x != 0,
     "{A} is absent": lambda game, x: x == 0,
-    "{A} is at home": lambda game, x: game.where[x] == game.home(x)[0],
+    "{A} is at home": lambda game, x: x != 0 and game.where[x] == game.home(x)[0],
     "{A} is carried to their home": lambda game, x:
         game.is_carried(x) and game.here == game.home(x)[0],
     "two foes or more": lambda game: len(foes(game)) > 1,
@@ -108,6 +109,7 @@ phrases({
         number_of_magic(game) != 0 and game.magic == 1 - number_of_magic(game),
     "the word is the last": lambda game: number_of_magic(game) == MAGIC_WORDS,
 }, {
+    "{A} go home": lambda game, x: game.move(x, game.home(x)[0]),
     "list what is carried": lambda game: [game.object_text(x, None) for x in carried_list(game)],
     "default": lambda game: game.message(game.cave.defaults.get(game.verb, 0)),
     "as ([A-Z]+)": lambda game, verb: perform(game, ACTIONS[verb], 0),
@@ -121,13 +123,13 @@ phrases({
 
 TABLES = tables("verbs.txt", {**vars(travel), **globals()})
 ALONE, WITH = {}, {}
-for heading, table in TABLES.items():
-    verbs = {ACTIONS[it]: table for it in heading.split() if it in ACTIONS}
-    ALONE.update(verbs if "alone" in heading or "in any case" in heading else {})
+for heading, table in sorted(TABLES.items(), key=lambda it: "alone" in it[0]):
+    verbs = {ACTIONS[it]: table for it in verbs_in(heading)}
+    ALONE.update(verbs)
     WITH.update(verbs if "alone" not in heading else {})
 
 def perform(game, verb, x):
-    """Does a verb with an object, or by itself if x is 0."""
+    """Does a verb with an object, or by itself if x is 0, by its only table if it has no other."""
     game.verb, game.names["x"] = verb, x
     rows = (WITH if x else ALONE).get(verb)
     if rows:

@@ -18,8 +18,6 @@ from rule_tables import bracket_of, depths, parts_between
 
 BEGIN = re.compile(r"^(?! *//).*\brows! \{ (?:scene|self), Table::(\w+)[^;{]*;", re.MULTILINE)
 INNER = re.compile(r"\brows! (?=\{)")
-# Tables of the model whose rows are those of several tables of the pages, or the other way round.
-OWN = {"anger", "pirate", "bridge", "arrival", "lamp"}
 # The words of effects that code and definitions share.
 WORDS = """say set_prop destroy bring fix loosen juggle send move carry put lay_down panic lose_one
 troll_goes lose_to_snake look""".split()
@@ -99,6 +97,5 @@ def tables_modelled() -> dict[str, list[str]]:
             if "|" in line:
                 found[name].append(" ".join(line.split()))
             else:
-                name = re.sub(r"\b (?=[A-Z])", "/", line.removesuffix(" in any case"))
-                found[name] = []
-    return {name: rows for name, rows in found.items() if name not in OWN}
+                found[name := line] = []
+    return found

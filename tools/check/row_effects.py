@@ -2,6 +2,7 @@
 
     effects_in(tables_defined())["kill_rows"]    the effects of each row of a table
     effects_shown(cells, roles, about, before)   those of a row of a page
+    effects_modelled(row, about)                 those of a row of the model
 
 Effects stand in their order, such as `bird-dead`, "BIRD vanishes" and "BIRD gets prop 0": what is
 said, what becomes of objects, which of their texts is printed, how the game ends, which verb or
@@ -24,8 +25,8 @@ from rule_tables import SHORT_NAME, Table, object_named, tests_of, with_effects
 THING = r"(\(the name\.\w+\)|\w+)"
 # What is done to an object, and what has no object, by the words of definitions and of pages.
 PAGE = f"{os.path.dirname(os.path.abspath(__file__))}/effects.md"
-DEEDS, OTHERS, FORMS, ALONE = ({word: effect for word, effect in cases_in(PAGE, it)}
-                               for it in ("Deeds", "Others", "Forms", "Alone"))
+DEEDS, OTHERS, FORMS, ALONE, MODEL = (dict[str, str](cases_in(PAGE, it)) for it in (
+    "Deeds", "Others", "Forms", "Alone", "Model"))
 ALONE = {f"^{it}(?:,|$)": it for it in OTHERS.values()} | ALONE
 DEFINED = re.compile(
     rf"\bsays? role\.(?P<role>\w+)|\bset_prop {THING} (?P<prop>\w+)|\blook {THING} (?P<text>\w+)"
@@ -136,10 +137,17 @@ def effects_shown(cells: Sequence[str], roles: set[str], about: str,
                 waiting = last
 
 
+def effects_modelled(row: str, about: str) -> list[str]:
+    """The effects of a row of the model, in which x and k are what it is about."""
+    told = (told_by(it.strip(), MODEL) for it in row.partition("|")[2].split(";"))
+    return [re.sub(r"(?<=\w)-", "", re.sub(r"^[xk]\b", about, it)) for it in told if it]
+
+
 def told_by(clause: str, forms: Mapping[str, str]) -> str:
     """What the first of these forms that a clause has says of it, or nothing."""
     for form, said in forms.items():
         if found := re.search(form, clause):
-            word = "".join(found.groups())
-            return said.format(word.replace(" ", "").lower() if said == "ends as {}" else word)
+            is_end = said == "ends as {}"
+            return said.format(*(it.replace(" ", "").lower() if is_end else it
+                                 for it in found.groups()))
     return ""

@@ -11,7 +11,8 @@ applies. A row says the messages of its definition, in their order, and names th
 tests, or of an effect, in its first cell, and all its objects and numbers in any: so two rows that
 are exchanged are noticed whenever these differ. It does what its definition does, in that order, as
 far as `row_effects` reads both sides. What is defined by the cases of a value, and isn't noted,
-isn't compared.
+isn't compared. So does the row of the model, whose tables have the names of the pages', except for
+what docs/DUEL.md lists.
 """
 
 import re
@@ -20,10 +21,10 @@ from collections.abc import Iterator
 from itertools import combinations, pairwise
 
 from code_rows import WORDS, Coded, is_part, parts_coded, tables_coded, tables_modelled
-from common.files import text_of
-from row_effects import Effects, effects_in, effects_shown
-from rule_tables import (BY_CASES, Noted, Shown, Table, Words, noted_in, parts_of, rows_in_words,
-                         tables_defined, tables_shown)
+from common.files import section_of, spans_of, tables_in, text_of
+from row_effects import Effects, effects_in, effects_modelled, effects_shown
+from rule_tables import (BY_CASES, Noted, Shown, Table, Words, noted_in, parts_of,
+                         rows_in_words, tables_defined, tables_shown)
 
 SPAN = re.compile(r"`([a-z][a-z0-9-]*)`")
 NAMES = re.compile(r"\b[A-Z]+2?\b|\b\d+\b|\b[a-z]+\b")
@@ -34,7 +35,9 @@ ELSEWHERE = {("clocks", "1"): "the cave begins to close", ("waking", "3"): "they
 PLAIN = {("ObjectShown", 1), ("Wave", 2), ("Toll", 1)}
 IDLE = re.compile("nothing(?:[,:]|$)|$")
 ABOVE = {"POUR": "BOTTLE gets prop 1"}  # what the page says above a table of most of its rows
-WORD, SAYS = re.compile(rf"\b({'|'.join(WORDS)})\b"), re.compile(r"\bsay ([a-z][a-z\d-]*)")
+WORD = re.compile(rf"\b({'|'.join(WORDS)})\b")
+ITALICS, TRIED = re.compile(r"\*([^*]+)\*"), re.compile(r"the rows of ([^;]+?)(?: for each|;|$)")
+MODELLED = "docs/DUEL.md", "Where a rule is in the model"  # where a table lists what isn't compared
 Places = dict[str, int]  # which table of the pages shows the definition of a name
 
 
@@ -113,17 +116,44 @@ def faults_of_code(label: str, rows: list[Words], done: list[Effects],
                 yield f"{head} has {' '.join(due)}, and the code {' '.join(it.words)}"
 
 
-def faults_of_model(shown: Shown, modelled: dict[str, list[str]], roles: set[str]) -> Iterator[str]:
-    """Rows of a page's table that the model doesn't have, or that say something else there."""
-    for label in shown.labels:
-        rows = modelled.get(label, [])
+def labels_of(shown: Shown) -> list[str]:
+    return shown.labels or [" ".join(shown.names)]
+
+
+def faults_of_model(shown: Shown, defined: list[Effects], modelled: dict[str, list[str]],
+                    roles: set[str]) -> Iterator[tuple[str, str]]:
+    """Rows of a page's table that the model doesn't have, or that do, try or ask something else
+    there, each with its name."""
+    for at, label in enumerate(labels_of(shown)):
+        rows, before = modelled.get(label, []), list[str]()
         if rows and len(rows) != len(shown.rows):
-            yield f"{label} has {len(shown.rows)} rows, and in the model {len(rows)}"
-        for (number, *cells), row in zip(shown.rows, rows):
-            told = [it for it in SPAN.findall("|".join(cells)) if it.replace("-", "") in roles]
-            if not is_part(said := SAYS.findall(row), told):
-                yield (f"{label} {number}: the page says {' '.join(told)},"
-                       f" and the model {' '.join(said)}")
+            yield label, f"the page has {len(shown.rows)} rows, and the model {len(rows)}"
+        for place, ((number, when, *cells), row) in enumerate(zip(shown.rows, rows)):
+            own, name = cells[at : at + 1] if shown.labels[1:] else cells, f"{label} {number}"
+            due, about, is_idle, _ = defined[place] if defined else Effects(
+                [*effects_shown([when, *own], roles, "x", before)], "x", None, "")
+            before, told = due, effects_modelled(row, about)
+            tests, _, does = row.partition(" | " if " | " in row else "| ")
+            if told != due or is_idle is not None and is_idle != (does == "nothing"):
+                yield name, (f"the page does: {'; '.join(due) or 'nothing'},"
+                             f" and the model: {'; '.join(told) or does}")
+            if not is_part(tried := ITALICS.findall("|".join(own)), TRIED.findall(does)):
+                yield name, f"the page tries {', '.join(tried)}, and the model: {does}"
+            if unnamed := {*re.findall(r"\b[A-Z]{2,}2?\b", tests)} - {*NAMES.findall(when)}:
+                yield name, f"the model asks of {' '.join(sorted(unnamed))}, and the page doesn't"
+
+
+def uncompared(pages: list[Shown], modelled: dict[str, list[str]],
+               found: list[tuple[str, str]]) -> Iterator[str]:
+    """What pages and model don't have alike, unless it is listed; what is listed for nothing."""
+    shown = {label for it in pages for label in labels_of(it)}
+    alone = [(it, "the pages have it, and the model doesn't") for it in sorted(shown - {*modelled})]
+    alone += [(it, "the model has it, and the pages don't") for it in modelled if it not in shown]
+    listed = {name for rows in tables_in(section_of(*MODELLED)) for it, *_ in rows[1:]
+              for name in spans_of(it)}
+    yield from (f"{name}: {said}" for name, said in found + alone if name not in listed)
+    for name in sorted(listed - {it for it, _ in found + alone}):
+        yield f"{MODELLED[0]}: {name} is listed, and pages and model have the same"
 
 
 def faults_of_notes(noted: Noted, pages: list[Shown], places: Places) -> Iterator[str]:
@@ -157,15 +187,16 @@ def faults() -> Iterator[str]:
     words, effects = rows_in_words(files), effects_in(files)
     places = {name: at for at, shown in enumerate(pages) for name in shown.names}
     roles = {role for name in places for row in words.get(name, []) for role in row.roles}
+    unlike = list[tuple[str, str]]()
     for shown in pages:
         told = [*faults_of_counts(shown, defined)]
         are_cases = any(defined[it].form == "cases" for it in shown.names if it in defined)
         rows = [row for name in shown.names for row in words.get(name, [])]
         told += faults_of_rows(shown, [] if are_cases and not shown.labels else rows, roles)
+        done = [row for name in shown.names for row in effects.get(name, [])]
         if not are_cases:
-            done = [row for name in shown.names for row in effects.get(name, [])]
             told += faults_of_effects(shown, done, roles)
-        told += faults_of_model(shown, modelled, roles)
+        unlike += faults_of_model(shown, [] if are_cases else done, modelled, roles)
         yield from (f"{shown.page}: {it}" for it in told)
     for name, table in sorted(defined.items()):
         if table.form == "rows" and len(table.rows) > 1 and name not in places:
@@ -180,5 +211,6 @@ def faults() -> Iterator[str]:
             yield from faults_of_code(label, rows, done, coded.get(label, {}))
     yield from late_in_code({table: places[it] for table, names in noted.items() for it in names
                              if it in places})
+    yield from uncompared(pages, modelled, unlike)
     yield from faults_of_notes(noted, pages, places)
     yield from ["no page shows a table of rows"] * (not pages)
